@@ -35,7 +35,6 @@ mod showing;
 #[cfg(test)]
 mod tests;
 mod ticking;
-mod turns;
 mod udp;
 mod waiting;
 mod walking;

@@ -27,7 +27,6 @@ impl Game {
     ghost use Rattle.dn_host.specs.Begun.{has_counted};
     ghost use Rattle.dn_host.specs.Telling.{IsStatus};
     ghost use Rattle.dn_host.specs.Summaries.{IsSummaryBy};
-    ghost use Rattle.dn_host.specs.Ticks.{game_next};
     ghost use Rattle.dn_host.specs.Summed.{MeasuresBy};
 
     /// Whether it has begun.
@@ -55,9 +54,7 @@ impl Game {
     }
 
     /// When it has something to do next.
-    pub(crate) fn next(&self) -> u64
-        ensures { result ≡ game_next self.now }
-    {
+    pub(crate) fn next(&self) -> u64 {
         match self.half {
             Some(half) => half.min(self.due),
             None => self.due,
