@@ -1,12 +1,12 @@
 //! When a session ends, and how it leaves.
 
-ghost use Rattle.std.specs.Prelude.{◌≡◌, None};
+ghost use Rattle.std.specs.Prelude.{◌≡◌, None, is_some};
 ghost use Rattle.dn_link.specs.Linked.{may_leave};
 ghost use Rattle.dn_link.specs.Linking.{linked, seal_of};
 ghost use Rattle.dn_host.specs.declared.leave.Stage.TheVariants.{Leaving};
 ghost use Rattle.dn_host.specs.Absence.{causes_of};
 ghost use Rattle.dn_host.specs.Endings.{others_end};
-ghost use Rattle.dn_host.specs.Leaving.{after_wait, free_since, has_waited, is_over};
+ghost use Rattle.dn_host.specs.Leaving.{IsAfterPlay, IsStageAfter, after_wait, end_of, free_since, has_waited, is_over, leaving_for, left_at, own_end, stage_after};
 
 use crate::endings::others_end;
 use crate::game::Game;
@@ -45,15 +45,6 @@ fn leaving(end: End, now: u64) -> Stage
     }
 }
 
-/// Quits, and begins to leave.
-fn quitting(game: &mut Game, end: End, now: u64) -> Stage
-    ensures stage { result ≡ Leaving end now None }
-    ensures seal { seal_of game.new.play.link ≡ seal_of game.old.play.link }
-{
-    let _ = game.play.link.quit();
-    leaving(end, now)
-}
-
 /// Whether the seconds of play are over; 0 are never.
 fn is_over(since: u64, now: u64, seconds: u32) -> bool
     ensures { result ≡ is_over since now seconds }
@@ -61,8 +52,19 @@ fn is_over(since: u64, now: u64, seconds: u32) -> bool
     seconds > 0 && now.saturating_sub(since) >= u64::from(seconds) * 1_000_000
 }
 
+/// How a game ends for its own player: its demo is full, or another's world differs.
+fn own_end(phase: Phase) -> Option<End>
+    ensures { result ≡ own_end phase }
+{
+    match phase {
+        Phase::Ended(Cause::Full) => Some(End::Full),
+        Phase::Ended(Cause::Inconsistent { player, .. }) => Some(End::Inconsistent(player)),
+        _ => None,
+    }
+}
+
 /// How it ends where all others left.
-fn end_of(game: &Game) -> End
+fn end_of_others(game: &Game) -> End
     ensures { result ≡ others_end (causes_of (linked game.now.play.link)) }
 {
     others_end(&[
@@ -73,30 +75,37 @@ fn end_of(game: &Game) -> End
     ])
 }
 
-/// How a game goes on that has begun.
-fn after_play(game: &mut Game, now: u64, seconds: u32) -> Stage
-    ensures { seal_of game.new.play.link ≡ seal_of game.old.play.link }
+/// How a game ends that has begun, if it does.
+fn end_of(game: &Game, now: u64, seconds: u32) -> Option<End>
+    ensures { result ≡ end_of game.now now seconds }
 {
-    match game.phase() {
-        Phase::Ended(Cause::Full) => return leaving(End::Full, now),
-        Phase::Ended(Cause::Inconsistent { player, .. }) => {
-            return leaving(End::Inconsistent(player), now);
-        }
-        _ => {}
+    if let Some(end) = own_end(game.phase()) {
+        return Some(end);
     }
     if is_over(game.began(), now, seconds) {
-        return quitting(game, End::Left, now);
+        return Some(End::Left);
     }
     if game.is_alone() {
-        let end = end_of(game);
-        return quitting(game, end, now);
+        return Some(end_of_others(game));
     }
-    if let Some(player) = game.lost(now) {
-        let player = player as u8;
+    let player = game.lost(now)?;
+    Some(End::Lost(player as u8))
+}
+
+/// How a game goes on that has begun. A player who is lost is forgotten, and who leaves quits.
+fn after_play(game: &mut Game, now: u64, seconds: u32) -> Stage
+    ensures seal { seal_of game.new.play.link ≡ seal_of game.old.play.link }
+    ensures stage { IsAfterPlay now result }
+    ensures exact { result ≡ leaving_for (end_of game.old now seconds) now }
+{
+    let Some(end) = end_of(game, now, seconds) else {
+        return Stage::Going;
+    };
+    if let End::Lost(player) = end {
         game.forget(player);
-        return quitting(game, End::Lost(player), now);
     }
-    Stage::Going
+    let _ = game.play.link.quit();
+    leaving(end, now)
 }
 
 /// Since when nobody needs it, if nobody does.
@@ -132,10 +141,23 @@ fn after_wait(game: &Game, end: End, since: u64, free: Option<u64>, now: u64) ->
     }
 }
 
+/// When a session began to leave that had this stage and has that one now, if it did.
+pub(crate) fn left_at(before: Stage, after: Stage, now: u64, left: Option<u64>) -> Option<u64>
+    ensures { result ≡ left_at before after now left }
+{
+    match (before, after) {
+        (Stage::Going, Stage::Going) => left,
+        (Stage::Going, _) => Some(now),
+        _ => left,
+    }
+}
+
 impl Stage {
     /// How far it is now.
     pub(crate) fn after(self, game: &mut Game, now: u64, seconds: u32) -> Stage
-        ensures { seal_of game.new.play.link ≡ seal_of game.old.play.link }
+        ensures seal { seal_of game.new.play.link ≡ seal_of game.old.play.link }
+        ensures stage { IsStageAfter self (is_some game.old.counts) (may_leave (linked game.old.play.link)) now result }
+        ensures exact { result ≡ stage_after self game.old now seconds }
     {
         match self {
             Stage::Going if game.has_begun() => after_play(game, now, seconds),

@@ -35,6 +35,7 @@ mod showing;
 #[cfg(test)]
 mod tests;
 mod ticking;
+mod turns;
 mod udp;
 mod waiting;
 mod walking;

@@ -1,29 +1,25 @@
-//! The loop of a session.
+//! A session, turn by turn.
 
 ghost use Rattle.std.specs.Prelude.{◌≡◌, ◌⊎◌, false, true, None, IfOk, IfErr, IfSome, is_some, unwrap_or};
 ghost use Rattle.dn_host.specs.Begun.{has_begun};
 ghost use Rattle.dn_link.specs.Linking.{linked};
 ghost use Rattle.dn_link.specs.Pacing.{pace_of};
 ghost use Rattle.dn_host.specs.Leaving.{has_ended, left_at};
-ghost use Rattle.dn_host.specs.Outcomes.{IsOutcome};
 ghost use Rattle.dn_host.specs.Parts.{IsPart, link_of};
-ghost use Rattle.dn_host.specs.Seals.{IsSealedUnder};
 ghost use Rattle.dn_host.specs.Summaries.{IsSummaryBy};
 ghost use Rattle.dn_host.specs.Summed.{Measures};
 ghost use Rattle.dn_host.specs.Stages.{EndsBy, IfEnded, is_over, is_refusal};
-ghost use Rattle.dn_host.specs.declared.ends.HostFault.TheVariants as fault;
+ghost use Rattle.dn_host.specs.Ticks.{second_after, session_next};
 ghost use Rattle.dn_host.specs.declared.leave.Stage.TheVariants.{Going};
 
-use crate::clock::{nap, now};
 use crate::ends::{Ending, HostFault, Outcome};
 use crate::game::Game;
 use crate::hearing::{Heard, hear_all};
-use crate::leave::Stage;
+use crate::leave::{Stage, left_at};
 use crate::lobby::Lobby;
 use crate::screen::Screen;
 use crate::showing::show;
 use crate::wire::Wire;
-use std::time::Clock;
 
 /// A second, in microseconds.
 const SECOND: u64 = 1_000_000;
@@ -84,9 +80,7 @@ impl<L: Lobby + Drop> Session<L> {
             game.go(wire, now);
             self.stage = before.after(game, now, seconds);
         }
-        if before == Stage::Going && self.stage != Stage::Going {
-            self.left = Some(now);
-        }
+        self.left = left_at(before, self.stage, now, self.left);
     }
 
     /// Does what is due each second.
@@ -96,6 +90,7 @@ impl<L: Lobby + Drop> Session<L> {
         screen: &mut S,
         now: u64,
     ) -> Result<(), HostFault>
+        ensures second { IfOk result (λ _. self.new.second ≡ second_after self.old.second now) }
         ensures stage { self.new.stage ≡ self.old.stage }
         ensures left { self.new.left ≡ self.old.left }
         ensures faults { IfErr result L.Faults }
@@ -112,7 +107,9 @@ impl<L: Lobby + Drop> Session<L> {
     }
 
     /// When there is something to do next.
-    fn next(&self) -> u64 {
+    fn next(&self) -> u64
+        ensures { result ≡ session_next self.now.game self.now.second }
+    {
         match &self.game {
             Some(game) => game.next().min(self.second),
             None => self.second,
@@ -176,32 +173,4 @@ impl<L: Lobby + Drop> Session<L> {
             },
         }
     }
-}
-
-/// Goes on until the session ends.
-pub(crate) fn run<C: Clock, W: Wire, S: Screen, L: Lobby + Drop>(
-    clock: &C,
-    wire: &mut W,
-    screen: &mut S,
-    mut session: Session<L>,
-) -> Result<Outcome, HostFault>
-    ensures outcome { IfOk result IsOutcome }
-    ensures ends { IfOk result (λ o. (L.Refuses o.ending) ⊎ (is_refusal o.ending ≡ false)) }
-    ensures there { has_ended session.stage ≡ false
-        → IfOk result (λ o. (L.Refuses o.ending) ⊎ (is_some o.link ≡ true)) }
-    ensures hosts { IsPart L.hosts (L.secret session.lobby) session.game → L.hosts ≡ true
-        → IfOk result (λ o. is_some o.link ≡ true) }
-    ensures sealed { IsPart L.hosts (L.secret session.lobby) session.game
-        → IfOk result (λ o. IfSome o.link (IsSealedUnder (L.secret session.lobby))) }
-    ensures faults { IfErr result (λ f. (L.Faults f) ⊎ (f ≡ fault.Clock)) }
-{
-    for _ in 0..u64::MAX {
-        let time = now(clock)?;
-        match session.turn(wire, screen, time)? {
-            Turned::Ended(ending) => return Ok(session.outcome(ending, time)),
-            Turned::Busy => {}
-            Turned::Calm(due) => nap(clock, time, due),
-        }
-    }
-    Err(HostFault::Clock)
 }

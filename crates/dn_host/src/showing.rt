@@ -27,6 +27,7 @@ impl Game {
     ghost use Rattle.dn_host.specs.Begun.{has_counted};
     ghost use Rattle.dn_host.specs.Telling.{IsStatus};
     ghost use Rattle.dn_host.specs.Summaries.{IsSummaryBy};
+    ghost use Rattle.dn_host.specs.Ticks.{game_next};
     ghost use Rattle.dn_host.specs.Summed.{MeasuresBy};
 
     /// Whether it has begun.
@@ -54,7 +55,9 @@ impl Game {
     }
 
     /// When it has something to do next.
-    pub(crate) fn next(&self) -> u64 {
+    pub(crate) fn next(&self) -> u64
+        ensures { result ≡ game_next self.now }
+    {
         match self.half {
             Some(half) => half.min(self.due),
             None => self.due,

@@ -1,7 +1,7 @@
 use Rattle.std.specs.Prelude.{◌≡◌, false}
 use Rattle.dn_host.specs.Leaving.{has_ended}
 use Rattle.dn_host.specs.Parts.{IsPart}
-use Rattle.dn_host.proofs.session.run.Given as goal
+use Rattle.dn_host.proofs.turns.run.Given as goal
 
 abbrev pub invariant-loop : goal.invariant-loop
 invariant-loop g l = (g.L.Lobby.secret l.session.lobby ≡ g.L.Lobby.secret l.fn.session.lobby)
