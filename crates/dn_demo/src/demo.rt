@@ -1,12 +1,8 @@
 //! A demo that was read.
 
 ghost use Rattle.std.specs.Prelude.{◌≡◌, ◌≢◌, ◌<◌, length, slice_get, Result, Err, IfOk, IfErr};
-ghost use Rattle.dn_demo.specs.Layout.{layout_of};
-ghost use Rattle.dn_demo.specs.Rows.{player_count};
-ghost use Rattle.dn_demo.specs.Places.{EndsBehind};
-ghost use Rattle.dn_demo.specs.Reading.{Recording, HasHeader, IsReadAs, IsSameButMemory};
-ghost use Rattle.dn_demo.specs.declared.demo.DemoFault.{DemoFault};
-ghost use Rattle.dn_demo.specs.declared.demo.DemoFault.TheVariants.{NoMarker, Memory};
+ghost use Rattle.dn_demo.specs.{Layout.layout_of, Rows.player_count, Places.EndsBehind, Reading.Recording, Reading.HasHeader, Reading.IsReadAs, Reading.IsSameButMemory};
+ghost use Rattle.dn_demo.specs.{declared.demo.DemoFault.DemoFault, declared.demo.DemoFault.TheVariants.NoMarker, declared.demo.DemoFault.TheVariants.Memory};
 
 use crate::layout::{HEADER, Layout};
 use crate::reading;
@@ -46,9 +42,7 @@ pub struct Demo {
 }
 
 impl Model for Demo {
-    ghost use Rattle.dn_demo.specs.Layout.{layout_of};
-    ghost use Rattle.dn_demo.specs.Places.{commands_in, HasNoMarker};
-    ghost use Rattle.dn_demo.specs.Reading.{Recording, recording, HasHeader};
+    ghost use Rattle.dn_demo.specs.{Layout.layout_of, Places.commands_in, Places.HasNoMarker, Reading.Recording, Reading.recording, Reading.HasHeader};
 
     ghost Value = { Recording };
 

@@ -2,12 +2,8 @@
 
 ghost use Rattle.std.specs.Prelude.{◌≡◌, ◌≢◌, ◌<◌, ◌≤◌, ℕ, ◌+◌, ◌%◌, true, false, List, [], ◌∷◌, ◌++◌, length, Some, None, IfSome, IfNone};
 ghost use Rattle.dn_demo.specs.Layout as specs;
-ghost use Rattle.dn_demo.specs.Layout.{layout_of, command_size};
-ghost use Rattle.dn_demo.specs.Text.{header_size, marker};
-ghost use Rattle.dn_demo.specs.Reading.{HasHeader};
-ghost use Rattle.dn_demo.specs.Feeding.{Feeding, Shows, Takes, TakesFront};
-ghost use Rattle.dn_demo.specs.Fed.{EndsAs};
-ghost use Rattle.dn_demo.specs.Listed.{told, EndsRow, Lists, IsBehindTic, TellsFront};
+ghost use Rattle.dn_demo.specs.{Layout.layout_of, Layout.command_size, Text.header_size, Text.marker, Reading.HasHeader, Feeding.Feeding, Feeding.Shows, Feeding.Takes, Feeding.TakesFront, Fed.EndsAs};
+ghost use Rattle.dn_demo.specs.{Listed.told, Listed.EndsRow, Listed.Lists, Listed.IsBehindTic, Listed.TellsFront};
 
 use crate::demo::{self, DemoFault};
 use crate::fed::{Fed, FeedFault};

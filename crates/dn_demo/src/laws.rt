@@ -1,20 +1,11 @@
 //! What holds of all demos.
 
-ghost use Rattle.std.specs.Prelude.{◌≡◌, ◌<◌, ℕ, Bool, true, List, All, Option, Result, Ok};
-ghost use Rattle.std.specs.List.{concat};
+ghost use Rattle.std.specs.{Prelude.◌≡◌, Prelude.◌<◌, Prelude.ℕ, Prelude.Bool, Prelude.true, Prelude.List, Prelude.All, Prelude.Option, Prelude.Result, Prelude.Ok, List.concat};
 ghost use Rattle.dn_tic.specs.declared.command.Move.{Move};
 ghost use Rattle.dn_setup.specs.declared.start.Start.{Start};
-ghost use Rattle.dn_demo.specs.Layout.{vanilla, long_tics, spell, tell};
-ghost use Rattle.dn_demo.specs.Rows.{AreWritable, AllMoves, IsMove, IsWhole};
-ghost use Rattle.dn_demo.specs.Text.{demo_text};
-ghost use Rattle.dn_demo.specs.Reading.{Recording, IsReadAs, HasRows, written_demo, state_after};
-ghost use Rattle.dn_demo.specs.Recorded.{Recorded};
-ghost use Rattle.dn_demo.specs.Upgraded.{IsUpgraded};
-ghost use Rattle.dn_demo.specs.Feeding.{Feeding, Shows};
-ghost use Rattle.dn_demo.specs.Listed.{AreListed};
-ghost use Rattle.dn_demo.specs.Fed.{IsFedAs, PiecesEndAs, IsSameEnd};
-ghost use Rattle.dn_demo.specs.declared.fed.Fed.{Fed};
-ghost use Rattle.dn_demo.specs.declared.fed.FeedFault.{FeedFault};
+ghost use Rattle.dn_demo.specs.{Layout.vanilla, Layout.long_tics, Layout.spell, Layout.tell, Rows.AreWritable, Rows.AllMoves, Rows.IsMove, Rows.IsWhole, Text.demo_text, Reading.Recording};
+ghost use Rattle.dn_demo.specs.{Reading.IsReadAs, Reading.HasRows, Reading.written_demo, Reading.state_after, Recorded.Recorded, Upgraded.IsUpgraded, Feeding.Feeding, Feeding.Shows, Listed.AreListed};
+ghost use Rattle.dn_demo.specs.{Fed.IsFedAs, Fed.PiecesEndAs, Fed.IsSameEnd, declared.fed.Fed.Fed, declared.fed.FeedFault.FeedFault};
 
 use dn_world::World;
 

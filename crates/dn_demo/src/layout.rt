@@ -1,9 +1,7 @@
 //! How the bytes of a demo are laid out.
 
-ghost use Rattle.std.specs.Prelude.{◌≡◌, ◌<◌, ◌^◌, length};
-ghost use Rattle.std.specs.Option.{option_map};
-ghost use Rattle.dn_demo.specs.Layout.{layout_of, layout_by, layout_of_version, command_size, tell};
-ghost use Rattle.dn_demo.specs.Places.{place};
+ghost use Rattle.std.specs.{Prelude.◌≡◌, Prelude.◌<◌, Prelude.◌^◌, Prelude.length, Option.option_map};
+ghost use Rattle.dn_demo.specs.{Layout.layout_of, Layout.layout_by, Layout.layout_of_version, Layout.command_size, Layout.tell, Places.place};
 
 use dn_setup::VERSION;
 use dn_tic::Move;

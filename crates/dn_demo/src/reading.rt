@@ -1,10 +1,8 @@
 //! Where things stand in the bytes of a demo.
 
 ghost use Rattle.std.specs.Prelude.{◌≡◌, ◌≤◌, ℕ, ◌+◌, ◌*◌, Bool, List, length, Some, [], ◌∷◌, ◌++◌, IfSome, IfNone};
-ghost use Rattle.dn_demo.specs.Layout.{layout_of, command_size};
-ghost use Rattle.dn_demo.specs.Rows.{player_count};
-ghost use Rattle.dn_demo.specs.Text.{header_size};
-ghost use Rattle.dn_demo.specs.Places.{start_in, seats_in, place, commands_in, move_at, moves_from, EndsBehind, IsUnmarked};
+ghost use Rattle.dn_demo.specs.{Layout.layout_of, Layout.command_size, Rows.player_count, Text.header_size, Places.start_in, Places.seats_in, Places.place, Places.commands_in, Places.move_at};
+ghost use Rattle.dn_demo.specs.{Places.moves_from, Places.EndsBehind, Places.IsUnmarked};
 
 use crate::layout::{HEADER, Layout, MARKER};
 use dn_setup::Start;

@@ -1,11 +1,9 @@
 //! A demo that is written tic by tic.
 
-ghost use Rattle.std.specs.Prelude.{◌≡◌, ◌<◌, ◌≤◌, ◌+◌, ◌*◌, true, false, [], ◌∷◌, ◌++◌, length, nat_le, vec_len};
-ghost use Rattle.std.specs.Vec.{vec_capacity};
-ghost use Rattle.dn_demo.specs.Rows.{IsRow, player_count};
-ghost use Rattle.dn_demo.specs.Layout.{long_tics, command_size};
-ghost use Rattle.dn_demo.specs.Text.{move_bytes, row_bytes, demo_text, marker};
-ghost use Rattle.dn_demo.specs.declared.recorder.Stage.TheVariants.{Blank, Open, Closed};
+ghost use Rattle.std.specs.{Prelude.◌≡◌, Prelude.◌<◌, Prelude.◌≤◌, Prelude.◌+◌, Prelude.◌*◌, Prelude.true, Prelude.false, Prelude.[], Prelude.◌∷◌, Prelude.◌++◌, Prelude.length, Prelude.nat_le};
+ghost use Rattle.std.specs.{Prelude.vec_len, Vec.vec_capacity};
+ghost use Rattle.dn_demo.specs.{Rows.IsRow, Rows.player_count, Layout.long_tics, Layout.command_size, Text.move_bytes, Text.row_bytes, Text.demo_text, Text.marker};
+ghost use Rattle.dn_demo.specs.{declared.recorder.Stage.TheVariants.Blank, declared.recorder.Stage.TheVariants.Open, declared.recorder.Stage.TheVariants.Closed};
 
 use crate::layout::MARKER;
 use crate::limits::is_limit;
@@ -58,11 +56,8 @@ fn append(bytes: &mut Vec<u8>, more: &[u8])
 }
 
 impl Model for Recorder {
-    ghost use Rattle.std.specs.Prelude.{◌≡◌, ◌≤◌, ◌+◌, [], vec_len};
-    ghost use Rattle.std.specs.Vec.{vec_capacity};
-    ghost use Rattle.dn_demo.specs.Text.{header_size};
-    ghost use Rattle.dn_demo.specs.Recorded.{Recorded, IsLimit};
-    ghost use Rattle.dn_demo.specs.declared.recorder.Stage.TheVariants.{Blank, Open};
+    ghost use Rattle.std.specs.{Prelude.◌≡◌, Prelude.◌≤◌, Prelude.◌+◌, Prelude.[], Prelude.vec_len, Vec.vec_capacity};
+    ghost use Rattle.dn_demo.specs.{Text.header_size, Recorded.Recorded, Recorded.IsLimit, declared.recorder.Stage.TheVariants.Blank, declared.recorder.Stage.TheVariants.Open};
 
     ghost Value = { Recorded };
 
@@ -76,8 +71,7 @@ impl Model for Recorder {
 }
 
 impl Recorder {
-    ghost use Rattle.dn_demo.specs.Places.{seats_in};
-    ghost use Rattle.dn_demo.specs.Recorded.{IsMadeAs, AddsRow, Closes, is_closed};
+    ghost use Rattle.dn_demo.specs.{Places.seats_in, Recorded.IsMadeAs, Recorded.AddsRow, Recorded.Closes, Recorded.is_closed};
 
     /// A recorder with nothing written. Its room is `limit` bytes, and all of it is taken here.
     pub fn new(alloc: Global, limit: u32) -> Result<Recorder, RecorderFault>

@@ -1,8 +1,7 @@
 //! The bytes of a header and of a row.
 
 ghost use Rattle.std.specs.Prelude.{◌≡◌, ◌≤◌, length};
-ghost use Rattle.dn_demo.specs.Layout.{long_tics, spell};
-ghost use Rattle.dn_demo.specs.Text.{header, move_bytes, row_bytes};
+ghost use Rattle.dn_demo.specs.{Layout.long_tics, Layout.spell, Text.header, Text.move_bytes, Text.row_bytes};
 
 use crate::layout::{COMMAND, HEADER};
 use dn_setup::{Start, VERSION};

@@ -3,11 +3,8 @@
 ghost use Rattle.std.specs.Prelude.{◌≡◌, ◌<◌, Option};
 ghost use Rattle.dn_setup.specs.Settings.{Settings};
 ghost use Rattle.dn_tic.specs.declared.input.Input.TheVariants.{Given};
-ghost use Rattle.dn_machine.specs.Flight.{Flight};
-ghost use Rattle.dn_machine.specs.Limits.{Limits};
-ghost use Rattle.dn_lockstep.specs.Contents.{contents};
-ghost use Rattle.dn_lockstep.specs.OneGame.{AreOneGame};
-ghost use Rattle.dn_lockstep.specs.Session.{Session, given_on, after_build, after_packet, after_run, with_lockstep};
+ghost use Rattle.dn_machine.specs.{Flight.Flight, Limits.Limits};
+ghost use Rattle.dn_lockstep.specs.{Contents.contents, OneGame.AreOneGame, Session.Session, Session.given_on, Session.after_build, Session.after_packet, Session.after_run, Session.with_lockstep};
 ghost use Rattle.dn_engine_tests.specs.Calls.{counting, marks_at, LeadsTo, AreFor, Takes, RunsOn, Leaves, Sends, Hands};
 
 use crate::parcel::Parcel;

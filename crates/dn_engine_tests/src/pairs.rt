@@ -1,10 +1,9 @@
 //! A whole game of two.
 
 ghost use Rattle.std.specs.Prelude.{IfOk};
-ghost use Rattle.dn_lockstep.specs.Contents.{contents};
-ghost use Rattle.dn_lockstep.specs.Opening.{IsAdmittedWithin};
-ghost use Rattle.dn_engine_tests.specs.Pairs.{host, IsOneGame, IsOpened, IsPlayed, Stays, HaveAgreed};
-ghost use Rattle.dn_engine_tests.specs.Pairs.{TakeBoth, Exchange, RunBoth, Round, SecondLeaves};
+ghost use Rattle.dn_lockstep.specs.{Contents.contents, Opening.IsAdmittedWithin};
+ghost use Rattle.dn_engine_tests.specs.{Pairs.host, Pairs.IsOneGame, Pairs.IsOpened, Pairs.IsPlayed, Pairs.Stays, Pairs.HaveAgreed, Pairs.TakeBoth, Pairs.Exchange, Pairs.RunBoth, Pairs.Round};
+ghost use Rattle.dn_engine_tests.specs.{Pairs.SecondLeaves};
 
 use crate::calls::{give, quit, run};
 use crate::parcel::Parcel;

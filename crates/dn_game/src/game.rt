@@ -1,8 +1,7 @@
 //! All nodes of a game, and the packets that they sent.
 
-ghost use Rattle.std.specs.Prelude.{◌≡◌, ◌<◌, ◌≤◌, All, length, false, slice_get, slice_index_or, Option};
-ghost use Rattle.std.specs.Option.{option_copied};
-ghost use Rattle.std.specs.Vec.{vec_capacity};
+ghost use Rattle.std.specs.{Prelude.◌≡◌, Prelude.◌<◌, Prelude.◌≤◌, Prelude.All, Prelude.length, Prelude.false, Prelude.slice_get, Prelude.slice_index_or, Prelude.Option, Option.option_copied};
+ghost use Rattle.std.specs.{Vec.vec_capacity};
 ghost use Rattle.dn_game.specs.Pool.{joined};
 
 mod applying;

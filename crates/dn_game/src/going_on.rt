@@ -1,26 +1,12 @@
 //! A game goes on once its packets arrive.
 
 ghost use Rattle.std.specs.Prelude.{◌≡◌, ◌≤◌, ◌+◌, ℕ, Bool, List, length, Result, Err, IfOk};
-ghost use Rattle.dn_tic.specs.declared.input.Input.{Input};
+ghost use Rattle.dn_tic.specs.{declared.input.Input.Input, Inputs.input_of};
 ghost use Rattle.dn_setup.specs.Settings.{Settings};
-ghost use Rattle.dn_machine.specs.declared.events.Done.{Done};
-ghost use Rattle.dn_machine.specs.declared.events.Event.{Event};
-ghost use Rattle.dn_machine.specs.declared.events.Refusal.{Refusal};
-ghost use Rattle.dn_machine.specs.Progress.{good_rounds};
-ghost use Rattle.dn_machine.specs.Worlds.{rules_of};
-ghost use Rattle.dn_game.specs.Contents.{Contents, contents};
-ghost use Rattle.dn_game.specs.Fresh.{AreLimited};
-ghost use Rattle.dn_game.specs.GoingOn.{NoneLost, AllRan, HasRoom, GoesOn, HasGoneOn, HasPlayedOn, HasPlayedOnFrom, HasBrokenOff};
-ghost use Rattle.dn_game.specs.Opening.{IsAdmittedOn, rules_in};
-ghost use Rattle.dn_game.specs.Played.{IsReachedWith};
-ghost use Rattle.dn_game.specs.Pool.{IsWithinTwice};
-ghost use Rattle.dn_game.specs.Promised.{IsReached};
-ghost use Rattle.dn_game.specs.Represents.{Represents};
-ghost use Rattle.dn_game.specs.Room.{room_of};
-ghost use Rattle.dn_tic.specs.Inputs.{input_of};
-ghost use Rattle.dn_game.specs.Rounds.{pressed_by};
-ghost use Rattle.dn_game.specs.declared.going_on.PlayOnFault.TheVariants.{Round};
-ghost use Rattle.dn_game.specs.declared.rounds.RoundFault.{RoundFault};
+ghost use Rattle.dn_machine.specs.{declared.events.Done.Done, declared.events.Event.Event, declared.events.Refusal.Refusal, Progress.good_rounds, Worlds.rules_of};
+ghost use Rattle.dn_game.specs.{Contents.Contents, Contents.contents, Fresh.AreLimited, GoingOn.NoneLost, GoingOn.AllRan, GoingOn.HasRoom, GoingOn.GoesOn, GoingOn.HasGoneOn, GoingOn.HasPlayedOn};
+ghost use Rattle.dn_game.specs.{GoingOn.HasPlayedOnFrom, GoingOn.HasBrokenOff, Opening.IsAdmittedOn, Opening.rules_in, Played.IsReachedWith, Pool.IsWithinTwice, Promised.IsReached};
+ghost use Rattle.dn_game.specs.{Represents.Represents, Room.room_of, Rounds.pressed_by, declared.going_on.PlayOnFault.TheVariants.Round, declared.rounds.RoundFault.RoundFault};
 
 use crate::config::{GameConfig, GameFault};
 use crate::played::Played;

@@ -2,22 +2,12 @@
 
 ghost use Rattle.std.specs.Prelude.{ℕ, Bool, List, Result};
 ghost use Rattle.dn_setup.specs.Settings.{Settings};
-ghost use Rattle.dn_machine.specs.declared.events.Done.{Done};
-ghost use Rattle.dn_machine.specs.declared.events.Event.{Event};
-ghost use Rattle.dn_machine.specs.declared.events.Refusal.{Refusal};
-ghost use Rattle.dn_machine.specs.Game.{applied};
-ghost use Rattle.dn_machine.specs.Promise.{inputs_of};
-ghost use Rattle.dn_machine.specs.Worlds.{rules_of};
+ghost use Rattle.dn_machine.specs.{declared.events.Done.Done, declared.events.Event.Event, declared.events.Refusal.Refusal, Game.applied, Promise.inputs_of, Worlds.rules_of};
 ghost use Rattle.dn_lockstep.specs.Opening.{IsGame};
 ghost use Rattle.dn_seal.specs.declared.seal.Seal.{Seal};
 ghost use Rattle.dn_open.specs.declared.open_event.OpenEvent.{OpenEvent};
-ghost use Rattle.dn_game.specs.Agreed.{AreAgreed};
-ghost use Rattle.dn_game.specs.Contents.{Contents};
-ghost use Rattle.dn_game.specs.declared.open_done.OpenDone.{OpenDone};
-ghost use Rattle.dn_game.specs.OpenPlayed.{IsReachedOpen};
-ghost use Rattle.dn_game.specs.OpenPromised.{AreGenuine, IsPromisedOpen};
-ghost use Rattle.dn_game.specs.Played.{IsReachedWith};
-ghost use Rattle.dn_game.specs.Promised.{IsReached, IsPromised, IsSteady};
+ghost use Rattle.dn_game.specs.{Agreed.AreAgreed, Contents.Contents, declared.open_done.OpenDone.OpenDone, OpenPlayed.IsReachedOpen, OpenPromised.AreGenuine, OpenPromised.IsPromisedOpen};
+ghost use Rattle.dn_game.specs.{Played.IsReachedWith, Promised.IsReached, Promised.IsPromised, Promised.IsSteady};
 
 use dn_setup::settings_found_again;
 use dn_world::World;

@@ -1,9 +1,7 @@
 //! Who is told of each event of a game as it is played.
 
 ghost use Rattle.std.specs.Prelude.{◌≡◌, ℕ, OnOk, IsOk, Result};
-ghost use Rattle.dn_machine.specs.declared.events.Done.{Done};
-ghost use Rattle.dn_machine.specs.declared.events.Event.{Event};
-ghost use Rattle.dn_machine.specs.declared.events.Refusal.{Refusal};
+ghost use Rattle.dn_machine.specs.{declared.events.Done.Done, declared.events.Event.Event, declared.events.Refusal.Refusal};
 
 use dn_machine::{Done, Event, Refusal};
 use std::alloc::AllocError;

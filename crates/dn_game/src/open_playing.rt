@@ -1,13 +1,7 @@
 //! Playing a list of open events: what is promised on an open network.
 
 ghost use Rattle.std.specs.Prelude.{length, IfOk};
-ghost use Rattle.dn_game.specs.Fresh.{AreLimited};
-ghost use Rattle.dn_game.specs.Opening.{IsAdmitted, rules_in};
-ghost use Rattle.dn_game.specs.Given.{KeepsGivenOpen};
-ghost use Rattle.dn_game.specs.OpenPromised.{HasPlayedOpen};
-ghost use Rattle.dn_game.specs.Contents.{contents};
-ghost use Rattle.dn_game.specs.Pool.{IsWithinTwice};
-ghost use Rattle.dn_game.specs.Room.{room_of};
+ghost use Rattle.dn_game.specs.{Fresh.AreLimited, Opening.IsAdmitted, Opening.rules_in, Given.KeepsGivenOpen, OpenPromised.HasPlayedOpen, Contents.contents, Pool.IsWithinTwice, Room.room_of};
 
 use crate::config::{GameConfig, GameFault};
 use crate::game::Game;

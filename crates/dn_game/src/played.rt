@@ -23,13 +23,8 @@ pub struct Played<W> {
 }
 
 impl<W: World> Played<W> {
-    ghost use Rattle.dn_game.specs.Contents.{contents};
-    ghost use Rattle.dn_game.specs.Frame.{KeepsFlights, KeepsOthers, KeepsWorlds, MovesNoWorldOpen, named_by_open};
-    ghost use Rattle.dn_game.specs.Observed.{ObservesOne};
-    ghost use Rattle.dn_game.specs.OpenPlayed.{AppliesOpen};
-    ghost use Rattle.dn_game.specs.Played.{AppliesOne};
-    ghost use Rattle.dn_game.specs.Pool.{HasGrown};
-    ghost use Rattle.dn_game.specs.Room.{room_of, KeepsWhose};
+    ghost use Rattle.dn_game.specs.{Contents.contents, Frame.KeepsFlights, Frame.KeepsOthers, Frame.KeepsWorlds, Frame.MovesNoWorldOpen, Frame.named_by_open, Observed.ObservesOne};
+    ghost use Rattle.dn_game.specs.{OpenPlayed.AppliesOpen, Played.AppliesOne, Pool.HasGrown, Room.room_of, Room.KeepsWhose};
 
     /// Applies one more event, and answers what it did.
     #[inline(always)]

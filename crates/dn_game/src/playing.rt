@@ -1,15 +1,8 @@
 //! Playing a list of events: what the whole project promises.
 
 ghost use Rattle.std.specs.Prelude.{◌≡◌, ◌⊎◌, length, Err, IfOk};
-ghost use Rattle.dn_game.specs.Contents.{contents};
-ghost use Rattle.dn_game.specs.Fresh.{AreLimited};
-ghost use Rattle.dn_game.specs.Given.{KeepsGiven};
-ghost use Rattle.dn_game.specs.Observed.{IsPlayedObserved};
-ghost use Rattle.dn_game.specs.Opening.{IsAdmitted, rules_in};
-ghost use Rattle.dn_game.specs.Pool.{IsWithinTwice};
-ghost use Rattle.dn_game.specs.Promised.{HasPlayed};
-ghost use Rattle.dn_game.specs.Room.{room_of};
-ghost use Rattle.dn_game.specs.declared.config.GameFault.TheVariants.{Players, Limit};
+ghost use Rattle.dn_game.specs.{Contents.contents, Fresh.AreLimited, Given.KeepsGiven, Observed.IsPlayedObserved, Opening.IsAdmitted, Opening.rules_in, Pool.IsWithinTwice, Promised.HasPlayed};
+ghost use Rattle.dn_game.specs.{Room.room_of, declared.config.GameFault.TheVariants.Players, declared.config.GameFault.TheVariants.Limit};
 
 use crate::config::{GameConfig, GameFault};
 use crate::game::Game;

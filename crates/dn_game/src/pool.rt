@@ -1,9 +1,8 @@
 //! Every packet that was sent, packed: all datagrams in one list of bytes, and a record of each.
 
-ghost use Rattle.std.specs.Prelude.{◌≡◌, ◌<◌, ◌≤◌, ◌+◌, ◌++◌, ◌∷◌, [], length, Some, OnOk, OnErr, slice_get, vec_len};
-ghost use Rattle.std.specs.Vec.{vec_capacity};
-ghost use Rattle.dn_game.specs.declared.flight.Flight.{Flight};
-ghost use Rattle.dn_game.specs.Pool.{HasGrown, HasRoom, IsRecordOf, LacksRoom, grown, joined};
+ghost use Rattle.std.specs.{Prelude.◌≡◌, Prelude.◌<◌, Prelude.◌≤◌, Prelude.◌+◌, Prelude.◌++◌, Prelude.◌∷◌, Prelude.[], Prelude.length, Prelude.Some, Prelude.OnOk, Prelude.OnErr, Prelude.slice_get};
+ghost use Rattle.std.specs.{Prelude.vec_len, Vec.vec_capacity};
+ghost use Rattle.dn_game.specs.{declared.flight.Flight.Flight, Pool.HasGrown, Pool.HasRoom, Pool.IsRecordOf, Pool.LacksRoom, Pool.grown, Pool.joined};
 
 use crate::flight::Flight;
 use arrayvec::ArrayVec;
@@ -65,8 +64,7 @@ fn append(bytes: &mut Vec<u8>, more: &[u8])
 }
 
 impl Model for Pool {
-    ghost use Rattle.std.specs.Prelude.{◌-◌, vec_len};
-    ghost use Rattle.std.specs.Vec.{vec_capacity};
+    ghost use Rattle.std.specs.{Prelude.◌-◌, Prelude.vec_len, Vec.vec_capacity};
     ghost use Rattle.dn_game.specs.Pool.{Pool as Packets, ArePacked, flights_in};
 
     ghost Value = { Packets };

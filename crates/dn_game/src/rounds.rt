@@ -1,17 +1,10 @@
 //! Rounds in which the packets arrive.
 
 ghost use Rattle.std.specs.Prelude.{◌≡◌, ◌↔◌, true, map, Err};
-ghost use Rattle.dn_tic.specs.declared.input.Input.TheVariants.{Pressed};
-ghost use Rattle.dn_tic.specs.Inputs.{input_of};
-ghost use Rattle.dn_machine.specs.declared.events.Refusal.{Refusal};
-ghost use Rattle.dn_machine.specs.Progress.{build_of, exchange, turn, good_round, good_rounds};
-ghost use Rattle.dn_game.specs.Applied.{Tells};
-ghost use Rattle.dn_game.specs.Contents.{contents};
-ghost use Rattle.dn_game.specs.Frame.{KeepsFlights};
-ghost use Rattle.dn_game.specs.Room.{IsFull, KeepsWhose, StaysWithin};
-ghost use Rattle.dn_game.specs.RoundEvents.{exchange_events, turn_events, round_events, rounds_events};
-ghost use Rattle.dn_game.specs.Rounds.{pressed_by, IsCarriedOut};
-ghost use Rattle.dn_game.specs.declared.rounds.RoundFault.{RoundFault};
+ghost use Rattle.dn_tic.specs.{declared.input.Input.TheVariants.Pressed, Inputs.input_of};
+ghost use Rattle.dn_machine.specs.{declared.events.Refusal.Refusal, Progress.build_of, Progress.exchange, Progress.turn, Progress.good_round, Progress.good_rounds};
+ghost use Rattle.dn_game.specs.{Applied.Tells, Contents.contents, Frame.KeepsFlights, Room.IsFull, Room.KeepsWhose, Room.StaysWithin, RoundEvents.exchange_events, RoundEvents.turn_events};
+ghost use Rattle.dn_game.specs.{RoundEvents.round_events, RoundEvents.rounds_events, Rounds.pressed_by, Rounds.IsCarriedOut, declared.rounds.RoundFault.RoundFault};
 
 use crate::game::Game;
 use dn_machine::{Done, Event, Refusal};

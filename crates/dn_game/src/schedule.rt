@@ -2,10 +2,8 @@
 
 ghost use Rattle.std.specs.Prelude.{◌≡◌, ◌↔◌, ◌<◌, None, IfSome, length, false, slice_index_or};
 ghost use Rattle.dn_machine.specs.Game.{refused};
-ghost use Rattle.dn_game.specs.Applied.{Tells};
-ghost use Rattle.dn_game.specs.Contents.{contents};
-ghost use Rattle.dn_game.specs.Stopped.{IsMoving, AllStopped};
-ghost use Rattle.dn_game.specs.Schedule.{generator_of, behind_three, scheduled, first_moving, delivery_or_run, event_of};
+ghost use Rattle.dn_game.specs.{Applied.Tells, Contents.contents, Stopped.IsMoving, Stopped.AllStopped, Schedule.generator_of, Schedule.behind_three, Schedule.scheduled, Schedule.first_moving};
+ghost use Rattle.dn_game.specs.{Schedule.delivery_or_run, Schedule.event_of};
 
 use crate::game::Game;
 use dn_machine::Event;

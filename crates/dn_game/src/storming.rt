@@ -1,15 +1,8 @@
 //! A storm: a game under the events of a schedule.
 
 ghost use Rattle.std.specs.Prelude.{◌≡◌, ◌⊎◌, length, Err, IfOk};
-ghost use Rattle.dn_game.specs.Contents.{contents};
-ghost use Rattle.dn_game.specs.Fresh.{AreLimited};
-ghost use Rattle.dn_game.specs.Given.{KeepsGiven};
-ghost use Rattle.dn_game.specs.Observed.{IsStormedObserved};
-ghost use Rattle.dn_game.specs.Opening.{IsAdmitted, rules_in};
-ghost use Rattle.dn_game.specs.Pool.{IsWithinTwice};
-ghost use Rattle.dn_game.specs.Room.{room_of};
-ghost use Rattle.dn_game.specs.Stormed.{HasStormed};
-ghost use Rattle.dn_game.specs.declared.config.GameFault.TheVariants.{Players, Limit};
+ghost use Rattle.dn_game.specs.{Contents.contents, Fresh.AreLimited, Given.KeepsGiven, Observed.IsStormedObserved, Opening.IsAdmitted, Opening.rules_in, Pool.IsWithinTwice, Room.room_of};
+ghost use Rattle.dn_game.specs.{Stormed.HasStormed, declared.config.GameFault.TheVariants.Players, declared.config.GameFault.TheVariants.Limit};
 
 use crate::config::{GameConfig, GameFault};
 use crate::game::Game;

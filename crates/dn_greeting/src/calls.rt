@@ -14,8 +14,8 @@ use crate::writing::{seal_answer, seal_refused};
 use arrayvec::ArrayVec;
 
 impl Table {
-    ghost use Rattle.dn_greeting.specs.Seats.{is_of};
-    ghost use Rattle.dn_greeting.specs.Lobby.{answer_to, answered, lobby, moved, on_holder, on_newcomer, on_opened, on_read, seat_for, seated, some_seat, HearsCall};
+    ghost use Rattle.dn_greeting.specs.{Seats.is_of, Lobby.answer_to, Lobby.answered, Lobby.lobby, Lobby.moved, Lobby.on_holder, Lobby.on_newcomer, Lobby.on_opened, Lobby.on_read, Lobby.seat_for};
+    ghost use Rattle.dn_greeting.specs.{Lobby.seated, Lobby.some_seat, Lobby.HearsCall};
 
     /// The place of a newcomer who wants this seat, or any.
     fn some_seat(&self, from: &Address, seat: Option<u8>, now: u32) -> Result<usize, Refusal>

@@ -1,9 +1,7 @@
 //! Which of the seats a caller gets.
 
 ghost use Rattle.std.specs.Prelude.{◌≡◌, ◌<◌, position, Result, IfOk, IfSome};
-ghost use Rattle.dn_greeting.specs.Seats.{gives_way, is_at, is_free, is_of};
-ghost use Rattle.dn_greeting.specs.Lobby.{any_seat, asks_for_other, found_or, wanted};
-ghost use Rattle.dn_greeting.specs.declared.greeting.Refusal.{Refusal};
+ghost use Rattle.dn_greeting.specs.{Seats.gives_way, Seats.is_at, Seats.is_free, Seats.is_of, Lobby.any_seat, Lobby.asks_for_other, Lobby.found_or, Lobby.wanted, declared.greeting.Refusal.Refusal};
 
 use crate::greeting::{Address, Refusal};
 use crate::places::{gives_way, is_at, is_free, is_of, is_quiet};

@@ -1,8 +1,7 @@
 //! Who joins.
 
 ghost use Rattle.std.specs.Prelude.{◌≡◌, Option, Result, false, replicate, true};
-ghost use Rattle.dn_greeting.specs.Greeter.{greeting_seal};
-ghost use Rattle.dn_greeting.specs.Text.{call_rest, greeting_bytes};
+ghost use Rattle.dn_greeting.specs.{Greeter.greeting_seal, Text.call_rest, Text.greeting_bytes};
 
 use crate::greeting::{Address, Answer, Call};
 use crate::news::News;
@@ -27,8 +26,7 @@ pub struct Joiner {
 }
 
 impl Joiner {
-    ghost use Rattle.dn_greeting.specs.Greeter.{same_address};
-    ghost use Rattle.dn_greeting.specs.Joining.{call_of, joining, one_more, HearsReply};
+    ghost use Rattle.dn_greeting.specs.{Greeter.same_address, Joining.call_of, Joining.joining, Joining.one_more, Joining.HearsReply};
     ghost use Rattle.dn_greeting.specs.declared.news.News.TheVariants as news;
 
     /// One who calls this host under a secret or without one, and has drawn this mark. It may want a certain seat,

@@ -1,21 +1,12 @@
 //! Laws of greetings.
 
-ghost use Rattle.std.specs.Prelude.{◌≡◌, ◌≢◌, ℕ, List, Option, Some, Result, Ok, false, true};
-ghost use Rattle.std.specs.List.{list_any};
-ghost use Rattle.dn_seal.specs.declared.seal.Seal.{Seal};
-ghost use Rattle.dn_seal.specs.Envelope.{Letter, body_bytes as letter_bytes};
-ghost use Rattle.dn_greeting.specs.declared.greeting.Address.{Address};
-ghost use Rattle.dn_greeting.specs.declared.greeting.Answer.{Answer};
-ghost use Rattle.dn_greeting.specs.declared.greeting.Call.{Call};
-ghost use Rattle.dn_greeting.specs.declared.greeting.GreetingFault.{GreetingFault};
-ghost use Rattle.dn_greeting.specs.declared.greeting.Hinted.{Hinted};
-ghost use Rattle.dn_greeting.specs.declared.greeting.Refused.{Refused};
-ghost use Rattle.dn_greeting.specs.declared.greeting.Retry.{Retry};
-ghost use Rattle.dn_greeting.specs.Greeter.{cookie_of};
-ghost use Rattle.dn_greeting.specs.Lobby.{Lobby, cookie_for, has_cookie, one_more, retried, seated, swept, HearsCall};
-ghost use Rattle.dn_greeting.specs.Seats.{is_lost};
-ghost use Rattle.dn_greeting.specs.Reading.{IsAnswerIn, IsCallIn, IsHintedIn, IsRefusedIn, IsRetryIn};
-ghost use Rattle.dn_greeting.specs.Text.{answer_rest, body_bytes, call_rest, greeting_bytes, hinted_bytes, refused_rest, retry_rest, IsAnswer, IsCall, IsHinted, IsRefused, IsRetry};
+ghost use Rattle.std.specs.{Prelude.◌≡◌, Prelude.◌≢◌, Prelude.ℕ, Prelude.List, Prelude.Option, Prelude.Some, Prelude.Result, Prelude.Ok, Prelude.false, Prelude.true, List.list_any};
+ghost use Rattle.dn_seal.specs.{declared.seal.Seal.Seal, Envelope.Letter, Envelope.body_bytes as letter_bytes};
+ghost use Rattle.dn_greeting.specs.{declared.greeting.Address.Address, declared.greeting.Answer.Answer, declared.greeting.Call.Call, declared.greeting.GreetingFault.GreetingFault};
+ghost use Rattle.dn_greeting.specs.{declared.greeting.Hinted.Hinted, declared.greeting.Refused.Refused, declared.greeting.Retry.Retry, Greeter.cookie_of, Lobby.Lobby, Lobby.cookie_for};
+ghost use Rattle.dn_greeting.specs.{Lobby.has_cookie, Lobby.one_more, Lobby.retried, Lobby.seated, Lobby.swept, Lobby.HearsCall, Seats.is_lost, Reading.IsAnswerIn, Reading.IsCallIn};
+ghost use Rattle.dn_greeting.specs.{Reading.IsHintedIn, Reading.IsRefusedIn, Reading.IsRetryIn, Text.answer_rest, Text.body_bytes, Text.call_rest, Text.greeting_bytes, Text.hinted_bytes};
+ghost use Rattle.dn_greeting.specs.{Text.refused_rest, Text.retry_rest, Text.IsAnswer, Text.IsCall, Text.IsHinted, Text.IsRefused, Text.IsRetry};
 
 /// Bytes are read as one greeting of each kind, or for one fault.
 pub fn one_greeting()

@@ -1,7 +1,6 @@
 //! What is new in a reply.
 
-ghost use Rattle.std.specs.Prelude.{◌≡◌, Option, false, true};
-ghost use Rattle.std.specs.Cmp.Lexicographic.{pointwise};
+ghost use Rattle.std.specs.{Prelude.◌≡◌, Prelude.Option, Prelude.false, Prelude.true, Cmp.Lexicographic.pointwise};
 ghost use Rattle.dn_greeting.specs.Joining.{is_later, news_in, same_flag, same_game, same_place, same_terms};
 
 use crate::greeting::{Address, Answer, Hint, Refusal, Terms};

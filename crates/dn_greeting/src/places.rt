@@ -1,7 +1,6 @@
 //! What a seat is to a caller.
 
-ghost use Rattle.std.specs.Prelude.{◌≡◌};
-ghost use Rattle.std.specs.List.{list_any};
+ghost use Rattle.std.specs.{Prelude.◌≡◌, List.list_any};
 ghost use Rattle.dn_greeting.specs.Seats.{gives_way, holding, is_at, is_free, is_loopback, is_lost, is_of, is_quiet, is_quietest, kept_at, left_by, number_in, place_for, shown_to, silence_of};
 
 use crate::greeting::{Address, Call};

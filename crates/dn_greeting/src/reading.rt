@@ -1,16 +1,10 @@
 //! Reading any bytes as a greeting.
 
-ghost use Rattle.std.specs.Prelude.{◌≡◌, ◌≤◌, length, take, drop, None, Result};
-ghost use Rattle.std.specs.Str.{bytes_eq};
+ghost use Rattle.std.specs.{Prelude.◌≡◌, Prelude.◌≤◌, Prelude.length, Prelude.take, Prelude.drop, Prelude.None, Prelude.Result, Str.bytes_eq};
 ghost use Rattle.dn_seal.specs.Sealing.{sealing};
-ghost use Rattle.dn_greeting.specs.declared.greeting.Answer.{Answer};
-ghost use Rattle.dn_greeting.specs.declared.greeting.Call.{Call};
-ghost use Rattle.dn_greeting.specs.declared.greeting.GreetingFault.{GreetingFault};
-ghost use Rattle.dn_greeting.specs.declared.greeting.Hinted.{Hinted};
-ghost use Rattle.dn_greeting.specs.declared.greeting.Refused.{Refused};
-ghost use Rattle.dn_greeting.specs.declared.greeting.Retry.{Retry};
-ghost use Rattle.dn_greeting.specs.Text.{kind_bytes};
-ghost use Rattle.dn_greeting.specs.Reading.{first_fault, hint_fault, IsAnswerIn, IsCallIn, IsHintedIn, IsRefusedIn, IsRetryIn};
+ghost use Rattle.dn_greeting.specs.{declared.greeting.Answer.Answer, declared.greeting.Call.Call, declared.greeting.GreetingFault.GreetingFault, declared.greeting.Hinted.Hinted};
+ghost use Rattle.dn_greeting.specs.{declared.greeting.Refused.Refused, declared.greeting.Retry.Retry, Text.kind_bytes, Reading.first_fault, Reading.hint_fault, Reading.IsAnswerIn, Reading.IsCallIn};
+ghost use Rattle.dn_greeting.specs.{Reading.IsHintedIn, Reading.IsRefusedIn, Reading.IsRetryIn};
 
 use crate::greeting::{Answer, Call, GreetingFault, Hinted, Refused, Retry};
 use crate::telling::{answer_in, call_in, hinted_in, refused_in, retry_in};

@@ -7,9 +7,8 @@ use crate::joiner::Joiner;
 use crate::news::{News, is_later, news_in, same_game};
 
 impl Joiner {
-    ghost use Rattle.dn_greeting.specs.Joining.{goes_on, is_asked, is_due, is_of_now, is_unheard, joining, on_answer, on_hinted, on_refused, on_reply, on_retry};
-    ghost use Rattle.dn_greeting.specs.declared.greeting.Answer.{Answer};
-    ghost use Rattle.dn_greeting.specs.declared.greeting.GreetingFault.{GreetingFault};
+    ghost use Rattle.dn_greeting.specs.{Joining.goes_on, Joining.is_asked, Joining.is_due, Joining.is_of_now, Joining.is_unheard, Joining.joining, Joining.on_answer, Joining.on_hinted};
+    ghost use Rattle.dn_greeting.specs.{Joining.on_refused, Joining.on_reply, Joining.on_retry, declared.greeting.Answer.Answer, declared.greeting.GreetingFault.GreetingFault};
 
     /// Whether its game lets it take an answer: once it has begun, of the same seat in the same game alone.
     fn goes_on(&self, answer: &Answer) -> bool

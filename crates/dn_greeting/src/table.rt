@@ -21,8 +21,7 @@ pub struct Table {
 }
 
 impl Table {
-    ghost use Rattle.dn_greeting.specs.Greeter.{greeting_seal};
-    ghost use Rattle.dn_greeting.specs.Lobby.{lobby, new_lobby, swept};
+    ghost use Rattle.dn_greeting.specs.{Greeter.greeting_seal, Lobby.lobby, Lobby.new_lobby, Lobby.swept};
 
     /// The table of a game with these terms and this number, under a secret or without one, with no joiner. The
     /// secret of its cookies is the host's own, drawn when it is started.

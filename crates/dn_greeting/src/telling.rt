@@ -1,13 +1,10 @@
 //! Reading the fields of a greeting.
 
 ghost use Rattle.std.specs.Prelude.{◌≡◌, ◌≢◌, ◌≤◌, ◌+◌, ◌&&◌, length, All, IfSome, MatchOption};
-ghost use Rattle.dn_greeting.specs.declared.greeting.Answer.{Answer};
-ghost use Rattle.dn_greeting.specs.declared.greeting.Call.{Call};
-ghost use Rattle.dn_greeting.specs.declared.greeting.Hinted.{Hinted};
-ghost use Rattle.dn_greeting.specs.declared.greeting.Refused.{Refused};
-ghost use Rattle.dn_greeting.specs.declared.greeting.Retry.{Retry};
-ghost use Rattle.dn_greeting.specs.Text.{answer_rest, call_rest, hinted_bytes, refused_rest, retry_rest, is_count_or_none, is_count, is_guest, is_rate, is_terms, is_wish, IsAddress, IsAnswer, IsCall, IsHinted, IsRefused, IsRetry};
-ghost use Rattle.dn_greeting.specs.Told.{told_address, told_answer, told_call, told_hint, told_hinted, told_name, told_reason, told_refused, told_retry, told_sixteen, told_terms};
+ghost use Rattle.dn_greeting.specs.{declared.greeting.Answer.Answer, declared.greeting.Call.Call, declared.greeting.Hinted.Hinted, declared.greeting.Refused.Refused, declared.greeting.Retry.Retry};
+ghost use Rattle.dn_greeting.specs.{Text.answer_rest, Text.call_rest, Text.hinted_bytes, Text.refused_rest, Text.retry_rest, Text.is_count_or_none, Text.is_count, Text.is_guest, Text.is_rate};
+ghost use Rattle.dn_greeting.specs.{Text.is_terms, Text.is_wish, Text.IsAddress, Text.IsAnswer, Text.IsCall, Text.IsHinted, Text.IsRefused, Text.IsRetry, Told.told_address, Told.told_answer};
+ghost use Rattle.dn_greeting.specs.{Told.told_call, Told.told_hint, Told.told_hinted, Told.told_name, Told.told_reason, Told.told_refused, Told.told_retry, Told.told_sixteen, Told.told_terms};
 
 use crate::greeting::{Address, Answer, Call, Hint, Hinted, Refusal, Refused, Retry, Terms};
 use crate::writing::{answer_rest, call_rest, hinted_bytes, refused_rest, retry_rest};

@@ -1,7 +1,6 @@
 //! Writing greetings.
 
-ghost use Rattle.std.specs.Prelude.{◌≡◌, ◌≤◌, length};
-ghost use Rattle.std.specs.List.{flat_map};
+ghost use Rattle.std.specs.{Prelude.◌≡◌, Prelude.◌≤◌, Prelude.length, List.flat_map};
 ghost use Rattle.dn_seal.specs.Sealing.{sealing};
 ghost use Rattle.dn_greeting.specs.Text.{address_bytes, answer_rest, bit, call_rest, greeting_bytes, hint_byte, hinted_bytes, named, padding, reason_bytes, refused_rest, retry_rest, terms_bytes, version_of};
 

@@ -26,8 +26,7 @@ fn says_hello(presence: Presence) -> bool
 
 impl Game {
     ghost use Rattle.std.specs.Prelude.{◌<◌, IfSome};
-    ghost use Rattle.dn_link.specs.Linked.{forgotten, is_peer};
-    ghost use Rattle.dn_link.specs.Linking.{linked, seal_of};
+    ghost use Rattle.dn_link.specs.{Linked.forgotten, Linked.is_peer, Linking.linked, Linking.seal_of};
     ghost use Rattle.dn_host.specs.Absence.{cause_of, has_left, is_absent, is_alone, is_gone, is_lost, is_whole, lost_in};
 
     /// Whether a number is another player's.

@@ -1,8 +1,7 @@
 //! What the answers of a link tell.
 
 ghost use Rattle.std.specs.Prelude.{◌≡◌, ◌≤◌};
-ghost use Rattle.dn_host.specs.Played.{is_caught_up, is_made, times_of};
-ghost use Rattle.dn_host.specs.Walks.{waited_for};
+ghost use Rattle.dn_host.specs.{Played.is_caught_up, Played.is_made, Played.times_of, Walks.waited_for};
 
 use dn_machine::{Made, Ran};
 

@@ -1,11 +1,8 @@
 //! What came from each player, and how it stands.
 
 ghost use Rattle.std.specs.Prelude.{◌≡◌};
-ghost use Rattle.dn_link.specs.Linking.{linked};
-ghost use Rattle.dn_link.specs.Pacing.{pace_of};
-ghost use Rattle.dn_host.specs.Arrived.{came_from_each, came_from, since_then};
-ghost use Rattle.dn_host.specs.Coming.{figures_by_link};
-ghost use Rattle.dn_host.specs.Standing.{standing_in};
+ghost use Rattle.dn_link.specs.{Linking.linked, Pacing.pace_of};
+ghost use Rattle.dn_host.specs.{Arrived.came_from_each, Arrived.came_from, Arrived.since_then, Coming.figures_by_link, Standing.standing_in};
 
 use dn_link::Link;
 use dn_measure::{Arrivals, PeerStatus};

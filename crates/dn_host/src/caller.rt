@@ -1,9 +1,7 @@
 //! A joiner in the lobby and in its game.
 
 ghost use Rattle.std.specs.Prelude.{◌≡◌, ℕ, List, Option, Bool, ⊤, true, false, IfOk};
-ghost use Rattle.dn_host.specs.Begun.{has_run, silence};
-ghost use Rattle.dn_host.specs.Calling.{is_calling};
-ghost use Rattle.dn_host.specs.Parts.{IsPart};
+ghost use Rattle.dn_host.specs.{Begun.has_run, Begun.silence, Calling.is_calling, Parts.IsPart};
 
 use crate::begun::{has_begun, has_run, silence};
 use crate::calling::{is_calling, may_pass};

@@ -1,8 +1,7 @@
 //! How a player's datagrams come.
 
 ghost use Rattle.std.specs.Prelude.{◌≡◌};
-ghost use Rattle.dn_link.specs.Linking.{linked};
-ghost use Rattle.dn_link.specs.Pacing.{pace_of};
+ghost use Rattle.dn_link.specs.{Linking.linked, Pacing.pace_of};
 ghost use Rattle.dn_host.specs.Coming.{came_by, coming_in, coming_of, figures_by, late_of, line_of};
 
 use dn_link::{Figures, Link, Received};

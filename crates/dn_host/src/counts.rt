@@ -1,14 +1,9 @@
 //! What is counted of a game from its beginning on.
 
 ghost use Rattle.std.specs.Prelude.{◌≡◌, ◌-◌, ◌++◌, ℕ, List, replicate};
-ghost use Rattle.dn_link.specs.Linking.{linked};
-ghost use Rattle.dn_link.specs.Pacing.{pace_of};
-ghost use Rattle.dn_measure.specs.Measure.{IsMeasureOf, IsSummaryOf};
-ghost use Rattle.dn_measure.specs.declared.told.Told.{Told};
-ghost use Rattle.dn_measure.specs.Runs.{is_gap};
-ghost use Rattle.dn_host.specs.Arrived.{arrivals_by};
-ghost use Rattle.dn_host.specs.Measured.{IsSomeMeasure};
-ghost use Rattle.dn_host.specs.Summaries.{IsSummaryBy};
+ghost use Rattle.dn_link.specs.{Linking.linked, Pacing.pace_of};
+ghost use Rattle.dn_measure.specs.{Measure.IsMeasureOf, Measure.IsSummaryOf, declared.told.Told.Told, Runs.is_gap};
+ghost use Rattle.dn_host.specs.{Arrived.arrivals_by, Measured.IsSomeMeasure, Summaries.IsSummaryBy};
 
 use crate::arrived::{Came, came, since, standing};
 use crate::done::Done;
@@ -45,10 +40,7 @@ fn tell(measure: &mut Measure, told: Told, times: u32)
 }
 
 impl Counts {
-    ghost use Rattle.dn_host.specs.Coming.{late_by, one_more};
-    ghost use Rattle.dn_host.specs.Counted.{TellsMore, told_of};
-    ghost use Rattle.dn_host.specs.Taking.{IsFresh};
-    ghost use Rattle.dn_host.specs.Telling.{AreTold, status_at};
+    ghost use Rattle.dn_host.specs.{Coming.late_by, Coming.one_more, Counted.TellsMore, Counted.told_of, Taking.IsFresh, Telling.AreTold, Telling.status_at};
 
     /// Nothing, of a game that begins now.
     pub(crate) fn new(link: &Link, now: u64) -> Counts

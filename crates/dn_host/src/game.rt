@@ -30,16 +30,9 @@ pub(crate) struct Game {
 
 impl Game {
     ghost use Rattle.std.specs.Prelude.{◌≡◌, if◌then◌else◌, replicate, false, true, None, Some};
-    ghost use Rattle.dn_link.specs.Linked.{Receives};
-    ghost use Rattle.dn_link.specs.Linking.{identity_of, linked, seal_of};
-    ghost use Rattle.dn_link.specs.Notices.{HearsNotice, is_notice};
-    ghost use Rattle.dn_link.specs.Pace.{Paces};
-    ghost use Rattle.dn_link.specs.Pacing.{pace_of};
-    ghost use Rattle.dn_host.specs.Coming.{came_by, figures_by, news_of, noted};
-    ghost use Rattle.dn_host.specs.Counted.{CountsMore, IsCounted, told_of};
-    ghost use Rattle.dn_host.specs.Peers.{AreFollowed};
-    ghost use Rattle.dn_host.specs.Taking.{Begins, late_counted};
-    ghost use Rattle.dn_host.specs.Walks.{is_started};
+    ghost use Rattle.dn_link.specs.{Linked.Receives, Linking.identity_of, Linking.linked, Linking.seal_of, Notices.HearsNotice, Notices.is_notice, Pace.Paces, Pacing.pace_of};
+    ghost use Rattle.dn_host.specs.{Coming.came_by, Coming.figures_by, Coming.news_of, Coming.noted, Counted.CountsMore, Counted.IsCounted, Counted.told_of, Peers.AreFollowed, Taking.Begins};
+    ghost use Rattle.dn_host.specs.{Taking.late_counted, Walks.is_started};
 
     /// A part in a game that has not begun; its first tick is due now.
     pub(crate) fn new(play: Play, peers: Peers, rate: u8, now: u64) -> Game

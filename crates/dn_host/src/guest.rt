@@ -1,8 +1,7 @@
 //! Joining a game.
 
 ghost use Rattle.std.specs.Prelude.{IfOk, IfSome};
-ghost use Rattle.dn_host.specs.Outcomes.{HasLink, IsOutcome};
-ghost use Rattle.dn_host.specs.Seals.{IsSealedUnder};
+ghost use Rattle.dn_host.specs.{Outcomes.HasLink, Outcomes.IsOutcome, Seals.IsSealedUnder};
 
 use crate::caller::new_caller;
 use crate::clock::now;

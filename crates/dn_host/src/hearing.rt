@@ -1,10 +1,8 @@
 //! Taking the datagrams that are there.
 
 ghost use Rattle.std.specs.Prelude.{◌≡◌, ◌≤◌, ◌&&◌, ℕ, List, Option, Bool, length, false, IfOk, IfErr, IfSome};
-ghost use Rattle.dn_host.specs.Begun.{has_begun};
-ghost use Rattle.dn_host.specs.Greetings.{GreetsFew, Opens, is_greeting, is_hint, is_named, is_opened};
-ghost use Rattle.dn_host.specs.Parts.{IsPart};
-ghost use Rattle.dn_host.specs.Stages.{IfEnding};
+ghost use Rattle.dn_host.specs.{Begun.has_begun, Greetings.GreetsFew, Greetings.Opens, Greetings.is_greeting, Greetings.is_hint, Greetings.is_named, Greetings.is_opened, Parts.IsPart};
+ghost use Rattle.dn_host.specs.{Stages.IfEnding};
 
 use crate::begun::has_begun;
 use crate::ends::{Ending, HostFault};

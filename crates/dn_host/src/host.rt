@@ -1,10 +1,7 @@
 //! Hosting a game.
 
 ghost use Rattle.std.specs.Prelude.{◌≡◌, false, true, Err, IfErr, IfOk, IfSome, is_some};
-ghost use Rattle.dn_host.specs.Offers.{IsTerms};
-ghost use Rattle.dn_host.specs.Outcomes.{IsOutcome};
-ghost use Rattle.dn_host.specs.Seals.{IsSealedUnder};
-ghost use Rattle.dn_host.specs.Stages.{is_refusal};
+ghost use Rattle.dn_host.specs.{Offers.IsTerms, Outcomes.IsOutcome, Seals.IsSealedUnder, Stages.is_refusal};
 ghost use Rattle.dn_host.specs.declared.ends.HostFault.TheVariants as fault;
 
 use crate::clock::now;

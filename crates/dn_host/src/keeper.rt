@@ -2,8 +2,7 @@
 
 ghost use Rattle.std.specs.Prelude.{◌≡◌, ◌≢◌, ⊤, true, map, IfErr, IfOk};
 ghost use Rattle.dn_link.specs.Linking.{seal_of};
-ghost use Rattle.dn_host.specs.Peers.{holder_address};
-ghost use Rattle.dn_host.specs.Seals.{IsSealedUnder};
+ghost use Rattle.dn_host.specs.{Peers.holder_address, Seals.IsSealedUnder};
 ghost use Rattle.dn_host.specs.declared.ends.HostFault.TheVariants as fault;
 
 use crate::clock::seconds;

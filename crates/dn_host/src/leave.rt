@@ -1,12 +1,9 @@
 //! When a session ends, and how it leaves.
 
 ghost use Rattle.std.specs.Prelude.{◌≡◌, None, is_some};
-ghost use Rattle.dn_link.specs.Linked.{may_leave};
-ghost use Rattle.dn_link.specs.Linking.{linked, seal_of};
-ghost use Rattle.dn_host.specs.declared.leave.Stage.TheVariants.{Leaving};
-ghost use Rattle.dn_host.specs.Absence.{causes_of};
-ghost use Rattle.dn_host.specs.Endings.{others_end};
-ghost use Rattle.dn_host.specs.Leaving.{IsAfterPlay, IsStageAfter, after_wait, end_of, free_since, has_waited, is_over, leaving_for, left_at, own_end, stage_after};
+ghost use Rattle.dn_link.specs.{Linked.may_leave, Linking.linked, Linking.seal_of};
+ghost use Rattle.dn_host.specs.{declared.leave.Stage.TheVariants.Leaving, Absence.causes_of, Endings.others_end, Leaving.IsAfterPlay, Leaving.IsStageAfter, Leaving.after_wait, Leaving.end_of};
+ghost use Rattle.dn_host.specs.{Leaving.free_since, Leaving.has_waited, Leaving.is_over, Leaving.leaving_for, Leaving.left_at, Leaving.own_end, Leaving.stage_after};
 
 use crate::endings::others_end;
 use crate::game::Game;

@@ -1,10 +1,7 @@
 //! The greetings of a session: the host's, or those of one who joins.
 
 ghost use Rattle.std.specs.Prelude.{◌≡◌, ℕ, List, Option, Bool, false, IfOk, IfErr, IfSome};
-ghost use Rattle.dn_host.specs.Begun.{has_begun};
-ghost use Rattle.dn_host.specs.Parts.{IsPart};
-ghost use Rattle.dn_host.specs.declared.ends.Ending.{Ending};
-ghost use Rattle.dn_host.specs.declared.ends.HostFault.{HostFault};
+ghost use Rattle.dn_host.specs.{Begun.has_begun, Parts.IsPart, declared.ends.Ending.Ending, declared.ends.HostFault.HostFault};
 
 use crate::ends::{Ending, HostFault};
 use crate::game::Game;

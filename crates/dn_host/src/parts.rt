@@ -1,12 +1,8 @@
 //! A player's part in a game, by the terms that the host offers.
 
 ghost use Rattle.std.specs.Prelude.{◌≡◌, ◌∷◌, map, None, Some, true, IfErr, IfOk};
-ghost use Rattle.dn_greeting.specs.Lobby.{lobby};
-ghost use Rattle.dn_greeting.specs.Text.{is_rate};
-ghost use Rattle.dn_host.specs.Made.{IsPartAs, IsPartOf, config_under};
-ghost use Rattle.dn_host.specs.Offers.{IsTerms};
-ghost use Rattle.dn_host.specs.Peers.{holder_address};
-ghost use Rattle.dn_host.specs.Seals.{IsSealedUnder, game_seal};
+ghost use Rattle.dn_greeting.specs.{Lobby.lobby, Text.is_rate};
+ghost use Rattle.dn_host.specs.{Made.IsPartAs, Made.IsPartOf, Made.config_under, Offers.IsTerms, Peers.holder_address, Seals.IsSealedUnder, Seals.game_seal};
 ghost use Rattle.dn_host.specs.declared.ends.HostFault.TheVariants as fault;
 
 use crate::ends::HostFault;

@@ -1,8 +1,7 @@
 //! Where the players are.
 
 ghost use Rattle.std.specs.Prelude.{◌≡◌, ◌∷◌, map, slice_index_or, None, Some};
-ghost use Rattle.dn_host.specs.Coming.{noted};
-ghost use Rattle.dn_host.specs.Peers.{AreFollowed, IsFollowed, holder_address};
+ghost use Rattle.dn_host.specs.{Coming.noted, Peers.AreFollowed, Peers.IsFollowed, Peers.holder_address};
 
 use dn_greeting::{Address, Answer, Place};
 

@@ -1,8 +1,7 @@
 //! One player's link, with its walk and its keys.
 
 ghost use Rattle.std.specs.Prelude.{◌≡◌, ◌≤◌, true, false, IfErr, IfOk};
-ghost use Rattle.dn_link.specs.Linked.{IsWhole};
-ghost use Rattle.dn_link.specs.Linking.{linked};
+ghost use Rattle.dn_link.specs.{Linked.IsWhole, Linking.linked};
 ghost use Rattle.dn_host.specs.Played.{Plays, times_of};
 
 use crate::answers::{is_caught_up, is_made, times_of, waits_for};
@@ -37,15 +36,8 @@ pub(crate) struct Play {
 
 impl Play {
     ghost use Rattle.dn_lockstep.specs.Contents.{contents};
-    ghost use Rattle.dn_link.specs.Linked.{Receives};
-    ghost use Rattle.dn_link.specs.Notices.{HearsNotice, is_notice};
-    ghost use Rattle.dn_link.specs.Linking.{identity_of, seal_of};
-    ghost use Rattle.dn_link.specs.Pace.{Paces};
-    ghost use Rattle.dn_link.specs.Pacing.{pace_of};
-    ghost use Rattle.dn_host.specs.Coming.{came_by, figures_by};
-    ghost use Rattle.dn_host.specs.Made.{IsLinkOf};
-    ghost use Rattle.dn_host.specs.Offers.{IsFaultOf, IsPossible};
-    ghost use Rattle.dn_host.specs.Walks.{RunsWalk, begun_by, is_started};
+    ghost use Rattle.dn_link.specs.{Linked.Receives, Notices.HearsNotice, Notices.is_notice, Linking.identity_of, Linking.seal_of, Pace.Paces, Pacing.pace_of};
+    ghost use Rattle.dn_host.specs.{Coming.came_by, Coming.figures_by, Made.IsLinkOf, Offers.IsFaultOf, Offers.IsPossible, Walks.RunsWalk, Walks.begun_by, Walks.is_started};
 
     /// A player who has not begun, in a window of this width, with keys that are drawn from a seed.
     pub(crate) fn new(

@@ -1,16 +1,9 @@
 //! A session, turn by turn.
 
 ghost use Rattle.std.specs.Prelude.{◌≡◌, ◌⊎◌, false, true, None, IfOk, IfErr, IfSome, is_some, unwrap_or};
-ghost use Rattle.dn_host.specs.Begun.{has_begun};
-ghost use Rattle.dn_link.specs.Linking.{linked};
-ghost use Rattle.dn_link.specs.Pacing.{pace_of};
-ghost use Rattle.dn_host.specs.Leaving.{has_ended, left_at};
-ghost use Rattle.dn_host.specs.Parts.{IsPart, link_of};
-ghost use Rattle.dn_host.specs.Summaries.{IsSummaryBy};
-ghost use Rattle.dn_host.specs.Summed.{Measures};
-ghost use Rattle.dn_host.specs.Stages.{EndsBy, IfEnded, is_over, is_refusal};
-ghost use Rattle.dn_host.specs.Ticks.{second_after, session_next};
-ghost use Rattle.dn_host.specs.declared.leave.Stage.TheVariants.{Going};
+ghost use Rattle.dn_host.specs.{Begun.has_begun, Leaving.has_ended, Leaving.left_at, Parts.IsPart, Parts.link_of, Summaries.IsSummaryBy, Summed.Measures, Stages.EndsBy, Stages.IfEnded};
+ghost use Rattle.dn_host.specs.{Stages.is_over, Stages.is_refusal, Ticks.second_after, Ticks.session_next, declared.leave.Stage.TheVariants.Going};
+ghost use Rattle.dn_link.specs.{Linking.linked, Pacing.pace_of};
 
 use crate::ends::{Ending, HostFault, Outcome};
 use crate::game::Game;

@@ -22,13 +22,8 @@ pub(crate) fn show<S: Screen>(game: &mut Option<Game>, screen: &mut S, now: u64)
 
 impl Game {
     ghost use Rattle.std.specs.Prelude.{IfSome, is_some};
-    ghost use Rattle.dn_link.specs.Linking.{linked};
-    ghost use Rattle.dn_link.specs.Pacing.{pace_of};
-    ghost use Rattle.dn_host.specs.Begun.{has_counted};
-    ghost use Rattle.dn_host.specs.Telling.{IsStatus};
-    ghost use Rattle.dn_host.specs.Summaries.{IsSummaryBy};
-    ghost use Rattle.dn_host.specs.Ticks.{game_next};
-    ghost use Rattle.dn_host.specs.Summed.{MeasuresBy};
+    ghost use Rattle.dn_link.specs.{Linking.linked, Pacing.pace_of};
+    ghost use Rattle.dn_host.specs.{Begun.has_counted, Telling.IsStatus, Summaries.IsSummaryBy, Ticks.game_next, Summed.MeasuresBy};
 
     /// Whether it has begun.
     pub(crate) fn has_begun(&self) -> bool

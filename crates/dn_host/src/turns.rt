@@ -1,11 +1,7 @@
 //! The turns of a session, one after another.
 
 ghost use Rattle.std.specs.Prelude.{◌≡◌, ◌⊎◌, false, true, IfOk, IfErr, IfSome, is_some};
-ghost use Rattle.dn_host.specs.Leaving.{has_ended};
-ghost use Rattle.dn_host.specs.Outcomes.{IsOutcome};
-ghost use Rattle.dn_host.specs.Parts.{IsPart};
-ghost use Rattle.dn_host.specs.Seals.{IsSealedUnder};
-ghost use Rattle.dn_host.specs.Stages.{is_refusal};
+ghost use Rattle.dn_host.specs.{Leaving.has_ended, Outcomes.IsOutcome, Parts.IsPart, Seals.IsSealedUnder, Stages.is_refusal};
 ghost use Rattle.dn_host.specs.declared.ends.HostFault.TheVariants as fault;
 
 use crate::clock::{nap, now};

@@ -1,7 +1,6 @@
 //! A wire over UDP.
 
-ghost use Rattle.std.specs.Prelude.{◌≡◌, ◌≤◌, length, map, true, is_some, IfSome};
-ghost use Rattle.std.specs.Net.Addr.{ipv4_octets, ipv6_octets};
+ghost use Rattle.std.specs.{Prelude.◌≡◌, Prelude.◌≤◌, Prelude.length, Prelude.map, Prelude.true, Prelude.is_some, Prelude.IfSome, Net.Addr.ipv4_octets, Net.Addr.ipv6_octets};
 ghost use Rattle.dn_host.specs.Addresses.{address_of, mapped, own_places};
 
 use crate::wire::Wire;

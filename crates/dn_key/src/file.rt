@@ -1,11 +1,7 @@
 //! The file of a key.
 
-ghost use Rattle.std.specs.Prelude.{◌≡◌, ◌≤◌, length, take, true, IfOk, IfErr, IfSome, OnOk};
-ghost use Rattle.std.specs.Fs.{asks_create_new};
-ghost use Rattle.std.specs.Io.KnownBytes.{Appends};
-ghost use Rattle.dn_key.specs.Fault.{IsOfMaking};
-ghost use Rattle.dn_key.specs.Files.{IsRead, IsReadOf};
-ghost use Rattle.dn_key.specs.Text.{key_text};
+ghost use Rattle.std.specs.{Prelude.◌≡◌, Prelude.◌≤◌, Prelude.length, Prelude.take, Prelude.true, Prelude.IfOk, Prelude.IfErr, Prelude.IfSome, Prelude.OnOk, Fs.asks_create_new, Io.KnownBytes.Appends};
+ghost use Rattle.dn_key.specs.{Fault.IsOfMaking, Files.IsRead, Files.IsReadOf, Text.key_text};
 ghost use Rattle.dn_key.specs.declared.fault.KeyFault.TheVariants as fault;
 
 use crate::fault::KeyFault;

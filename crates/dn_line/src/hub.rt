@@ -1,8 +1,7 @@
 //! A line in memory.
 
 ghost use Rattle.std.specs.Prelude.{◌≡◌, ◌⊎◌, ◌<◌, ◌≤◌, ◌↔◌, true, length, Err, IfOk};
-ghost use Rattle.dn_line.specs.Hub.{empty_hub, is_taken, queue, hub_taken, hub_given, HubSends, HubPolls, front};
-ghost use Rattle.dn_line.specs.declared.hub.HubFault.TheVariants.{Players};
+ghost use Rattle.dn_line.specs.{Hub.empty_hub, Hub.is_taken, Hub.queue, Hub.hub_taken, Hub.hub_given, Hub.HubSends, Hub.HubPolls, Hub.front, declared.hub.HubFault.TheVariants.Players};
 
 use crate::line::{Datagram, KEPT, Line, LineFault, count_after};
 use arrayvec::ArrayVec;
@@ -32,8 +31,7 @@ pub struct MemoryHub {
 }
 
 impl Model for MemoryHub {
-    ghost use Rattle.std.specs.Prelude.{◌≡◌, ◌≤◌, map, length};
-    ghost use Rattle.std.specs.Vec.{vec_capacity};
+    ghost use Rattle.std.specs.{Prelude.◌≡◌, Prelude.◌≤◌, Prelude.map, Prelude.length, Vec.vec_capacity};
     ghost use Rattle.dn_line.specs.Hub.{Hub};
 
     ghost Value = { Hub };

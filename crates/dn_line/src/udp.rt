@@ -1,8 +1,8 @@
 //! A line over UDP, between the ports of this machine.
 
 ghost use Rattle.std.specs.Prelude.{◌≡◌, ◌⊎◌, ◌<◌, ◌≤◌, ◌+◌, true, false, is_some, IsErr, IfOk, IfErr, IfSome};
-ghost use Rattle.dn_line.specs.Udp.{IsBase, is_bound, is_route, UdpSends, UdpPolls};
-ghost use Rattle.dn_line.specs.declared.line.LineFault.TheVariants.{Bind, Send, Poll};
+ghost use Rattle.dn_line.specs.{Udp.IsBase, Udp.is_bound, Udp.is_route, Udp.UdpSends, Udp.UdpPolls, declared.line.LineFault.TheVariants.Bind, declared.line.LineFault.TheVariants.Send};
+ghost use Rattle.dn_line.specs.{declared.line.LineFault.TheVariants.Poll};
 
 use crate::line::{Datagram, KEPT, Line, LineFault, count_after};
 use arrayvec::ArrayVec;

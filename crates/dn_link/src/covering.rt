@@ -2,15 +2,8 @@
 
 ghost use Rattle.std.specs.Prelude.{◌≡◌, ◌<◌, ◌≤◌, ◌↔◌, ℕ, ◌+◌, true, List, length, map, Some};
 ghost use Rattle.dn_seal.specs.declared.seal.Seal.{Seal};
-ghost use Rattle.dn_link.specs.declared.bundle.Carried.{Carried};
-ghost use Rattle.dn_link.specs.declared.bundle.Identity.{Identity};
-ghost use Rattle.dn_link.specs.declared.link.Link.{Link};
-ghost use Rattle.dn_link.specs.Kept.{IsCovering, IsKeptRising, Reaches, Unacknowledged, end_of, has_tic, taken_by};
-ghost use Rattle.dn_link.specs.Linked.{Gives, Linked};
-ghost use Rattle.dn_link.specs.Linking.{linked};
-ghost use Rattle.dn_link.specs.Paced.{PaceState};
-ghost use Rattle.dn_link.specs.Packets.{opened_from, packets_in};
-ghost use Rattle.dn_link.specs.Text.{parts_bytes};
+ghost use Rattle.dn_link.specs.{declared.bundle.Carried.Carried, declared.bundle.Identity.Identity, declared.link.Link.Link, Kept.IsCovering, Kept.IsKeptRising, Kept.Reaches, Kept.Unacknowledged};
+ghost use Rattle.dn_link.specs.{Kept.end_of, Kept.has_tic, Kept.taken_by, Linked.Gives, Linked.Linked, Linking.linked, Paced.PaceState, Packets.opened_from, Packets.packets_in, Text.parts_bytes};
 
 /// The packets that any link keeps for a peer have each command from the first that the peer still needs to the
 /// last that they cover. And a datagram carries all of these, unless it has no room for some: then it has

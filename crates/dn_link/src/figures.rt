@@ -1,8 +1,7 @@
 //! What is known of the line to a peer, for the screen.
 
 ghost use Rattle.std.specs.Prelude.{◌≡◌};
-ghost use Rattle.dn_link.specs.Figures.{figures_of};
-ghost use Rattle.dn_link.specs.Lines.{line_of};
+ghost use Rattle.dn_link.specs.{Figures.figures_of, Lines.line_of};
 
 use crate::line::Line;
 

@@ -1,12 +1,8 @@
 //! What a lockstep gives to a peer.
 
 ghost use Rattle.std.specs.Prelude.{◌≡◌, ◌&&◌, None, false, IfSome, is_some};
-ghost use Rattle.dn_lockstep.specs.Contents.{contents};
-ghost use Rattle.dn_lockstep.specs.Near.{IsFair};
-ghost use Rattle.dn_lockstep.specs.Sent.{sent_to};
-ghost use Rattle.dn_lockstep.specs.Steps.{Tells};
-ghost use Rattle.dn_link.specs.Giving.{SendsCarried};
-ghost use Rattle.dn_link.specs.Hearing.{ByTest};
+ghost use Rattle.dn_lockstep.specs.{Contents.contents, Near.IsFair, Sent.sent_to, Steps.Tells};
+ghost use Rattle.dn_link.specs.{Giving.SendsCarried, Hearing.ByTest};
 
 use crate::append::append;
 use crate::bundle::Carried;

@@ -1,13 +1,9 @@
 //! Hearing what a datagram carries.
 
-ghost use Rattle.std.specs.Prelude.{◌≡◌};
-ghost use Rattle.std.specs.List.{flat_map};
+ghost use Rattle.std.specs.{Prelude.◌≡◌, List.flat_map};
 ghost use Rattle.dn_lockstep.specs.Contents.{contents};
-ghost use Rattle.dn_open.specs.Arrivals.{HearsOpened, SparesSealed};
-ghost use Rattle.dn_open.specs.declared.arrived.Arrived.{Arrived};
-ghost use Rattle.dn_link.specs.Hearing.{HearsUntil, HearsAll, is_start};
-ghost use Rattle.dn_link.specs.Packets.{opened_from, packets_of, packets_in};
-ghost use Rattle.dn_link.specs.declared.bundle.Part.TheVariants.{Run as of_run};
+ghost use Rattle.dn_open.specs.{Arrivals.HearsOpened, Arrivals.SparesSealed, declared.arrived.Arrived.Arrived};
+ghost use Rattle.dn_link.specs.{Hearing.HearsUntil, Hearing.HearsAll, Hearing.is_start, Packets.opened_from, Packets.packets_of, Packets.packets_in, declared.bundle.Part.TheVariants.Run as of_run};
 
 use crate::append::append;
 use crate::bundle::{Bundle, Carried, Part, Run};

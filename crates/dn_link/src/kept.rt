@@ -1,10 +1,9 @@
 //! The packets that a peer has not acknowledged.
 
-ghost use Rattle.std.specs.Prelude.{◌≡◌, ◌≤◌, ◌<◌, ◌+◌, ◌∷◌, [], ℕ, All, length, nat_le, slice_index, Option};
-ghost use Rattle.std.specs.Option.{option_map};
-ghost use Rattle.dn_link.specs.Kept.{IsCovering, IsRising, IsRising-prop, acknowledged, commands_in, end_of, going, is_idle, is_news, kept_after, takes_packet, without};
-ghost use Rattle.dn_link.specs.Packing.{ArePacked};
-ghost use Rattle.dn_link.specs.Text.{IsPart, parts_bytes};
+ghost use Rattle.std.specs.{Prelude.◌≡◌, Prelude.◌≤◌, Prelude.◌<◌, Prelude.◌+◌, Prelude.◌∷◌, Prelude.[], Prelude.ℕ, Prelude.All, Prelude.length, Prelude.nat_le, Prelude.slice_index, Prelude.Option};
+ghost use Rattle.std.specs.{Option.option_map};
+ghost use Rattle.dn_link.specs.{Kept.IsCovering, Kept.IsRising, Kept.IsRising-prop, Kept.acknowledged, Kept.commands_in, Kept.end_of, Kept.going, Kept.is_idle, Kept.is_news, Kept.kept_after};
+ghost use Rattle.dn_link.specs.{Kept.takes_packet, Kept.without, Packing.ArePacked, Text.IsPart, Text.parts_bytes};
 
 use crate::bundle::{Carried, Part};
 use crate::packing::pack;

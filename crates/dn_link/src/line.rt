@@ -2,8 +2,7 @@
 
 ghost use Rattle.std.specs.Prelude.{◌≡◌, ◌<◌, ◌≤◌, ◌+ℤ◌, ◌-ℤ◌, None, nat_abs, pos};
 ghost use Rattle.dn_lockstep.specs.Contents.{contents};
-ghost use Rattle.dn_link.specs.Line.{after_old, byte_of, counted, heard_on, lead_over, missing, after_newest, with_tally};
-ghost use Rattle.dn_link.specs.Lines.{line_of};
+ghost use Rattle.dn_link.specs.{Line.after_old, Line.byte_of, Line.counted, Line.heard_on, Line.lead_over, Line.missing, Line.after_newest, Line.with_tally, Lines.line_of};
 
 use crate::bundle::Bundle;
 use crate::presence::LATEST;

@@ -43,18 +43,11 @@ pub struct Link {
 impl Link {
     ghost use Rattle.std.specs.Prelude.{ℕ, ◌<◌, ◌+◌, false, None, Some, IfOk, Ok};
     ghost use Rattle.dn_tic.specs.declared.input.Input.TheVariants.{Pressed, Given};
-    ghost use Rattle.dn_machine.specs.Building.{on_build};
-    ghost use Rattle.dn_machine.specs.Running.{on_quit};
-    ghost use Rattle.dn_lockstep.specs.Steps.{Steps};
+    ghost use Rattle.dn_machine.specs.{Building.on_build, Running.on_quit, Game.fresh};
+    ghost use Rattle.dn_lockstep.specs.{Steps.Steps, Contents.whose, Opening.IsAdmittedWithin, Opening.limits_within, Opening.whose_within, Represents.Represents};
     ghost use Rattle.dn_setup.specs.Settings.{Settings as Choice};
-    ghost use Rattle.dn_machine.specs.Game.{fresh};
-    ghost use Rattle.dn_lockstep.specs.Contents.{whose};
-    ghost use Rattle.dn_lockstep.specs.Opening.{IsAdmittedWithin, limits_within, whose_within};
-    ghost use Rattle.dn_lockstep.specs.Represents.{Represents};
     ghost use Rattle.dn_others.specs.Keeping.{nothing_kept};
-    ghost use Rattle.dn_link.specs.Linking.{identity_of, linked, new_peer, seal_of};
-    ghost use Rattle.dn_link.specs.Pace.{after_input};
-    ghost use Rattle.dn_link.specs.Pacing.{new_pace, pace_of};
+    ghost use Rattle.dn_link.specs.{Linking.identity_of, Linking.linked, Linking.new_peer, Linking.seal_of, Pace.after_input, Pacing.new_pace, Pacing.pace_of};
     ghost use Rattle.dn_machine.specs.declared.answers.Made.TheVariants as made;
 
     /// A link with no history, of a game with this seal, and in a window of this width. What the host adds to

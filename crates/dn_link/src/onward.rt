@@ -1,29 +1,14 @@
 //! That whatever is given to a peer is covered by what is kept for it.
 
 ghost use Rattle.std.specs.Prelude.{◌≡◌, ◌≢◌, ◌<◌, ◌≤◌, ◌⊎◌, ◌+◌, ℕ, ℤ, Bool, List, Option, Some};
-ghost use Rattle.dn_tic.specs.declared.command.Move.{Move};
-ghost use Rattle.dn_tic.specs.declared.input.Input.{Input};
+ghost use Rattle.dn_tic.specs.{declared.command.Move.Move, declared.input.Input.Input};
 ghost use Rattle.dn_packet.specs.Read.{AreBytes};
 ghost use Rattle.dn_setup.specs.Settings.{Settings};
-ghost use Rattle.dn_machine.specs.declared.answers.Made.{Made};
-ghost use Rattle.dn_machine.specs.declared.answers.Ran.{Ran};
-ghost use Rattle.dn_machine.specs.Building.{on_build};
-ghost use Rattle.dn_machine.specs.Game.{fresh};
-ghost use Rattle.dn_machine.specs.Limits.{Limits};
-ghost use Rattle.dn_machine.specs.Running.{on_run, on_quit};
-ghost use Rattle.dn_lockstep.specs.Represents.{Represents};
-ghost use Rattle.dn_lockstep.specs.Runs.{RunsBy};
-ghost use Rattle.dn_lockstep.specs.Steps.{Steps};
-ghost use Rattle.dn_lockstep.specs.Told.{made};
+ghost use Rattle.dn_machine.specs.{declared.answers.Made.Made, declared.answers.Ran.Ran, Building.on_build, Game.fresh, Limits.Limits, Running.on_run, Running.on_quit};
+ghost use Rattle.dn_lockstep.specs.{Represents.Represents, Runs.RunsBy, Steps.Steps, Told.made};
 ghost use Rattle.dn_seal.specs.declared.seal.Seal.{Seal};
-ghost use Rattle.dn_link.specs.declared.bundle.Carried.{Carried};
-ghost use Rattle.dn_link.specs.declared.bundle.Identity.{Identity};
-ghost use Rattle.dn_link.specs.declared.received.Received.{Received};
-ghost use Rattle.dn_link.specs.Kept.{end_of, taken_by};
-ghost use Rattle.dn_link.specs.Linked.{Gives, Linked, Receives, forgotten};
-ghost use Rattle.dn_link.specs.Linking.{new_peer};
-ghost use Rattle.dn_link.specs.Onward.{AsksWithin, GoesOn, IsInTime, StillGoesOn};
-ghost use Rattle.dn_link.specs.Paced.{PaceState};
+ghost use Rattle.dn_link.specs.{declared.bundle.Carried.Carried, declared.bundle.Identity.Identity, declared.received.Received.Received, Kept.end_of, Kept.taken_by, Linked.Gives, Linked.Linked};
+ghost use Rattle.dn_link.specs.{Linked.Receives, Linked.forgotten, Linking.new_peer, Onward.AsksWithin, Onward.GoesOn, Onward.IsInTime, Onward.StillGoesOn, Paced.PaceState};
 
 use dn_packet::every_datagram_is_read;
 use dn_setup::every_packet_is_told;

@@ -3,10 +3,8 @@
 ghost use Rattle.std.specs.Prelude.{◌≡◌, ◌≤◌, ◌+ℤ◌, pos, nat_abs};
 ghost use Rattle.dn_machine.specs.declared.answers.Made.{Made as AnyMade};
 ghost use Rattle.dn_lockstep.specs.Contents.{contents};
-ghost use Rattle.dn_link.specs.Leaning.{looks, step_of, worked_off};
-ghost use Rattle.dn_link.specs.Pace.{after_input, after_refusal, owed_after, still_owed, with_leads};
-ghost use Rattle.dn_link.specs.Pacing.{new_pace, state_of};
-ghost use Rattle.dn_link.specs.Stretching.{stretches};
+ghost use Rattle.dn_link.specs.{Leaning.looks, Leaning.step_of, Leaning.worked_off, Pace.after_input, Pace.after_refusal, Pace.owed_after, Pace.still_owed, Pace.with_leads, Pacing.new_pace};
+ghost use Rattle.dn_link.specs.{Pacing.state_of, Stretching.stretches};
 
 mod lines;
 

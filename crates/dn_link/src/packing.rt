@@ -1,12 +1,9 @@
 //! Writing packets compactly, as parts of a datagram.
 
-ghost use Rattle.std.specs.Prelude.{◌≡◌, ◌≤◌, ◌<◌, ◌+◌, ◌/◌, ◌%◌, ◌^◌, ◌++◌, ◌∷◌, [], ℕ, All, length, false, true};
-ghost use Rattle.std.specs.List.{flat_map};
-ghost use Rattle.dn_link.specs.Packets.{opened_from, packets_of, short_packet};
-ghost use Rattle.dn_link.specs.declared.bundle.Part.TheVariants.{Whole};
-ghost use Rattle.dn_link.specs.OpenPacking.{HasRoom, IsOpen, IsPacking, IsTight, MayFollow, packed, part_of};
-ghost use Rattle.dn_link.specs.Packing.{ArePacked, IsNeeded};
-ghost use Rattle.dn_link.specs.Text.{IsPart, parts_bytes};
+ghost use Rattle.std.specs.{Prelude.◌≡◌, Prelude.◌≤◌, Prelude.◌<◌, Prelude.◌+◌, Prelude.◌/◌, Prelude.◌%◌, Prelude.◌^◌, Prelude.◌++◌, Prelude.◌∷◌, Prelude.[], Prelude.ℕ, Prelude.All, Prelude.length};
+ghost use Rattle.std.specs.{Prelude.false, Prelude.true, List.flat_map};
+ghost use Rattle.dn_link.specs.{Packets.opened_from, Packets.packets_of, Packets.short_packet, declared.bundle.Part.TheVariants.Whole, OpenPacking.HasRoom, OpenPacking.IsOpen, OpenPacking.IsPacking};
+ghost use Rattle.dn_link.specs.{OpenPacking.IsTight, OpenPacking.MayFollow, OpenPacking.packed, OpenPacking.part_of, Packing.ArePacked, Packing.IsNeeded, Text.IsPart, Text.parts_bytes};
 
 use crate::append::append;
 use crate::bundle::{Carried, Part, Run};

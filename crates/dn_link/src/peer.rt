@@ -37,11 +37,8 @@ fn larger(one: &[u32; 4], other: &[u32; 4]) -> [u32; 4]
 
 impl Peer {
     ghost use Rattle.std.specs.Prelude.{All, length, ◌≤◌, ◌<◌, ◌+◌, ◌%◌, ◌^◌, ◌||◌, slice_index};
-    ghost use Rattle.dn_link.specs.Kept.{acknowledged, going, kept_after, taken_by};
-    ghost use Rattle.dn_link.specs.Linking.{new_peer, state_of};
-    ghost use Rattle.dn_link.specs.Packing.{ArePacked};
-    ghost use Rattle.dn_link.specs.Presence.{still_given};
-    ghost use Rattle.dn_link.specs.Text.{IsPart, parts_bytes};
+    ghost use Rattle.dn_link.specs.{Kept.acknowledged, Kept.going, Kept.kept_after, Kept.taken_by, Linking.new_peer, Linking.state_of, Packing.ArePacked, Presence.still_given, Text.IsPart};
+    ghost use Rattle.dn_link.specs.{Text.parts_bytes};
 
     /// Of which nothing is known.
     pub(crate) fn new() -> Peer

@@ -1,10 +1,10 @@
 //! Who is there.
 
 ghost use Rattle.std.specs.Prelude.{◌≡◌, Option};
-ghost use Rattle.dn_link.specs.Ends.{tells_end};
-ghost use Rattle.dn_link.specs.Presence.{Becomes, Differs, Greets, cause_byte, when_forgotten, goes, has_gone, has_left, has_played, is_fresh, is_playing, is_there, may_come, message_of, plays_on, still_given, takes_part};
-ghost use Rattle.dn_machine.specs.declared.answers.Cause.{Cause as AnyCause};
-ghost use Rattle.dn_machine.specs.declared.answers.Phase.{Phase as AnyPhase};
+ghost use Rattle.dn_link.specs.{Ends.tells_end, Presence.Becomes, Presence.Differs, Presence.Greets, Presence.cause_byte, Presence.when_forgotten, Presence.goes, Presence.has_gone, Presence.has_left};
+ghost use Rattle.dn_link.specs.{Presence.has_played, Presence.is_fresh, Presence.is_playing, Presence.is_there, Presence.may_come, Presence.message_of, Presence.plays_on, Presence.still_given};
+ghost use Rattle.dn_link.specs.{Presence.takes_part};
+ghost use Rattle.dn_machine.specs.{declared.answers.Cause.Cause as AnyCause, declared.answers.Phase.Phase as AnyPhase};
 
 use crate::bundle::{Bundle, Identity, Message};
 use crate::counting::tells_end;

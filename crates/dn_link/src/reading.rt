@@ -1,12 +1,8 @@
 //! Reading any bytes as the datagram of a bundle.
 
 ghost use Rattle.std.specs.Prelude.{◌≤◌, ◌≡◌, length, take, drop, IsTrue, ◌↔◌, Result};
-ghost use Rattle.dn_seal.specs.Opening.{told_game};
-ghost use Rattle.dn_seal.specs.Sealing.{sealing};
-ghost use Rattle.dn_link.specs.declared.bundle.Bundle.{Bundle};
-ghost use Rattle.dn_link.specs.declared.bundle.BundleFault.{BundleFault};
-ghost use Rattle.dn_link.specs.Told.{told_bundle};
-ghost use Rattle.dn_link.specs.Reading.{IsBundledAs};
+ghost use Rattle.dn_seal.specs.{Opening.told_game, Sealing.sealing};
+ghost use Rattle.dn_link.specs.{declared.bundle.Bundle.Bundle, declared.bundle.BundleFault.BundleFault, Told.told_bundle, Reading.IsBundledAs};
 
 mod fields;
 mod parts;

@@ -1,9 +1,7 @@
 //! The packet of one command, without a request or a flag, by its command alone.
 
 ghost use Rattle.std.specs.Prelude.{◌≡◌, IfSome, None};
-ghost use Rattle.dn_link.specs.declared.bundle.Part.TheVariants.{Whole};
-ghost use Rattle.dn_link.specs.Packets.{short_packet};
-ghost use Rattle.dn_link.specs.Packing.{IsNeeded};
+ghost use Rattle.dn_link.specs.{declared.bundle.Part.TheVariants.Whole, Packets.short_packet, Packing.IsNeeded};
 
 use crate::append::append;
 use crate::bundle::Carried;

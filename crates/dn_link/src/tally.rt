@@ -1,8 +1,8 @@
 //! What came over a line, in numbers for the screen.
 
 ghost use Rattle.std.specs.Prelude.{◌≡◌, ◌<◌, ◌≤◌};
-ghost use Rattle.dn_link.specs.Tally.{begins, comes_again, comes_late, comes_too_late, falls_back, goes_on, seen_later, tallied, was_seen};
-ghost use Rattle.dn_link.specs.Lines.{tally_of};
+ghost use Rattle.dn_link.specs.{Tally.begins, Tally.comes_again, Tally.comes_late, Tally.comes_too_late, Tally.falls_back, Tally.goes_on, Tally.seen_later, Tally.tallied, Tally.was_seen};
+ghost use Rattle.dn_link.specs.{Lines.tally_of};
 
 /// How many of the last numbers are known one by one.
 const KNOWN: u32 = 64;

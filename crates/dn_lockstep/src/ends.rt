@@ -1,15 +1,11 @@
 //! What holds of the ends that a lockstep is told.
 
-ghost use Rattle.std.specs.Prelude.{◌≡◌, ◌≤◌, ◌+◌, ◌++◌, ◌||◌, ℕ, Bool, List, Some, false, length, drop, if◌then◌else◌};
-ghost use Rattle.std.specs.List.{list_any};
+ghost use Rattle.std.specs.{Prelude.◌≡◌, Prelude.◌≤◌, Prelude.◌+◌, Prelude.◌++◌, Prelude.◌||◌, Prelude.ℕ, Prelude.Bool, Prelude.List, Prelude.Some, Prelude.false, Prelude.length, Prelude.drop};
+ghost use Rattle.std.specs.{Prelude.if◌then◌else◌, List.list_any};
 ghost use Rattle.dn_tic.specs.declared.command.TicCmd.{TicCmd};
-ghost use Rattle.dn_machine.specs.Limits.{Limits};
+ghost use Rattle.dn_machine.specs.{Limits.Limits, Node.ends_of, Node.got, Node.is_ended, Node.ran, Settling.settled_one, Settling.settled_to};
 ghost use Rattle.dn_machine.specs.Node as machine;
-ghost use Rattle.dn_machine.specs.Node.{ends_of, got, is_ended, ran};
-ghost use Rattle.dn_machine.specs.Settling.{settled_one, settled_to};
-ghost use Rattle.dn_lockstep.specs.Phases.{is_listening};
-ghost use Rattle.dn_lockstep.specs.Rings.{is_stop};
-ghost use Rattle.dn_lockstep.specs.Settling.{is_no_peer, is_other_end, on_settle};
+ghost use Rattle.dn_lockstep.specs.{Phases.is_listening, Rings.is_stop, Settling.is_no_peer, Settling.is_other_end, Settling.on_settle};
 ghost use Rattle.dn_lockstep.specs.declared.lockstep.settling.Settled.TheVariants as Settled;
 
 /// The last of a player's commands are enough: a node that has the first of them, and is told the others from a

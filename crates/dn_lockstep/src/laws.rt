@@ -1,48 +1,19 @@
 //! What holds of the locksteps of every game, whatever worlds their callers step.
 
-ghost use Rattle.std.specs.Prelude.{◌≡◌, ◌<◌, ◌≤◌, ◌+◌, ◌||◌, ℕ, ℤ, Bool, List, true, false, Option, Some, Ok, IfSome, ◌⊎◌, get_or, length, pos, slice_get};
-ghost use Rattle.std.specs.Option.{option_map};
+ghost use Rattle.std.specs.{Prelude.◌≡◌, Prelude.◌<◌, Prelude.◌≤◌, Prelude.◌+◌, Prelude.◌||◌, Prelude.ℕ, Prelude.ℤ, Prelude.Bool, Prelude.List, Prelude.true, Prelude.false, Prelude.Option};
+ghost use Rattle.std.specs.{Prelude.Some, Prelude.Ok, Prelude.IfSome, Prelude.◌⊎◌, Prelude.get_or, Prelude.length, Prelude.pos, Prelude.slice_get, Option.option_map};
 ghost use Rattle.dn_machine.specs.Drops as drops;
-ghost use Rattle.dn_tic.specs.declared.command.Move.{Move};
-ghost use Rattle.dn_tic.specs.declared.input.Input.{Input};
-ghost use Rattle.dn_setup.specs.Settings.{Settings};
-ghost use Rattle.dn_setup.specs.Starts.{start_of};
-ghost use Rattle.dn_demo.specs.Layout.{long_tics};
-ghost use Rattle.dn_demo.specs.Reading.{IsReadAs, written_demo};
-ghost use Rattle.dn_machine.specs.declared.answers.Cause.{Cause};
-ghost use Rattle.dn_machine.specs.declared.answers.Heard.{Heard};
-ghost use Rattle.dn_machine.specs.declared.answers.Made.{Made};
-ghost use Rattle.dn_machine.specs.declared.answers.Phase.TheVariants.{Ended};
-ghost use Rattle.dn_machine.specs.declared.answers.Ran.{Ran};
-ghost use Rattle.dn_machine.specs.Building.{on_build};
-ghost use Rattle.dn_machine.specs.Flight.{Flight, is_near};
-ghost use Rattle.dn_machine.specs.Game.{fresh};
-ghost use Rattle.dn_machine.specs.Limits.{Limits, IsWindow};
-ghost use Rattle.dn_machine.specs.Progress.{IsSwift, GoesInto};
-ghost use Rattle.dn_lockstep.specs.declared.config.Config.{Config};
-ghost use Rattle.dn_lockstep.specs.Opening.{CanBeAhead, FitsPackets, limits_in, limits_within};
+ghost use Rattle.dn_tic.specs.{declared.command.Move.Move, declared.input.Input.Input, declared.command.TicCmd.TicCmd};
+ghost use Rattle.dn_setup.specs.{Settings.Settings, Starts.start_of};
+ghost use Rattle.dn_demo.specs.{Layout.long_tics, Reading.IsReadAs, Reading.written_demo};
+ghost use Rattle.dn_machine.specs.{declared.answers.Cause.Cause, declared.answers.Heard.Heard, declared.answers.Made.Made, declared.answers.Phase.TheVariants.Ended, declared.answers.Ran.Ran};
+ghost use Rattle.dn_machine.specs.{Building.on_build, Flight.Flight, Flight.is_near, Game.fresh, Limits.Limits, Limits.IsWindow, Progress.IsSwift, Progress.GoesInto, Nearness.is_start_near};
+ghost use Rattle.dn_machine.specs.{Node.demo_rows, Node.is_ended, Promise.Agree, Promise.Fits, Promise.Steady, Running.is_over, Running.on_run, Running.on_quit, Worlds.command};
+ghost use Rattle.dn_lockstep.specs.{declared.config.Config.Config, Opening.CanBeAhead, Opening.FitsPackets, Opening.limits_in, Opening.limits_within, Told.command_told, Told.made, Contents.Contents};
+ghost use Rattle.dn_lockstep.specs.{Contents.end_in, Hearing.HearsNear, Marking.Marking, Near.IsFair, OneGame.beside, OneGame.world_told, OneGame.AreOneGame, OneGame.IsGivenAs, Agreed.AreAgreed};
+ghost use Rattle.dn_lockstep.specs.{Demos.rows_to, Phases.is_listening, Represents.Represents, Rows.seats_of, Runs.RunsBy, Sent.sent_to, Sent.bytes_of, Session.Session, Session.opening_session};
+ghost use Rattle.dn_lockstep.specs.{Session.with_lockstep, Session.after_build, Session.after_packet, Session.after_run, Steps.Steps, Steps.Tells};
 ghost use Rattle.dn_machine.specs.Node as machine;
-ghost use Rattle.dn_machine.specs.Nearness.{is_start_near};
-ghost use Rattle.dn_machine.specs.Node.{demo_rows, is_ended};
-ghost use Rattle.dn_machine.specs.Promise.{Agree, Fits, Steady};
-ghost use Rattle.dn_machine.specs.Running.{is_over, on_run, on_quit};
-ghost use Rattle.dn_machine.specs.Worlds.{command};
-ghost use Rattle.dn_tic.specs.declared.command.TicCmd.{TicCmd};
-ghost use Rattle.dn_lockstep.specs.Told.{command_told, made};
-ghost use Rattle.dn_lockstep.specs.Contents.{Contents, end_in};
-ghost use Rattle.dn_lockstep.specs.Hearing.{HearsNear};
-ghost use Rattle.dn_lockstep.specs.Marking.{Marking};
-ghost use Rattle.dn_lockstep.specs.Near.{IsFair};
-ghost use Rattle.dn_lockstep.specs.OneGame.{beside, world_told, AreOneGame, IsGivenAs};
-ghost use Rattle.dn_lockstep.specs.Agreed.{AreAgreed};
-ghost use Rattle.dn_lockstep.specs.Demos.{rows_to};
-ghost use Rattle.dn_lockstep.specs.Phases.{is_listening};
-ghost use Rattle.dn_lockstep.specs.Represents.{Represents};
-ghost use Rattle.dn_lockstep.specs.Rows.{seats_of};
-ghost use Rattle.dn_lockstep.specs.Runs.{RunsBy};
-ghost use Rattle.dn_lockstep.specs.Sent.{sent_to, bytes_of};
-ghost use Rattle.dn_lockstep.specs.Session.{Session, opening_session, with_lockstep, after_build, after_packet, after_run};
-ghost use Rattle.dn_lockstep.specs.Steps.{Steps, Tells};
 
 /// Each window that a lockstep can have is one of which the laws of `dn_machine` speak (`every_window_agrees`,
 /// `no_deadlock_in_windows`). All that a lockstep keeps goes into one packet up to six ahead, into two up to

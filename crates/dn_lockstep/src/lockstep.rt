@@ -1,16 +1,10 @@
 //! One player's lockstep, and what it tells of itself.
 
 ghost use Rattle.std.specs.Prelude.{◌≡◌, ◌≢◌, ℕ, ◌+◌, ◌*◌, ◌<◌, ◌≤◌, true, false, nat_lt, if◌then◌else◌, length, Some, None, is_some};
-ghost use Rattle.dn_demo.specs.Layout.{long_tics};
-ghost use Rattle.dn_demo.specs.Places.{place, seats_in};
-ghost use Rattle.dn_demo.specs.Recorded.{recorded_size};
-ghost use Rattle.dn_demo.specs.declared.recorder.Stage.TheVariants.{Blank, Open, Closed};
-ghost use Rattle.dn_machine.specs.declared.answers.Phase.TheVariants.{Gathering, Playing};
-ghost use Rattle.dn_machine.specs.Running.{tic_limit};
-ghost use Rattle.dn_lockstep.specs.Phases.{is_waiting};
-ghost use Rattle.dn_lockstep.specs.Rings.{ring_at, count_of};
-ghost use Rattle.dn_lockstep.specs.Peers.{peer_at};
-ghost use Rattle.dn_lockstep.specs.Rows.{seats_of, is_gone, has_gone};
+ghost use Rattle.dn_demo.specs.{Layout.long_tics, Places.place, Places.seats_in, Recorded.recorded_size, declared.recorder.Stage.TheVariants.Blank, declared.recorder.Stage.TheVariants.Open};
+ghost use Rattle.dn_demo.specs.{declared.recorder.Stage.TheVariants.Closed};
+ghost use Rattle.dn_machine.specs.{declared.answers.Phase.TheVariants.Gathering, declared.answers.Phase.TheVariants.Playing, Running.tic_limit};
+ghost use Rattle.dn_lockstep.specs.{Phases.is_waiting, Rings.ring_at, Rings.count_of, Peers.peer_at, Rows.seats_of, Rows.is_gone, Rows.has_gone};
 
 pub(crate) mod aiming;
 pub(crate) mod building;
@@ -93,10 +87,7 @@ pub struct Lockstep {
 
 impl Lockstep {
     ghost use Rattle.dn_machine.specs.Node.{known_end};
-    ghost use Rattle.dn_lockstep.specs.Contents.{contents, end_in};
-    ghost use Rattle.dn_lockstep.specs.Commands.{last_held};
-    ghost use Rattle.dn_lockstep.specs.Told.{command_told};
-    ghost use Rattle.dn_lockstep.specs.Steps.{Tells};
+    ghost use Rattle.dn_lockstep.specs.{Contents.contents, Contents.end_in, Commands.last_held, Told.command_told, Steps.Tells};
 
     /// The number of its player.
     pub fn me(&self) -> u8

@@ -1,8 +1,7 @@
 //! What a node keeps of each peer.
 
 ghost use Rattle.std.specs.Prelude.{◌≡◌, ◌≢◌, ◌<◌, ℕ};
-ghost use Rattle.dn_machine.specs.Node.{no_peer};
-ghost use Rattle.dn_machine.specs.Hearing.{after_request, after_exit, is_strange_end};
+ghost use Rattle.dn_machine.specs.{Node.no_peer, Hearing.after_request, Hearing.after_exit, Hearing.is_strange_end};
 ghost use Rattle.dn_lockstep.specs.Peers.{peer_at};
 
 use dn_machine::Peer;

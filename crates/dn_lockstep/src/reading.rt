@@ -1,9 +1,7 @@
 //! What a node looks for in a packet of commands.
 
-ghost use Rattle.std.specs.Prelude.{◌≡◌, ◌≤◌, ◌+◌, false, IfOk};
-ghost use Rattle.std.specs.List.{list_any};
-ghost use Rattle.dn_lockstep.specs.Rings.{is_stop};
-ghost use Rattle.dn_lockstep.specs.Reading.{request_in, start_in, has_flag};
+ghost use Rattle.std.specs.{Prelude.◌≡◌, Prelude.◌≤◌, Prelude.◌+◌, Prelude.false, Prelude.IfOk, List.list_any};
+ghost use Rattle.dn_lockstep.specs.{Rings.is_stop, Reading.request_in, Reading.start_in, Reading.has_flag};
 
 use dn_machine::Dropped;
 use dn_packet::{Packet, RETRANSMIT};

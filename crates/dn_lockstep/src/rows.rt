@@ -2,13 +2,9 @@
 
 ghost use Rattle.std.specs.Prelude.{◌≡◌, ◌<◌, ◌≤◌, ◌+◌, ℕ, nat_lt, not, All, None, [], ◌∷◌, true, false, IfSome, if◌then◌else◌};
 ghost use Rattle.dn_demo.specs.Rows.{IsMove, IsRow};
-ghost use Rattle.dn_machine.specs.Node.{lowest, is_whole};
-ghost use Rattle.dn_machine.specs.Running.{tic_limit};
-ghost use Rattle.dn_machine.specs.Limits.{four};
-ghost use Rattle.dn_lockstep.specs.Rings.{ring_at};
-ghost use Rattle.dn_lockstep.specs.Marks.{slot};
-ghost use Rattle.dn_lockstep.specs.Peers.{peer_at};
-ghost use Rattle.dn_lockstep.specs.Rows.{seats_of, mark_at, move_held, differs, differs_but, has, is_missing, is_gone, has_gone};
+ghost use Rattle.dn_machine.specs.{Node.lowest, Node.is_whole, Running.tic_limit, Limits.four};
+ghost use Rattle.dn_lockstep.specs.{Rings.ring_at, Marks.slot, Peers.peer_at, Rows.seats_of, Rows.mark_at, Rows.move_held, Rows.differs, Rows.differs_but, Rows.has, Rows.is_missing, Rows.is_gone};
+ghost use Rattle.dn_lockstep.specs.{Rows.has_gone};
 
 use crate::marks::Marks;
 use crate::peers::Peers;

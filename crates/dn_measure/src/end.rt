@@ -1,7 +1,6 @@
 //! How a session ended.
 
-ghost use Rattle.std.specs.Prelude.{◌≡◌, ◌++◌, OnOk, IfOk};
-ghost use Rattle.std.specs.String.{string_bytes};
+ghost use Rattle.std.specs.{Prelude.◌≡◌, Prelude.◌++◌, Prelude.OnOk, Prelude.IfOk, String.string_bytes};
 ghost use Rattle.dn_measure.specs.Ends.{end_text, judged_lines, player_text, session_lines, status_of};
 
 use crate::fields::push_fields;

@@ -1,7 +1,6 @@
 //! Labelled numbers, as the printed lines have them.
 
-ghost use Rattle.std.specs.Prelude.{◌≡◌, ◌++◌, codes, pos, OnOk};
-ghost use Rattle.std.specs.String.{string_bytes};
+ghost use Rattle.std.specs.{Prelude.◌≡◌, Prelude.◌++◌, Prelude.codes, Prelude.pos, Prelude.OnOk, String.string_bytes};
 ghost use Rattle.dn_measure.specs.Fields.{labelled, fields_of, with_tenth};
 
 use std::alloc::AllocError;

@@ -1,7 +1,6 @@
 //! The lines of what a line carries or lacks.
 
-ghost use Rattle.std.specs.Prelude.{◌≡◌, ◌++◌, Bool, OnOk};
-ghost use Rattle.std.specs.String.{string_bytes};
+ghost use Rattle.std.specs.{Prelude.◌≡◌, Prelude.◌++◌, Prelude.Bool, Prelude.OnOk, String.string_bytes};
 ghost use Rattle.dn_measure.specs.Lacking.{beginning, ending, rate_text, loss_text, figure_text, lack_line, lack_lines, judgement, verdict_lines};
 
 use crate::fields::{push_fields, push_tenths};

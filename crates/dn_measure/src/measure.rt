@@ -22,9 +22,7 @@ pub struct Measure {
 
 impl Measure {
     ghost use Rattle.std.specs.Prelude.{◌≡◌, ◌≤◌, ℕ, List, [], ◌∷◌, ◌++◌};
-    ghost use Rattle.dn_measure.specs.declared.told.Told.{Told};
-    ghost use Rattle.dn_measure.specs.declared.told.Told.TheVariants.{Built, Ran};
-    ghost use Rattle.dn_measure.specs.Measure.{IsMeasureOf, IsSummaryOf};
+    ghost use Rattle.dn_measure.specs.{declared.told.Told.Told, declared.told.Told.TheVariants.Built, declared.told.Told.TheVariants.Ran, Measure.IsMeasureOf, Measure.IsSummaryOf};
 
     /// Nothing, of a game that begins now.
     pub fn new(start: u64) -> Measure

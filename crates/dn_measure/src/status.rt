@@ -1,7 +1,6 @@
 //! The line that is printed each second of play.
 
-ghost use Rattle.std.specs.Prelude.{◌≡◌, ◌++◌, OnOk, IfOk};
-ghost use Rattle.std.specs.String.{string_bytes};
+ghost use Rattle.std.specs.{Prelude.◌≡◌, Prelude.◌++◌, Prelude.OnOk, Prelude.IfOk, String.string_bytes};
 ghost use Rattle.dn_measure.specs.StatusLine.{rate_text, waiting_text, refused_text, peer_text, peer_texts, status_line};
 
 use crate::arrivals::Arrivals;

@@ -1,9 +1,7 @@
 //! The lines of what was measured.
 
-ghost use Rattle.std.specs.Prelude.{◌≡◌, ◌+◌, ◌/◌, ◌++◌, OnOk, IfOk};
-ghost use Rattle.std.specs.String.{string_bytes};
-ghost use Rattle.dn_measure.specs.Lines.{felt_text, played_line, gaps_line, keys_line, peer_line, peer_lines};
-ghost use Rattle.dn_measure.specs.SummaryLines.{figure_lines, summary_lines};
+ghost use Rattle.std.specs.{Prelude.◌≡◌, Prelude.◌+◌, Prelude.◌/◌, Prelude.◌++◌, Prelude.OnOk, Prelude.IfOk, String.string_bytes};
+ghost use Rattle.dn_measure.specs.{Lines.felt_text, Lines.played_line, Lines.gaps_line, Lines.keys_line, Lines.peer_line, Lines.peer_lines, SummaryLines.figure_lines, SummaryLines.summary_lines};
 
 use crate::arrivals::Arrivals;
 use crate::felt::Felt;

@@ -1,13 +1,9 @@
 //! Showing a demo: what it has and where its players end, or why it is none.
 
-ghost use Rattle.std.specs.Prelude.{◌≡◌, ℕ, ◌+◌, List, Err, IfOk, IfErr};
-ghost use Rattle.std.specs.String.{string_bytes};
+ghost use Rattle.std.specs.{Prelude.◌≡◌, Prelude.ℕ, Prelude.◌+◌, Prelude.List, Prelude.Err, Prelude.IfOk, Prelude.IfErr, String.string_bytes};
 ghost use Rattle.dn_world.specs.Plane.{walking};
 ghost use Rattle.dn_demo.specs.Feeding.{Shows};
-ghost use Rattle.dn_netgame.specs.DemoShown.{demo_limit, IsDemo};
-ghost use Rattle.dn_netgame.specs.Shown.{ShowsOrFails};
-ghost use Rattle.dn_netgame.specs.Transfer.{TakesUpTo};
-ghost use Rattle.dn_netgame.specs.declared.fault.RunFault.{RunFault};
+ghost use Rattle.dn_netgame.specs.{DemoShown.demo_limit, DemoShown.IsDemo, Shown.ShowsOrFails, Transfer.TakesUpTo, declared.fault.RunFault.RunFault};
 
 use crate::fault::RunFault;
 use crate::feeding::{fed_demo, feed_demo};

@@ -2,12 +2,8 @@
 
 ghost use Rattle.std.specs.Prelude.{◌≡◌, ℕ, ◌+◌, List, Ok, Err, IfOk, IfErr};
 ghost use Rattle.dn_world.specs.Plane.{walking};
-ghost use Rattle.dn_demo.specs.Reading.{Recording};
-ghost use Rattle.dn_demo.specs.Feeding.{Shows};
-ghost use Rattle.dn_demo.specs.Fed.{Summarizes};
-ghost use Rattle.dn_netgame.specs.DemoShown.{demo_limit, IsDemoInput, IsDemoRefused};
-ghost use Rattle.dn_netgame.specs.Transfer.{TakesUpTo, TakesFewer};
-ghost use Rattle.dn_netgame.specs.declared.fault.RunFault.{RunFault};
+ghost use Rattle.dn_demo.specs.{Reading.Recording, Feeding.Shows, Fed.Summarizes};
+ghost use Rattle.dn_netgame.specs.{DemoShown.demo_limit, DemoShown.IsDemoInput, DemoShown.IsDemoRefused, Transfer.TakesUpTo, Transfer.TakesFewer, declared.fault.RunFault.RunFault};
 
 use crate::fault::RunFault;
 use crate::input::{INPUT_LIMIT, TOO_LONG, line_of};

@@ -4,8 +4,7 @@ ghost use Rattle.std.specs.Prelude.{◌≡◌, length, IfOk};
 ghost use Rattle.dn_world.specs.Plane.{walking};
 ghost use Rattle.dn_demo.specs.Recorded.{IsLimit};
 ghost use Rattle.dn_lockstep.specs.Opening.{IsGame};
-ghost use Rattle.dn_game.specs.Observed.{IsStormedObserved};
-ghost use Rattle.dn_game.specs.Opening.{rules_in};
+ghost use Rattle.dn_game.specs.{Observed.IsStormedObserved, Opening.rules_in};
 
 use dn_game::{GameConfig, GameFault, Observer, Played, storm_observed};
 use dn_world::Walk;

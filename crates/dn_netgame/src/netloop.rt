@@ -1,15 +1,12 @@
 //! All nodes of a game over UDP.
 
-ghost use Rattle.std.specs.Prelude.{◌≡◌, ◌++◌, [], length, IfOk, IfErr, IfSome, OnOk};
-ghost use Rattle.std.specs.String.{string_bytes};
+ghost use Rattle.std.specs.{Prelude.◌≡◌, Prelude.◌++◌, Prelude.[], Prelude.length, Prelude.IfOk, Prelude.IfErr, Prelude.IfSome, Prelude.OnOk, String.string_bytes};
 ghost use Rattle.dn_demo.specs.Recorded.{IsLimit};
 ghost use Rattle.dn_lockstep.specs.Opening.{IsGame};
 ghost use Rattle.dn_line.specs.Udp.{IsBase};
 ghost use Rattle.dn_turn.specs.Rounds.{LeadAll, TakeRounds};
 ghost use Rattle.dn_text.specs.GameLines.{node_lines};
-ghost use Rattle.dn_netgame.specs.LoopShown.{IsLoop};
-ghost use Rattle.dn_netgame.specs.Shown.{PrintsOrFails};
-ghost use Rattle.dn_netgame.specs.declared.fault.RunFault.{RunFault};
+ghost use Rattle.dn_netgame.specs.{LoopShown.IsLoop, Shown.PrintsOrFails, declared.fault.RunFault.RunFault};
 
 use crate::fault::RunFault;
 use crate::games::new_walks;

@@ -6,9 +6,7 @@ ghost use Rattle.dn_node.specs.Contents.{contents};
 ghost use Rattle.dn_lockstep.specs.Opening.{IsGame, IsKeyed};
 ghost use Rattle.dn_line.specs.Udp.{IsBase};
 ghost use Rattle.dn_turn.specs.Rounds.{LeadAll};
-ghost use Rattle.dn_netgame.specs.PlayShown.{PlaysOut, HasEverPlayed, IsPlay};
-ghost use Rattle.dn_netgame.specs.Shown.{PrintsOrFails};
-ghost use Rattle.dn_netgame.specs.declared.fault.RunFault.{RunFault};
+ghost use Rattle.dn_netgame.specs.{PlayShown.PlaysOut, PlayShown.HasEverPlayed, PlayShown.IsPlay, Shown.PrintsOrFails, declared.fault.RunFault.RunFault};
 
 use crate::fault::RunFault;
 use crate::transfer::print;

@@ -1,17 +1,12 @@
 //! Listing the rows of a demo as it is read.
 
-ghost use Rattle.std.specs.Prelude.{◌≡◌, ◌≤◌, ℕ, ◌+◌, List, [], ◌++◌, length, Option, IfOk, IfErr, OnOk};
-ghost use Rattle.std.specs.String.{string_bytes};
-ghost use Rattle.std.specs.Io.KnownBytes.{Appends};
+ghost use Rattle.std.specs.{Prelude.◌≡◌, Prelude.◌≤◌, Prelude.ℕ, Prelude.◌+◌, Prelude.List, Prelude.[], Prelude.◌++◌, Prelude.length, Prelude.Option, Prelude.IfOk, Prelude.IfErr, Prelude.OnOk};
+ghost use Rattle.std.specs.{String.string_bytes, Io.KnownBytes.Appends};
 ghost use Rattle.dn_tic.specs.declared.command.Move.{Move};
 ghost use Rattle.dn_world.specs.Plane.{walking};
-ghost use Rattle.dn_demo.specs.Feeding.{Shows};
-ghost use Rattle.dn_demo.specs.Listed.{told, AreListed, TellsFront};
+ghost use Rattle.dn_demo.specs.{Feeding.Shows, Listed.told, Listed.AreListed, Listed.TellsFront};
 ghost use Rattle.dn_text.specs.RowLines.{lines_of_rows};
-ghost use Rattle.dn_netgame.specs.DemoShown.{demo_limit};
-ghost use Rattle.dn_netgame.specs.RowsShown.{IsRowsShown, ListsUpTo};
-ghost use Rattle.dn_netgame.specs.Shown.{ShowsInput};
-ghost use Rattle.dn_netgame.specs.Transfer.{TakesUpTo};
+ghost use Rattle.dn_netgame.specs.{DemoShown.demo_limit, RowsShown.IsRowsShown, RowsShown.ListsUpTo, Shown.ShowsInput, Transfer.TakesUpTo};
 
 use crate::demo::text_of;
 use crate::fault::RunFault;

@@ -1,14 +1,10 @@
 //! Playing a script: the lines of its game, or why it is none.
 
-ghost use Rattle.std.specs.Prelude.{◌≡◌, ◌+◌, Err, IfOk, IfErr};
-ghost use Rattle.std.specs.String.{string_bytes};
+ghost use Rattle.std.specs.{Prelude.◌≡◌, Prelude.◌+◌, Prelude.Err, Prelude.IfOk, Prelude.IfErr, String.string_bytes};
 ghost use Rattle.dn_demo.specs.Recorded.{IsLimit};
 ghost use Rattle.dn_lockstep.specs.Opening.{IsGame};
 ghost use Rattle.dn_script.specs.Script.{size_limit};
-ghost use Rattle.dn_netgame.specs.Shown.{ShowsOrFails};
-ghost use Rattle.dn_netgame.specs.SimShown.{ArePlayed, IsFaultShown, IsSim};
-ghost use Rattle.dn_netgame.specs.Told.{IsQuiet, IsTrace};
-ghost use Rattle.dn_netgame.specs.declared.fault.RunFault.{RunFault};
+ghost use Rattle.dn_netgame.specs.{Shown.ShowsOrFails, SimShown.ArePlayed, SimShown.IsFaultShown, SimShown.IsSim, Told.IsQuiet, Told.IsTrace, declared.fault.RunFault.RunFault};
 
 use crate::fault::RunFault;
 use crate::games::new_walks;

@@ -3,9 +3,7 @@
 ghost use Rattle.std.specs.Prelude.{None, Some};
 ghost use Rattle.dn_demo.specs.Recorded.{IsLimit};
 ghost use Rattle.dn_lockstep.specs.Opening.{IsGame};
-ghost use Rattle.dn_netgame.specs.Shown.{PrintsOrFails};
-ghost use Rattle.dn_netgame.specs.StormShown.{IsStorm};
-ghost use Rattle.dn_netgame.specs.Told.{IsQuiet, IsTrace, IsScript};
+ghost use Rattle.dn_netgame.specs.{Shown.PrintsOrFails, StormShown.IsStorm, Told.IsQuiet, Told.IsTrace, Told.IsScript};
 
 use crate::calm::calm_after;
 use crate::fault::RunFault;

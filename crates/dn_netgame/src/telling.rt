@@ -1,7 +1,6 @@
 //! What a run tells of a game: three ways, each with an observer of its own.
 
-ghost use Rattle.std.specs.Prelude.{◌≡◌, [], IfOk};
-ghost use Rattle.std.specs.String.{string_bytes};
+ghost use Rattle.std.specs.{Prelude.◌≡◌, Prelude.[], Prelude.IfOk, String.string_bytes};
 ghost use Rattle.dn_netgame.specs.Told.{Account, IsQuiet, IsTrace, IsScript, AddsTraced, AddsScripted, HasText};
 
 use dn_game::{Done, Event, Nobody, Observer, Played, Refusal};

@@ -2,11 +2,8 @@
 
 ghost use Rattle.std.specs.Prelude.{◌≡◌, ◌+◌, Err};
 ghost use Rattle.dn_demo.specs.Recorded.{IsLimit};
-ghost use Rattle.dn_netgame.specs.DemoShown.{demo_limit};
-ghost use Rattle.dn_netgame.specs.UpgradeShown.{IsUpgradedTo, IsUpgrade};
-ghost use Rattle.dn_netgame.specs.Shown.{PrintsOrFails, ShowsOrFails};
-ghost use Rattle.dn_netgame.specs.Transfer.{TakesSome};
-ghost use Rattle.dn_netgame.specs.declared.fault.RunFault.{RunFault};
+ghost use Rattle.dn_netgame.specs.{DemoShown.demo_limit, UpgradeShown.IsUpgradedTo, UpgradeShown.IsUpgrade, Shown.PrintsOrFails, Shown.ShowsOrFails, Transfer.TakesSome};
+ghost use Rattle.dn_netgame.specs.{declared.fault.RunFault.RunFault};
 
 use crate::fault::RunFault;
 use crate::input::{INPUT_LIMIT, read_demo};

@@ -1,8 +1,7 @@
 //! One player's node, and what it tells of itself.
 
 ghost use Rattle.std.specs.Prelude.{◌≡◌, ◌<◌, true, is_some, nat_lt, if◌then◌else◌, Some, None, IfOk};
-ghost use Rattle.dn_lockstep.specs.Opening.{IsAdmitted, whose_in};
-ghost use Rattle.dn_lockstep.specs.Rings.{count_of};
+ghost use Rattle.dn_lockstep.specs.{Opening.IsAdmitted, Opening.whose_in, Rings.count_of};
 
 mod stepping;
 
@@ -23,14 +22,9 @@ pub struct Node<W> {
 impl<W: World> Node<W> {
     ghost use Rattle.dn_setup.specs.Settings.{Settings as Choice};
     ghost use Rattle.dn_demo.specs.Recorded.{capacity};
-    ghost use Rattle.dn_machine.specs.Game.{fresh};
-    ghost use Rattle.dn_machine.specs.Node.{known_end};
-    ghost use Rattle.dn_machine.specs.Worlds.{rules_of};
-    ghost use Rattle.dn_lockstep.specs.Commands.{last_held};
-    ghost use Rattle.dn_lockstep.specs.Told.{command_told};
-    ghost use Rattle.dn_node.specs.Contents.{contents, locked, whose, end_in};
-    ghost use Rattle.dn_node.specs.Represents.{Represents};
-    ghost use Rattle.dn_node.specs.Steps.{Tells};
+    ghost use Rattle.dn_machine.specs.{Game.fresh, Node.known_end, Worlds.rules_of};
+    ghost use Rattle.dn_lockstep.specs.{Commands.last_held, Told.command_told};
+    ghost use Rattle.dn_node.specs.{Contents.contents, Contents.locked, Contents.whose, Contents.end_in, Represents.Represents, Steps.Tells};
 
     /// A node with no history: player 0 gathers, the others listen. All memory that it needs is taken
     /// here; the world is given up where there is no node.

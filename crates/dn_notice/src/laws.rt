@@ -1,16 +1,10 @@
 //! Laws of sealed reports.
 
 ghost use Rattle.std.specs.Prelude.{◌≡◌, ◌≢◌, ◌<◌, ◌≤◌, ◌+◌, ◌*◌, ◌++◌, ℕ, List, All, length, slice_index, Result, Ok, Err};
-ghost use Rattle.dn_report.specs.declared.report.Report.{Report};
-ghost use Rattle.dn_report.specs.declared.report.Tail.{Tail};
-ghost use Rattle.dn_report.specs.Text.{IsReport};
-ghost use Rattle.dn_seal.specs.declared.seal.Seal.{Seal};
-ghost use Rattle.dn_seal.specs.Opening.{Sealing};
-ghost use Rattle.dn_seal.specs.Sealing.{front_bytes};
-ghost use Rattle.dn_notice.specs.declared.fault.ReportDatagramFault.{ReportDatagramFault};
-ghost use Rattle.dn_notice.specs.declared.fault.ReportDatagramFault.TheVariants.{Receiver};
-ghost use Rattle.dn_notice.specs.Opening.{IsOpenedAs};
-ghost use Rattle.dn_notice.specs.Text.{body_bytes, sealed_report_bytes};
+ghost use Rattle.dn_report.specs.{declared.report.Report.Report, declared.report.Tail.Tail, Text.IsReport};
+ghost use Rattle.dn_seal.specs.{declared.seal.Seal.Seal, Opening.Sealing, Sealing.front_bytes};
+ghost use Rattle.dn_notice.specs.{declared.fault.ReportDatagramFault.ReportDatagramFault, declared.fault.ReportDatagramFault.TheVariants.Receiver, Opening.IsOpenedAs, Text.body_bytes};
+ghost use Rattle.dn_notice.specs.{Text.sealed_report_bytes};
 
 /// What was written is read back: a sealed report is opened by its receiver as that report, from its sender,
 /// and as nothing else. Another player of the game finds that it is the receiver of none.

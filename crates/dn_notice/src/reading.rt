@@ -1,13 +1,9 @@
 //! Opening any bytes as a report.
 
 ghost use Rattle.std.specs.Prelude.{◌≡◌, ◌≤◌, ℕ, length, take, drop, IsTrue, ◌↔◌, Result, Err, None, IfSome};
-ghost use Rattle.dn_report.specs.declared.report.Report.{Report};
-ghost use Rattle.dn_report.specs.declared.report.ReportFault.{ReportFault};
-ghost use Rattle.dn_report.specs.Read.{IsReadAs};
-ghost use Rattle.dn_seal.specs.Opening.{told_game};
-ghost use Rattle.dn_seal.specs.Sealing.{sealing};
-ghost use Rattle.dn_notice.specs.declared.fault.ReportDatagramFault.{ReportDatagramFault};
-ghost use Rattle.dn_notice.specs.Opening.{IsFor, IsOpenedAs, told_report};
+ghost use Rattle.dn_report.specs.{declared.report.Report.Report, declared.report.ReportFault.ReportFault, Read.IsReadAs};
+ghost use Rattle.dn_seal.specs.{Opening.told_game, Sealing.sealing};
+ghost use Rattle.dn_notice.specs.{declared.fault.ReportDatagramFault.ReportDatagramFault, Opening.IsFor, Opening.IsOpenedAs, Opening.told_report};
 
 use crate::fault::ReportDatagramFault;
 use crate::writing::{HEAD, KIND, MAX_SEALED_REPORT, TAG};

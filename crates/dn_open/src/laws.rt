@@ -1,32 +1,17 @@
 //! What holds on an open network.
 
-ghost use Rattle.std.specs.Prelude.{◌≡◌, ◌<◌, ◌&&◌, ℕ, Bool, List, true, Option, Some, IfSome, slice_get};
-ghost use Rattle.std.specs.Option.{option_map};
+ghost use Rattle.std.specs.{Prelude.◌≡◌, Prelude.◌<◌, Prelude.◌&&◌, Prelude.ℕ, Prelude.Bool, Prelude.List, Prelude.true, Prelude.Option, Prelude.Some, Prelude.IfSome, Prelude.slice_get};
+ghost use Rattle.std.specs.{Option.option_map};
 ghost use Rattle.arrayvec.specs.ArrayVec.{ArrayVec};
 ghost use Rattle.dn_setup.specs.Settings.{Settings};
-ghost use Rattle.dn_machine.specs.declared.events.Event.{Event};
-ghost use Rattle.dn_machine.specs.Game.{Game, opening_game};
-ghost use Rattle.dn_machine.specs.Promise.{Agree, Fits, Steady};
-ghost use Rattle.dn_machine.specs.Runs.{Runs};
-ghost use Rattle.dn_machine.specs.Worlds.{rules_of, rules_within};
-ghost use Rattle.dn_machine.specs.Flight.{Flight, is_close, is_request_close};
-ghost use Rattle.dn_machine.specs.Limits.{Limits, IsWindow};
-ghost use Rattle.dn_lockstep.specs.Contents.{Contents};
-ghost use Rattle.dn_lockstep.specs.Near.{IsFair};
-ghost use Rattle.dn_lockstep.specs.Opening.{FitsPackets};
-ghost use Rattle.dn_lockstep.specs.OneGame.{beside, AreOneGame};
-ghost use Rattle.dn_lockstep.specs.Session.{Session, with_lockstep, given_on, after_packet};
-ghost use Rattle.dn_lockstep.specs.Sent.{sent_to};
-ghost use Rattle.dn_lockstep.specs.Steps.{Tells};
-ghost use Rattle.dn_lockstep.specs.Told.{made};
-ghost use Rattle.dn_lockstep.specs.Marking.{Marking};
-ghost use Rattle.dn_open.specs.Arrivals.{HearsOpened, HearsSealed, HearsPacket, SendsSealed};
-ghost use Rattle.dn_open.specs.declared.arrived.Arrived.{Arrived};
-ghost use Rattle.dn_open.specs.declared.open_event.OpenEvent.{OpenEvent};
-ghost use Rattle.dn_open.specs.OpenGames.{IsArrivedAs, IsDeliveredAs, IsGenuine, RunsOpen, StandFor};
-ghost use Rattle.dn_open.specs.Playable.{IsPlayable};
+ghost use Rattle.dn_machine.specs.{declared.events.Event.Event, Game.Game, Game.opening_game, Promise.Agree, Promise.Fits, Promise.Steady, Runs.Runs, Worlds.rules_of, Worlds.rules_within};
+ghost use Rattle.dn_machine.specs.{Flight.Flight, Flight.is_close, Flight.is_request_close, Limits.Limits, Limits.IsWindow};
+ghost use Rattle.dn_lockstep.specs.{Contents.Contents, Near.IsFair, Opening.FitsPackets, OneGame.beside, OneGame.AreOneGame, Session.Session, Session.with_lockstep, Session.given_on};
+ghost use Rattle.dn_lockstep.specs.{Session.after_packet, Sent.sent_to, Steps.Tells, Told.made, Marking.Marking};
+ghost use Rattle.dn_open.specs.{Arrivals.HearsOpened, Arrivals.HearsSealed, Arrivals.HearsPacket, Arrivals.SendsSealed, declared.arrived.Arrived.Arrived, declared.open_event.OpenEvent.OpenEvent};
+ghost use Rattle.dn_open.specs.{OpenGames.IsArrivedAs, OpenGames.IsDeliveredAs, OpenGames.IsGenuine, OpenGames.RunsOpen, OpenGames.StandFor, Playable.IsPlayable, Sealed.IsSealedAs, Sealed.WasSealed};
+ghost use Rattle.dn_open.specs.{Sealed.envelope_of, Sealed.opened_of};
 ghost use Rattle.dn_seal.specs.declared.seal.Seal.{Seal};
-ghost use Rattle.dn_open.specs.Sealed.{IsSealedAs, WasSealed, envelope_of, opened_of};
 
 use dn_setup::settings_found_again;
 use dn_world::World;

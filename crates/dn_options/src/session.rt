@@ -1,10 +1,8 @@
 //! The options of a session over a network, and of a key, read.
 
-ghost use Rattle.std.specs.Prelude.{◌≡◌, codes};
-ghost use Rattle.std.specs.Option.{option_map};
+ghost use Rattle.std.specs.{Prelude.◌≡◌, Prelude.codes, Option.option_map};
 ghost use Rattle.clap.specs.Matches.{found_of, first_value};
-ghost use Rattle.dn_options.specs.Given.{Finds, IsByteOf};
-ghost use Rattle.dn_options.specs.Session.{IsPaceOf, IsPortOf};
+ghost use Rattle.dn_options.specs.{Given.Finds, Given.IsByteOf, Session.IsPaceOf, Session.IsPortOf};
 
 use crate::{byte, value};
 use clap::ArgMatches;

@@ -1,10 +1,8 @@
 //! Hearing a report.
 
-ghost use Rattle.std.specs.Prelude.{◌≡◌, ◌≤◌};
-ghost use Rattle.std.specs.Option.{option_map};
+ghost use Rattle.std.specs.{Prelude.◌≡◌, Prelude.◌≤◌, Option.option_map};
 ghost use Rattle.dn_vanish.specs.Calls.{is_newer};
-ghost use Rattle.dn_others.specs.Keeping.{node_of};
-ghost use Rattle.dn_others.specs.Hearing.{tells_either};
+ghost use Rattle.dn_others.specs.{Keeping.node_of, Hearing.tells_either};
 
 use crate::others::Others;
 use crate::sets::is_within;
@@ -52,8 +50,7 @@ fn is_newer(players: u8, kept: &Option<Report>, report: &Report) -> bool
 
 impl Others {
     ghost use Rattle.std.specs.Prelude.{◌≡◌, ◌<◌, ◌≤◌, ◌≢◌};
-    ghost use Rattle.dn_others.specs.declared.hearing.Reported.TheVariants.{Kept};
-    ghost use Rattle.dn_others.specs.Hearing.{reported_as, with_newest};
+    ghost use Rattle.dn_others.specs.{declared.hearing.Reported.TheVariants.Kept, Hearing.reported_as, Hearing.with_newest};
 
     /// A report of another player comes to a node.
     pub fn hear(&mut self, players: u8, me: u8, from: u8, report: Report) -> Reported

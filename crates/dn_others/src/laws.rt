@@ -1,19 +1,15 @@
 //! What is kept of the others is enough for the decisions of `dn_vanish`.
 
-ghost use Rattle.std.specs.Prelude.{◌≡◌, ◌≢◌, ◌<◌, ◌≤◌, ◌+◌, ◌-◌, ◌++◌, ℕ, Bool, true, false, not, if◌then◌else◌, List, None, Some, Option, length, drop, max, slice_set};
-ghost use Rattle.std.specs.Option.{option_map, unwrap_or};
+ghost use Rattle.std.specs.{Prelude.◌≡◌, Prelude.◌≢◌, Prelude.◌<◌, Prelude.◌≤◌, Prelude.◌+◌, Prelude.◌-◌, Prelude.◌++◌, Prelude.ℕ, Prelude.Bool, Prelude.true, Prelude.false, Prelude.not};
+ghost use Rattle.std.specs.{Prelude.if◌then◌else◌, Prelude.List, Prelude.None, Prelude.Some, Prelude.Option, Prelude.length, Prelude.drop, Prelude.max, Prelude.slice_set, Option.option_map};
+ghost use Rattle.std.specs.{Option.unwrap_or};
 ghost use Rattle.dn_tic.specs.declared.command.TicCmd.{TicCmd};
 ghost use Rattle.dn_report.specs.declared.report.Report.{Report};
-ghost use Rattle.dn_vanish.specs.Node.{Node, put};
-ghost use Rattle.dn_vanish.specs.Calls.{can_decide, is_heard, is_newer};
-ghost use Rattle.dn_vanish.specs.Commands.{Holder, IsPrefixOf, fresh_holder, seen};
-ghost use Rattle.dn_vanish.specs.Decisions.{on_decision};
-ghost use Rattle.dn_vanish.specs.Reports.{decided_end};
-ghost use Rattle.dn_others.specs.declared.hearing.Reported.TheVariants.{Kept, GivenUp, Excluded, Stale};
-ghost use Rattle.dn_others.specs.declared.others.Others.{Others};
-ghost use Rattle.dn_others.specs.Keeping.{commands_of, first_of, has, nodes_of, nothing_kept, own_of, told_of};
-ghost use Rattle.dn_others.specs.Hearing.{reported_as, with_newest};
-ghost use Rattle.dn_others.specs.Represents.{AreWithin, Represents, Tells};
+ghost use Rattle.dn_vanish.specs.{Node.Node, Node.put, Calls.can_decide, Calls.is_heard, Calls.is_newer, Commands.Holder, Commands.IsPrefixOf, Commands.fresh_holder, Commands.seen};
+ghost use Rattle.dn_vanish.specs.{Decisions.on_decision, Reports.decided_end};
+ghost use Rattle.dn_others.specs.{declared.hearing.Reported.TheVariants.Kept, declared.hearing.Reported.TheVariants.GivenUp, declared.hearing.Reported.TheVariants.Excluded};
+ghost use Rattle.dn_others.specs.{declared.hearing.Reported.TheVariants.Stale, declared.others.Others.Others, Keeping.commands_of, Keeping.first_of, Keeping.has, Keeping.nodes_of};
+ghost use Rattle.dn_others.specs.{Keeping.nothing_kept, Keeping.own_of, Keeping.told_of, Hearing.reported_as, Hearing.with_newest, Represents.AreWithin, Represents.Represents, Represents.Tells};
 
 /// The calls keep it so: what is kept at first represents what the node knows, and so it does after a player
 /// was given up, and after a report came that is kept.

@@ -1,9 +1,7 @@
 //! How a session over a network ended: what is printed of it, and the exit status.
 
-ghost use Rattle.std.specs.Prelude.{◌≡◌, IfOk, is_some};
-ghost use Rattle.std.specs.String.{string_bytes};
-ghost use Rattle.dn_program.specs.Endings.{ending_lines, ending_status, hint_line, refusal_line};
-ghost use Rattle.dn_program.specs.Printed.{IsEnded, IsSessionPrinted, prints_demo};
+ghost use Rattle.std.specs.{Prelude.◌≡◌, Prelude.IfOk, Prelude.is_some, String.string_bytes};
+ghost use Rattle.dn_program.specs.{Endings.ending_lines, Endings.ending_status, Endings.hint_line, Endings.refusal_line, Printed.IsEnded, Printed.IsSessionPrinted, Printed.prints_demo};
 
 use crate::say::{say, say_line};
 use crate::status::{BROKEN_OFF, REFUSED};

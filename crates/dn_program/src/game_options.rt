@@ -1,8 +1,8 @@
 //! The options of a game, and of what is played from a script or a seed.
 
 ghost use Rattle.std.specs.Prelude.{IfOk, [], ◌∷◌};
-ghost use Rattle.dn_program.specs.Arguments.{HasMore};
-ghost use Rattle.dn_program.specs.Commands.{choice_rules, flag_rules, game_rules, limit_rule, script_rule, seed_rule, short_limit, sim_rules, storm_rules, trace_rule, upgrade_rules};
+ghost use Rattle.dn_program.specs.{Arguments.HasMore, Commands.choice_rules, Commands.flag_rules, Commands.game_rules, Commands.limit_rule, Commands.script_rule, Commands.seed_rule};
+ghost use Rattle.dn_program.specs.{Commands.short_limit, Commands.sim_rules, Commands.storm_rules, Commands.trace_rule, Commands.upgrade_rules};
 
 use crate::arguments::{switch, with, with_flag, with_number};
 use clap::Command;

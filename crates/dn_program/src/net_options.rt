@@ -1,8 +1,8 @@
 //! The options of what is played over sockets.
 
 ghost use Rattle.std.specs.Prelude.{IfOk, codes, [], ◌∷◌};
-ghost use Rattle.dn_program.specs.Arguments.{HasMore, file_rule};
-ghost use Rattle.dn_program.specs.Commands.{host_rules, join_rules, key_rules, loop_rules, play_rules, raw_rule, session_rules};
+ghost use Rattle.dn_program.specs.{Arguments.HasMore, Arguments.file_rule, Commands.host_rules, Commands.join_rules, Commands.key_rules, Commands.loop_rules, Commands.play_rules, Commands.raw_rule};
+ghost use Rattle.dn_program.specs.{Commands.session_rules};
 
 use crate::arguments::{with, with_choice, with_flag, with_number, with_word};
 use crate::game_options::{with_game, with_long_game, with_seed};

@@ -2,9 +2,8 @@
 
 ghost use Rattle.std.specs.Prelude.{◌≡◌, codes};
 ghost use Rattle.clap.specs.Matches.{found_of, first_value};
-ghost use Rattle.dn_program.specs.Joined.{IsGuestOf, IsOwnPort};
-ghost use Rattle.dn_program.specs.Printed.{Answers, key_status};
-ghost use Rattle.dn_program.specs.Sessions.{IsHostingOf, IsKeyRun, IsPlanOf, IsPrepared, IsSecretOf};
+ghost use Rattle.dn_program.specs.{Joined.IsGuestOf, Joined.IsOwnPort, Printed.Answers, Printed.key_status, Sessions.IsHostingOf, Sessions.IsKeyRun, Sessions.IsPlanOf, Sessions.IsPrepared};
+ghost use Rattle.dn_program.specs.{Sessions.IsSecretOf};
 
 use crate::ends::print_session;
 use crate::say::say_line;

@@ -1,10 +1,7 @@
 //! The words of the command line: the subcommands, and how a line of words is read by them.
 
 ghost use Rattle.std.specs.Prelude.{◌≡◌, [], true, map, codes, IfOk, IfErr, string_bytes};
-ghost use Rattle.clap.specs.Simple.{app_of, with_subcommand};
-ghost use Rattle.clap.specs.Takes.{takes};
-ghost use Rattle.clap.specs.Values.{kind_of};
-ghost use Rattle.clap.specs.declared.error.kind.ErrorKind.TheVariants.{OutOfMemory};
+ghost use Rattle.clap.specs.{Simple.app_of, Simple.with_subcommand, Takes.takes, Values.kind_of, declared.error.kind.ErrorKind.TheVariants.OutOfMemory};
 ghost use Rattle.dn_program.specs.Commands.{IsReadAs, bare, games, host_rules, join_rules, key_rules, loop_rules, netgame, play_rules, readers, sessions, sim_rules, storm_rules, subcommand, upgrade_rules, with_subcommands};
 
 use crate::{game_options, net_options};

@@ -2,13 +2,9 @@
 
 ghost use Rattle.std.specs.Prelude.{◌≡◌, ◌≢◌, ◌<◌, ℕ, true, Some, List, slice_get};
 ghost use Rattle.dn_setup.specs.Settings.{Settings};
-ghost use Rattle.dn_machine.specs.Limits.{Limits};
-ghost use Rattle.dn_machine.specs.Worlds.{rules_within};
-ghost use Rattle.dn_remain.specs.Wary.{can_settle, is_in_game, with_gone, with_report};
-ghost use Rattle.dn_remain.specs.Remaining.{Remaining, Telling, wary_of, with_wary};
-ghost use Rattle.dn_remain.specs.RunsRemain.{RunsRemain};
-ghost use Rattle.dn_remain.specs.Taking.{CanBeTaken};
-ghost use Rattle.dn_remain.specs.declared.events.RemainEvent.{RemainEvent};
+ghost use Rattle.dn_machine.specs.{Limits.Limits, Worlds.rules_within};
+ghost use Rattle.dn_remain.specs.{Wary.can_settle, Wary.is_in_game, Wary.with_gone, Wary.with_report, Remaining.Remaining, Remaining.Telling, Remaining.wary_of, Remaining.with_wary};
+ghost use Rattle.dn_remain.specs.{RunsRemain.RunsRemain, Taking.CanBeTaken, declared.events.RemainEvent.RemainEvent};
 
 use dn_world::World;
 

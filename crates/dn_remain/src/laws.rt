@@ -4,28 +4,13 @@ ghost use Rattle.std.specs.Prelude.{◌≡◌, ◌<◌, ℕ, ℤ, Bool, None, Li
 ghost use Rattle.dn_tic.specs.declared.command.TicCmd.{TicCmd};
 ghost use Rattle.dn_setup.specs.Settings.{Settings};
 ghost use Rattle.dn_machine.specs.Drops as drops;
-ghost use Rattle.dn_machine.specs.declared.events.Event.{Event};
-ghost use Rattle.dn_machine.specs.Game.{Game};
-ghost use Rattle.dn_machine.specs.Limits.{Limits, IsWindow, vanilla_limits};
-ghost use Rattle.dn_machine.specs.Node.{Node, ends_of, got, held_at, lacks, lowest, ran};
-ghost use Rattle.dn_machine.specs.Running.{is_awaited, is_off, on_run_but};
-ghost use Rattle.dn_machine.specs.declared.answers.Phase.TheVariants.{Playing};
-ghost use Rattle.dn_machine.specs.declared.answers.Ran.TheVariants.{Inconsistent};
-ghost use Rattle.dn_machine.specs.Promise.{Agree, Fits, Steady};
-ghost use Rattle.dn_machine.specs.Runs.{Runs};
-ghost use Rattle.dn_machine.specs.Worlds.{rules_of, rules_within, world_after};
-ghost use Rattle.dn_vanish.specs.Calls.{is_newer};
-ghost use Rattle.dn_vanish.specs.Commands.{AreHanded, Holder, past_seen, seen};
-ghost use Rattle.dn_vanish.specs.Steps.{IsRun};
-ghost use Rattle.dn_remain.specs.Seen.{end_seen, now_of};
-ghost use Rattle.dn_remain.specs.Wary.{Report, Wary, is_in_game, newest_seen, on_give_up, on_report, undecided};
-ghost use Rattle.dn_remain.specs.Remaining.{Remaining};
-ghost use Rattle.dn_remain.specs.RunsRemain.{NobodyGivenUp, RunsRemain};
-ghost use Rattle.dn_remain.specs.Promise.{AgreeInPairs, FitsInPairs, IsPair, SteadyInPairs};
-ghost use Rattle.dn_remain.specs.declared.events.GivenUp.{GivenUp};
-ghost use Rattle.dn_remain.specs.declared.events.Reported.{Reported};
-ghost use Rattle.dn_remain.specs.declared.events.RemainEvent.{RemainEvent};
-ghost use Rattle.dn_remain.specs.declared.events.RemainEvent.TheVariants.{Own};
+ghost use Rattle.dn_machine.specs.{declared.events.Event.Event, Game.Game, Limits.Limits, Limits.IsWindow, Limits.vanilla_limits, Node.Node, Node.ends_of, Node.got, Node.held_at, Node.lacks};
+ghost use Rattle.dn_machine.specs.{Node.lowest, Node.ran, Running.is_awaited, Running.is_off, Running.on_run_but, declared.answers.Phase.TheVariants.Playing};
+ghost use Rattle.dn_machine.specs.{declared.answers.Ran.TheVariants.Inconsistent, Promise.Agree, Promise.Fits, Promise.Steady, Runs.Runs, Worlds.rules_of, Worlds.rules_within, Worlds.world_after};
+ghost use Rattle.dn_vanish.specs.{Calls.is_newer, Commands.AreHanded, Commands.Holder, Commands.past_seen, Commands.seen, Steps.IsRun};
+ghost use Rattle.dn_remain.specs.{Seen.end_seen, Seen.now_of, Wary.Report, Wary.Wary, Wary.is_in_game, Wary.newest_seen, Wary.on_give_up, Wary.on_report, Wary.undecided, Remaining.Remaining};
+ghost use Rattle.dn_remain.specs.{RunsRemain.NobodyGivenUp, RunsRemain.RunsRemain, Promise.AgreeInPairs, Promise.FitsInPairs, Promise.IsPair, Promise.SteadyInPairs, declared.events.GivenUp.GivenUp};
+ghost use Rattle.dn_remain.specs.{declared.events.Reported.Reported, declared.events.RemainEvent.RemainEvent, declared.events.RemainEvent.TheVariants.Own};
 
 use dn_world::World;
 

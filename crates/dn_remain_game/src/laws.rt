@@ -2,28 +2,13 @@
 
 ghost use Rattle.std.specs.Prelude.{◌≡◌, ℕ, true, List, [], Some, Result, Ok, slice_get};
 ghost use Rattle.dn_setup.specs.Settings.{Settings};
-ghost use Rattle.dn_machine.specs.declared.answers.Heard.{Heard};
-ghost use Rattle.dn_machine.specs.declared.events.Done.{Done};
-ghost use Rattle.dn_machine.specs.declared.events.Event.TheVariants.{Deliver};
-ghost use Rattle.dn_machine.specs.declared.events.Refusal.{Refusal};
+ghost use Rattle.dn_machine.specs.{declared.answers.Heard.Heard, declared.events.Done.Done, declared.events.Event.TheVariants.Deliver, declared.events.Refusal.Refusal, Limits.Limits};
+ghost use Rattle.dn_machine.specs.{Worlds.rules_within};
 ghost use Rattle.dn_machine.specs.Drops as drops;
-ghost use Rattle.dn_machine.specs.Limits.{Limits};
-ghost use Rattle.dn_machine.specs.Worlds.{rules_within};
-ghost use Rattle.dn_remain.specs.Remaining.{opening_remaining};
-ghost use Rattle.dn_remain.specs.declared.events.RemainEvent.{RemainEvent};
-ghost use Rattle.dn_remain.specs.declared.events.RemainEvent.TheVariants.{Own, Hear};
-ghost use Rattle.dn_survivor.specs.Surviving.{has_given_up};
-ghost use Rattle.dn_survivor.specs.declared.answers.Reported.{Reported};
-ghost use Rattle.dn_remain_game.specs.Applied.{IsReached};
-ghost use Rattle.dn_remain_game.specs.Contents.{Contents};
-ghost use Rattle.dn_remain_game.specs.declared.happened.Happened.{Happened};
-ghost use Rattle.dn_remain_game.specs.declared.lived.Lived.{Lived};
-ghost use Rattle.dn_remain_game.specs.declared.under_way.Flight.{Flight};
-ghost use Rattle.dn_remain_game.specs.declared.under_way.Telling.{Telling};
-ghost use Rattle.dn_remain_game.specs.Events.{applied_remain};
-ghost use Rattle.dn_remain_game.specs.Living.{living};
-ghost use Rattle.dn_remain_game.specs.Promised.{IsPromised};
-ghost use Rattle.dn_remain_game.specs.Represents.{Represents};
+ghost use Rattle.dn_remain.specs.{Remaining.opening_remaining, declared.events.RemainEvent.RemainEvent, declared.events.RemainEvent.TheVariants.Own, declared.events.RemainEvent.TheVariants.Hear};
+ghost use Rattle.dn_survivor.specs.{Surviving.has_given_up, declared.answers.Reported.Reported};
+ghost use Rattle.dn_remain_game.specs.{Applied.IsReached, Contents.Contents, declared.happened.Happened.Happened, declared.lived.Lived.Lived, declared.under_way.Flight.Flight};
+ghost use Rattle.dn_remain_game.specs.{declared.under_way.Telling.Telling, Events.applied_remain, Living.living, Promised.IsPromised, Represents.Represents};
 
 use dn_world::World;
 

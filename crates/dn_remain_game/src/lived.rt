@@ -19,11 +19,9 @@ pub struct Lived<W> {
 
 impl<W: World> Lived<W> {
     ghost use Rattle.dn_setup.specs.Settings.{Settings as Choice};
-    ghost use Rattle.dn_machine.specs.Game.{fresh};
-    ghost use Rattle.dn_machine.specs.Worlds.{rules_within};
+    ghost use Rattle.dn_machine.specs.{Game.fresh, Worlds.rules_within};
     ghost use Rattle.dn_lockstep.specs.Contents.{whose};
-    ghost use Rattle.dn_survivor.specs.Represents.{nobody_gone};
-    ghost use Rattle.dn_survivor.specs.Surviving.{surviving};
+    ghost use Rattle.dn_survivor.specs.{Represents.nobody_gone, Surviving.surviving};
     ghost use Rattle.dn_remain_game.specs.Living.{Represents, living};
 
     /// A node with no history, that has given up nobody: player 0 gathers, the others listen. All memory that

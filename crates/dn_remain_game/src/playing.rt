@@ -1,12 +1,7 @@
 //! Playing a list of events in which players may be given up.
 
 ghost use Rattle.std.specs.Prelude.{◌≡◌, ◌+◌, ◌<◌, ◌^◌, length, IfOk};
-ghost use Rattle.dn_remain_game.specs.Contents.{contents};
-ghost use Rattle.dn_remain_game.specs.Frame.{KeepGiven};
-ghost use Rattle.dn_remain_game.specs.Fresh.{AreLimited};
-ghost use Rattle.dn_remain_game.specs.Opening.{IsAdmitted, rules_in};
-ghost use Rattle.dn_remain_game.specs.Promised.{HasPlayed};
-ghost use Rattle.dn_remain_game.specs.Room.{IsWithinTwice};
+ghost use Rattle.dn_remain_game.specs.{Contents.contents, Frame.KeepGiven, Fresh.AreLimited, Opening.IsAdmitted, Opening.rules_in, Promised.HasPlayed, Room.IsWithinTwice};
 
 use crate::config::{GameConfig, GameFault};
 use crate::game::Game;
@@ -26,8 +21,7 @@ pub struct Played<W> {
 }
 
 impl<W: World> Played<W> {
-    ghost use Rattle.dn_remain_game.specs.Kept.{KeepsWhose};
-    ghost use Rattle.dn_remain_game.specs.Promised.{AppliesOne};
+    ghost use Rattle.dn_remain_game.specs.{Kept.KeepsWhose, Promised.AppliesOne};
 
     /// Applies one more event, and counts it by its answer.
     fn apply(&mut self, event: RemainEvent)

@@ -1,7 +1,6 @@
 //! Packets and reports under way.
 
-ghost use Rattle.std.specs.Prelude.{◌≡◌, ◌<◌, ◌≤◌, ◌+◌, ◌*◌, OnOk, OnErr, vec_len};
-ghost use Rattle.std.specs.Vec.{vec_capacity};
+ghost use Rattle.std.specs.{Prelude.◌≡◌, Prelude.◌<◌, Prelude.◌≤◌, Prelude.◌+◌, Prelude.◌*◌, Prelude.OnOk, Prelude.OnErr, Prelude.vec_len, Vec.vec_capacity};
 ghost use Rattle.dn_remain_game.specs.Room.{grown};
 
 use arrayvec::ArrayVec;

@@ -1,9 +1,7 @@
 //! Laws of reports.
 
 ghost use Rattle.std.specs.Prelude.{◌≡◌, ◌≤◌, ◌+◌, ◌*◌, ℕ, List, All, length};
-ghost use Rattle.dn_report.specs.declared.report.Report.{Report};
-ghost use Rattle.dn_report.specs.declared.report.Tail.{Tail};
-ghost use Rattle.dn_report.specs.Text.{report_bytes, IsReport};
+ghost use Rattle.dn_report.specs.{declared.report.Report.Report, declared.report.Tail.Tail, Text.report_bytes, Text.IsReport};
 
 /// A report has one list of bytes, since `report_bytes` is a function of it, and a list has one report.
 pub fn one_report()

@@ -1,12 +1,10 @@
 //! Reading any bytes as a report.
 
-ghost use Rattle.std.specs.Prelude.{◌≡◌, ◌<◌, ◌≤◌, ◌+◌, ◌++◌, ◌*◌, ◌%◌, ◌/◌, length, drop, All, Result, None, Some, IfOk, IfErr, slice_index};
-ghost use Rattle.std.specs.List.{flat_map};
+ghost use Rattle.std.specs.{Prelude.◌≡◌, Prelude.◌<◌, Prelude.◌≤◌, Prelude.◌+◌, Prelude.◌++◌, Prelude.◌*◌, Prelude.◌%◌, Prelude.◌/◌, Prelude.length, Prelude.drop, Prelude.All, Prelude.Result};
+ghost use Rattle.std.specs.{Prelude.None, Prelude.Some, Prelude.IfOk, Prelude.IfErr, Prelude.slice_index, List.flat_map};
 ghost use Rattle.dn_tic.specs.Command.{command_bytes, IsCommand};
-ghost use Rattle.dn_report.specs.declared.report.Report.{Report};
-ghost use Rattle.dn_report.specs.declared.report.ReportFault.{ReportFault};
-ghost use Rattle.dn_report.specs.Text.{bit, number_of, tail_bytes, AreTold, IsTail};
-ghost use Rattle.dn_report.specs.Read.{fault_at, told_count, told_number, HasFault, IsFirst, IsReadAs, next_after};
+ghost use Rattle.dn_report.specs.{declared.report.Report.Report, declared.report.ReportFault.ReportFault, Text.bit, Text.number_of, Text.tail_bytes, Text.AreTold, Text.IsTail, Read.fault_at};
+ghost use Rattle.dn_report.specs.{Read.told_count, Read.told_number, Read.HasFault, Read.IsFirst, Read.IsReadAs, Read.next_after};
 
 use crate::report::{MAX_TOLD, Report, ReportFault, TAIL_COMMANDS, Tail};
 use arrayvec::ArrayVec;

@@ -1,7 +1,6 @@
 //! Writing the bytes of a report.
 
-ghost use Rattle.std.specs.Prelude.{◌≡◌, ◌≤◌, ◌+◌, ◌++◌, ◌*◌, length, All};
-ghost use Rattle.std.specs.List.{flat_map};
+ghost use Rattle.std.specs.{Prelude.◌≡◌, Prelude.◌≤◌, Prelude.◌+◌, Prelude.◌++◌, Prelude.◌*◌, Prelude.length, Prelude.All, List.flat_map};
 ghost use Rattle.dn_tic.specs.Command.{command_bytes};
 ghost use Rattle.dn_packet.specs.Written.{IsWritten};
 ghost use Rattle.dn_report.specs.Text.{bit, first_byte, number_of, report_bytes, tail_bytes};

@@ -1,8 +1,7 @@
 //! A count of commands, and the last of them.
 
 ghost use Rattle.std.specs.Prelude.{◌≡◌, ◌+◌, ◌++◌, ◌^◌, ◌%◌, ◌<◌, ◌≤◌, ℕ, List, length, take, All, Some, true, is_some};
-ghost use Rattle.dn_tic.specs.Command.{IsCommand};
-ghost use Rattle.dn_tic.specs.declared.command.TicCmd.{TicCmd};
+ghost use Rattle.dn_tic.specs.{Command.IsCommand, declared.command.TicCmd.TicCmd};
 ghost use Rattle.dn_ring.specs.Ring.{empty, put, get, since, no_command, ring_of, AreSlotsOf};
 
 use dn_tic::TicCmd;

@@ -1,10 +1,8 @@
 //! What holds of every script that is written.
 
-ghost use Rattle.std.specs.Prelude.{◌≤◌, List, length, Ok};
-ghost use Rattle.std.specs.List.{All};
+ghost use Rattle.std.specs.{Prelude.◌≤◌, Prelude.List, Prelude.length, Prelude.Ok, List.All};
 ghost use Rattle.dn_machine.specs.declared.events.Event.{Event};
-ghost use Rattle.dn_script.specs.Script.{IsReadAs, size_limit};
-ghost use Rattle.dn_script.specs.Written.{HasScriptLine, script_text};
+ghost use Rattle.dn_script.specs.{Script.IsReadAs, Script.size_limit, Written.HasScriptLine, Written.script_text};
 
 /// What is written for a list of events is read as these events, if none of them gives a command, their
 /// numbers have at most nine digits, and the text is not too long.

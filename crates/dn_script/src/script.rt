@@ -2,8 +2,7 @@
 
 ghost use Rattle.std.specs.Prelude.{List, Result};
 ghost use Rattle.dn_machine.specs.declared.events.Event.{Event};
-ghost use Rattle.dn_script.specs.declared.script.ScriptFault.{ScriptFault};
-ghost use Rattle.dn_script.specs.Script.{IsReadAs, IsSameButMemory, answered};
+ghost use Rattle.dn_script.specs.{declared.script.ScriptFault.ScriptFault, Script.IsReadAs, Script.IsSameButMemory, Script.answered};
 
 use crate::line;
 use dn_machine::Event;

@@ -1,9 +1,7 @@
 //! Writing events as the lines of a script.
 
-ghost use Rattle.std.specs.Prelude.{◌≡◌, ◌++◌, OnOk};
-ghost use Rattle.std.specs.String.{string_bytes};
-ghost use Rattle.dn_script.specs.Words.{letters};
-ghost use Rattle.dn_script.specs.Written.{letters_down, keys_word, give_words, event_words, event_line};
+ghost use Rattle.std.specs.{Prelude.◌≡◌, Prelude.◌++◌, Prelude.OnOk, String.string_bytes};
+ghost use Rattle.dn_script.specs.{Words.letters, Written.letters_down, Written.keys_word, Written.give_words, Written.event_words, Written.event_line};
 
 use crate::words::LETTERS;
 use dn_machine::Event;

@@ -1,9 +1,7 @@
 //! What holds of any bytes.
 
 ghost use Rattle.std.specs.Prelude.{◌<◌, ◌^◌, ℕ, List, All, Result};
-ghost use Rattle.dn_seal.specs.declared.opened.Opened.{Opened};
-ghost use Rattle.dn_seal.specs.declared.opened.SealFault.{SealFault};
-ghost use Rattle.dn_seal.specs.Opening.{Sealing, IsOpenedAs};
+ghost use Rattle.dn_seal.specs.{declared.opened.Opened.Opened, declared.opened.SealFault.SealFault, Opening.Sealing, Opening.IsOpenedAs};
 
 /// Every list of bytes is opened as a letter or as a fault.
 pub fn every_list_is_opened()

@@ -1,8 +1,7 @@
 //! HMAC-SHA-256 (RFC 2104).
 
 ghost use Rattle.std.specs.Prelude.{◌≡◌, ℕ, List};
-ghost use Rattle.dn_seal.specs.Begun.{HasTaken};
-ghost use Rattle.dn_seal.specs.Hmac.{hmac, key_block, turned};
+ghost use Rattle.dn_seal.specs.{Begun.HasTaken, Hmac.hmac, Hmac.key_block, Hmac.turned};
 
 use sha2::{Digest, Sha256};
 

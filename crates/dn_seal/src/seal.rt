@@ -1,8 +1,7 @@
 //! What the players of a game have in common.
 
 ghost use Rattle.std.specs.Prelude.{◌≡◌, replicate};
-ghost use Rattle.dn_seal.specs.Keys.{game_key, no_secret};
-ghost use Rattle.dn_seal.specs.declared.suite.Suite.TheVariants.{Secret, Open};
+ghost use Rattle.dn_seal.specs.{Keys.game_key, Keys.no_secret, declared.suite.Suite.TheVariants.Secret, declared.suite.Suite.TheVariants.Open};
 
 use crate::append::append;
 use crate::mac::hmac;

@@ -1,15 +1,10 @@
 //! Sealing and opening.
 
-ghost use Rattle.std.specs.Prelude.{◌≡◌, ◌<◌, ◌≤◌, ◌^◌, ◌+◌, ◌++◌, ℕ, length, drop, take, if◌then◌else◌, Option, Some, None, Result, IsTrue, ◌↔◌};
-ghost use Rattle.std.specs.Int.{w32, from_le_bytes};
-ghost use Rattle.dn_seal.specs.Begun.{HasTaken, HasTaken-prop};
-ghost use Rattle.dn_seal.specs.Hmac.{tag_of};
-ghost use Rattle.dn_seal.specs.Keys.{no_secret};
-ghost use Rattle.dn_seal.specs.Envelope.{Letter, body_bytes, envelope, ask_bytes};
-ghost use Rattle.dn_seal.specs.Opening.{IsOpenedAs, told_game, told_body, told_tag, ask_in};
-ghost use Rattle.dn_seal.specs.declared.opened.Opened.{Opened};
-ghost use Rattle.dn_seal.specs.declared.opened.SealFault.{SealFault};
-ghost use Rattle.dn_seal.specs.declared.suite.Suite.TheVariants.{Secret, Open};
+ghost use Rattle.std.specs.{Prelude.◌≡◌, Prelude.◌<◌, Prelude.◌≤◌, Prelude.◌^◌, Prelude.◌+◌, Prelude.◌++◌, Prelude.ℕ, Prelude.length, Prelude.drop, Prelude.take, Prelude.if◌then◌else◌};
+ghost use Rattle.std.specs.{Prelude.Option, Prelude.Some, Prelude.None, Prelude.Result, Prelude.IsTrue, Prelude.◌↔◌, Int.w32, Int.from_le_bytes};
+ghost use Rattle.dn_seal.specs.{Begun.HasTaken, Begun.HasTaken-prop, Hmac.tag_of, Keys.no_secret, Envelope.Letter, Envelope.body_bytes, Envelope.envelope, Envelope.ask_bytes, Opening.IsOpenedAs};
+ghost use Rattle.dn_seal.specs.{Opening.told_game, Opening.told_body, Opening.told_tag, Opening.ask_in, declared.opened.Opened.Opened, declared.opened.SealFault.SealFault};
+ghost use Rattle.dn_seal.specs.{declared.suite.Suite.TheVariants.Secret, declared.suite.Suite.TheVariants.Open};
 
 use crate::append::append;
 use crate::mac::{INNER, OUTER, begun, finished};

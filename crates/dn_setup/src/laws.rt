@@ -1,11 +1,8 @@
 //! Laws of set-up packets.
 
 ghost use Rattle.std.specs.Prelude.{◌≡◌, Result, Ok};
-ghost use Rattle.dn_packet.specs.Text.{IsPacket};
-ghost use Rattle.dn_packet.specs.declared.packet.Packet.{Packet};
-ghost use Rattle.dn_setup.specs.Settings.{Settings, IsSettings};
-ghost use Rattle.dn_setup.specs.Setup.{setup_packet, IsSetupReadAs, Told};
-ghost use Rattle.dn_setup.specs.declared.setup.SetupFault.{SetupFault};
+ghost use Rattle.dn_packet.specs.{Text.IsPacket, declared.packet.Packet.Packet};
+ghost use Rattle.dn_setup.specs.{Settings.Settings, Settings.IsSettings, Setup.setup_packet, Setup.IsSetupReadAs, Setup.Told, declared.setup.SetupFault.SetupFault};
 
 /// Settings are found again in their packet, and nothing else is.
 pub fn settings_found_again()

@@ -55,9 +55,8 @@ impl Model for Settings {
 
 impl Settings {
     ghost use Rattle.std.specs.Prelude.{Result};
-    ghost use Rattle.dn_setup.specs.Settings.{Settings, IsSkill, IsDeathmatch, IsEpisode, IsMap, IsSettings, IsCheckedAs, choice};
-    ghost use Rattle.dn_setup.specs.Starts.{start_of};
-    ghost use Rattle.dn_setup.specs.declared.settings.SettingsFault.{SettingsFault};
+    ghost use Rattle.dn_setup.specs.{Settings.Settings, Settings.IsSkill, Settings.IsDeathmatch, Settings.IsEpisode, Settings.IsMap, Settings.IsSettings, Settings.IsCheckedAs, Settings.choice};
+    ghost use Rattle.dn_setup.specs.{Starts.start_of, declared.settings.SettingsFault.SettingsFault};
 
     /// Skill 0 to 4, deathmatch 0 to 2, episode 1 to 3, map 1 to 32.
     pub fn new(

@@ -2,9 +2,7 @@
 
 ghost use Rattle.std.specs.Prelude.{◌≡◌, Result};
 ghost use Rattle.dn_packet.specs.Text.{IsPacket};
-ghost use Rattle.dn_setup.specs.Settings.{Settings, IsSettings};
-ghost use Rattle.dn_setup.specs.Setup.{setup_packet, IsSetupReadAs};
-ghost use Rattle.dn_setup.specs.declared.setup.SetupFault.{SetupFault};
+ghost use Rattle.dn_setup.specs.{Settings.Settings, Settings.IsSettings, Setup.setup_packet, Setup.IsSetupReadAs, declared.setup.SetupFault.SetupFault};
 
 use crate::settings::Settings;
 use arrayvec::ArrayVec;

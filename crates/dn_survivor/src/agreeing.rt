@@ -2,26 +2,13 @@
 
 ghost use Rattle.std.specs.Prelude.{◌≡◌, ◌<◌, ◌⊎◌, ℕ, true, false, None, Some, slice_get};
 ghost use Rattle.dn_setup.specs.Settings.{Settings};
-ghost use Rattle.dn_machine.specs.declared.answers.Heard.{Heard};
+ghost use Rattle.dn_machine.specs.{declared.answers.Heard.Heard, Flight.Flight, Flight.is_near, Limits.Limits};
 ghost use Rattle.dn_machine.specs.Drops as drops;
-ghost use Rattle.dn_machine.specs.Flight.{Flight, is_near};
-ghost use Rattle.dn_machine.specs.Limits.{Limits};
-ghost use Rattle.dn_lockstep.specs.Hearing.{HearsNear};
-ghost use Rattle.dn_lockstep.specs.Marking.{Marking};
-ghost use Rattle.dn_lockstep.specs.OneGame.{beside};
-ghost use Rattle.dn_lockstep.specs.Sent.{bytes_of};
-ghost use Rattle.dn_lockstep.specs.Settling.{is_no_peer};
-ghost use Rattle.dn_lockstep.specs.Told.{made};
-ghost use Rattle.dn_lockstep.specs.declared.lockstep.settling.Settled.{Settled};
+ghost use Rattle.dn_lockstep.specs.{Hearing.HearsNear, Marking.Marking, OneGame.beside, Sent.bytes_of, Settling.is_no_peer, Told.made, declared.lockstep.settling.Settled.Settled};
 ghost use Rattle.dn_remain.specs.Promise.{AgreeInPairs, FitsInPairs, SteadyInPairs};
-ghost use Rattle.dn_survivor.specs.Agreed.{AreAgreedInPairs, FitInPairs};
-ghost use Rattle.dn_survivor.specs.Calls.{GivesUp, HearsReport, undecided_in, unsettled_in};
-ghost use Rattle.dn_survivor.specs.Demos.{DemosAgreeInPairs};
-ghost use Rattle.dn_survivor.specs.OneGame.{AreRemaining};
-ghost use Rattle.dn_survivor.specs.Session.{Given, Session};
-ghost use Rattle.dn_survivor.specs.Surviving.{Surviving, has_given_up};
-ghost use Rattle.dn_survivor.specs.declared.answers.GivenUp.{GivenUp};
-ghost use Rattle.dn_survivor.specs.declared.answers.Reported.{Reported};
+ghost use Rattle.dn_survivor.specs.{Agreed.AreAgreedInPairs, Agreed.FitInPairs, Calls.GivesUp, Calls.HearsReport, Calls.undecided_in, Calls.unsettled_in, Demos.DemosAgreeInPairs};
+ghost use Rattle.dn_survivor.specs.{OneGame.AreRemaining, Session.Given, Session.Session, Surviving.Surviving, Surviving.has_given_up, declared.answers.GivenUp.GivenUp};
+ghost use Rattle.dn_survivor.specs.{declared.answers.Reported.Reported};
 
 /// The survivors of one game agree in what their readers return, and in the rows that were returned to their
 /// callers. Any two of whom neither has given up the other told the same rows, know the same ends, and lack at

@@ -7,9 +7,8 @@ use dn_lockstep::Settled;
 impl Survivor {
     ghost use Rattle.std.specs.Prelude.{◌≡◌, ◌≢◌, ◌<◌, ℕ, false};
     ghost use Rattle.dn_lockstep.specs.Steps.{Steps};
-    ghost use Rattle.dn_survivor.specs.Ending.{decided_by, settled_below, settled_by, settled_with};
-    ghost use Rattle.dn_survivor.specs.Surviving.{has_given_up, surviving};
-    ghost use Rattle.dn_survivor.specs.declared.answers.Ends.TheVariants.{Awaited};
+    ghost use Rattle.dn_survivor.specs.{Ending.decided_by, Ending.settled_below, Ending.settled_by, Ending.settled_with, Surviving.has_given_up, Surviving.surviving};
+    ghost use Rattle.dn_survivor.specs.{declared.answers.Ends.TheVariants.Awaited};
 
     /// Tells the lockstep the end of a player, by what is kept of the others.
     fn settle(&mut self, player: u8) -> Settled

@@ -2,12 +2,9 @@
 
 ghost use Rattle.std.specs.Prelude.{◌≡◌, ◌≢◌, ◌<◌, ℕ, true, Some, List, slice_get};
 ghost use Rattle.dn_setup.specs.Settings.{Settings};
-ghost use Rattle.dn_machine.specs.Limits.{Limits, IsWindow};
-ghost use Rattle.dn_machine.specs.Worlds.{rules_within};
-ghost use Rattle.dn_remain.specs.Wary.{can_settle, is_in_game, with_gone, with_report};
-ghost use Rattle.dn_remain.specs.Remaining.{Remaining, Telling, wary_of};
-ghost use Rattle.dn_remain.specs.RunsRemain.{RunsRemain};
-ghost use Rattle.dn_remain.specs.declared.events.RemainEvent.{RemainEvent};
+ghost use Rattle.dn_machine.specs.{Limits.Limits, Limits.IsWindow, Worlds.rules_within};
+ghost use Rattle.dn_remain.specs.{Wary.can_settle, Wary.is_in_game, Wary.with_gone, Wary.with_report, Remaining.Remaining, Remaining.Telling, Remaining.wary_of, RunsRemain.RunsRemain};
+ghost use Rattle.dn_remain.specs.{declared.events.RemainEvent.RemainEvent};
 ghost use Rattle.dn_survivor.specs.Represents.{CanTakeAll};
 
 use dn_world::World;

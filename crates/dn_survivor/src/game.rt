@@ -1,40 +1,20 @@
 //! The survivors of one game, call by call.
 
-ghost use Rattle.std.specs.Prelude.{◌≡◌, ◌≢◌, ◌<◌, ◌≤◌, ℕ, ℤ, Bool, true, false, List, Option, Some, get_or, pos, slice_get};
-ghost use Rattle.std.specs.Option.{option_map};
-ghost use Rattle.std.specs.Prelude.{IfSome};
-ghost use Rattle.dn_tic.specs.declared.command.Move.{Move};
-ghost use Rattle.dn_tic.specs.declared.input.Input.{Input};
+ghost use Rattle.std.specs.{Prelude.◌≡◌, Prelude.◌≢◌, Prelude.◌<◌, Prelude.◌≤◌, Prelude.ℕ, Prelude.ℤ, Prelude.Bool, Prelude.true, Prelude.false, Prelude.List, Prelude.Option, Prelude.Some};
+ghost use Rattle.std.specs.{Prelude.get_or, Prelude.pos, Prelude.slice_get, Option.option_map, Prelude.IfSome};
+ghost use Rattle.dn_tic.specs.{declared.command.Move.Move, declared.input.Input.Input};
 ghost use Rattle.dn_setup.specs.Settings.{Settings};
 ghost use Rattle.dn_report.specs.declared.report.Report.{Report};
 ghost use Rattle.dn_machine.specs.Drops as drops;
-ghost use Rattle.dn_machine.specs.declared.answers.Heard.{Heard};
-ghost use Rattle.dn_machine.specs.declared.answers.Made.{Made};
-ghost use Rattle.dn_machine.specs.declared.answers.Ran.{Ran};
-ghost use Rattle.dn_machine.specs.Building.{on_build};
-ghost use Rattle.dn_machine.specs.Flight.{Flight, is_near};
-ghost use Rattle.dn_machine.specs.Game.{fresh};
-ghost use Rattle.dn_machine.specs.Limits.{Limits, IsWindow};
-ghost use Rattle.dn_machine.specs.Running.{is_over, on_quit, on_run_but};
-ghost use Rattle.dn_lockstep.specs.Contents.{end_in};
-ghost use Rattle.dn_lockstep.specs.Hearing.{HearsNear, Spares};
-ghost use Rattle.dn_lockstep.specs.Marking.{Marking};
-ghost use Rattle.dn_lockstep.specs.Near.{IsFair};
-ghost use Rattle.dn_lockstep.specs.OneGame.{world_told};
+ghost use Rattle.dn_machine.specs.{declared.answers.Heard.Heard, declared.answers.Made.Made, declared.answers.Ran.Ran, Building.on_build, Flight.Flight, Flight.is_near, Game.fresh, Limits.Limits};
+ghost use Rattle.dn_machine.specs.{Limits.IsWindow, Running.is_over, Running.on_quit, Running.on_run_but};
+ghost use Rattle.dn_lockstep.specs.{Contents.end_in, Hearing.HearsNear, Hearing.Spares, Marking.Marking, Near.IsFair, OneGame.world_told, Runs.RunsBy, Sent.bytes_of, Sent.sent_to, Steps.Steps};
+ghost use Rattle.dn_lockstep.specs.{Steps.Tells, Told.made};
 ghost use Rattle.dn_lockstep.specs.Represents as lockstep;
-ghost use Rattle.dn_lockstep.specs.Runs.{RunsBy};
-ghost use Rattle.dn_lockstep.specs.Sent.{bytes_of, sent_to};
-ghost use Rattle.dn_lockstep.specs.Steps.{Steps, Tells};
-ghost use Rattle.dn_lockstep.specs.Told.{made};
 ghost use Rattle.dn_others.specs.Keeping.{nothing_kept};
-ghost use Rattle.dn_survivor.specs.Calls.{GivesUp, HearsReport, sent_unless};
-ghost use Rattle.dn_survivor.specs.OneGame.{AreRemaining, IsGivenAs};
-ghost use Rattle.dn_survivor.specs.Session.{Given, Session, after_build, after_packet, after_report, after_run};
-ghost use Rattle.dn_survivor.specs.Session.{opening_session, with_survivor};
-ghost use Rattle.dn_survivor.specs.Surviving.{Surviving, has_given_up};
-ghost use Rattle.dn_survivor.specs.Telling.{report_for};
-ghost use Rattle.dn_survivor.specs.declared.answers.GivenUp.{GivenUp};
-ghost use Rattle.dn_survivor.specs.declared.answers.Reported.{Reported};
+ghost use Rattle.dn_survivor.specs.{Calls.GivesUp, Calls.HearsReport, Calls.sent_unless, OneGame.AreRemaining, OneGame.IsGivenAs, Session.Given, Session.Session, Session.after_build};
+ghost use Rattle.dn_survivor.specs.{Session.after_packet, Session.after_report, Session.after_run, Session.opening_session, Session.with_survivor, Surviving.Surviving, Surviving.has_given_up};
+ghost use Rattle.dn_survivor.specs.{Telling.report_for, declared.answers.GivenUp.GivenUp, declared.answers.Reported.Reported};
 
 /// New survivors of the same limits, one for each player, of which player 0's has these settings, are those of
 /// one game. Each premise is what `Survivor::new` says of one of them, by its clauses `opened` and `others`;

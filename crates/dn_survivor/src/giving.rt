@@ -6,8 +6,7 @@ use crate::survivor::Survivor;
 impl Survivor {
     ghost use Rattle.std.specs.Prelude.{◌≡◌, ◌≢◌};
     ghost use Rattle.dn_machine.specs.declared.answers.Phase.TheVariants.{Gathering};
-    ghost use Rattle.dn_survivor.specs.Calls.{GivesUp, refused_give_up};
-    ghost use Rattle.dn_survivor.specs.Surviving.{surviving};
+    ghost use Rattle.dn_survivor.specs.{Calls.GivesUp, Calls.refused_give_up, Surviving.surviving};
     ghost use Rattle.dn_survivor.specs.declared.answers.GivenUp.TheVariants as GivenUp;
 
     /// Why a player is not given up.

@@ -9,8 +9,7 @@ impl Survivor {
     ghost use Rattle.std.specs.Prelude.{◌≡◌, ℕ, true, false};
     ghost use Rattle.dn_machine.specs.Drops as drops;
     ghost use Rattle.dn_lockstep.specs.Hearing.{HearsAny, HearsNear, Spares};
-    ghost use Rattle.dn_survivor.specs.Calls.{HearsReport};
-    ghost use Rattle.dn_survivor.specs.Surviving.{surviving, has_given_up};
+    ghost use Rattle.dn_survivor.specs.{Calls.HearsReport, Surviving.surviving, Surviving.has_given_up};
     ghost use Rattle.dn_survivor.specs.declared.answers.Reported.TheVariants as Reported;
 
     /// Hears a datagram that came from player `from`, as `Lockstep::receive` does. Of one who is given up

@@ -3,26 +3,15 @@
 ghost use Rattle.std.specs.Prelude.{◌≡◌, ◌≢◌, ◌<◌, ◌≤◌, ◌⊎◌, ℕ, ℤ, true, false, List, Option};
 ghost use Rattle.dn_tic.specs.declared.command.Move.{Move};
 ghost use Rattle.dn_report.specs.declared.report.Report.{Report};
-ghost use Rattle.dn_machine.specs.declared.answers.Ran.{Ran};
-ghost use Rattle.dn_machine.specs.declared.answers.Phase.TheVariants.{Gathering, Playing};
-ghost use Rattle.dn_machine.specs.Limits.{Limits};
+ghost use Rattle.dn_machine.specs.{declared.answers.Ran.Ran, declared.answers.Phase.TheVariants.Gathering, declared.answers.Phase.TheVariants.Playing, Limits.Limits, Running.on_run_but};
 ghost use Rattle.dn_machine.specs.Node as machine;
-ghost use Rattle.dn_machine.specs.Running.{on_run_but};
 ghost use Rattle.dn_lockstep.specs.Represents as lockstep;
-ghost use Rattle.dn_lockstep.specs.Runs.{RunsBy, marks_in, row_told};
-ghost use Rattle.dn_lockstep.specs.Settling.{is_no_peer};
-ghost use Rattle.dn_lockstep.specs.declared.lockstep.settling.Settled.{Settled};
-ghost use Rattle.dn_others.specs.Keeping.{nothing_kept};
-ghost use Rattle.dn_others.specs.Represents.{AreTold, Tells};
-ghost use Rattle.dn_remain.specs.Wary.{Report as Held, Wary, can_settle, is_in_game, on_give_up, on_report};
-ghost use Rattle.dn_remain.specs.Wary.{report_to, undecided, with_gone, with_report};
-ghost use Rattle.dn_survivor.specs.Calls.{GivesUp, HearsReport, undecided_in};
-ghost use Rattle.dn_survivor.specs.Ending.{IsRefusal};
-ghost use Rattle.dn_survivor.specs.Represents.{CanTakeAll, Represents, given_up_is, nobody_gone, reported_is};
-ghost use Rattle.dn_survivor.specs.Surviving.{Surviving, has_given_up};
-ghost use Rattle.dn_survivor.specs.Telling.{report_for};
-ghost use Rattle.dn_survivor.specs.declared.answers.GivenUp.{GivenUp};
-ghost use Rattle.dn_survivor.specs.declared.answers.Reported.{Reported};
+ghost use Rattle.dn_lockstep.specs.{Runs.RunsBy, Runs.marks_in, Runs.row_told, Settling.is_no_peer, declared.lockstep.settling.Settled.Settled};
+ghost use Rattle.dn_others.specs.{Keeping.nothing_kept, Represents.AreTold, Represents.Tells};
+ghost use Rattle.dn_remain.specs.{Wary.Report as Held, Wary.Wary, Wary.can_settle, Wary.is_in_game, Wary.on_give_up, Wary.on_report, Wary.report_to, Wary.undecided, Wary.with_gone, Wary.with_report};
+ghost use Rattle.dn_survivor.specs.{Calls.GivesUp, Calls.HearsReport, Calls.undecided_in, Ending.IsRefusal, Represents.CanTakeAll, Represents.Represents, Represents.given_up_is};
+ghost use Rattle.dn_survivor.specs.{Represents.nobody_gone, Represents.reported_is, Surviving.Surviving, Surviving.has_given_up, Telling.report_for, declared.answers.GivenUp.GivenUp};
+ghost use Rattle.dn_survivor.specs.{declared.answers.Reported.Reported};
 
 /// A new survivor represents a node that has given up nobody and heard no report. And where one represents a
 /// node, and what that node decides in a game can be taken, each call does what the node does, and answers the

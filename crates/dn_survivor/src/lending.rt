@@ -8,8 +8,7 @@ use dn_lockstep::Lockstep;
 impl Survivor {
     ghost use Rattle.std.specs.Prelude.{◌≡◌};
     ghost use Rattle.dn_lockstep.specs.Contents.{contents};
-    ghost use Rattle.dn_survivor.specs.Lending.{lends_lockstep};
-    ghost use Rattle.dn_survivor.specs.Surviving.{surviving};
+    ghost use Rattle.dn_survivor.specs.{Lending.lends_lockstep, Surviving.surviving};
 
     /// The lockstep, for a transport that hears and sends by itself. Such a caller hears nothing of a player who
     /// is given up, sends nothing to it, and runs tics by `run_into`.

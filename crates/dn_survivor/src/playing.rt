@@ -11,17 +11,10 @@ use dn_packet::MAX_DATAGRAM;
 use dn_tic::{Command, Keys, Move};
 
 impl Survivor {
-    ghost use Rattle.std.specs.Prelude.{◌≡◌, ◌≢◌, ◌≤◌, ℕ, ◌+◌, ℤ, true, false, None, IfSome, length};
-    ghost use Rattle.std.specs.Option.{option_map};
-    ghost use Rattle.dn_machine.specs.Building.{on_build};
-    ghost use Rattle.dn_machine.specs.Running.{on_quit, on_run_but, row_held};
-    ghost use Rattle.dn_lockstep.specs.Giving.{IsSentTo, IsSilent};
-    ghost use Rattle.dn_lockstep.specs.Near.{IsFair};
-    ghost use Rattle.dn_lockstep.specs.Runs.{RunsBy, told_by};
-    ghost use Rattle.dn_lockstep.specs.Sent.{sent_to, bytes_of};
-    ghost use Rattle.dn_lockstep.specs.Steps.{Steps, Tells};
-    ghost use Rattle.dn_survivor.specs.Calls.{sent_unless};
-    ghost use Rattle.dn_survivor.specs.Surviving.{surviving, has_given_up};
+    ghost use Rattle.std.specs.{Prelude.◌≡◌, Prelude.◌≢◌, Prelude.◌≤◌, Prelude.ℕ, Prelude.◌+◌, Prelude.ℤ, Prelude.true, Prelude.false, Prelude.None, Prelude.IfSome, Prelude.length, Option.option_map};
+    ghost use Rattle.dn_machine.specs.{Building.on_build, Running.on_quit, Running.on_run_but, Running.row_held};
+    ghost use Rattle.dn_lockstep.specs.{Giving.IsSentTo, Giving.IsSilent, Near.IsFair, Runs.RunsBy, Runs.told_by, Sent.sent_to, Sent.bytes_of, Steps.Steps, Steps.Tells};
+    ghost use Rattle.dn_survivor.specs.{Calls.sent_unless, Surviving.surviving, Surviving.has_given_up};
 
     /// As `Lockstep::build`.
     pub fn build(&mut self, keys: Keys) -> Made

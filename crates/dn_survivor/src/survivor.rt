@@ -1,7 +1,6 @@
 //! A lockstep of which players may be given up.
 
-ghost use Rattle.std.specs.Prelude.{◌≡◌, ◌<◌, ◌&&◌, ◌||◌, not, Some, IfOk, is_some, true};
-ghost use Rattle.std.specs.Option.{option_map};
+ghost use Rattle.std.specs.{Prelude.◌≡◌, Prelude.◌<◌, Prelude.◌&&◌, Prelude.◌||◌, Prelude.not, Prelude.Some, Prelude.IfOk, Prelude.is_some, Prelude.true, Option.option_map};
 ghost use Rattle.dn_lockstep.specs.Opening.{IsAdmittedWithin, limits_within, whose_within};
 
 use dn_lockstep::{Config, Lockstep, NodeFault};
@@ -19,14 +18,11 @@ pub struct Survivor {
 impl Survivor {
     ghost use Rattle.dn_setup.specs.Settings.{Settings as Choice};
     ghost use Rattle.dn_machine.specs.Game.{fresh};
-    ghost use Rattle.dn_lockstep.specs.Contents.{contents, whose};
-    ghost use Rattle.dn_lockstep.specs.Represents.{Represents};
-    ghost use Rattle.dn_lockstep.specs.Settling.{is_no_peer};
+    ghost use Rattle.dn_lockstep.specs.{Contents.contents, Contents.whose, Represents.Represents, Settling.is_no_peer};
     ghost use Rattle.dn_others.specs.Keeping.{nothing_kept};
     ghost use Rattle.dn_remain.specs.Wary.{is_in_game};
-    ghost use Rattle.dn_survivor.specs.Surviving.{surviving, has_given_up, has_gone, has_left};
-    ghost use Rattle.dn_survivor.specs.Surviving.{has_settled, is_unsettled};
-    ghost use Rattle.dn_survivor.specs.Calls.{undecided_in, unsettled_in};
+    ghost use Rattle.dn_survivor.specs.{Surviving.surviving, Surviving.has_given_up, Surviving.has_gone, Surviving.has_left, Surviving.has_settled, Surviving.is_unsettled, Calls.undecided_in};
+    ghost use Rattle.dn_survivor.specs.{Calls.unsettled_in};
 
     /// A survivor with no history, of a lockstep as `Lockstep::within` makes it: nobody is given up, and
     /// nothing was told. All memory that it needs is taken here.

@@ -1,7 +1,6 @@
 //! The report that a survivor gives to another.
 
-ghost use Rattle.std.specs.Prelude.{◌≡◌, ◌≢◌, ◌<◌, ◌≤◌, ◌+◌, ◌++◌, length, All, IfSome};
-ghost use Rattle.std.specs.Option.{option_to_list};
+ghost use Rattle.std.specs.{Prelude.◌≡◌, Prelude.◌≢◌, Prelude.◌<◌, Prelude.◌≤◌, Prelude.◌+◌, Prelude.◌++◌, Prelude.length, Prelude.All, Prelude.IfSome, Option.option_to_list};
 ghost use Rattle.dn_tic.specs.Command.{IsCommand};
 
 use crate::survivor::Survivor;
@@ -38,8 +37,7 @@ fn set_of(set: [bool; 4]) -> [bool; 4]
 
 impl Survivor {
     ghost use Rattle.dn_report.specs.Text.{AreTold, IsReport, IsTail};
-    ghost use Rattle.dn_survivor.specs.Surviving.{surviving};
-    ghost use Rattle.dn_survivor.specs.Telling.{last_in, report_for, tails_in, told_in};
+    ghost use Rattle.dn_survivor.specs.{Surviving.surviving, Telling.last_in, Telling.report_for, Telling.tails_in, Telling.told_in};
 
     /// The last commands of a player, as many as the lockstep keeps.
     fn last_commands(&self, player: u8) -> ArrayVec<TicCmd, TAIL_COMMANDS>

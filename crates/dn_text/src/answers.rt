@@ -1,7 +1,6 @@
 //! Answers in words.
 
-ghost use Rattle.std.specs.Prelude.{◌≡◌, ◌++◌, OnOk};
-ghost use Rattle.std.specs.String.{string_bytes};
+ghost use Rattle.std.specs.{Prelude.◌≡◌, Prelude.◌++◌, Prelude.OnOk, String.string_bytes};
 ghost use Rattle.dn_text.specs.AnswerWords.{made_words, heard_words, ran_words, quit_words, done_words, refused_words, answer_words};
 ghost use Rattle.dn_machine.specs.declared.answers.Heard.TheVariants.{Dropped};
 

@@ -1,10 +1,8 @@
 //! The lines of a demo: what it has, and where its players end.
 
-ghost use Rattle.std.specs.Prelude.{◌≡◌, ◌++◌, codes, IfOk, OnOk};
-ghost use Rattle.std.specs.String.{string_bytes};
+ghost use Rattle.std.specs.{Prelude.◌≡◌, Prelude.◌++◌, Prelude.codes, Prelude.IfOk, Prelude.OnOk, String.string_bytes};
 ghost use Rattle.dn_world.specs.Plane.{spot_at};
-ghost use Rattle.dn_text.specs.DemoLines.{header_fields, size_line, player_line, seat_line, players_present, fed_lines};
-ghost use Rattle.dn_text.specs.Fields.{labelled};
+ghost use Rattle.dn_text.specs.{DemoLines.header_fields, DemoLines.size_line, DemoLines.player_line, DemoLines.seat_line, DemoLines.players_present, DemoLines.fed_lines, Fields.labelled};
 
 use crate::fields::{push_fields, push_line};
 use dn_demo::Fed;

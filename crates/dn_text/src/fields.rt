@@ -1,7 +1,6 @@
 //! Labelled numbers, as the printed lines have them.
 
-ghost use Rattle.std.specs.Prelude.{◌≡◌, ◌++◌, codes, OnOk};
-ghost use Rattle.std.specs.String.{string_bytes};
+ghost use Rattle.std.specs.{Prelude.◌≡◌, Prelude.◌++◌, Prelude.codes, Prelude.OnOk, String.string_bytes};
 ghost use Rattle.dn_text.specs.Fields.{labelled, fields_of};
 
 use std::alloc::AllocError;

@@ -1,7 +1,6 @@
 //! The lines of a game that was played.
 
-ghost use Rattle.std.specs.Prelude.{◌≡◌, ◌++◌, OnOk};
-ghost use Rattle.std.specs.String.{string_bytes};
+ghost use Rattle.std.specs.{Prelude.◌≡◌, Prelude.◌++◌, Prelude.OnOk, String.string_bytes};
 ghost use Rattle.dn_game.specs.Contents.{contents};
 ghost use Rattle.dn_text.specs.GameLines.{node_lines, events_line, game_lines};
 

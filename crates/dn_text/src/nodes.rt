@@ -1,7 +1,6 @@
 //! The lines of nodes: where each stands, and how far it has come.
 
-ghost use Rattle.std.specs.Prelude.{◌≡◌, ◌++◌, OnOk};
-ghost use Rattle.std.specs.String.{string_bytes};
+ghost use Rattle.std.specs.{Prelude.◌≡◌, Prelude.◌++◌, Prelude.OnOk, String.string_bytes};
 ghost use Rattle.dn_node.specs.Contents.{contents};
 ghost use Rattle.dn_text.specs.NodeLines.{phase_text, standing, progress, counts, demo_size, line_end, node_line};
 

@@ -1,7 +1,6 @@
 //! The lines of a datagram: its fields, or why it is none.
 
-ghost use Rattle.std.specs.Prelude.{◌≡◌, ◌++◌, IfOk, OnOk};
-ghost use Rattle.std.specs.String.{string_bytes};
+ghost use Rattle.std.specs.{Prelude.◌≡◌, Prelude.◌++◌, Prelude.IfOk, Prelude.OnOk, String.string_bytes};
 ghost use Rattle.dn_text.specs.PacketLines.{fault_line, packet_line, command_line, lines_of};
 
 use crate::fields::push_line;

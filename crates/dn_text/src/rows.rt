@@ -1,7 +1,6 @@
 //! The lines of a demo's rows.
 
-ghost use Rattle.std.specs.Prelude.{◌≡◌, ◌++◌, [], ◌∷◌, None, IsOk, OnOk};
-ghost use Rattle.std.specs.String.{string_bytes};
+ghost use Rattle.std.specs.{Prelude.◌≡◌, Prelude.◌++◌, Prelude.[], Prelude.◌∷◌, Prelude.None, Prelude.IsOk, Prelude.OnOk, String.string_bytes};
 ghost use Rattle.dn_text.specs.RowLines.{move_line, step_line, row_lines};
 
 use crate::fields::push_line;

@@ -1,7 +1,6 @@
 //! The line of a text that is no script.
 
-ghost use Rattle.std.specs.Prelude.{◌≡◌, IfOk};
-ghost use Rattle.std.specs.String.{string_bytes};
+ghost use Rattle.std.specs.{Prelude.◌≡◌, Prelude.IfOk, String.string_bytes};
 ghost use Rattle.dn_text.specs.ScriptLines.{bad_line};
 
 use crate::fields::push_line;

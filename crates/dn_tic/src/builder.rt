@@ -1,10 +1,7 @@
 //! The command that a list of inputs makes.
 
 ghost use Rattle.std.specs.Prelude.{◌≡◌, ◌≤◌, ◌≤ℤ◌, pos, negsuc, List, ℕ, [], ◌∷◌, ◌++◌};
-ghost use Rattle.dn_tic.specs.declared.input.Input.{Input};
-ghost use Rattle.dn_tic.specs.declared.input.Input.TheVariants.{Pressed, Given};
-ghost use Rattle.dn_tic.specs.Pressed.{turn_hold};
-ghost use Rattle.dn_tic.specs.Inputs.{hold_of, made_by};
+ghost use Rattle.dn_tic.specs.{declared.input.Input.Input, declared.input.Input.TheVariants.Pressed, declared.input.Input.TheVariants.Given, Pressed.turn_hold, Inputs.hold_of, Inputs.made_by};
 
 use crate::command::TicCmd;
 use crate::input::{Command, Input, marked};

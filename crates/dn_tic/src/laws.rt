@@ -1,13 +1,8 @@
 //! What holds of all commands and tics.
 
 ghost use Rattle.std.specs.Prelude.{◌≡◌, ◌≤◌, ◌+◌, ◌%◌, ◌≤ℤ◌, ℕ, ℤ, pos, negsuc, List, map, Some};
-ghost use Rattle.dn_tic.specs.declared.command.TicCmd.{TicCmd};
-ghost use Rattle.dn_tic.specs.Command.{command_bytes, IsCommand};
-ghost use Rattle.dn_tic.specs.declared.input.Input.{Input};
-ghost use Rattle.dn_tic.specs.declared.input.Input.TheVariants.{Pressed};
-ghost use Rattle.dn_tic.specs.Pressed.{turn_hold, pressed};
-ghost use Rattle.dn_tic.specs.Inputs.{hold_of, made_by};
-ghost use Rattle.dn_tic.specs.Tics.{exact_tic};
+ghost use Rattle.dn_tic.specs.{declared.command.TicCmd.TicCmd, Command.command_bytes, Command.IsCommand, declared.input.Input.Input, declared.input.Input.TheVariants.Pressed, Pressed.turn_hold};
+ghost use Rattle.dn_tic.specs.{Pressed.pressed, Inputs.hold_of, Inputs.made_by, Tics.exact_tic};
 
 /// Eight bytes are those of one command.
 pub fn one_command()

@@ -1,9 +1,8 @@
 //! What the keys of one build give: moves, a turn and buttons.
 
-ghost use Rattle.std.specs.Prelude.{◌≡◌, ◌≤◌, ◌≤ℤ◌, ◌+ℤ◌, pos, negsuc};
-ghost use Rattle.std.specs.List.{position, position_or_len};
-ghost use Rattle.dn_tic.specs.Keys.{is_down};
-ghost use Rattle.dn_tic.specs.Pressed.{opposed, forward_amount, side_amount, turn_amount, strafed, turned, buttons_of, weapons, weapon_buttons, clamped};
+ghost use Rattle.std.specs.{Prelude.◌≡◌, Prelude.◌≤◌, Prelude.◌≤ℤ◌, Prelude.◌+ℤ◌, Prelude.pos, Prelude.negsuc, List.position, List.position_or_len};
+ghost use Rattle.dn_tic.specs.{Keys.is_down, Pressed.opposed, Pressed.forward_amount, Pressed.side_amount, Pressed.turn_amount, Pressed.strafed, Pressed.turned, Pressed.buttons_of, Pressed.weapons};
+ghost use Rattle.dn_tic.specs.{Pressed.weapon_buttons, Pressed.clamped};
 
 use crate::keys::{Key, Keys};
 

@@ -1,11 +1,8 @@
 //! What the calls of a node do, and what its tests tell.
 
 ghost use Rattle.std.specs.Prelude.{◌≡◌, ℕ, ◌<◌, List, ◌++◌, true, false, Option, Some};
-ghost use Rattle.dn_vanish.specs.Node.{Node, now, Was};
-ghost use Rattle.dn_vanish.specs.Reports.{HasHeard, Stands};
-ghost use Rattle.dn_vanish.specs.Steps.{IsRun};
-ghost use Rattle.dn_vanish.specs.Calls.{AreTrue, Keeper, LeadsTo, after_news, can_decide, on_give_up, on_report, report_or};
-ghost use Rattle.dn_vanish.specs.Promise.{Steady};
+ghost use Rattle.dn_vanish.specs.{Node.Node, Node.now, Node.Was, Reports.HasHeard, Reports.Stands, Steps.IsRun, Calls.AreTrue, Calls.Keeper, Calls.LeadsTo, Calls.after_news, Calls.can_decide};
+ghost use Rattle.dn_vanish.specs.{Calls.on_give_up, Calls.on_report, Calls.report_or, Promise.Steady};
 
 /// The two calls are steps: of a node whose newest reports are true, and of a true report, they lead on from
 /// the history, and newest reports stay true: the node's own, and, since a history only grows, those of all

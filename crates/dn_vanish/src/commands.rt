@@ -1,12 +1,8 @@
 //! What holds of the commands themselves, where lists of them are handed on.
 
 ghost use Rattle.std.specs.Prelude.{◌≡◌, ◌⊎◌, ℕ, ◌+◌, ◌-◌, ◌<◌, ◌≤◌, List, ◌∷◌, true, false, length, slice_get};
-ghost use Rattle.dn_vanish.specs.Node.{put};
-ghost use Rattle.dn_vanish.specs.Commands.{AreHanded, Had, Handed, Holder, IsPrefixOf, demo, holders, past_seen, seen};
-ghost use Rattle.dn_vanish.specs.Decisions.{HasHeardLists, IsReady, caught_up, on_decision};
-ghost use Rattle.dn_vanish.specs.Reports.{decided};
-ghost use Rattle.dn_vanish.specs.Steps.{IsRun};
-ghost use Rattle.dn_vanish.specs.Promise.{lacks_at};
+ghost use Rattle.dn_vanish.specs.{Node.put, Commands.AreHanded, Commands.Had, Commands.Handed, Commands.Holder, Commands.IsPrefixOf, Commands.demo, Commands.holders, Commands.past_seen};
+ghost use Rattle.dn_vanish.specs.{Commands.seen, Decisions.HasHeardLists, Decisions.IsReady, Decisions.caught_up, Decisions.on_decision, Reports.decided, Steps.IsRun, Promise.lacks_at};
 
 /// Where lists are handed on piece by piece, each is a prefix of its maker's, whoever has given up whom. So any
 /// two nodes have the same command of a player for each tic for which both have one.

@@ -1,10 +1,8 @@
 //! What holds of counts, ends and rows, after every list of steps.
 
 ghost use Rattle.std.specs.Prelude.{◌≡◌, ℕ, ◌+◌, ◌<◌, ◌≤◌, List, ◌∷◌, true, false, Some};
-ghost use Rattle.dn_vanish.specs.Node.{Node, Was, is_over, now, ran};
-ghost use Rattle.dn_vanish.specs.Reports.{Stands};
-ghost use Rattle.dn_vanish.specs.Steps.{Decide, IsRun, Step};
-ghost use Rattle.dn_vanish.specs.Promise.{Agree, Fits, Lasts, Marked, lacks_at};
+ghost use Rattle.dn_vanish.specs.{Node.Node, Node.Was, Node.is_over, Node.now, Node.ran, Reports.Stands, Steps.Decide, Steps.IsRun, Steps.Step, Promise.Agree, Promise.Fits, Promise.Lasts};
+ghost use Rattle.dn_vanish.specs.{Promise.Marked, Promise.lacks_at};
 
 /// After every list of steps, whichever packets and reports were lost, repeated, delayed or reordered: any two
 /// nodes that have not given up each other know the same ends, and ran the tics that both ran with the same

@@ -30,8 +30,7 @@ impl Model for Belt {
 impl World for Belt {
     ghost use Rattle.std.specs.Prelude.{ℕ, List};
     ghost use Rattle.dn_world.specs.Places.{carrying};
-    ghost use Rattle.std.proofs.Common.{arith};
-    ghost use Rattle.std.proofs.lemmas.Int.{ints};
+    ghost use Rattle.std.proofs.{Common.arith, lemmas.Int.ints};
 
     ghost State = { List ℕ };
 

@@ -1,9 +1,7 @@
 //! What the calls that move a game on answer, as plain numbers.
 
 ghost use Rattle.std.specs.Prelude.{◌≡◌};
-ghost use Rattle.zirmegat.specs.Codes.{seal_code};
-ghost use Rattle.zirmegat.specs.Answers.{made_told, heard_told, ran_told, move_told};
-ghost use Rattle.zirmegat.specs.Sealed.{arrived_told};
+ghost use Rattle.zirmegat.specs.{Codes.seal_code, Answers.made_told, Answers.heard_told, Answers.ran_told, Answers.move_told, Sealed.arrived_told};
 
 use dn_lockstep::{Heard, Made, Ran};
 use dn_open::Arrived;

@@ -1,19 +1,12 @@
 //! The calls that move a game on.
 
-ghost use Rattle.std.specs.Prelude.{◌≡◌, ◌<◌, ◌≤◌, ◌%◌, ◌^◌, length, map, Option, None, is_some};
-ghost use Rattle.std.specs.Option.{option_map};
+ghost use Rattle.std.specs.{Prelude.◌≡◌, Prelude.◌<◌, Prelude.◌≤◌, Prelude.◌%◌, Prelude.◌^◌, Prelude.length, Prelude.map, Prelude.Option, Prelude.None, Prelude.is_some, Option.option_map};
 ghost use Rattle.dn_tic.specs.declared.input.Input.TheVariants.{Pressed};
 ghost use Rattle.dn_machine.specs.Drops as drops;
 ghost use Rattle.dn_machine.specs.declared.answers.Heard.TheVariants as Heard;
-ghost use Rattle.dn_lockstep.specs.declared.lockstep.aiming.Aim.{Aim as Aimed};
-ghost use Rattle.dn_lockstep.specs.Sent.{sent_to, aim_of};
-ghost use Rattle.dn_lockstep.specs.Giving.{gives};
-ghost use Rattle.dn_lockstep.specs.Runs.{told_by};
-ghost use Rattle.dn_lockstep.specs.Steps.{Tells};
-ghost use Rattle.zirmegat.specs.Asking.{Answers, AnswersMade, AnswersRan, AnswersQuit};
-ghost use Rattle.zirmegat.specs.Calls.{lockstep_of, Calls, Reads};
-ghost use Rattle.zirmegat.specs.Answers.{aim_told, heard_told, ran_told, move_told, row_told_over};
-ghost use Rattle.zirmegat.specs.Going.{Builds, Sends, Hears, Runs, Quits};
+ghost use Rattle.dn_lockstep.specs.{declared.lockstep.aiming.Aim.Aim as Aimed, Sent.sent_to, Sent.aim_of, Giving.gives, Runs.told_by, Steps.Tells};
+ghost use Rattle.zirmegat.specs.{Asking.Answers, Asking.AnswersMade, Asking.AnswersRan, Asking.AnswersQuit, Calls.lockstep_of, Calls.Calls, Calls.Reads, Answers.aim_told, Answers.heard_told};
+ghost use Rattle.zirmegat.specs.{Answers.ran_told, Answers.move_told, Answers.row_told_over, Going.Builds, Going.Sends, Going.Hears, Going.Runs, Going.Quits};
 
 use crate::answers::{HeardAnswer, MadeAnswer, MoveAnswer, RanAnswer, Row};
 use crate::ask::ask;

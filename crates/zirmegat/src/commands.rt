@@ -1,13 +1,9 @@
 //! Whole commands: a node takes them from the caller, and tells those that it has.
 
 ghost use Rattle.std.specs.Prelude.{◌≡◌, Bool, Option, None};
-ghost use Rattle.dn_tic.specs.declared.command.TicCmd.{TicCmd as Cmd};
-ghost use Rattle.dn_tic.specs.declared.input.Input.TheVariants.{Given};
+ghost use Rattle.dn_tic.specs.{declared.command.TicCmd.TicCmd as Cmd, declared.input.Input.TheVariants.Given};
 ghost use Rattle.dn_setup.specs.Starts.{bit};
-ghost use Rattle.zirmegat.specs.Asking.{AnswersMade};
-ghost use Rattle.zirmegat.specs.Going.{Builds};
-ghost use Rattle.zirmegat.specs.Commands.{given_in, known_told, CanBuild, TellsCommand};
-ghost use Rattle.zirmegat.specs.Calls.{lockstep_of, Reads};
+ghost use Rattle.zirmegat.specs.{Asking.AnswersMade, Going.Builds, Commands.given_in, Commands.known_told, Commands.CanBuild, Commands.TellsCommand, Calls.lockstep_of, Calls.Reads};
 
 use crate::answers::MadeAnswer;
 use crate::ask::ask;

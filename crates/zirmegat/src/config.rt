@@ -1,11 +1,8 @@
 //! What a node is made of, as plain numbers.
 
 ghost use Rattle.std.specs.Prelude.{◌≡◌, Result};
-ghost use Rattle.dn_setup.specs.Settings.{Settings as Choice};
-ghost use Rattle.dn_setup.specs.declared.settings.SettingsFault.{SettingsFault as Fault};
-ghost use Rattle.zirmegat.specs.Answers.{settings_told};
-ghost use Rattle.zirmegat.specs.Codes.{settings_code, fault_code};
-ghost use Rattle.zirmegat.specs.Opening.{IsChosen, config_of};
+ghost use Rattle.dn_setup.specs.{Settings.Settings as Choice, declared.settings.SettingsFault.SettingsFault as Fault};
+ghost use Rattle.zirmegat.specs.{Answers.settings_told, Codes.settings_code, Codes.fault_code, Opening.IsChosen, Opening.config_of};
 
 use dn_lockstep::{Config, NodeFault};
 use dn_setup::{Settings, SettingsFault};

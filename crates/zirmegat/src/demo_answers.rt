@@ -1,8 +1,7 @@
 //! What is in a demo, as plain numbers.
 
 ghost use Rattle.std.specs.Prelude.{◌≡◌};
-ghost use Rattle.zirmegat.specs.Codes.{demo_code};
-ghost use Rattle.zirmegat.specs.Demos.{demo_told};
+ghost use Rattle.zirmegat.specs.{Codes.demo_code, Demos.demo_told};
 
 use dn_demo::{Demo, DemoFault};
 

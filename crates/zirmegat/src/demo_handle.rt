@@ -1,7 +1,6 @@
 //! A reader of a demo behind a pointer.
 
-ghost use Rattle.std.specs.Prelude.{◌≡◌, true, false, Some, None, Option};
-ghost use Rattle.std.specs.Option.{option_map};
+ghost use Rattle.std.specs.{Prelude.◌≡◌, Prelude.true, Prelude.false, Prelude.Some, Prelude.None, Prelude.Option, Option.option_map};
 ghost use Rattle.zirmegat.specs.declared.reader.DemoReader.{DemoReader as Kept};
 
 use crate::loose::Loose;

@@ -2,9 +2,7 @@
 
 ghost use Rattle.std.specs.Prelude.{◌≡◌, ◌≢◌, ◌⊎◌, Some, None, is_some};
 ghost use Rattle.dn_setup.specs.Starts.{bit};
-ghost use Rattle.zirmegat.specs.Answers.{row_told_over};
-ghost use Rattle.zirmegat.specs.Calls.{Calls, Reads};
-ghost use Rattle.zirmegat.specs.Demos.{demo_of, blank, reading_told, row_by, no_demo, IsPushed, IsReadOut};
+ghost use Rattle.zirmegat.specs.{Answers.row_told_over, Calls.Calls, Calls.Reads, Demos.demo_of, Demos.blank, Demos.reading_told, Demos.row_by, Demos.no_demo, Demos.IsPushed, Demos.IsReadOut};
 
 use crate::answers::Row;
 use crate::calls::tell_row;

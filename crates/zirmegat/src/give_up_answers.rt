@@ -1,8 +1,7 @@
 //! What a link answers that gives up a player, as plain numbers.
 
 ghost use Rattle.std.specs.Prelude.{◌≡◌, ◌≤◌};
-ghost use Rattle.zirmegat.specs.Surviving.{give_up_at, give_up_told};
-ghost use Rattle.zirmegat.specs.Codes.{settled_code};
+ghost use Rattle.zirmegat.specs.{Surviving.give_up_at, Surviving.give_up_told, Codes.settled_code};
 
 use dn_lockstep::Settled;
 use dn_survivor::GivenUp;

@@ -1,10 +1,7 @@
 //! A lockstep behind a pointer.
 
-ghost use Rattle.std.specs.Prelude.{◌≡◌, true, false, Some, None, Option, IfSome};
-ghost use Rattle.std.specs.Borrow.{sem};
-ghost use Rattle.std.specs.Option.{option_map};
-ghost use Rattle.dn_lockstep.specs.Contents.{contents};
-ghost use Rattle.dn_lockstep.specs.declared.lockstep.Lockstep.{Lockstep as Kept};
+ghost use Rattle.std.specs.{Prelude.◌≡◌, Prelude.true, Prelude.false, Prelude.Some, Prelude.None, Prelude.Option, Prelude.IfSome, Borrow.sem, Option.option_map};
+ghost use Rattle.dn_lockstep.specs.{Contents.contents, declared.lockstep.Lockstep.Lockstep as Kept};
 
 use crate::loose::Loose;
 use dn_lockstep::Lockstep;
@@ -28,8 +25,7 @@ impl Model for LockstepHandle {
 }
 
 impl LockstepHandle {
-    ghost use Rattle.zirmegat.specs.Calls.{lockstep_of};
-    ghost use Rattle.zirmegat.specs.Lends.{lends_lockstep, lends_held};
+    ghost use Rattle.zirmegat.specs.{Calls.lockstep_of, Lends.lends_lockstep, Lends.lends_held};
 
     /// The handle that holds nothing.
     fn none() -> LockstepHandle

@@ -2,8 +2,7 @@
 
 ghost use Rattle.std.specs.Prelude.{◌≡◌};
 ghost use Rattle.dn_link.specs.declared.presence.Presence.TheVariants.{Different};
-ghost use Rattle.zirmegat.specs.Codes.{bundle_code};
-ghost use Rattle.zirmegat.specs.Links.{line_told, no_host, owed_told, presence_at, presence_told, received_told, unopened};
+ghost use Rattle.zirmegat.specs.{Codes.bundle_code, Links.line_told, Links.no_host, Links.owed_told, Links.presence_at, Links.presence_told, Links.received_told, Links.unopened};
 
 use crate::answers::MadeAnswer;
 use crate::report_answers::{notice_code, reported_code};

@@ -2,11 +2,8 @@
 
 ghost use Rattle.std.specs.Prelude.{◌≡◌, ◌<◌, ◌≤◌, ◌%◌, ◌^◌, length, None, pos, ⊤};
 ghost use Rattle.dn_tic.specs.declared.input.Input.TheVariants.{Pressed, Given};
-ghost use Rattle.zirmegat.specs.Asking.{Answers, AnswersMade, AnswersRan, AnswersPut, AnswersQuit};
-ghost use Rattle.zirmegat.specs.Calls.{Calls};
-ghost use Rattle.zirmegat.specs.Commands.{given_in};
-ghost use Rattle.zirmegat.specs.Going.{Quits};
-ghost use Rattle.zirmegat.specs.Links.{link_of, Moves, BuildsOf, CatchesUp, Forgets, GivesOut, Leans, RunsOf, TakesBytes, owed_told, received_told, unopened};
+ghost use Rattle.zirmegat.specs.{Asking.Answers, Asking.AnswersMade, Asking.AnswersRan, Asking.AnswersPut, Asking.AnswersQuit, Calls.Calls, Commands.given_in, Going.Quits, Links.link_of, Links.Moves};
+ghost use Rattle.zirmegat.specs.{Links.BuildsOf, Links.CatchesUp, Links.Forgets, Links.GivesOut, Links.Leans, Links.RunsOf, Links.TakesBytes, Links.owed_told, Links.received_told, Links.unopened};
 
 use crate::answers::{MadeAnswer, RanAnswer, Row};
 use crate::ask::ask;

@@ -1,9 +1,6 @@
 //! A link behind a pointer.
 
-ghost use Rattle.std.specs.Prelude.{◌≡◌, true, false, Some, None, Option, IfSome};
-ghost use Rattle.std.specs.Borrow.{sem};
-ghost use Rattle.std.specs.Coded.{coded_option};
-ghost use Rattle.std.specs.Option.{option_map};
+ghost use Rattle.std.specs.{Prelude.◌≡◌, Prelude.true, Prelude.false, Prelude.Some, Prelude.None, Prelude.Option, Prelude.IfSome, Borrow.sem, Coded.coded_option, Option.option_map};
 ghost use Rattle.dn_link.specs.contracts.link.Link as kept;
 ghost use Rattle.dn_link.specs.declared.link.Link.{Link as Kept};
 
@@ -29,8 +26,7 @@ impl Model for LinkHandle {
 }
 
 impl LinkHandle {
-    ghost use Rattle.zirmegat.specs.Links.{link_of, joined_of};
-    ghost use Rattle.zirmegat.specs.Lends.{lends_link, lends_held_link};
+    ghost use Rattle.zirmegat.specs.{Links.link_of, Links.joined_of, Lends.lends_link, Lends.lends_held_link};
 
     /// The handle that holds nothing.
     fn none() -> LinkHandle

@@ -2,12 +2,8 @@
 
 ghost use Rattle.std.specs.Prelude.{◌≡◌, None};
 ghost use Rattle.dn_setup.specs.Starts.{bit};
-ghost use Rattle.dn_link.specs.Figures.{unacknowledged};
-ghost use Rattle.dn_link.specs.Linked.{may_leave};
-ghost use Rattle.dn_link.specs.Pace.{wants_second};
-ghost use Rattle.dn_link.specs.declared.presence.Presence.TheVariants.{Unknown};
-ghost use Rattle.zirmegat.specs.Calls.{Reads};
-ghost use Rattle.zirmegat.specs.Links.{figures_at, line_told, link_of, presence_of, presence_told};
+ghost use Rattle.dn_link.specs.{Figures.unacknowledged, Linked.may_leave, Pace.wants_second, declared.presence.Presence.TheVariants.Unknown};
+ghost use Rattle.zirmegat.specs.{Calls.Reads, Links.figures_at, Links.line_told, Links.link_of, Links.presence_of, Links.presence_told};
 
 use crate::ask::ask;
 use crate::link_answers::{LineAnswer, PresenceAnswer};

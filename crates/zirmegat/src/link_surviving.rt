@@ -2,15 +2,9 @@
 
 ghost use Rattle.std.specs.Prelude.{◌≡◌, ◌<◌, ◌≤◌, None, length};
 ghost use Rattle.dn_setup.specs.Starts.{bit};
-ghost use Rattle.dn_survivor.specs.Calls.{undecided_in};
-ghost use Rattle.dn_survivor.specs.declared.answers.GivenUp.TheVariants.{NotPlaying};
-ghost use Rattle.dn_link.specs.Surviving.{reports_gone};
-ghost use Rattle.dn_link.specs.Linked.{has_given_up, surviving_of};
-ghost use Rattle.zirmegat.specs.Links.{GivesReport, GivesUpIn, link_of};
-ghost use Rattle.zirmegat.specs.Answers.{number_told};
-ghost use Rattle.zirmegat.specs.Asking.{Answers};
-ghost use Rattle.zirmegat.specs.Calls.{Reads};
-ghost use Rattle.zirmegat.specs.Surviving.{give_up_told};
+ghost use Rattle.dn_survivor.specs.{Calls.undecided_in, declared.answers.GivenUp.TheVariants.NotPlaying};
+ghost use Rattle.dn_link.specs.{Surviving.reports_gone, Linked.has_given_up, Linked.surviving_of};
+ghost use Rattle.zirmegat.specs.{Links.GivesReport, Links.GivesUpIn, Links.link_of, Answers.number_told, Asking.Answers, Calls.Reads, Surviving.give_up_told};
 
 use crate::ask::ask;
 use crate::bytes;

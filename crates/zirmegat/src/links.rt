@@ -1,16 +1,11 @@
 //! Making links, and giving them up.
 
 ghost use Rattle.std.specs.Prelude.{◌≡◌, ◌≢◌, ℕ, None, IfOk};
-ghost use Rattle.dn_lockstep.specs.Contents.{whose};
-ghost use Rattle.dn_lockstep.specs.Opening.{IsAdmittedWithin, whose_within};
-ghost use Rattle.dn_seal.specs.Keys.{no_secret};
-ghost use Rattle.dn_seal.specs.Sealing.{sealed_with};
-ghost use Rattle.dn_seal.specs.declared.suite.Suite.TheVariants.{Secret};
+ghost use Rattle.dn_lockstep.specs.{Contents.whose, Opening.IsAdmittedWithin, Opening.whose_within};
+ghost use Rattle.dn_seal.specs.{Keys.no_secret, Sealing.sealed_with, declared.suite.Suite.TheVariants.Secret};
 ghost use Rattle.dn_others.specs.Keeping.{nothing_kept};
-ghost use Rattle.dn_link.specs.Linking.{identity_of, linked, new_peer, seal_of};
-ghost use Rattle.dn_link.specs.Pacing.{new_pace, pace_of};
-ghost use Rattle.zirmegat.specs.Links.{OpensLink, link_of};
-ghost use Rattle.zirmegat.specs.Opening.{IsFresh};
+ghost use Rattle.dn_link.specs.{Linking.identity_of, Linking.linked, Linking.new_peer, Linking.seal_of, Pacing.new_pace, Pacing.pace_of};
+ghost use Rattle.zirmegat.specs.{Links.OpensLink, Links.link_of, Opening.IsFresh};
 
 use crate::config::{NodeConfig, fault_code, settings_code};
 use crate::link_handle::LinkHandle;

@@ -1,10 +1,8 @@
 //! Making locksteps, and giving them up.
 
 ghost use Rattle.std.specs.Prelude.{◌≡◌, None, IfOk};
-ghost use Rattle.dn_lockstep.specs.Contents.{contents, whose};
-ghost use Rattle.dn_lockstep.specs.Opening.{IsAdmittedWithin, whose_within};
-ghost use Rattle.zirmegat.specs.Calls.{lockstep_of};
-ghost use Rattle.zirmegat.specs.Opening.{IsFresh, Opens, OpensWithin};
+ghost use Rattle.dn_lockstep.specs.{Contents.contents, Contents.whose, Opening.IsAdmittedWithin, Opening.whose_within};
+ghost use Rattle.zirmegat.specs.{Calls.lockstep_of, Opening.IsFresh, Opening.Opens, Opening.OpensWithin};
 
 use crate::config::{NodeConfig, fault_code, settings_code};
 use crate::handle::LockstepHandle;

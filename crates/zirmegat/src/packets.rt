@@ -1,12 +1,8 @@
 //! Datagrams as fields, with no node.
 
 ghost use Rattle.std.specs.Prelude.{◌≡◌, ◌<◌, ◌≤◌, length, map, slice_get, Result};
-ghost use Rattle.dn_packet.specs.declared.packet.Packet.{Packet as Sent};
-ghost use Rattle.dn_packet.specs.declared.packet.PacketFault.{PacketFault as Fault};
-ghost use Rattle.dn_packet.specs.Read.{IsReadAs};
-ghost use Rattle.dn_packet.specs.Text.{text};
+ghost use Rattle.dn_packet.specs.{declared.packet.Packet.Packet as Sent, declared.packet.PacketFault.PacketFault as Fault, Read.IsReadAs, Text.text, Written.IsWritten};
 ghost use Rattle.zirmegat.specs.Fields.{command_told, command_in, fields_of, packet_in, IsDecodedAs};
-ghost use Rattle.dn_packet.specs.Written.{IsWritten};
 
 use crate::bytes;
 use arrayvec::ArrayVec;

@@ -2,9 +2,7 @@
 
 ghost use Rattle.std.specs.Prelude.{◌≡◌, pos, None, length, take, drop};
 ghost use Rattle.dn_lockstep.specs.Rings.{count_of};
-ghost use Rattle.zirmegat.specs.Calls.{lockstep_of, Reads};
-ghost use Rattle.zirmegat.specs.Commands.{got_of, end_of};
-ghost use Rattle.zirmegat.specs.Answers.{phase_told, phase_at, number_told, settings_told};
+ghost use Rattle.zirmegat.specs.{Calls.lockstep_of, Calls.Reads, Commands.got_of, Commands.end_of, Answers.phase_told, Answers.phase_at, Answers.number_told, Answers.settings_told};
 ghost use Rattle.dn_packet.specs.Written.{IsWritten};
 
 use crate::ask::ask;

@@ -1,8 +1,7 @@
 //! Reading the lockstep that a sealed lockstep or a link has.
 
 ghost use Rattle.std.specs.Prelude.{◌≡◌};
-ghost use Rattle.dn_lockstep.specs.Contents.{Contents, contents};
-ghost use Rattle.dn_lockstep.specs.Rings.{count_of};
+ghost use Rattle.dn_lockstep.specs.{Contents.Contents, Contents.contents, Rings.count_of};
 ghost use Rattle.zirmegat.specs.Commands.{got_of, end_of, CanBuild, TellsCommand};
 
 use dn_link::Link;

@@ -4,11 +4,8 @@ ghost use Rattle.std.specs.Prelude.{◌≡◌, ◌<◌, ◌≤◌, ◌%◌, ◌^
 ghost use Rattle.dn_tic.specs.declared.input.Input.TheVariants.{Pressed, Given};
 ghost use Rattle.dn_machine.specs.Drops as drops;
 ghost use Rattle.dn_machine.specs.declared.answers.Heard.TheVariants as Heard;
-ghost use Rattle.zirmegat.specs.Asking.{Answers, AnswersMade, AnswersRan, AnswersPut, AnswersQuit};
-ghost use Rattle.zirmegat.specs.Answers.{heard_told};
-ghost use Rattle.zirmegat.specs.Commands.{given_in};
-ghost use Rattle.zirmegat.specs.Going.{Builds, Runs, Quits};
-ghost use Rattle.zirmegat.specs.Sealed.{sealed_of, Keeps, KeepsBy, SendsOut, HearsOpen, arrived_told};
+ghost use Rattle.zirmegat.specs.{Asking.Answers, Asking.AnswersMade, Asking.AnswersRan, Asking.AnswersPut, Asking.AnswersQuit, Answers.heard_told, Commands.given_in, Going.Builds, Going.Runs};
+ghost use Rattle.zirmegat.specs.{Going.Quits, Sealed.sealed_of, Sealed.Keeps, Sealed.KeepsBy, Sealed.SendsOut, Sealed.HearsOpen, Sealed.arrived_told};
 
 use crate::answers::{HeardAnswer, MadeAnswer, RanAnswer, Row};
 use crate::ask::ask;

@@ -1,9 +1,6 @@
 //! A sealed lockstep behind a pointer.
 
-ghost use Rattle.std.specs.Prelude.{◌≡◌, true, false, Some, None, Option, IfSome};
-ghost use Rattle.std.specs.Borrow.{sem};
-ghost use Rattle.std.specs.Coded.{coded_option};
-ghost use Rattle.std.specs.Option.{option_map};
+ghost use Rattle.std.specs.{Prelude.◌≡◌, Prelude.true, Prelude.false, Prelude.Some, Prelude.None, Prelude.Option, Prelude.IfSome, Borrow.sem, Coded.coded_option, Option.option_map};
 ghost use Rattle.dn_open.specs.contracts.sealed.SealedLockstep as lockstep;
 ghost use Rattle.dn_open.specs.declared.sealed.SealedLockstep.{SealedLockstep as Kept};
 
@@ -29,8 +26,7 @@ impl Model for SealedHandle {
 }
 
 impl SealedHandle {
-    ghost use Rattle.zirmegat.specs.Sealed.{sealed_of, locked_of};
-    ghost use Rattle.zirmegat.specs.Lends.{lends_sealed, lends_held_sealed};
+    ghost use Rattle.zirmegat.specs.{Sealed.sealed_of, Sealed.locked_of, Lends.lends_sealed, Lends.lends_held_sealed};
 
     /// The handle that holds nothing.
     fn none() -> SealedHandle

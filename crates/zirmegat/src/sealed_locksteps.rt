@@ -1,14 +1,10 @@
 //! Making sealed locksteps, and giving them up.
 
 ghost use Rattle.std.specs.Prelude.{◌≡◌, ◌≢◌, None, IfOk, IsTrue, ◌↔◌};
-ghost use Rattle.dn_lockstep.specs.Contents.{whose};
-ghost use Rattle.dn_lockstep.specs.Opening.{IsAdmittedWithin, whose_within};
-ghost use Rattle.dn_seal.specs.Keys.{no_secret};
-ghost use Rattle.dn_seal.specs.Sealing.{sealed_with};
-ghost use Rattle.dn_seal.specs.declared.suite.Suite.TheVariants.{Secret, Open};
+ghost use Rattle.dn_lockstep.specs.{Contents.whose, Opening.IsAdmittedWithin, Opening.whose_within};
+ghost use Rattle.dn_seal.specs.{Keys.no_secret, Sealing.sealed_with, declared.suite.Suite.TheVariants.Secret, declared.suite.Suite.TheVariants.Open};
 ghost use Rattle.dn_open.specs.Locked.{locked, seal_of};
-ghost use Rattle.zirmegat.specs.Opening.{IsFresh};
-ghost use Rattle.zirmegat.specs.Sealed.{sealed_of, OpensSealed};
+ghost use Rattle.zirmegat.specs.{Opening.IsFresh, Sealed.sealed_of, Sealed.OpensSealed};
 
 use crate::config::{NodeConfig, fault_code, settings_code};
 use crate::sealed_handle::SealedHandle;

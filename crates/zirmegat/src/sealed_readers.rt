@@ -1,13 +1,11 @@
 //! The calls that read a sealed lockstep. For a handle that holds none they return 0.
 
 ghost use Rattle.std.specs.Prelude.{◌≡◌, pos, Bool, Option, None, length, take, drop};
-ghost use Rattle.zirmegat.specs.Sealed.{sealed_of};
+ghost use Rattle.zirmegat.specs.{Sealed.sealed_of, Calls.Reads, Commands.known_told, Commands.got_of, Commands.end_of, Commands.CanBuild, Commands.TellsCommand, Answers.phase_told, Answers.phase_at};
+ghost use Rattle.zirmegat.specs.{Answers.number_told, Answers.settings_told};
 ghost use Rattle.dn_tic.specs.declared.command.TicCmd.{TicCmd as Cmd};
 ghost use Rattle.dn_setup.specs.Starts.{bit};
 ghost use Rattle.dn_lockstep.specs.Rings.{count_of};
-ghost use Rattle.zirmegat.specs.Calls.{Reads};
-ghost use Rattle.zirmegat.specs.Commands.{known_told, got_of, end_of, CanBuild, TellsCommand};
-ghost use Rattle.zirmegat.specs.Answers.{phase_told, phase_at, number_told, settings_told};
 ghost use Rattle.dn_packet.specs.Written.{IsWritten};
 
 use crate::ask::ask;

@@ -1,16 +1,11 @@
 //! What an event does to a game.
 
 ghost use Rattle.std.specs.Prelude.{◌≡◌, ◌≢◌, ◌<◌, ◌⊎◌, false, true, Some, None, Ok, Err, length, nat_lt, slice_get, OnErr};
-ghost use Rattle.dn_machine.specs.declared.answers.Heard.TheVariants.{Started};
-ghost use Rattle.dn_machine.specs.declared.events.Event.TheVariants.{Send, Deliver};
-ghost use Rattle.dn_machine.specs.declared.events.Done.{Done};
-ghost use Rattle.dn_machine.specs.Game.{refused, refused_at, refused_flight, on_event};
-ghost use Rattle.dn_machine.specs.Runs.{is_send};
-ghost use Rattle.dn_machine.specs.declared.events.Refusal.{Refusal};
+ghost use Rattle.dn_machine.specs.{declared.answers.Heard.TheVariants.Started, declared.events.Event.TheVariants.Send, declared.events.Event.TheVariants.Deliver, declared.events.Done.Done};
+ghost use Rattle.dn_machine.specs.{Game.refused, Game.refused_at, Game.refused_flight, Game.on_event, Runs.is_send, declared.events.Refusal.Refusal};
 ghost use Rattle.dn_seal.specs.declared.seal.Seal.{Seal as AnySeal};
 ghost use Rattle.dn_open.specs.declared.open_event.OpenEvent.TheVariants.{Own};
-ghost use Rattle.dn_game.specs.OpenPlayed.{IsCarriedOnOpen, own_answer};
-ghost use Rattle.dn_game.specs.Pool.{HasGrown};
+ghost use Rattle.dn_game.specs.{OpenPlayed.IsCarriedOnOpen, OpenPlayed.own_answer, Pool.HasGrown};
 
 use super::Game;
 use dn_machine::{Done, Event, Heard, Refusal};
@@ -18,11 +13,8 @@ use dn_packet::MAX_DATAGRAM;
 use dn_world::World;
 
 impl<W: World> Game<W> {
-    ghost use Rattle.dn_game.specs.Contents.{contents};
-    ghost use Rattle.dn_game.specs.Applied.{Tells, IsAfter, IsLeftOut, IsApplied, IsAddressed};
-    ghost use Rattle.dn_game.specs.Frame.{KeepsOthers, KeepsWorlds, KeepsFlights, MovesNoWorld, named_by};
-    ghost use Rattle.dn_game.specs.Promised.{IsCarriedOn};
-    ghost use Rattle.dn_game.specs.Room.{room_of, IsFull, KeepsWhose};
+    ghost use Rattle.dn_game.specs.{Contents.contents, Applied.Tells, Applied.IsAfter, Applied.IsLeftOut, Applied.IsApplied, Applied.IsAddressed, Frame.KeepsOthers, Frame.KeepsWorlds};
+    ghost use Rattle.dn_game.specs.{Frame.KeepsFlights, Frame.MovesNoWorld, Frame.named_by, Promised.IsCarriedOn, Room.room_of, Room.IsFull, Room.KeepsWhose};
 
     /// Whether this is the number of a player.
     fn is_player(&self, node: u32) -> bool

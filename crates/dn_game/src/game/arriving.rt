@@ -1,15 +1,11 @@
 //! Any bytes come to a node of a game.
 
-ghost use Rattle.std.specs.Prelude.{◌≡◌, ◌≢◌, false, true, Some, Ok, Err, OnErr, slice_get};
-ghost use Rattle.std.specs.Option.{option_map};
-ghost use Rattle.dn_game.specs.Arrived.{Opening, IsArrived, SparesArrived};
-ghost use Rattle.dn_machine.specs.declared.answers.Heard.TheVariants.{Started};
-ghost use Rattle.dn_machine.specs.declared.events.Refusal.{Refusal};
+ghost use Rattle.std.specs.{Prelude.◌≡◌, Prelude.◌≢◌, Prelude.false, Prelude.true, Prelude.Some, Prelude.Ok, Prelude.Err, Prelude.OnErr, Prelude.slice_get, Option.option_map};
+ghost use Rattle.dn_game.specs.{Arrived.Opening, Arrived.IsArrived, Arrived.SparesArrived, OpenPlayed.IsAppliedOpen, OpenPlayed.IsCarriedOnOpen, OpenPlayed.SparesOpen, OpenPlayed.arrival_answer};
+ghost use Rattle.dn_game.specs.{OpenPlayed.sends, Pool.HasGrown, Sealed.sealed};
+ghost use Rattle.dn_machine.specs.{declared.answers.Heard.TheVariants.Started, declared.events.Refusal.Refusal};
 ghost use Rattle.dn_open.specs.declared.arrived.Arrived.TheVariants as came;
 ghost use Rattle.dn_open.specs.declared.open_event.OpenEvent.TheVariants.{Arrive};
-ghost use Rattle.dn_game.specs.OpenPlayed.{IsAppliedOpen, IsCarriedOnOpen, SparesOpen, arrival_answer, sends};
-ghost use Rattle.dn_game.specs.Pool.{HasGrown};
-ghost use Rattle.dn_game.specs.Sealed.{sealed};
 
 use super::Game;
 use crate::open_done::OpenDone;
@@ -32,10 +28,8 @@ fn are_opened(seal: Seal, node: u32, bytes: &[u8])
 }
 
 impl<W: World> Game<W> {
-    ghost use Rattle.dn_game.specs.Contents.{contents};
-    ghost use Rattle.dn_game.specs.Applied.{Tells};
-    ghost use Rattle.dn_game.specs.Frame.{KeepsOthers, KeepsWorlds, KeepsFlights, MovesNoWorldOpen, named_by_open};
-    ghost use Rattle.dn_game.specs.Room.{room_of, IsFull, KeepsWhose};
+    ghost use Rattle.dn_game.specs.{Contents.contents, Applied.Tells, Frame.KeepsOthers, Frame.KeepsWorlds, Frame.KeepsFlights, Frame.MovesNoWorldOpen, Frame.named_by_open, Room.room_of, Room.IsFull};
+    ghost use Rattle.dn_game.specs.{Room.KeepsWhose};
 
     /// The envelope of the packet of this number, in the game with this seal; None where no packet has it.
     pub fn sealed(&self, seal: Seal, which: usize) -> Option<ArrayVec<u8, 141>>

@@ -1,11 +1,9 @@
 //! How a game is made.
 
-ghost use Rattle.std.specs.Prelude.{◌≡◌, length, IfOk};
-ghost use Rattle.std.specs.Vec.{vec_capacity};
+ghost use Rattle.std.specs.{Prelude.◌≡◌, Prelude.length, Prelude.IfOk, Vec.vec_capacity};
 ghost use Rattle.dn_demo.specs.Recorded.{IsLimit};
 ghost use Rattle.dn_lockstep.specs.Opening.{IsGame};
-ghost use Rattle.dn_game.specs.Opening.{IsAdmitted, config_of, rules_in};
-ghost use Rattle.dn_game.specs.Fresh.{AreFresh, AreLimited, worlds_of};
+ghost use Rattle.dn_game.specs.{Opening.IsAdmitted, Opening.config_of, Opening.rules_in, Fresh.AreFresh, Fresh.AreLimited, Fresh.worlds_of};
 
 use super::Game;
 use crate::config::{GameConfig, GameFault};
@@ -18,9 +16,7 @@ use std::alloc::{AllocError, Global};
 
 impl<W: World> Game<W> {
     ghost use Rattle.dn_machine.specs.Game.{opening_game};
-    ghost use Rattle.dn_game.specs.Contents.{contents};
-    ghost use Rattle.dn_game.specs.Represents.{Represents};
-    ghost use Rattle.dn_game.specs.Room.{room_of};
+    ghost use Rattle.dn_game.specs.{Contents.contents, Represents.Represents, Room.room_of};
 
     /// A game with a node for each world, in the players' order. The worlds are given up where there is
     /// no game.

@@ -5,8 +5,7 @@ use dn_machine::Phase;
 
 impl Link {
     ghost use Rattle.std.specs.Prelude.{◌<◌, ◌&&◌, true, ◌≡◌};
-    ghost use Rattle.dn_link.specs.Linked.{is_out, may_leave, needs_nothing, never_played, none_needs};
-    ghost use Rattle.dn_link.specs.Linking.{linked};
+    ghost use Rattle.dn_link.specs.{Linked.is_out, Linked.may_leave, Linked.needs_nothing, Linked.never_played, Linked.none_needs, Linking.linked};
 
     /// Whether nothing more is expected of a player: it has played and left, or is forgotten; or player 0 said
     /// goodbye before its game, and without another player 0 there will be none.

@@ -7,11 +7,8 @@ use dn_machine::Phase;
 
 impl Link {
     ghost use Rattle.std.specs.Prelude.{◌<◌, ◌&&◌, if◌then◌else◌, true, ◌≡◌};
-    ghost use Rattle.dn_link.specs.declared.presence.Presence.TheVariants.{Unknown};
-    ghost use Rattle.dn_link.specs.Linked.{Gives, all_ready, forgotten, holds_back, is_gathering, is_peer, is_ready, may_leave};
-    ghost use Rattle.dn_link.specs.Linking.{identity_of, linked, seal_of, state_of};
-    ghost use Rattle.dn_link.specs.Pace.{is_paced};
-    ghost use Rattle.dn_link.specs.Pacing.{pace_of};
+    ghost use Rattle.dn_link.specs.{declared.presence.Presence.TheVariants.Unknown, Linked.Gives, Linked.all_ready, Linked.forgotten, Linked.holds_back, Linked.is_gathering, Linked.is_peer};
+    ghost use Rattle.dn_link.specs.{Linked.is_ready, Linked.may_leave, Linking.identity_of, Linking.linked, Linking.seal_of, Linking.state_of, Pace.is_paced, Pacing.pace_of};
 
     /// Whether a number is a peer's.
     pub(super) fn is_peer(&self, player: u8) -> bool

@@ -19,16 +19,12 @@ pub(super) fn is_notice(bytes: &[u8]) -> bool
 }
 
 impl Link {
-    ghost use Rattle.std.specs.Prelude.{ℕ, IfSome};
-    ghost use Rattle.std.specs.Option.{option_map};
+    ghost use Rattle.std.specs.{Prelude.ℕ, Prelude.IfSome, Option.option_map};
     ghost use Rattle.dn_report.specs.Text.{IsReport};
     ghost use Rattle.dn_survivor.specs.Telling.{report_for};
     ghost use Rattle.dn_survivor.specs.declared.answers.Reported.TheVariants as reported;
     ghost use Rattle.dn_link.specs.declared.received.Received.TheVariants as received;
-    ghost use Rattle.dn_link.specs.Linked.{IsWhole, surviving_of};
-    ghost use Rattle.dn_link.specs.Notices.{HearsNotice, notice_for};
-    ghost use Rattle.dn_link.specs.Linking.{identity_of, linked, seal_of};
-    ghost use Rattle.dn_link.specs.Pacing.{pace_of};
+    ghost use Rattle.dn_link.specs.{Linked.IsWhole, Linked.surviving_of, Notices.HearsNotice, Notices.notice_for, Linking.identity_of, Linking.linked, Linking.seal_of, Pacing.pace_of};
 
     /// The report to a player, sealed, for each tick while somebody is given up, and while this player has left:
     /// what `report` returns, which has the form of a report.

@@ -5,9 +5,8 @@ use crate::line::{apart, total};
 
 impl Link {
     ghost use Rattle.std.specs.Prelude.{◌<◌, ◌≤◌, ◌+◌, ◌&&◌, nat_abs, nat_lt, ◌≡◌};
-    ghost use Rattle.dn_link.specs.Linking.{identity_of, linked, seal_of};
-    ghost use Rattle.dn_link.specs.Pace.{after_tick, difference, is_paced, lean, playing, differences, is_lossy, is_lossy_to, wants_second};
-    ghost use Rattle.dn_link.specs.Pacing.{pace_of};
+    ghost use Rattle.dn_link.specs.{Linking.identity_of, Linking.linked, Linking.seal_of, Pace.after_tick, Pace.difference, Pace.is_paced, Pace.lean, Pace.playing, Pace.differences, Pace.is_lossy};
+    ghost use Rattle.dn_link.specs.{Pace.is_lossy_to, Pace.wants_second, Pacing.pace_of};
 
     /// Whether a player is a peer that plays, as far as it was heard.
     fn is_paced(&self, player: u8) -> bool

@@ -6,9 +6,7 @@ use crate::{counting, line};
 impl Link {
     ghost use Rattle.std.specs.Prelude.{◌≡◌};
     ghost use Rattle.dn_lockstep.specs.Told.{made};
-    ghost use Rattle.dn_link.specs.Line.{lead_over};
-    ghost use Rattle.dn_link.specs.Linked.{certain, end_known};
-    ghost use Rattle.dn_link.specs.Linking.{linked};
+    ghost use Rattle.dn_link.specs.{Line.lead_over, Linked.certain, Linked.end_known, Linking.linked};
 
     /// The number of its player.
     pub(super) fn me(&self) -> u8

@@ -21,11 +21,8 @@ impl Link {
     ghost use Rattle.std.specs.Prelude.{ℕ, ℤ, ◌≢◌, ◌+◌, None};
     ghost use Rattle.dn_machine.specs.Running.{on_run, on_run_but, row_held};
     ghost use Rattle.dn_machine.specs.declared.answers.Ran.TheVariants as ran;
-    ghost use Rattle.dn_lockstep.specs.Runs.{RunsBy};
-    ghost use Rattle.dn_lockstep.specs.Steps.{Tells};
-    ghost use Rattle.dn_link.specs.Linked.{IsWhole, has_given_up};
-    ghost use Rattle.dn_link.specs.Linking.{identity_of, linked, seal_of};
-    ghost use Rattle.dn_link.specs.Pacing.{pace_of};
+    ghost use Rattle.dn_lockstep.specs.{Runs.RunsBy, Steps.Tells};
+    ghost use Rattle.dn_link.specs.{Linked.IsWhole, Linked.has_given_up, Linking.identity_of, Linking.linked, Linking.seal_of, Pacing.pace_of};
 
     /// As `Lockstep::run`, but no mark is compared of players who are given up.
     pub fn run(&mut self, marks: &[i16; 4]) -> (Ran, Option<[Option<Move>; 4]>)

@@ -11,14 +11,11 @@ impl Link {
     ghost use Rattle.std.specs.Prelude.{◌<◌, ◌≢◌, true, IfSome};
     ghost use Rattle.dn_machine.specs.declared.answers.Phase.TheVariants.{Gathering};
     ghost use Rattle.dn_report.specs.Text.{IsReport};
-    ghost use Rattle.dn_survivor.specs.Calls.{HearsReport, undecided_in};
-    ghost use Rattle.dn_survivor.specs.Telling.{report_for};
+    ghost use Rattle.dn_survivor.specs.{Calls.HearsReport, Calls.undecided_in, Telling.report_for};
     ghost use Rattle.dn_survivor.specs.declared.answers.GivenUp.TheVariants as given_up;
     ghost use Rattle.dn_survivor.specs.declared.answers.Reported.TheVariants as reported;
-    ghost use Rattle.dn_link.specs.Linked.{IsWhole, has_given_up, remains, surviving_of};
-    ghost use Rattle.dn_link.specs.Linking.{identity_of, linked, seal_of};
-    ghost use Rattle.dn_link.specs.Pacing.{pace_of};
-    ghost use Rattle.dn_link.specs.Surviving.{GivesUpPeer, reports_gone};
+    ghost use Rattle.dn_link.specs.{Linked.IsWhole, Linked.has_given_up, Linked.remains, Linked.surviving_of, Linking.identity_of, Linking.linked, Linking.seal_of, Pacing.pace_of};
+    ghost use Rattle.dn_link.specs.{Surviving.GivesUpPeer, Surviving.reports_gone};
 
     /// Whether a player is given up.
     pub fn has_given_up(&self, player: u8) -> bool

@@ -9,18 +9,13 @@ use crate::reading::open_bundle;
 use crate::received::{Received, received_of};
 
 impl Link {
-    ghost use Rattle.dn_link.specs.Presence.{may_come};
+    ghost use Rattle.dn_link.specs.{Presence.may_come, Hearing.ByTest, Hearing.HearsAll, Packets.packets_in, Linked.IsWhole, Linked.Receives, Linked.ReceivesAs, Linked.done_with, Linked.has_given_up};
+    ghost use Rattle.dn_link.specs.{Linked.hears, Linked.is_peer, Linked.met, Notices.HearsNotice, Notices.is_notice, Linking.identity_of, Linking.linked, Linking.seal_of, Pace.Paces, Pace.PacesAs};
+    ghost use Rattle.dn_link.specs.{Pace.after_datagram, Pacing.pace_of};
     ghost use Rattle.std.specs.Prelude.{ℕ, ◌<◌, ◌&&◌, not, true, false, Ok, ◌≡◌};
     ghost use Rattle.dn_machine.specs.Game.{fresh};
     ghost use Rattle.dn_survivor.specs.declared.answers.Reported.TheVariants as reported;
     ghost use Rattle.dn_link.specs.declared.received.Received.TheVariants as received;
-    ghost use Rattle.dn_link.specs.Hearing.{ByTest, HearsAll};
-    ghost use Rattle.dn_link.specs.Packets.{packets_in};
-    ghost use Rattle.dn_link.specs.Linked.{IsWhole, Receives, ReceivesAs, done_with, has_given_up, hears, is_peer, met};
-    ghost use Rattle.dn_link.specs.Notices.{HearsNotice, is_notice};
-    ghost use Rattle.dn_link.specs.Linking.{identity_of, linked, seal_of};
-    ghost use Rattle.dn_link.specs.Pace.{Paces, PacesAs, after_datagram};
-    ghost use Rattle.dn_link.specs.Pacing.{pace_of};
 
     /// How many commands of this player a peer no longer needs, by its presence and the count that it reported.
     fn done_with(&self, presence: Presence, count: u32) -> u32

@@ -5,11 +5,8 @@ use crate::figures::Figures;
 
 impl Link {
     ghost use Rattle.std.specs.Prelude.{◌<◌, ◌≤◌, if◌then◌else◌, None, Some, ◌≡◌};
-    ghost use Rattle.dn_link.specs.Figures.{acknowledged_by, figures_of, unacknowledged};
+    ghost use Rattle.dn_link.specs.{Figures.acknowledged_by, Figures.figures_of, Figures.unacknowledged, Linked.is_peer, Linking.linked, Pacing.pace_of};
     ghost use Rattle.dn_lockstep.specs.Told.{made as made_in};
-    ghost use Rattle.dn_link.specs.Linked.{is_peer};
-    ghost use Rattle.dn_link.specs.Linking.{linked};
-    ghost use Rattle.dn_link.specs.Pacing.{pace_of};
     ghost use Rattle.dn_machine.specs.declared.answers.Made.TheVariants as made;
 
     /// What is known of the line to a peer, for the screen. None for a number that is no peer's.

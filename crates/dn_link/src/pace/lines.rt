@@ -1,11 +1,7 @@
 //! What a link keeps of the lines of others.
 
 ghost use Rattle.std.specs.Prelude.{◌≡◌, ◌<◌, is_some, nat_le};
-ghost use Rattle.dn_link.specs.Figures.{figures_of};
-ghost use Rattle.dn_link.specs.Line.{missing};
-ghost use Rattle.dn_link.specs.Lines.{line_of};
-ghost use Rattle.dn_link.specs.Pace.{after_datagram, is_lossy_line};
-ghost use Rattle.dn_link.specs.Pacing.{state_of};
+ghost use Rattle.dn_link.specs.{Figures.figures_of, Line.missing, Lines.line_of, Pace.after_datagram, Pace.is_lossy_line, Pacing.state_of};
 
 use super::Pace;
 use crate::bundle::Bundle;

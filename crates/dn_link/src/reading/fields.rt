@@ -1,8 +1,7 @@
 //! Reading the fields of a datagram.
 
 ghost use Rattle.std.specs.Prelude.{◌≤◌, ◌≡◌, length, IfSome};
-ghost use Rattle.dn_link.specs.Text.{message_bytes, IsMessage};
-ghost use Rattle.dn_link.specs.Told.{told_counts, told_flag, told_identity, told_message};
+ghost use Rattle.dn_link.specs.{Text.message_bytes, Text.IsMessage, Told.told_counts, Told.told_flag, Told.told_identity, Told.told_message};
 
 use crate::bundle::{Counts, Identity, Message};
 use dn_seal::tic_at;

@@ -1,9 +1,7 @@
 //! Reading the parts of a datagram.
 
-ghost use Rattle.std.specs.Prelude.{◌≤◌, ◌≡◌, length};
-ghost use Rattle.std.specs.Option.{option_map};
-ghost use Rattle.dn_link.specs.Text.{part_bytes};
-ghost use Rattle.dn_link.specs.Told.{told_all, told_part, told_parts, told_run, told_whole};
+ghost use Rattle.std.specs.{Prelude.◌≤◌, Prelude.◌≡◌, Prelude.length, Option.option_map};
+ghost use Rattle.dn_link.specs.{Text.part_bytes, Told.told_all, Told.told_part, Told.told_parts, Told.told_run, Told.told_whole};
 
 use crate::bundle::{Carried, Part, Run};
 use arrayvec::ArrayVec;

@@ -1,15 +1,11 @@
 //! The exact numbers of the packets that go out.
 
-ghost use Rattle.std.specs.Prelude.{◌≡◌, ◌<◌, ◌≤◌, ◌+◌, ◌-◌, min, nat_lt, if◌then◌else◌, IfSome, is_some};
-ghost use Rattle.std.specs.Option.{option_map};
+ghost use Rattle.std.specs.{Prelude.◌≡◌, Prelude.◌<◌, Prelude.◌≤◌, Prelude.◌+◌, Prelude.◌-◌, Prelude.min, Prelude.nat_lt, Prelude.if◌then◌else◌, Prelude.IfSome, Prelude.is_some, Option.option_map};
 ghost use Rattle.dn_packet.specs.Flags.{exit};
 ghost use Rattle.dn_setup.specs.Starts.{bit};
-ghost use Rattle.dn_machine.specs.declared.answers.Phase.TheVariants.{Ended};
-ghost use Rattle.dn_machine.specs.declared.answers.Cause.{Cause};
-ghost use Rattle.dn_machine.specs.Flight.{Play, request_flag, request_byte};
-ghost use Rattle.dn_machine.specs.Sending.{commands_flight, first_sent, request_to, on_send_in};
-ghost use Rattle.dn_lockstep.specs.Rings.{count_of};
-ghost use Rattle.dn_lockstep.specs.Sent.{sent_to, aim_of};
+ghost use Rattle.dn_machine.specs.{declared.answers.Phase.TheVariants.Ended, declared.answers.Cause.Cause, Flight.Play, Flight.request_flag, Flight.request_byte, Sending.commands_flight};
+ghost use Rattle.dn_machine.specs.{Sending.first_sent, Sending.request_to, Sending.on_send_in};
+ghost use Rattle.dn_lockstep.specs.{Rings.count_of, Sent.sent_to, Sent.aim_of};
 
 use super::Lockstep;
 use dn_machine::Phase;
@@ -52,9 +48,7 @@ pub(super) fn request_byte(ask: Option<u32>) -> u8
 }
 
 impl Lockstep {
-    ghost use Rattle.dn_lockstep.specs.Contents.{contents};
-    ghost use Rattle.dn_lockstep.specs.Steps.{Tells};
-    ghost use Rattle.dn_lockstep.specs.Giving.{Reaches, Gives, gives};
+    ghost use Rattle.dn_lockstep.specs.{Contents.contents, Steps.Tells, Giving.Reaches, Giving.Gives, Giving.gives};
 
     /// The exact numbers of the packet that `packet` would give now.
     // Inlined, so that a packet is given without a call for its numbers.

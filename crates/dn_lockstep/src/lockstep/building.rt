@@ -2,8 +2,7 @@
 
 ghost use Rattle.std.specs.Prelude.{◌≡◌};
 ghost use Rattle.dn_machine.specs.declared.answers.Made.TheVariants.{Full, NotPlaying};
-ghost use Rattle.dn_tic.specs.declared.input.Input.{Input as AnyInput};
-ghost use Rattle.dn_tic.specs.declared.input.Input.TheVariants.{Pressed, Given};
+ghost use Rattle.dn_tic.specs.{declared.input.Input.Input as AnyInput, declared.input.Input.TheVariants.Pressed, declared.input.Input.TheVariants.Given};
 
 use super::Lockstep;
 use dn_machine::{Made, Phase};
@@ -11,9 +10,7 @@ use dn_tic::{Command, Input, Keys};
 
 impl Lockstep {
     ghost use Rattle.dn_machine.specs.Building.{on_build};
-    ghost use Rattle.dn_lockstep.specs.Contents.{contents};
-    ghost use Rattle.dn_lockstep.specs.Commands.{makes, can_make};
-    ghost use Rattle.dn_lockstep.specs.Steps.{Steps, Tells};
+    ghost use Rattle.dn_lockstep.specs.{Contents.contents, Commands.makes, Commands.can_make, Steps.Steps, Steps.Tells};
 
     /// Whether [`Lockstep::build`] and [`Lockstep::give`] would make a command now: it plays, and fewer of its
     /// commands wait to be run than its window allows.

@@ -9,8 +9,7 @@ use dn_machine::{Cause, Phase};
 
 impl Lockstep {
     ghost use Rattle.dn_machine.specs.Running.{on_quit};
-    ghost use Rattle.dn_lockstep.specs.Contents.{contents};
-    ghost use Rattle.dn_lockstep.specs.Steps.{Steps, Becomes};
+    ghost use Rattle.dn_lockstep.specs.{Contents.contents, Steps.Steps, Steps.Becomes};
 
     /// Ends a node that plays, and closes its demo where it is open.
     pub(super) fn finish(&mut self, cause: Cause)

@@ -1,13 +1,9 @@
 //! What a node does with a datagram.
 
 ghost use Rattle.std.specs.Prelude.{◌≡◌, ◌≢◌, ◌<◌, false, Result, Ok};
-ghost use Rattle.dn_setup.specs.Settings.{Settings};
-ghost use Rattle.dn_setup.specs.Setup.{IsSetupReadAs};
-ghost use Rattle.dn_setup.specs.declared.setup.SetupFault.{SetupFault};
-ghost use Rattle.dn_machine.specs.declared.answers.Phase.TheVariants.{Gathering};
-ghost use Rattle.dn_machine.specs.Hearing.{on_gathering};
-ghost use Rattle.dn_lockstep.specs.Phases.{hears_none};
-ghost use Rattle.dn_lockstep.specs.Received.{on_read, on_set_up, on_player};
+ghost use Rattle.dn_setup.specs.{Settings.Settings, Setup.IsSetupReadAs, declared.setup.SetupFault.SetupFault};
+ghost use Rattle.dn_machine.specs.{declared.answers.Phase.TheVariants.Gathering, Hearing.on_gathering};
+ghost use Rattle.dn_lockstep.specs.{Phases.hears_none, Received.on_read, Received.on_set_up, Received.on_player};
 
 use super::Lockstep;
 use crate::drops::{packet_drop, setup_drop};
@@ -20,9 +16,7 @@ use dn_setup::from_packet;
 const KEY: u8 = 0;
 
 impl Lockstep {
-    ghost use Rattle.dn_lockstep.specs.Contents.{contents, whose};
-    ghost use Rattle.dn_lockstep.specs.Hearing.{HearsAny, HearsNear, Spares};
-    ghost use Rattle.dn_lockstep.specs.Steps.{Simulates, Steps};
+    ghost use Rattle.dn_lockstep.specs.{Contents.contents, Contents.whose, Hearing.HearsAny, Hearing.HearsNear, Hearing.Spares, Steps.Simulates, Steps.Steps};
 
     /// Whether it has ended without having played.
     fn hears_none(&self) -> bool

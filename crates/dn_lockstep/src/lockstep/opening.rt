@@ -64,9 +64,7 @@ fn first_phase(me: u8) -> Phase
 impl Lockstep {
     ghost use Rattle.dn_setup.specs.Settings.{Settings as Choice};
     ghost use Rattle.dn_machine.specs.Game.{fresh};
-    ghost use Rattle.dn_lockstep.specs.Contents.{contents, whose};
-    ghost use Rattle.dn_lockstep.specs.Opening.{limits_in, limits_within, whose_in, whose_within};
-    ghost use Rattle.dn_lockstep.specs.Represents.{Represents};
+    ghost use Rattle.dn_lockstep.specs.{Contents.contents, Contents.whose, Opening.limits_in, Opening.limits_within, Opening.whose_in, Opening.whose_within, Represents.Represents};
 
     /// A lockstep with no history: player 0 gathers, the others listen. All memory that it needs is taken
     /// here.

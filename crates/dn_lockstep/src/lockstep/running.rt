@@ -1,12 +1,9 @@
 //! How a lockstep runs a tic.
 
 ghost use Rattle.std.specs.Prelude.{◌≡◌, ◌≢◌, ℕ, ◌+◌, ℤ, None};
-ghost use Rattle.dn_machine.specs.declared.answers.Phase.TheVariants.{Playing};
+ghost use Rattle.dn_machine.specs.{declared.answers.Phase.TheVariants.Playing, declared.answers.Ran.TheVariants.Waiting, declared.answers.Ran.TheVariants.NotPlaying, Node.lowest};
 ghost use Rattle.dn_machine.specs.declared.answers.Ran.TheVariants as Ran;
-ghost use Rattle.dn_machine.specs.declared.answers.Ran.TheVariants.{Waiting, NotPlaying};
-ghost use Rattle.dn_machine.specs.Node.{lowest};
-ghost use Rattle.dn_lockstep.specs.Rows.{has, is_missing};
-ghost use Rattle.dn_lockstep.specs.Runs.{told_by};
+ghost use Rattle.dn_lockstep.specs.{Rows.has, Rows.is_missing, Runs.told_by};
 
 use super::Lockstep;
 use crate::recording::write;
@@ -26,9 +23,7 @@ fn told_by(ran: Ran, row: [Option<Move>; 4]) -> Option<[Option<Move>; 4]>
 
 impl Lockstep {
     ghost use Rattle.dn_machine.specs.Running.{on_run, on_run_but, on_run_playing, row_held};
-    ghost use Rattle.dn_lockstep.specs.Contents.{contents};
-    ghost use Rattle.dn_lockstep.specs.Runs.{RunsBy};
-    ghost use Rattle.dn_lockstep.specs.Steps.{Tells};
+    ghost use Rattle.dn_lockstep.specs.{Contents.contents, Runs.RunsBy, Steps.Tells};
 
     /// Runs the next tic, as `run_into` does. Returns the row of moves too, if the tic was run.
     pub fn run(&mut self, marks: &[i16; 4]) -> (Ran, Option<[Option<Move>; 4]>)

@@ -1,13 +1,8 @@
 //! The packets that go out.
 
-ghost use Rattle.std.specs.Prelude.{◌≡◌, ◌≤◌, length, false, Some, None, IfSome, is_some};
-ghost use Rattle.std.specs.List.{list_any};
-ghost use Rattle.std.specs.Option.{option_map};
-ghost use Rattle.dn_packet.specs.Text.{IsPacket, text};
-ghost use Rattle.dn_packet.specs.Written.{IsWritten};
-ghost use Rattle.dn_lockstep.specs.Rings.{is_stop};
-ghost use Rattle.dn_lockstep.specs.Near.{IsFair};
-ghost use Rattle.dn_lockstep.specs.Sent.{sent_to, after_giving, aim_of, bytes_of};
+ghost use Rattle.std.specs.{Prelude.◌≡◌, Prelude.◌≤◌, Prelude.length, Prelude.false, Prelude.Some, Prelude.None, Prelude.IfSome, Prelude.is_some, List.list_any, Option.option_map};
+ghost use Rattle.dn_packet.specs.{Text.IsPacket, Text.text, Written.IsWritten};
+ghost use Rattle.dn_lockstep.specs.{Rings.is_stop, Near.IsFair, Sent.sent_to, Sent.after_giving, Sent.aim_of, Sent.bytes_of};
 
 use super::Lockstep;
 use super::aiming::{Aim, request_byte};
@@ -17,9 +12,8 @@ use dn_packet::{Head, MAX_DATAGRAM, encode_parts, encode_to};
 use dn_setup::to_packet;
 
 impl Lockstep {
-    ghost use Rattle.dn_lockstep.specs.Contents.{contents};
-    ghost use Rattle.dn_lockstep.specs.Steps.{Steps, Becomes, Tells};
-    ghost use Rattle.dn_lockstep.specs.Giving.{Reaches, Gives, gives, packet_of_aim, IsSentTo, IsSilent, aim_in, size_in};
+    ghost use Rattle.dn_lockstep.specs.{Contents.contents, Steps.Steps, Steps.Becomes, Steps.Tells, Giving.Reaches, Giving.Gives, Giving.gives, Giving.packet_of_aim, Giving.IsSentTo, Giving.IsSilent};
+    ghost use Rattle.dn_lockstep.specs.{Giving.aim_in, Giving.size_in};
 
     /// Writes the packet of these numbers, with as many of the own commands from its start on, to the front
     /// of a room.

@@ -1,13 +1,10 @@
 //! How a lockstep goes on without a player who is given up. Where that player's commands end has to be agreed
 //! among those who remain; the lockstep takes what it is told.
 
-ghost use Rattle.std.specs.Prelude.{◌≡◌, ◌≢◌, ℕ, ◌||◌, IfSome, true};
-ghost use Rattle.std.specs.Option.{is_none};
-ghost use Rattle.dn_machine.specs.declared.answers.Phase.TheVariants.{Gathering};
-ghost use Rattle.dn_machine.specs.Node.{is_ended};
-ghost use Rattle.dn_lockstep.specs.Phases.{is_listening};
-ghost use Rattle.dn_lockstep.specs.Settling.{has_gap, is_no_peer, is_other_end, is_start, missing, on_excuse, on_settle};
-ghost use Rattle.dn_lockstep.specs.declared.lockstep.settling.Settled.TheVariants.{Taken};
+ghost use Rattle.std.specs.{Prelude.◌≡◌, Prelude.◌≢◌, Prelude.ℕ, Prelude.◌||◌, Prelude.IfSome, Prelude.true, Option.is_none};
+ghost use Rattle.dn_machine.specs.{declared.answers.Phase.TheVariants.Gathering, Node.is_ended};
+ghost use Rattle.dn_lockstep.specs.{Phases.is_listening, Settling.has_gap, Settling.is_no_peer, Settling.is_other_end, Settling.is_start, Settling.missing, Settling.on_excuse, Settling.on_settle};
+ghost use Rattle.dn_lockstep.specs.{declared.lockstep.settling.Settled.TheVariants.Taken};
 
 use super::Lockstep;
 use crate::reading::has_stop;
@@ -69,8 +66,7 @@ fn is_start(heard: Heard) -> bool
 }
 
 impl Lockstep {
-    ghost use Rattle.dn_lockstep.specs.Contents.{contents};
-    ghost use Rattle.dn_lockstep.specs.Steps.{Steps};
+    ghost use Rattle.dn_lockstep.specs.{Contents.contents, Steps.Steps};
 
     /// Whether it takes no part in a game: it waits for the settings, or has ended.
     fn is_out(&self) -> bool

@@ -10,8 +10,7 @@ use dn_setup::Settings;
 
 impl Lockstep {
     ghost use Rattle.dn_machine.specs.Hearing.{started};
-    ghost use Rattle.dn_lockstep.specs.Contents.{contents};
-    ghost use Rattle.dn_lockstep.specs.Steps.{Becomes};
+    ghost use Rattle.dn_lockstep.specs.{Contents.contents, Steps.Becomes};
 
     /// Begins to play a game of these settings.
     pub(super) fn start(&mut self, settings: Settings)

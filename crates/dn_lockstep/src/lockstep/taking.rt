@@ -2,9 +2,7 @@
 //! requests alone once it has played and ended.
 
 ghost use Rattle.std.specs.Prelude.{◌≡◌, ◌≢◌, ◌<◌, true};
-ghost use Rattle.dn_machine.specs.declared.answers.Cause.{Cause};
-ghost use Rattle.dn_machine.specs.declared.answers.Phase.TheVariants.{Playing, Ended};
-ghost use Rattle.dn_machine.specs.Hearing.{left_or};
+ghost use Rattle.dn_machine.specs.{declared.answers.Cause.Cause, declared.answers.Phase.TheVariants.Playing, declared.answers.Phase.TheVariants.Ended, Hearing.left_or};
 ghost use Rattle.dn_lockstep.specs.Received.{on_player};
 
 use super::Lockstep;
@@ -21,9 +19,7 @@ fn left_or(exit: bool, heard: Heard) -> Heard
 }
 
 impl Lockstep {
-    ghost use Rattle.dn_lockstep.specs.Contents.{contents};
-    ghost use Rattle.dn_lockstep.specs.Hearing.{Spares};
-    ghost use Rattle.dn_lockstep.specs.Steps.{Steps};
+    ghost use Rattle.dn_lockstep.specs.{Contents.contents, Hearing.Spares, Steps.Steps};
 
     /// Takes the commands of a player's packet while it plays (`d_net.c`, GetPackets), and the end that
     /// an EXIT packet tells.

@@ -1,17 +1,13 @@
 //! What a node does.
 
-ghost use Rattle.std.specs.Prelude.{◌≡◌, ◌≢◌, ◌<◌, ◌≤◌, ℕ, ◌+◌, length, pos, false, get_or, Some, None, IfSome, is_some};
-ghost use Rattle.std.specs.Option.{option_map};
-ghost use Rattle.dn_tic.specs.declared.input.Input.{Input as AnyInput};
-ghost use Rattle.dn_tic.specs.declared.input.Input.TheVariants.{Pressed, Given};
-ghost use Rattle.dn_setup.specs.Settings.{Settings};
-ghost use Rattle.dn_setup.specs.Starts.{start_of};
+ghost use Rattle.std.specs.{Prelude.◌≡◌, Prelude.◌≢◌, Prelude.◌<◌, Prelude.◌≤◌, Prelude.ℕ, Prelude.◌+◌, Prelude.length, Prelude.pos, Prelude.false, Prelude.get_or, Prelude.Some, Prelude.None};
+ghost use Rattle.std.specs.{Prelude.IfSome, Prelude.is_some, Option.option_map};
+ghost use Rattle.dn_tic.specs.{declared.input.Input.Input as AnyInput, declared.input.Input.TheVariants.Pressed, declared.input.Input.TheVariants.Given};
+ghost use Rattle.dn_setup.specs.{Settings.Settings, Starts.start_of};
 ghost use Rattle.dn_machine.specs.declared.answers.Heard.TheVariants.{Started};
 ghost use Rattle.dn_machine.specs.declared.answers.Made.TheVariants as Made;
 ghost use Rattle.dn_machine.specs.declared.answers.Ran.TheVariants as Ran;
-ghost use Rattle.dn_lockstep.specs.Near.{IsFair};
-ghost use Rattle.dn_lockstep.specs.Rows.{seats_of};
-ghost use Rattle.dn_lockstep.specs.Sent.{sent_to, aim_of, bytes_of};
+ghost use Rattle.dn_lockstep.specs.{Near.IsFair, Rows.seats_of, Sent.sent_to, Sent.aim_of, Sent.bytes_of};
 
 use super::Node;
 use arrayvec::ArrayVec;
@@ -21,15 +17,9 @@ use dn_tic::{Command, Keys};
 use dn_world::World;
 
 impl<W: World> Node<W> {
-    ghost use Rattle.dn_machine.specs.Building.{on_build};
-    ghost use Rattle.dn_machine.specs.Game.{on_own_run};
-    ghost use Rattle.dn_machine.specs.Running.{on_quit};
-    ghost use Rattle.dn_node.specs.Contents.{contents, locked};
-    ghost use Rattle.dn_node.specs.Giving.{Reaches, Gives, IsSentTo};
-    ghost use Rattle.dn_lockstep.specs.Giving.{gives, IsSilent, aim_in, size_in};
-    ghost use Rattle.dn_lockstep.specs.Commands.{makes, can_make};
-    ghost use Rattle.dn_lockstep.specs.Hearing.{Spares};
-    ghost use Rattle.dn_node.specs.Steps.{Steps, Tells, HearsAny, HearsNear};
+    ghost use Rattle.dn_machine.specs.{Building.on_build, Game.on_own_run, Running.on_quit};
+    ghost use Rattle.dn_node.specs.{Contents.contents, Contents.locked, Giving.Reaches, Giving.Gives, Giving.IsSentTo, Steps.Steps, Steps.Tells, Steps.HearsAny, Steps.HearsNear};
+    ghost use Rattle.dn_lockstep.specs.{Giving.gives, Giving.IsSilent, Giving.aim_in, Giving.size_in, Commands.makes, Commands.can_make, Hearing.Spares};
 
     /// Whether [`Node::build`] and [`Node::give`] would make a command now.
     pub fn can_build(&self) -> bool

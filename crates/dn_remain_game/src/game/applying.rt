@@ -1,9 +1,7 @@
 //! What an event does to a game.
 
 ghost use Rattle.std.specs.Prelude.{◌≡◌, None, Err, OnErr, true};
-ghost use Rattle.dn_machine.specs.declared.events.Refusal.{Refusal};
-ghost use Rattle.dn_machine.specs.Runs.{is_send};
-ghost use Rattle.dn_machine.specs.Game.{refused};
+ghost use Rattle.dn_machine.specs.{declared.events.Refusal.Refusal, Runs.is_send, Game.refused};
 ghost use Rattle.dn_remain.specs.declared.events.RemainEvent.TheVariants.{Own};
 
 use super::Game;
@@ -13,14 +11,9 @@ use dn_remain::RemainEvent;
 use dn_world::World;
 
 impl<W: World> Game<W> {
-    ghost use Rattle.dn_remain_game.specs.Contents.{contents};
-    ghost use Rattle.dn_remain_game.specs.Applied.{IsAddressedOwn, IsApplied, IsAppliedOwn, Tells, TellsReached};
-    ghost use Rattle.dn_remain_game.specs.Events.{asks_room};
-    ghost use Rattle.dn_remain_game.specs.Kept.{KeepsOthers, KeepsWhose, changed_by, changed_by_own};
-    ghost use Rattle.dn_remain_game.specs.Promised.{IsCarriedOn};
-    ghost use Rattle.dn_remain_game.specs.Survivors.{AsksSurvivor};
-    ghost use Rattle.dn_remain_game.specs.Told.{HasTold};
-    ghost use Rattle.dn_remain_game.specs.Room.{IsFull, LacksRoom, StaysWithin, room_after, room_of};
+    ghost use Rattle.dn_remain_game.specs.{Contents.contents, Applied.IsAddressedOwn, Applied.IsApplied, Applied.IsAppliedOwn, Applied.Tells, Applied.TellsReached, Events.asks_room, Kept.KeepsOthers};
+    ghost use Rattle.dn_remain_game.specs.{Kept.KeepsWhose, Kept.changed_by, Kept.changed_by_own, Promised.IsCarriedOn, Survivors.AsksSurvivor, Told.HasTold, Room.IsFull, Room.LacksRoom};
+    ghost use Rattle.dn_remain_game.specs.{Room.StaysWithin, Room.room_after, Room.room_of};
 
     /// Applies an event of the game of `dn_machine` that is not refused but for want of memory.
     fn apply_own(&mut self, event: Event) -> Result<Done, Refusal>

@@ -2,11 +2,8 @@
 
 ghost use Rattle.std.specs.Prelude.{◌≡◌, ◌<◌, ◌≤◌, ◌⊎◌, Some, None, Ok, Err, OnErr, length, slice_get};
 ghost use Rattle.dn_machine.specs.declared.events.Refusal.{Refusal};
-ghost use Rattle.dn_remain.specs.Remaining.{wary_of};
-ghost use Rattle.dn_remain.specs.Wary.{report_to};
-ghost use Rattle.dn_remain.specs.declared.events.RemainEvent.TheVariants.{Tell, Hear};
-ghost use Rattle.dn_remain_game.specs.Events.{gave_up, heard_at, told_report};
-ghost use Rattle.dn_remain_game.specs.declared.happened.Happened.{Happened};
+ghost use Rattle.dn_remain.specs.{Remaining.wary_of, Wary.report_to, declared.events.RemainEvent.TheVariants.Tell, declared.events.RemainEvent.TheVariants.Hear};
+ghost use Rattle.dn_remain_game.specs.{Events.gave_up, Events.heard_at, Events.told_report, declared.happened.Happened.Happened};
 
 use super::Game;
 use crate::happened::Happened;
@@ -24,12 +21,8 @@ fn narrow(player: u32) -> u8
 }
 
 impl<W: World> Game<W> {
-    ghost use Rattle.dn_remain_game.specs.Contents.{contents};
-    ghost use Rattle.dn_remain_game.specs.Applied.{Tells, TellsReached, IsAfter};
-    ghost use Rattle.dn_remain_game.specs.Kept.{KeepsOthers, KeepsWhose, changed_by};
-    ghost use Rattle.dn_remain_game.specs.Survivors.{GivesUpAt, HearsAt};
-    ghost use Rattle.dn_remain_game.specs.Told.{TellsReport};
-    ghost use Rattle.dn_remain_game.specs.Room.{IsFullOfReports, KeepsPosts, StaysWithin, room_after, room_of};
+    ghost use Rattle.dn_remain_game.specs.{Contents.contents, Applied.Tells, Applied.TellsReached, Applied.IsAfter, Kept.KeepsOthers, Kept.KeepsWhose, Kept.changed_by, Survivors.GivesUpAt};
+    ghost use Rattle.dn_remain_game.specs.{Survivors.HearsAt, Told.TellsReport, Room.IsFullOfReports, Room.KeepsPosts, Room.StaysWithin, Room.room_after, Room.room_of};
 
     /// A node gives up a player.
     pub(super) fn give_up(&mut self, node: u32, player: u32) -> GivenUp

@@ -10,8 +10,7 @@ use dn_remain::RemainEvent;
 use dn_world::World;
 
 impl<W: World> Game<W> {
-    ghost use Rattle.dn_remain_game.specs.Contents.{contents};
-    ghost use Rattle.dn_remain_game.specs.Applied.{Tells, IsAddressed, IsAddressedOwn};
+    ghost use Rattle.dn_remain_game.specs.{Contents.contents, Applied.Tells, Applied.IsAddressed, Applied.IsAddressedOwn};
 
     /// Whether this is the number of a player.
     pub(super) fn is_player(&self, node: u32) -> bool

@@ -1,13 +1,9 @@
 //! Packets are asked for and delivered.
 
 ghost use Rattle.std.specs.Prelude.{◌≡◌, ◌<◌, ◌⊎◌, Some, None, Ok, Err, OnErr, length, slice_get};
-ghost use Rattle.dn_machine.specs.declared.events.Event.TheVariants.{Send, Deliver};
-ghost use Rattle.dn_machine.specs.declared.events.Done.{Done};
-ghost use Rattle.dn_machine.specs.declared.events.Refusal.{Refusal};
-ghost use Rattle.dn_machine.specs.Game.{refused_flight};
+ghost use Rattle.dn_machine.specs.{declared.events.Event.TheVariants.Send, declared.events.Event.TheVariants.Deliver, declared.events.Done.Done, declared.events.Refusal.Refusal, Game.refused_flight};
 ghost use Rattle.dn_remain_game.specs.Events.{own_unless};
-ghost use Rattle.dn_remain.specs.Remaining.{is_barred};
-ghost use Rattle.dn_remain.specs.declared.events.RemainEvent.TheVariants.{Own};
+ghost use Rattle.dn_remain.specs.{Remaining.is_barred, declared.events.RemainEvent.TheVariants.Own};
 
 use super::Game;
 use crate::under_way::{Flight, grow};
@@ -15,10 +11,8 @@ use dn_machine::{Done, Heard, Refusal};
 use dn_world::World;
 
 impl<W: World> Game<W> {
-    ghost use Rattle.dn_remain_game.specs.Contents.{contents};
-    ghost use Rattle.dn_remain_game.specs.Applied.{Tells, IsAfter};
-    ghost use Rattle.dn_remain_game.specs.Kept.{KeepsOthers, KeepsWhose, changed_by_own};
-    ghost use Rattle.dn_remain_game.specs.Room.{IsFull, KeepsPosts, StaysWithin, room_after, room_of};
+    ghost use Rattle.dn_remain_game.specs.{Contents.contents, Applied.Tells, Applied.IsAfter, Kept.KeepsOthers, Kept.KeepsWhose, Kept.changed_by_own, Room.IsFull, Room.KeepsPosts, Room.StaysWithin};
+    ghost use Rattle.dn_remain_game.specs.{Room.room_after, Room.room_of};
 
     /// Asks a node for a packet, which joins those that were sent. Room for it is made first.
     pub(super) fn send(&mut self, node: u32, to: u32) -> Result<Done, Refusal>

@@ -10,10 +10,7 @@ use dn_tic::{Command, Keys};
 use dn_world::World;
 
 impl<W: World> Game<W> {
-    ghost use Rattle.dn_remain_game.specs.Contents.{contents};
-    ghost use Rattle.dn_remain_game.specs.Applied.{Tells, IsAfter};
-    ghost use Rattle.dn_remain_game.specs.Kept.{KeepsOthers, KeepsWhose};
-    ghost use Rattle.dn_remain_game.specs.Room.{KeepsPosts};
+    ghost use Rattle.dn_remain_game.specs.{Contents.contents, Applied.Tells, Applied.IsAfter, Kept.KeepsOthers, Kept.KeepsWhose, Room.KeepsPosts};
     ghost use Rattle.dn_machine.specs.declared.events.Done.TheVariants as done;
 
     /// A node builds the command of these keys.

@@ -2,15 +2,11 @@
 
 ghost use Rattle.std.specs.Prelude.{◌≡◌, ◌≢◌, ◌<◌, ℕ, pos, true, false, get_or, Some, None, if◌then◌else◌, IfSome, is_some};
 ghost use Rattle.dn_tic.specs.declared.input.Input.TheVariants.{Pressed, Given};
-ghost use Rattle.dn_setup.specs.Settings.{Settings};
-ghost use Rattle.dn_setup.specs.Starts.{start_of};
+ghost use Rattle.dn_setup.specs.{Settings.Settings, Starts.start_of};
 ghost use Rattle.dn_machine.specs.Drops as drops;
 ghost use Rattle.dn_machine.specs.declared.answers.Heard.TheVariants as heard;
 ghost use Rattle.dn_machine.specs.declared.answers.Phase.TheVariants as phase;
-ghost use Rattle.dn_lockstep.specs.Giving.{Gives};
-ghost use Rattle.dn_lockstep.specs.Near.{IsFair};
-ghost use Rattle.dn_lockstep.specs.Rows.{seats_of};
-ghost use Rattle.dn_lockstep.specs.Sent.{sent_to};
+ghost use Rattle.dn_lockstep.specs.{Giving.Gives, Near.IsFair, Rows.seats_of, Sent.sent_to};
 
 use super::Lived;
 use arrayvec::ArrayVec;
@@ -23,13 +19,9 @@ use dn_tic::{Command, Keys};
 use dn_world::World;
 
 impl<W: World> Lived<W> {
-    ghost use Rattle.dn_machine.specs.Building.{on_build};
-    ghost use Rattle.dn_machine.specs.Game.{own_marks};
-    ghost use Rattle.dn_machine.specs.Running.{on_quit, on_run_but};
+    ghost use Rattle.dn_machine.specs.{Building.on_build, Game.own_marks, Running.on_quit, Running.on_run_but};
     ghost use Rattle.dn_survivor.specs.Calls as calls;
-    ghost use Rattle.dn_survivor.specs.Calls.{HearsReport};
-    ghost use Rattle.dn_survivor.specs.Surviving.{has_given_up};
-    ghost use Rattle.dn_survivor.specs.Telling.{report_for};
+    ghost use Rattle.dn_survivor.specs.{Calls.HearsReport, Surviving.has_given_up, Telling.report_for};
     ghost use Rattle.dn_remain_game.specs.Living.{GivesUp, Hears, HearsAny, HearsNear, IsGiven, StaysWhose, Steps, Tells, living, on_node};
 
     /// Builds the command of these keys for the next tic. A node that builds none stays as it is.
