@@ -76,8 +76,7 @@ fn felt_after(times: &[u64]) -> (Felt, Felt) {
 }
 
 #[test]
-fn keys_are_felt_within_the_least_time_that_is_enough(rt: HostRuntime) {
-    let rt = &rt;
+fn keys_are_felt_within_the_least_time_that_is_enough(ref rt: HostRuntime) {
     let none = (Felt::Never, Felt::Never);
     same!(rt; felt_after(&[]), none);
     for (time, felt) in [
@@ -102,8 +101,7 @@ fn keys_are_felt_within_the_least_time_that_is_enough(rt: HostRuntime) {
 }
 
 #[test]
-fn a_command_waits_behind_those_built_before(rt: HostRuntime) {
-    let rt = &rt;
+fn a_command_waits_behind_those_built_before(ref rt: HostRuntime) {
     let mut measure = Measure::new(0);
     for told in [
         Told::Built(0),
@@ -121,8 +119,7 @@ fn a_command_waits_behind_those_built_before(rt: HostRuntime) {
 }
 
 #[test]
-fn waits_of_more_than_a_tenth_of_a_second_are_gaps(rt: HostRuntime) {
-    let rt = &rt;
+fn waits_of_more_than_a_tenth_of_a_second_are_gaps(ref rt: HostRuntime) {
     let mut measure = Measure::new(0);
     tell(&mut measure, Told::Ran(1_050_000));
     tell(&mut measure, Told::Ran(1_150_000));
@@ -140,8 +137,7 @@ fn waits_of_more_than_a_tenth_of_a_second_are_gaps(rt: HostRuntime) {
 }
 
 #[test]
-fn arrivals_are_counted_since_the_game_began(rt: HostRuntime) {
-    let rt = &rt;
+fn arrivals_are_counted_since_the_game_began(ref rt: HostRuntime) {
     let (before, now) = (arrivals(10, 4), arrivals(110, 3));
     same!(rt; now.since(&before), arrivals(100, 0));
     let (before, now) = (all_of(1, 2, 3), all_of(11, 22, 33));
@@ -181,8 +177,7 @@ fn lacks_one(rt: &impl Abort, summary: &Summary, lack: Lack) {
 }
 
 #[test]
-fn each_threshold_is_the_least_that_is_enough(rt: HostRuntime) {
-    let rt = &rt;
+fn each_threshold_is_the_least_that_is_enough(ref rt: HostRuntime) {
     holds!(rt; is_enough(&JUST_ENOUGH));
     holds!(rt; lacks_of(&JUST_ENOUGH).is_empty());
     for (line, lack) in list! {
@@ -213,8 +208,7 @@ fn each_threshold_is_the_least_that_is_enough(rt: HostRuntime) {
 }
 
 #[test]
-fn the_lines_are_those_of_the_manual(rt: HostRuntime) {
-    let rt = &rt;
+fn the_lines_are_those_of_the_manual(ref rt: HostRuntime) {
     let text = lines_of(rt, rt.alloc(), &JUST_ENOUGH);
     same!(rt;
         text.as_str(),
@@ -251,8 +245,7 @@ fn the_lines_are_those_of_the_manual(rt: HostRuntime) {
 }
 
 #[test]
-fn a_rate_that_lacks_is_below_the_one_that_is_wanted(rt: HostRuntime) {
-    let rt = &rt;
+fn a_rate_that_lacks_is_below_the_one_that_is_wanted(ref rt: HostRuntime) {
     // 69 of 70 of 30 tics a second are 29.57.., of 10 are 9.85.., of 35 are 34.5.
     for (rate, tics, line) in [
         (30, 1_774, "lacks tics: 29.5 of 29.6 a second\n"),
@@ -275,8 +268,7 @@ fn a_rate_that_lacks_is_below_the_one_that_is_wanted(rt: HostRuntime) {
 }
 
 #[test]
-fn how_a_session_ended_comes_first(rt: HostRuntime) {
-    let rt = &rt;
+fn how_a_session_ended_comes_first(ref rt: HostRuntime) {
     for (end, status, line) in [
         (End::Left, 0, "ended left"),
         (End::OthersLeft, 0, "ended others left"),
@@ -302,8 +294,7 @@ fn how_a_session_ended_comes_first(rt: HostRuntime) {
 }
 
 #[test]
-fn a_dead_line_carries_nothing(rt: HostRuntime) {
-    let rt = &rt;
+fn a_dead_line_carries_nothing(ref rt: HostRuntime) {
     let mut dead = measured(&Measure::new(0), 9_960_000);
     let text = lines_of(rt, rt.alloc(), &dead);
     same!(rt;
@@ -320,8 +311,7 @@ fn a_dead_line_carries_nothing(rt: HostRuntime) {
 }
 
 #[test]
-fn the_line_of_a_second_is_that_of_the_manual(rt: HostRuntime) {
-    let rt = &rt;
+fn the_line_of_a_second_is_that_of_the_manual(ref rt: HostRuntime) {
     let mut status = Status {
         tics: 34,
         micros: 1_000_000,

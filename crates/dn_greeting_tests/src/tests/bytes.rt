@@ -127,8 +127,7 @@ fn altered(bytes: &[u8], place: usize, byte: u8) -> ArrayVec<u8, 131> {
 }
 
 #[test]
-fn calls_have_these_bytes(rt: HostRuntime) {
-    let rt = &rt;
+fn calls_have_these_bytes(ref rt: HostRuntime) {
     let sealed = greeter(Some(SECRET));
     let unsealed = greeter(None);
     let open = Call {
@@ -147,8 +146,7 @@ fn calls_have_these_bytes(rt: HostRuntime) {
 }
 
 #[test]
-fn replies_have_these_bytes(rt: HostRuntime) {
-    let rt = &rt;
+fn replies_have_these_bytes(ref rt: HostRuntime) {
     let sealed = greeter(Some(SECRET));
     let refused = |refusal| Refused {
         mark: MARK,
@@ -164,8 +162,7 @@ fn replies_have_these_bytes(rt: HostRuntime) {
 }
 
 #[test]
-fn retries_have_these_bytes(rt: HostRuntime) {
-    let rt = &rt;
+fn retries_have_these_bytes(ref rt: HostRuntime) {
     let sealed = greeter(Some(SECRET));
     let unsealed = greeter(None);
     let retry = |number| Retry {
@@ -185,8 +182,7 @@ fn retries_have_these_bytes(rt: HostRuntime) {
 }
 
 #[test]
-fn hints_have_these_bytes(rt: HostRuntime) {
-    let rt = &rt;
+fn hints_have_these_bytes(ref rt: HostRuntime) {
     let hinted = |hint| Hinted { mark: MARK, hint };
     let (version, key) = (hinted(Hint::Version(9)), hinted(Hint::Key));
     holds!(rt; hinted_bytes(&version).as_slice() == HINTED.as_slice());
@@ -200,8 +196,7 @@ fn hints_have_these_bytes(rt: HostRuntime) {
 }
 
 #[test]
-fn altered_calls_have_these_faults(rt: HostRuntime) {
-    let rt = &rt;
+fn altered_calls_have_these_faults(ref rt: HostRuntime) {
     let table = [
         (0, 2, GreetingFault::Suite),
         (1, 2, GreetingFault::Kind),

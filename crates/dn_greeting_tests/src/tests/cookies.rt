@@ -77,8 +77,7 @@ struct Baked {
 }
 
 #[test]
-fn an_address_has_this_cookie(rt: HostRuntime) {
-    let rt = &rt;
+fn an_address_has_this_cookie(ref rt: HostRuntime) {
     let far = Address {
         ip: [32, 1, 13, 184, 0, 0, 0, 0, 0, 0, 0, 0, 0, 0, 0, 7],
         port: 65_535,
@@ -108,8 +107,7 @@ fn first_of(table: &Table) -> Option<Address> {
 }
 
 #[test]
-fn a_call_without_its_cookie_changes_nothing(rt: HostRuntime) {
-    let rt = &rt;
+fn a_call_without_its_cookie_changes_nothing(ref rt: HostRuntime) {
     let (one, two) = (mapped([10, 0, 0, 1], 5029), mapped([10, 0, 0, 1], 5030));
     let mut table = table(COOKIES);
     let cookie = cookie_for(&mut table, one, 1, 0);
@@ -145,8 +143,7 @@ const ONE: [u128; 5] = [
 ];
 
 #[test]
-fn what_was_recorded_seats_nobody_again(rt: HostRuntime) {
-    let rt = &rt;
+fn what_was_recorded_seats_nobody_again(ref rt: HostRuntime) {
     let (one, two) = (mapped([10, 0, 0, 1], 5029), mapped([10, 0, 0, 1], 5030));
     let mut table = table(COOKIES);
     holds!(rt; answered(&mut table, one, 3, ONE[0]));

@@ -54,8 +54,7 @@ fn hears(joiner: &mut Joiner, from: Address, answer: &Answer) -> News {
 }
 
 #[test]
-fn calls_are_numbered(rt: HostRuntime) {
-    let rt = &rt;
+fn calls_are_numbered(ref rt: HostRuntime) {
     let mut joiner = joiner();
     for number in 1..4 {
         match open_call(&greeter(Some(SECRET)), next_call(&mut joiner).as_slice()) {
@@ -72,8 +71,7 @@ fn calls_are_numbered(rt: HostRuntime) {
 }
 
 #[test]
-fn answers_are_taken_in_order(rt: HostRuntime) {
-    let rt = &rt;
+fn answers_are_taken_in_order(ref rt: HostRuntime) {
     let there = mapped([10, 0, 0, 3], 5029);
     let moved = mapped([10, 0, 0, 4], 5029);
     let rows = [
@@ -101,8 +99,7 @@ fn answers_are_taken_in_order(rt: HostRuntime) {
 }
 
 #[test]
-fn an_answer_is_to_a_call_that_was_made(rt: HostRuntime) {
-    let rt = &rt;
+fn an_answer_is_to_a_call_that_was_made(ref rt: HostRuntime) {
     let mut joiner = joiner();
     // Whether it calls once more before, the number of the call that is answered, and what it makes of that.
     let rows = [
@@ -122,8 +119,7 @@ fn an_answer_is_to_a_call_that_was_made(rt: HostRuntime) {
 }
 
 #[test]
-fn who_has_a_seat_heeds_no_want_of_one(rt: HostRuntime) {
-    let rt = &rt;
+fn who_has_a_seat_heeds_no_want_of_one(ref rt: HostRuntime) {
     // A refusal, what it says to who has no seat, and to who has one.
     let rows = [
         (Refusal::Full, true, false),
@@ -150,8 +146,7 @@ fn who_has_a_seat_heeds_no_want_of_one(rt: HostRuntime) {
 }
 
 #[test]
-fn another_seat_or_other_terms_are_anew(rt: HostRuntime) {
-    let rt = &rt;
+fn another_seat_or_other_terms_are_anew(ref rt: HostRuntime) {
     let mut joiner = called();
     let mut next = answer(1, GAME, None);
     same!(rt; hears(&mut joiner, host(), &next), News::Seated);
@@ -170,8 +165,7 @@ fn another_seat_or_other_terms_are_anew(rt: HostRuntime) {
 }
 
 #[test]
-fn refusals_are_for_the_mark(rt: HostRuntime) {
-    let rt = &rt;
+fn refusals_are_for_the_mark(ref rt: HostRuntime) {
     let mut joiner = called();
     let sealer = greeter(Some(SECRET));
     for (mark, news) in [
@@ -190,8 +184,7 @@ fn refusals_are_for_the_mark(rt: HostRuntime) {
 }
 
 #[test]
-fn hints_are_heeded_before_an_answer(rt: HostRuntime) {
-    let rt = &rt;
+fn hints_are_heeded_before_an_answer(ref rt: HostRuntime) {
     let mut joiner = called();
     let bytes = hinted_bytes(&Hinted {
         mark: MARK,
@@ -209,8 +202,7 @@ fn hints_are_heeded_before_an_answer(rt: HostRuntime) {
 }
 
 #[test]
-fn hints_are_heeded_before_a_retry(rt: HostRuntime) {
-    let rt = &rt;
+fn hints_are_heeded_before_a_retry(ref rt: HostRuntime) {
     let mut joiner = called();
     let sealer = greeter(Some(SECRET));
     for (hint, byte) in [(Hint::Key, 1), (Hint::Version(2), 128)] {
@@ -237,8 +229,7 @@ fn hints_are_heeded_before_a_retry(rt: HostRuntime) {
 }
 
 #[test]
-fn in_its_game_it_heeds_where_others_are(rt: HostRuntime) {
-    let rt = &rt;
+fn in_its_game_it_heeds_where_others_are(ref rt: HostRuntime) {
     let there = mapped([10, 0, 0, 3], 5029);
     let rows = [
         (host(), answer(2, GAME, None), News::Same),
@@ -266,8 +257,7 @@ fn in_its_game_it_heeds_where_others_are(rt: HostRuntime) {
 }
 
 #[test]
-fn a_game_without_a_seat_heeds_nothing(rt: HostRuntime) {
-    let rt = &rt;
+fn a_game_without_a_seat_heeds_nothing(ref rt: HostRuntime) {
     let mut joiner = called();
     begin(&mut joiner);
     same!(rt;
@@ -290,8 +280,7 @@ fn next_cookie(joiner: &mut Joiner) -> Option<[u8; 16]> {
 }
 
 #[test]
-fn who_is_asked_again_calls_with_the_cookie(rt: HostRuntime) {
-    let rt = &rt;
+fn who_is_asked_again_calls_with_the_cookie(ref rt: HostRuntime) {
     let there = mapped([10, 0, 0, 3], 5029);
     // From where, with which mark, of which number, which cookie, and whether it is taken. It has called nine times,
     // and calls after each.

@@ -50,15 +50,6 @@ const NO_CALLS: [Malformed; 5] = rows! {
               [ &[(113, &[1])],   0xB715_AE28_F56B_882C_75C2_9841_6EF6_A1B6 ]
 };
 
-#[test]
-fn malformed_calls_are_none(rt: HostRuntime) {
-    let rt = &rt;
-    for row in &NO_CALLS {
-        let bytes = bytes_of(&RIGHT_CALL, row);
-        holds!(rt; open_call(&greeter(Some(SECRET)), &bytes) == Err(GreetingFault::Form));
-    }
-}
-
 /// The front of a right answer: seat 1 of two, a window of five, and one other's address.
 const RIGHT_ANSWER: [u8; 114] = [
     1, 4, 122, 105, 114, 109, 101, 103, 97, 116, 1, 2, 1, 2, 3, 4, 5, 6, 7, 8, 9, 10, 11, 12, 13,
@@ -92,8 +83,15 @@ const NO_ANSWERS: [Malformed; 10] = rows! {
 };
 
 #[test]
-fn malformed_answers_are_none(rt: HostRuntime) {
-    let rt = &rt;
+fn malformed_calls_are_none(ref rt: HostRuntime) {
+    for row in &NO_CALLS {
+        let bytes = bytes_of(&RIGHT_CALL, row);
+        holds!(rt; open_call(&greeter(Some(SECRET)), &bytes) == Err(GreetingFault::Form));
+    }
+}
+
+#[test]
+fn malformed_answers_are_none(ref rt: HostRuntime) {
     for row in &NO_ANSWERS {
         let bytes = bytes_of(&RIGHT_ANSWER, row);
         holds!(rt; open_answer(&greeter(Some(SECRET)), &bytes) == Err(GreetingFault::Form));

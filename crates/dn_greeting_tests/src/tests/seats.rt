@@ -105,8 +105,7 @@ fn read(reply: Option<ArrayVec<u8, 130>>) -> Brought {
 type Row = (u32, u8, u8, Option<u8>, Option<u8>, Brought);
 
 #[test]
-fn seats_of_a_game_of_four(rt: HostRuntime) {
-    let rt = &rt;
+fn seats_of_a_game_of_four(ref rt: HostRuntime) {
     let rows: [Row; 24] = [
         (0, 1, 1, None, None, Brought::Seat(1, 1)),
         (1, 2, 2, Some(3), Some(4), Brought::Seat(3, 2)),
@@ -166,8 +165,7 @@ fn first_of(table: &Table) -> Option<Address> {
 }
 
 #[test]
-fn a_holder_is_followed_by_its_newer_calls(rt: HostRuntime) {
-    let rt = &rt;
+fn a_holder_is_followed_by_its_newer_calls(ref rt: HostRuntime) {
     // From where, by whom, of which number, what it brings, and where the holder of seat 1 is then.
     let rows = [
         (1, 1, 5, Brought::Seat(1, 1), 1),
@@ -195,8 +193,7 @@ fn a_holder_is_followed_by_its_newer_calls(rt: HostRuntime) {
 }
 
 #[test]
-fn a_repeated_call_keeps_no_seat(rt: HostRuntime) {
-    let rt = &rt;
+fn a_repeated_call_keeps_no_seat(ref rt: HostRuntime) {
     let mut table = Table::new(Some(SECRET), COOKIES, terms(2), GAME);
     let call = call(1, None, None);
     same!(rt;
@@ -209,8 +206,7 @@ fn a_repeated_call_keeps_no_seat(rt: HostRuntime) {
 }
 
 #[test]
-fn an_own_address_of_a_machine_is_told_on_it_alone(rt: HostRuntime) {
-    let rt = &rt;
+fn an_own_address_of_a_machine_is_told_on_it_alone(ref rt: HostRuntime) {
     let mut own = [0; 16];
     own[15] = 1;
     let own = Address {
@@ -245,8 +241,7 @@ fn an_own_address_of_a_machine_is_told_on_it_alone(rt: HostRuntime) {
 }
 
 #[test]
-fn the_lowest_free_seat_is_given(rt: HostRuntime) {
-    let rt = &rt;
+fn the_lowest_free_seat_is_given(ref rt: HostRuntime) {
     let mut table = Table::new(Some(SECRET), COOKIES, terms(3), GAME);
     let three = |seat| call(9, Some(seat), None);
     same!(rt;
@@ -269,8 +264,7 @@ fn the_lowest_free_seat_is_given(rt: HostRuntime) {
 }
 
 #[test]
-fn a_game_that_has_begun_takes_nobody(rt: HostRuntime) {
-    let rt = &rt;
+fn a_game_that_has_begun_takes_nobody(ref rt: HostRuntime) {
     let mut table = Table::new(Some(SECRET), COOKIES, terms(3), GAME);
     let one = call(1, None, None);
     let two = call(2, None, None);
@@ -292,8 +286,7 @@ fn a_game_that_has_begun_takes_nobody(rt: HostRuntime) {
 }
 
 #[test]
-fn what_is_no_call_gets_a_hint_or_nothing(rt: HostRuntime) {
-    let rt = &rt;
+fn what_is_no_call_gets_a_hint_or_nothing(ref rt: HostRuntime) {
     let mut table = Table::new(Some([8; 32]), COOKIES, terms(2), GAME);
     let bytes = sealed(&call(1, None, None));
     same!(rt;
@@ -308,8 +301,7 @@ fn what_is_no_call_gets_a_hint_or_nothing(rt: HostRuntime) {
 }
 
 #[test]
-fn another_version_is_told_ours(rt: HostRuntime) {
-    let rt = &rt;
+fn another_version_is_told_ours(ref rt: HostRuntime) {
     let mut table = Table::new(Some(SECRET), COOKIES, terms(2), GAME);
     let rows = [
         (40, 2, Brought::Hinted(Hint::Version(1))),
@@ -324,8 +316,7 @@ fn another_version_is_told_ours(rt: HostRuntime) {
 }
 
 #[test]
-fn the_answer_has_the_number_of_the_game(rt: HostRuntime) {
-    let rt = &rt;
+fn the_answer_has_the_number_of_the_game(ref rt: HostRuntime) {
     let mut table = Table::new(Some(SECRET), COOKIES, terms(2), GAME);
     for (number, game) in [(1, GAME), (2, [9; 16])] {
         table.renew(game);
