@@ -13,7 +13,7 @@ use Rattle.dn_open.specs.Sealed.{opened_of}
 use Rattle.dn_open.proofs.Sealables.{}
 
 -- the upper half of the fourth byte has the flags
-flags_at : (p : Packet) → p.flags < 16 → slice_index (text p) 3 / 16 ≡ p.flags
+pub flags_at : (p : Packet) → p.flags < 16 → slice_index (text p) 3 / 16 ≡ p.flags
 flags_at p few =
     let sum : sum_of (body_of p) < 2 ^ 28 = mod-lt (0x1234567 + weighted 1 (words (body_of p))) (omega arith) in
     fourth p.flags (sum_of (body_of p)) few sum

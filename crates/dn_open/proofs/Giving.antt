@@ -10,11 +10,24 @@ use Rattle.dn_lockstep.specs.declared.lockstep.aiming.Aim.{Aim}
 use Rattle.dn_lockstep.specs.Contents.{Contents}
 use Rattle.dn_lockstep.specs.Represents.{Represents}
 use Rattle.dn_lockstep.specs.Sent.{sent_to, aim_of, bytes_of}
-use Rattle.dn_lockstep.specs.Steps.{IsAfter}
+use Rattle.dn_lockstep.specs.Steps.{IsAfter, Steps, Tells}
+use Rattle.dn_lockstep.proofs.After.{steps}
+use Rattle.dn_lockstep.proofs.Giving.{no_flight}
 use Rattle.dn_lockstep.proofs.OneGame.{GoesBetween, sent_between}
 use Rattle.dn_seal.specs.Envelope.{envelope}
 use Rattle.dn_seal.specs.Opening.{Sealing}
 use Rattle.dn_open.specs.Sealed.{envelope_of}
+
+-- a node that gives no packet, for which nothing goes out, whatever would be shown of one
+pub gives_none : {A : Type 0} (view : Flight → A) (to : ℕ) (old new : Contents) (given : Option (List ℕ))
+    (aim : Option Aim)
+    → Steps old new (λ limits me m. sent_to to limits me m) (λ flight. given ≡ option_map bytes_of flight)
+    → Tells old (λ limits me m. aim ≡ option_map aim_of (sent_to to limits me m).1) → None ≡ aim
+    → Steps old new (λ limits me m. sent_to to limits me m) (λ flight. None ≡ option_map view flight)
+gives_none view to old new given aim sent aimed none = steps sent.same (λ limits me m r. record {
+  node = (sent.step limits me m r).node;
+  answer = sym (ap (option_map view) (no_flight aim_of _ (none ∙ aimed limits me m r)));
+})
 
 -- a node that gives a packet, which goes out in its envelope
 pub gives_some : (limits : Limits) (me to : ℕ) (old new : Contents) (m : machine.Node)

@@ -161,11 +161,10 @@ arrivals_keep found marking limits settings session seal player bytes new answer
     new here opens.1 read.2 step.node
 
 pub sends_keep : (marking : Marking) (limits : Limits) (settings : Settings) (session : Session) (seal : Seal)
-    (player to : ℕ)
-    (new : Contents) (sent : Option (ArrayVec ℕ))
-    → AreOneGame marking limits settings session → player < limits.players
-    → SendsSealed seal to (session.locksteps player) new sent
-    → Tells (session.locksteps player) (λ limits me m. IfSome (sent_to to limits me m).1 IsFair)
+    (player to : ℕ) (new : Contents) (sent : Option (ArrayVec ℕ))
+    (game : AreOneGame marking limits settings session) (mine : player < limits.players)
+    (sends : SendsSealed seal to (session.locksteps player) new sent)
+    (fair : Tells (session.locksteps player) (λ limits me m. IfSome (sent_to to limits me m).1 IsFair))
     → (flight : Option Flight)
     × IsSealedAs seal player to (option_map (λ (bytes : ArrayVec ℕ). bytes.items) sent) flight
     × IfSome sent (λ bytes. WasSealed seal (given_on session.given flight) bytes.items)

@@ -71,19 +71,8 @@ fn each_bit_counts(rt: HostRuntime) {
     let sealed = sealed();
     for place in 0..45 {
         for bits in [1, 2, 4, 8, 16, 32, 64, 128] {
-            let wanted = match place {
-                0 => SealFault::Suite,
-                1 => SealFault::Kind,
-                2..=9 => SealFault::Game,
-                11 => SealFault::Receiver,
-                _ => SealFault::Tag,
-            };
             let altered = turned(sealed.as_slice(), place, bits);
-            assert_eq!(rt;
-                fault(altered.as_slice()),
-                Some(wanted),
-                "byte {place}, bits {bits}"
-            );
+            assert!(rt; is_refused(altered.as_slice()), "byte {place}, bits {bits}");
         }
     }
 }

@@ -50,9 +50,10 @@ fn vectors(rt: HostRuntime) {
             0x55, 0x2b
         ][..]
     );
+    let long = [0xaa; 131];
     assert_eq!(rt;
         hmac(
-            &[0xaa; 131],
+            &long,
             b"Test Using Larger Than Block-Size Key - Hash Key First"
         ),
         [
@@ -63,7 +64,7 @@ fn vectors(rt: HostRuntime) {
     );
     assert_eq!(rt;
         hmac(
-            &[0xaa; 131],
+            &long,
             b"This is a test using a larger than block-size key and a larger than block-size data. The key needs to be hashed before being used by the HMAC algorithm."
         ),
         [

@@ -20,24 +20,15 @@ returns-clause-stand g c players extra capacity seal settings events game playab
 
 pub returns-clause-agree : goal.returns-clause-agree
 returns-clause-agree g c players extra capacity seal settings events game playable run =
-    let rules = rules_of g.W.World.physics players extra capacity in
-    let plain = open_stands rules seal settings (vanilla_window players extra capacity)
-    (vanilla_fits players extra capacity) playable g.met.W.World.marks_fit
-    c.settings_found_again.ensures.only events game run in
-    Promises.agree rules settings game (always rules settings (vanilla_window players extra capacity) plain.0 game plain.2)
+    let plain = returns-clause-stand g c players extra capacity seal settings events game playable run in
+    Promises.agree _ settings game (always _ settings (vanilla_window players extra capacity) plain.0 game plain.2)
 
 pub returns-clause-fits : goal.returns-clause-fits
 returns-clause-fits g c players extra capacity seal settings events game playable run =
-    let rules = rules_of g.W.World.physics players extra capacity in
-    let plain = open_stands rules seal settings (vanilla_window players extra capacity)
-    (vanilla_fits players extra capacity) playable g.met.W.World.marks_fit
-    c.settings_found_again.ensures.only events game run in
-    Promises.fits rules settings game (always rules settings (vanilla_window players extra capacity) plain.0 game plain.2)
+    let plain = returns-clause-stand g c players extra capacity seal settings events game playable run in
+    Promises.fits _ settings game (always _ settings (vanilla_window players extra capacity) plain.0 game plain.2)
 
 pub returns-clause-steady : goal.returns-clause-steady
 returns-clause-steady g c players extra capacity seal settings events game playable run =
-    let rules = rules_of g.W.World.physics players extra capacity in
-    let plain = open_stands rules seal settings (vanilla_window players extra capacity)
-    (vanilla_fits players extra capacity) playable g.met.W.World.marks_fit
-    c.settings_found_again.ensures.only events game run in
-    Promises.steady rules settings game (always rules settings (vanilla_window players extra capacity) plain.0 game plain.2)
+    let plain = returns-clause-stand g c players extra capacity seal settings events game playable run in
+    Promises.steady _ settings game (always _ settings (vanilla_window players extra capacity) plain.0 game plain.2)

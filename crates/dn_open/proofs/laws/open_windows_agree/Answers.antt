@@ -11,21 +11,15 @@ returns-clause-stand g c limits seal settings events game window room playable r
 
 pub returns-clause-agree : goal.returns-clause-agree
 returns-clause-agree g c limits seal settings events game window room playable run =
-    let rules = rules_within g.W.World.physics limits in
-    let plain = open_stands rules seal settings window room playable g.met.W.World.marks_fit
-    c.settings_found_again.ensures.only events game run in
-    Promises.agree rules settings game (always rules settings window plain.0 game plain.2)
+    let plain = returns-clause-stand g c limits seal settings events game window room playable run in
+    Promises.agree _ settings game (always _ settings window plain.0 game plain.2)
 
 pub returns-clause-fits : goal.returns-clause-fits
 returns-clause-fits g c limits seal settings events game window room playable run =
-    let rules = rules_within g.W.World.physics limits in
-    let plain = open_stands rules seal settings window room playable g.met.W.World.marks_fit
-    c.settings_found_again.ensures.only events game run in
-    Promises.fits rules settings game (always rules settings window plain.0 game plain.2)
+    let plain = returns-clause-stand g c limits seal settings events game window room playable run in
+    Promises.fits _ settings game (always _ settings window plain.0 game plain.2)
 
 pub returns-clause-steady : goal.returns-clause-steady
 returns-clause-steady g c limits seal settings events game window room playable run =
-    let rules = rules_within g.W.World.physics limits in
-    let plain = open_stands rules seal settings window room playable g.met.W.World.marks_fit
-    c.settings_found_again.ensures.only events game run in
-    Promises.steady rules settings game (always rules settings window plain.0 game plain.2)
+    let plain = returns-clause-stand g c limits seal settings events game window room playable run in
+    Promises.steady _ settings game (always _ settings window plain.0 game plain.2)

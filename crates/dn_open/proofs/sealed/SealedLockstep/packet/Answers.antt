@@ -1,37 +1,26 @@
-use Rattle.std.proofs.Common.{ap, sym, ◌∙◌}
-use Rattle.std.specs.Option.{option_map}
+use Rattle.std.proofs.Common.{ap, sym}
 use Rattle.dn_lockstep.specs.Contents.{contents}
 use Rattle.dn_lockstep.specs.Giving.{aim_in}
-use Rattle.dn_lockstep.specs.Sent.{aim_of}
-use Rattle.dn_lockstep.proofs.Giving.{no_flight, some_given}
+use Rattle.dn_lockstep.proofs.After.{steps}
+use Rattle.dn_lockstep.proofs.Giving.{some_given}
 use Rattle.dn_seal.specs.Sealing.{sealing}
 use Rattle.dn_open.specs.Locked.{seal_of}
 use Rattle.dn_open.specs.Sealed.{envelope_of}
-use Rattle.dn_open.proofs.Giving.{gives_some}
+use Rattle.dn_open.proofs.Giving.{gives_none, gives_some}
 use Rattle.dn_open.proofs.sealed.SealedLockstep.packet.Goals as goal
 
 pub returns-in_default-clause-step : goal.returns-in_default-clause-step
 returns-in_default-clause-step c =
     let given = c.packet_with_aim.ensures in
-    record {
-      same = given.sent.2.same;
-      step = λ limits me m r.
-          record {
-            node = (given.sent.2.step limits me m r).node;
-            answer = sym (ap (option_map (envelope_of (seal_of c.args.self.now))) (no_flight aim_of _
-                (ap aim_in (sym c.in_default.is) ∙ given.aimed limits me m r)));
-          };
-    }
+    gives_none (envelope_of (seal_of c.args.self.now)) c.args.to _ _ _ _ given.sent.2 given.aimed
+    (ap aim_in (sym c.in_default.is))
 
 pub returns-clause-step : goal.returns-clause-step
 returns-clause-step c =
     let given = c.in-Some.ensures in
-    record {
-      same = given.sent.2.same;
-      step = λ limits me m r.
-          let after = given.sent.2.step limits me m r in
-          gives_some limits me c.args.to (contents c.args.self.now.lockstep) (contents c.packet_with_aim.new.self) m
-          r after.node (sealing c.args.self.now.sealer) c.in-Some.aim c.seal.result _ c.args.self.now.own
-          (given.aimed limits me m r)
-          (some_given given.sent.0 _ _ _ given.sent.1 _ _ after.answer (given.aimed limits me m r)) c.seal.ensures;
-    }
+    steps given.sent.2.same (λ limits me m r.
+    let after = given.sent.2.step limits me m r in
+    gives_some limits me c.args.to (contents c.args.self.now.lockstep) (contents c.packet_with_aim.new.self) m
+    r after.node (sealing c.args.self.now.sealer) c.in-Some.aim c.seal.result _ c.args.self.now.own
+    (given.aimed limits me m r)
+    (some_given given.sent.0 _ _ _ given.sent.1 _ _ after.answer (given.aimed limits me m r)) c.seal.ensures)
