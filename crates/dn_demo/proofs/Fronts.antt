@@ -26,15 +26,7 @@ start_in-take n bytes whole =
     let e = at 5 (omega arith) in
     let f = at 6 (omega arith) in
     let g = at 7 (omega arith) in
-    λ i. record {
-      skill = a i;
-      episode = b i;
-      map = c i;
-      deathmatch = d i;
-      respawn = e i;
-      fast = f i;
-      no_monsters = g i;
-    }
+    cc
 
 pub seats_in-take : (n : ℕ) (bytes : List ℕ) → 13 ≤ n → seats_in (take n bytes) ≡ seats_in bytes
 seats_in-take n bytes whole =

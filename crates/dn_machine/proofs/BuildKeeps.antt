@@ -110,12 +110,8 @@ module _ {S : Type 0} (rules : Rules S) (settings : Settings) (history : History
                   let old = from_inputs.counted p l in
                   omega arith
             ];
-        run = λ q p l m.
-            let now = counts q p in
-            elim (from_inputs.run q p l m) [
-              | inl le ↦ inl (omega arith)
-              | inr all ↦ let low = all.2 in inr (all.0, all.1, omega arith)
-            ];
+        run = Lists.run_with rules settings history flights from_inputs held_after
+            (λ q p. let now = counts q p in omega arith);
         got = λ q p l m.
             let now = counts q p in
             let inputs = longer history.inputs me input p in

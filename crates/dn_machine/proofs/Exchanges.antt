@@ -55,6 +55,18 @@ module _ {S : Type 0} (rules : Rules S) (settings : Settings) (cap : ℕ) (stay 
         | inr m ↦ inr (h.0, h.1, omega arith)
       ]
 
+  -- a node has made at most the window more than another, or needs no more of it
+  close_or : (q p : ℕ) → q < rules.players → p < rules.players
+      → (made q (game.nodes q) ≤ made p (game.nodes p) + rules.ahead) ⊎ Holds tic (side (game.nodes q) p)
+  close_or q p l m =
+      let f = Pairs.fits rules settings game on.live in
+      let a = f.ahead q l in
+      let b = f.held q p l m in
+      elim (on.live.kept.from_inputs.run q p l m) [
+        | inl le ↦ inl (omega arith)
+        | inr h ↦ inr (holds_all q p h)
+      ]
+
   module _ (i : ℕ) (j : ℕ) (mine : i < rules.players) (its : j < rules.players) (apart : i ≢ j)
       (built : stay i ≡ true → tic < made i (game.nodes i)) (gone asks_it : Bool)
       (sends : Gives rules game i j gone asks_it)
@@ -75,40 +87,22 @@ module _ {S : Type 0} (rules : Rules S) (settings : Settings) (cap : ℕ) (stay 
     asked_within = request_within rules settings cap stay tic game on i j mine its apart built gone asks_it
         sends goes here asker goal aims
 
+    near : made i I ≤ made j J + rules.ahead → made j J ≤ made i I + rules.ahead → is_near (made j J) flight ≡ true
+    near a b = Pairs.near rules settings game on.live i j mine its apart gone asks_it sends a b asked_within
+
     -- a packet to one that stays is near, or that one needs no more
     near_j : stay j ≡ true → (is_near (made j J) flight ≡ true) ⊎ Holds tic (side J i)
-    near_j s = elim (cases_Bool gone) [
-      | inr stays ↦
-          let f = Pairs.fits rules settings game on.live in
-          inl (Pairs.near rules settings game on.live i j mine its apart gone asks_it sends
-          (f.close i j mine its (there j its s)) (f.close j i its mine (there i mine (here stays)))
-          asked_within)
-      | inl left ↦
-          let f = Pairs.fits rules settings game on.live in
-          let a = f.close i j mine its (there j its s) in
-          let b = f.ahead j its in
-          let c = f.held j i its mine in
-          elim (on.live.kept.from_inputs.run j i its mine) [
-            | inl le ↦
-                inl (Pairs.near rules settings game on.live i j mine its apart gone asks_it sends a
-                (omega arith) asked_within)
-            | inr h ↦ inr (holds_all j i h)
-          ]
+    near_j s = elim (close_or j i its mine) [
+      | inl le ↦ inl (near ((Pairs.fits rules settings game on.live).close i j mine its (there j its s)) le)
+      | inr h ↦ inr h
     ]
 
     -- and so is one from one that stays
     near_i : stay i ≡ true → (is_near (made j J) flight ≡ true) ⊎ Holds tic (side I j)
-    near_i s =
-        let f = Pairs.fits rules settings game on.live in
-        let a = f.close j i its mine (there i mine s) in
-        let b = f.ahead i mine in
-        let c = f.held i j mine its in
-        elim (on.live.kept.from_inputs.run i j mine its) [
-          | inl le ↦
-              inl (Pairs.near rules settings game on.live i j mine its apart gone asks_it sends (omega arith)
-              a asked_within)
-          | inr h ↦ inr (holds_all i j h)
-        ]
+    near_i s = elim (close_or i j mine its) [
+      | inl le ↦ inl (near le ((Pairs.fits rules settings game on.live).close j i its mine (there i mine s)))
+      | inr h ↦ inr h
+    ]
 
     abbrev new_i : Node
     new_i = Pairs.sender rules settings game on.live i j mine its apart gone asks_it sends

@@ -60,9 +60,9 @@ module _ {S : Type 0} (rules : Rules S) (settings : Settings) (cap : ℕ) (stay 
 
       exchange_is : exchange rules 0 game j
           ≡ with_node (Pairs.under_way rules settings game begun.live 0 j some its back (game.nodes 0)
-          (SetUp settings) 0 None [] gives) j started_one
+          set_up refl gives) j started_one
       exchange_is = Pairs.arrives rules settings game begun.live 0 j some its back (game.nodes 0)
-          (SetUp settings) 0 None [] gives refl
+          set_up refl gives refl
 
       started_plays : is_ended (game.nodes j).phase ≡ false → started_one.phase ≡ Playing
       unfolding on_packet

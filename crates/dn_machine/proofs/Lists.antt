@@ -1,9 +1,10 @@
 -- The commands held, the rows run, the known ends and the packets sent stay pieces of what the players' inputs
 -- make: when a node learns an end, leaves, runs a tic or sends.
 use Rattle.std.proofs.Common.{◌≡◌, ℕ, ◌+◌, ◌<◌, ◌≤◌, Bool, true, false, true≢false, List, [], ◌∷◌, ◌++◌, length, sym, ◌∙◌, ap, subst, arith, Option, Some, inl, inr}
-use Rattle.std.specs.Prelude.{◌⊎◌}
+use Rattle.std.specs.Prelude.{◌⊎◌, slice_get}
 use Rattle.std.proofs.lemmas.Option.{same_Some}
 use Rattle.dn_tic.specs.declared.command.Move.{Move}
+use Rattle.dn_tic.specs.declared.command.TicCmd.{TicCmd}
 use Rattle.dn_setup.specs.Settings.{Settings}
 use Rattle.dn_machine.specs.Worlds.{Rules, row}
 use Rattle.dn_machine.specs.Flight.{Exit, Flight, end_of}
@@ -33,10 +34,14 @@ module _ {S : Type 0} (rules : Rules S) (settings : Settings) (history : History
       → length (history.inputs p) ≤ length (history.inputs q) + rules.ahead
   close p q l m stays = grind (arith, ran_below)
 
-  -- a packet that is sent
-  pub sends : (flight : Flight) → IsPiece rules settings history.inputs history.left flight
-      → ComesFromInputs rules settings history (flights ++ flight ∷ [])
-  sends flight piece = record {
+  -- with other leavers and packets, of which the same is so
+  with_others : (left : ℕ → Bool) (others : List Flight)
+      → ((q p end : ℕ) → q < rules.players → p < rules.players → history.ends q p ≡ Some end
+      → (left p ≡ true) × (end ≡ length (history.inputs p)))
+      → ((which : ℕ) (flight : Flight) → slice_get others which ≡ Some flight
+      → IsPiece rules settings history.inputs left flight)
+      → ComesFromInputs rules settings (record history { left = left }) others
+  with_others left others ended pieces = record {
     counted = from_inputs.counted;
     run = from_inputs.run;
     got = from_inputs.got;
@@ -44,38 +49,48 @@ module _ {S : Type 0} (rules : Rules S) (settings : Settings) (history : History
     unread = from_inputs.unread;
     commands = from_inputs.commands;
     moves = from_inputs.moves;
-    ended = from_inputs.ended;
-    pieces = λ which other h. elim (slice_get_push flights flight which other h) [
-      | inl before ↦ from_inputs.pieces which other before
-      | inr last ↦ subst (λ (f : Flight). IsPiece rules settings history.inputs history.left f) (sym last) piece
-    ];
+    ended = ended;
+    pieces = pieces;
   }
+
+  -- a packet that is sent
+  pub sends : (flight : Flight) → IsPiece rules settings history.inputs history.left flight
+      → ComesFromInputs rules settings history (flights ++ flight ∷ [])
+  sends flight piece = with_others history.left (flights ++ flight ∷ []) from_inputs.ended
+      (λ which other h. elim (slice_get_push flights flight which other h) [
+        | inl before ↦ from_inputs.pieces which other before
+        | inr last ↦ subst (λ (f : Flight). IsPiece rules settings history.inputs history.left f) (sym last) piece
+      ])
 
   -- more players who have left
   pub leaves : (left : ℕ → Bool) → ((q : ℕ) → history.left q ≡ true → left q ≡ true)
       → ComesFromInputs rules settings (record history { left = left }) flights
-  leaves left more = record {
-    counted = from_inputs.counted;
-    run = from_inputs.run;
-    got = from_inputs.got;
-    ahead = from_inputs.ahead;
-    unread = from_inputs.unread;
-    commands = from_inputs.commands;
-    moves = from_inputs.moves;
-    ended = λ q p end l m h. let old = from_inputs.ended q p end l m h in (more p old.0, old.1);
-    pieces = λ which flight h.
-        let piece = from_inputs.pieces which flight h in
-        record {
-          sender = piece.sender;
-          receiver = piece.receiver;
-          apart = piece.apart;
-          reached = piece.reached;
-          commands = piece.commands;
-          set_up = piece.set_up;
-          request = piece.request;
-          exit = λ e. let old = piece.exit e in (more flight.from old.0, old.1);
-        };
-  }
+  leaves left more = with_others left flights
+      (λ q p end l m h. let old = from_inputs.ended q p end l m h in (more p old.0, old.1))
+      (λ which flight h.
+      let piece = from_inputs.pieces which flight h in
+      record {
+        sender = piece.sender;
+        receiver = piece.receiver;
+        apart = piece.apart;
+        reached = piece.reached;
+        commands = piece.commands;
+        set_up = piece.set_up;
+        request = piece.request;
+        exit = λ e. let old = piece.exit e in (more flight.from old.0, old.1);
+      })
+
+  -- tics are run as before where no node has fewer commands
+  pub run_with : (held : ℕ → ℕ → List TicCmd)
+      → ((q p : ℕ) → length (history.held q p) ≤ length (held q p)) → (q p : ℕ) → q < rules.players
+      → p < rules.players
+      → (length (history.rows q) ≤ length (held q p)) ⊎ HoldsAll (record history { held = held }) q p
+  run_with held more q p l m =
+      let now = more q p in
+      elim (from_inputs.run q p l m) [
+        | inl le ↦ inl (omega arith)
+        | inr all ↦ let low = all.2 in inr (all.0, all.1, omega arith)
+      ]
 
   -- an end that an EXIT packet tells
   module _ (me : ℕ) (mine : me < rules.players) (flight : Flight)

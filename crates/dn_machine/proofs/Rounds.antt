@@ -188,31 +188,31 @@ module _ {S : Type 0} (rules : Rules S) (settings : Settings) (cap : ℕ) (stay 
           ]
         ]
 
-        -- a good round in which the player has its turn first
-        round_up : (rounds mid later : ℕ) → AfterSent rounds mid → AfterHeard mid later → p < q → (g : Game)
+        -- a good round in which these two have their turns in this order, and no other counts
+        round_of : (a b : ℕ) → a < b → b < rules.players → ((i : ℕ) → i ≢ a → i ≢ b → (i ≢ p) × (i ≢ q))
+            → (rounds mid later : ℕ) → ((g : Game) → At rounds g → At mid (turn rules inputs g a))
+            → ((g : Game) → At mid g → At later (turn rules inputs g b)) → (g : Game)
             → At rounds g → At later (good_round rules inputs g)
         unfolding good_round
-        round_up rounds mid later first next less g at =
-            two_of (At rounds) (At mid) (At later) (turn rules inputs) rules.players p q less
-            (λ i h o s at. turn_other i rounds o (λ e. omega arith) (λ e. omega arith) h at)
-            (λ i h o x y at. turn_other i mid o x y h at)
-            (λ i h o x y at. turn_other i later o x y h at)
-            (λ h at. turn_sender rounds mid first h at)
-            (λ h at. turn_receiver mid later next h at)
-            g m at
+        round_of a b less low others rounds mid later one other g at =
+            two_of (At rounds) (At mid) (At later) (turn rules inputs) rules.players a b less
+            (λ i h o s at. let n = others i (λ e. omega arith) (λ e. omega arith) in
+            turn_other i rounds o n.0 n.1 h at)
+            (λ i h o x y at. let n = others i x y in turn_other i mid o n.0 n.1 h at)
+            (λ i h o x y at. let n = others i x y in turn_other i later o n.0 n.1 h at)
+            one other g low at
 
-        -- and one in which the other has
+        -- the player has its turn first
+        round_up : (rounds mid later : ℕ) → AfterSent rounds mid → AfterHeard mid later → p < q → (g : Game)
+            → At rounds g → At later (good_round rules inputs g)
+        round_up rounds mid later first next less = round_of p q less m (λ i x y. (x, y)) rounds mid later
+            (turn_sender rounds mid first) (turn_receiver mid later next)
+
+        -- or the other has
         round_down : (rounds mid later : ℕ) → AfterHeard rounds mid → AfterSent mid later → q < p
             → (g : Game) → At rounds g → At later (good_round rules inputs g)
-        unfolding good_round
-        round_down rounds mid later first next less g at =
-            two_of (At rounds) (At mid) (At later) (turn rules inputs) rules.players q p less
-            (λ i h o s at. turn_other i rounds o (λ e. omega arith) (λ e. omega arith) h at)
-            (λ i h o x y at. turn_other i mid o y x h at)
-            (λ i h o x y at. turn_other i later o y x h at)
-            (λ h at. turn_receiver rounds mid first h at)
-            (λ h at. turn_sender mid later next h at)
-            g l at
+        round_down rounds mid later first next less = round_of q p less l (λ i x y. (y, x)) rounds mid later
+            (turn_receiver rounds mid first) (turn_sender mid later next)
 
         -- each good round brings it nearer
         pub round_nearer : (rounds : ℕ) (g : Game) → At (suc rounds) g → At rounds (good_round rules inputs g)

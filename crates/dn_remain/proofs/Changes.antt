@@ -10,7 +10,7 @@ use Rattle.dn_machine.specs.declared.events.Event.TheVariants.{Build, Give, Send
 use Rattle.dn_machine.specs.declared.events.Refusal.{Refusal}
 use Rattle.dn_machine.specs.Building.{on_build}
 use Rattle.dn_machine.specs.Flight.{Flight}
-use Rattle.dn_machine.specs.Game.{Game, own_marks, posted, refused_at, refused, delivered, on_event, applied_if, applied}
+use Rattle.dn_machine.specs.Game.{Game, with_node, own_marks, posted, refused_at, refused, delivered, on_event, applied_if, applied}
 use Rattle.dn_machine.specs.Node.{Node, put}
 use Rattle.dn_machine.specs.Worlds.{Rules}
 use Rattle.dn_machine.proofs.Games.{passes}
@@ -67,24 +67,16 @@ module _ {S : Type 0} (known : ℕ → Holder TicCmd → Type 0) (rules : Rules 
         inl (alike_heard rules.limits flight.to (all.game.nodes flight.to) flight refl told.apart),
       )
 
+  -- a call of a node
+  calls : (node : ℕ) → refused_at rules.players all.game node ≡ None → (new : Node)
+      → IsCalled rules (all.gone node) node (all.game.nodes node) new
+      → IsChange rules all (with_node all.game node new)
+  calls node h new called = inr (node, named known rules all older f node h, new, refl, called)
+
   happens : (event : Event) → refused rules.players all.game event ≡ None → IsNoRun event
       → IsChange rules all (on_event rules all.game event).0
-  happens (Build node keys) h n = inr (
-    node,
-    named known rules all older f node h,
-    _,
-    refl,
-    inr (inl
-        (Pressed keys, refl)),
-  )
-  happens (Give node command) h n = inr (
-    node,
-    named known rules all older f node h,
-    _,
-    refl,
-    inr (inl
-        (Given command, refl)),
-  )
+  happens (Build node keys) h n = calls node h _ (inr (inl (Pressed keys, refl)))
+  happens (Give node command) h n = calls node h _ (inr (inl (Given command, refl)))
   happens (Send node to) h n = inr (
     node,
     ltb-true node rules.players (and_parts (ltb node rules.players) (ltb to rules.players)
@@ -95,13 +87,7 @@ module _ {S : Type 0} (known : ℕ → Holder TicCmd → Type 0) (rules : Rules 
   )
   happens (Deliver which) h n = delivers (slice_get all.game.flights which) which refl
   happens (Run node) h n = absurd n
-  happens (Quit node) h n = inr (
-    node,
-    named known rules all older f node h,
-    _,
-    refl,
-    inl (alike_quit rules.limits node (all.game.nodes node)),
-  )
+  happens (Quit node) h n = calls node h _ (inl (alike_quit rules.limits node (all.game.nodes node)))
   happens (Stop node) h n = inl refl
 
   applies : (event : Event) → IsNoRun event → IsChange rules all (applied rules all.game event).0
@@ -116,7 +102,7 @@ module _ {S : Type 0} (known : ℕ → Holder TicCmd → Type 0) (rules : Rules 
   run_on : (node : ℕ) (o : Option Refusal) → refused_at rules.players all.game node ≡ o
       → IsChange rules all (after_run rules all node o)
   run_on node (Some refusal) h = inl refl
-  run_on node None h = inr (node, named known rules all older f node h, _, refl, inr (inr refl))
+  run_on node None h = calls node h _ (inr (inr refl))
 
   occurs : (event : Event) → IsChange rules all (after_event rules all event)
   occurs (Build node keys) = applies (Build node keys) tt
@@ -131,25 +117,15 @@ module _ {S : Type 0} (known : ℕ → Holder TicCmd → Type 0) (rules : Rules 
       → IsChange rules all (unless o all (with_wary all node (on_give_up rules.limits node
       (wary_of all node) player).0)).game
   gives_up node player (Some refusal) h = inl refl
-  gives_up node player None h = inr (
-    node,
-    named known rules all older f node h,
-    _,
-    refl,
-    inl (alike_give_up rules.limits node (wary_of all node) (own_gone node) player),
-  )
+  gives_up node player None h = calls node h _
+      (inl (alike_give_up rules.limits node (wary_of all node) (own_gone node) player))
 
   hears_some : (t : Telling) (o : Option Refusal) → refused_at rules.players all.game t.to ≡ o
       → IsChange rules all (unless o all
       (with_wary all t.to (on_report rules.limits t.to (wary_of all t.to) t.from t.report).0)).game
   hears_some t (Some refusal) h = inl refl
-  hears_some t None h = inr (
-    t.to,
-    named known rules all older f t.to h,
-    _,
-    refl,
-    inl (alike_report rules.limits t.to (wary_of all t.to) (own_gone t.to) t.from t.report),
-  )
+  hears_some t None h = calls t.to h _
+      (inl (alike_report rules.limits t.to (wary_of all t.to) (own_gone t.to) t.from t.report))
 
   hears : (o : Option Telling) → IsChange rules all (remaining.after_hearing rules.limits all o).game
   hears None = inl refl

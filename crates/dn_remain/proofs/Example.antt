@@ -1,6 +1,6 @@
 -- Three players, one of whom vanishes: where a list of events leads, and what the other two ran.
-use Rattle.std.proofs.Common.{◌≡◌, refl, arith, inl, inr, List, [], ◌∷◌}
-use Rattle.std.specs.Prelude.{Bool, true, false, Some, slice_get, get_or}
+use Rattle.std.proofs.Common.{◌≡◌, refl, inl, inr, List, [], ◌∷◌}
+use Rattle.std.specs.Prelude.{Bool, true, false, slice_get, get_or}
 use Rattle.dn_setup.specs.Settings.{Settings}
 use Rattle.dn_machine.specs.declared.events.Event.{Event}
 use Rattle.dn_machine.specs.declared.events.Event.TheVariants.{Build, Send, Deliver, Run, Stop}
@@ -9,16 +9,15 @@ use Rattle.dn_machine.specs.Building.{on_build}
 use Rattle.dn_machine.specs.Sending.{on_send}
 use Rattle.dn_machine.specs.Hearing.{on_packet}
 use Rattle.dn_machine.specs.Running.{on_run_but}
-use Rattle.dn_machine.specs.Limits.{row_of, vanilla_limits}
+use Rattle.dn_machine.specs.Limits.{row_of}
 use Rattle.dn_machine.specs.Node.{ran, lacks, lowest}
 use Rattle.dn_machine.specs.Worlds.{Rules, rules_of}
 use Rattle.dn_world.specs.Physics.{Physics}
 use Rattle.dn_vanish.specs.Calls.{every}
 use Rattle.dn_vanish.specs.Decisions.{longest}
-use Rattle.dn_remain.specs.Seen.{end_seen, rows_to}
+use Rattle.dn_remain.specs.Seen.{rows_to}
 use Rattle.dn_remain.specs.Wary.{on_give_up, on_report}
 use Rattle.dn_remain.specs.Remaining.{Remaining, opening_remaining, after_give_up, after_telling, after_hearing, is_barred, after_event}
-use Rattle.dn_remain.specs.Promise.{IsPair}
 use Rattle.dn_remain.specs.RunsRemain.{NextRemain, LeadsRemain, RunsRemain}
 use Rattle.dn_remain.specs.declared.events.RemainEvent.{RemainEvent}
 use Rattle.dn_remain.specs.declared.events.RemainEvent.TheVariants.{Own, GiveUp, Tell, Hear}
@@ -62,7 +61,7 @@ leads_to rules all (event ∷ events) = (
   leads_to rules (after rules all event) events,
 )
 
-pub goes_on : List RemainEvent
+unfoldable pub goes_on : List RemainEvent
 goes_on = Own (Send 0 1) ∷ Own (Send 0 2) ∷ Own (Deliver 0) ∷ Own (Deliver 1) ∷ Own (Send 1 0) ∷ Own (Send 2 0)
     ∷ Own (Deliver 2) ∷ Own (Deliver 3) ∷ Own (Build 0 0) ∷ Own (Send 0 1) ∷ Own (Deliver 4) ∷ Own (Stop 0)
     ∷ Own (Build 1 0) ∷ Own (Build 1 0) ∷ Own (Build 2 0) ∷ Own (Build 2 0) ∷ Own (Send 1 2) ∷ Own (Send 2 1)
@@ -75,41 +74,12 @@ starts = Own (Send 0 1) ∷ Own (Deliver 0) ∷ Own (Send 1 0) ∷ Own (Deliver 
     ∷ Own (Deliver 2) ∷ Own (Deliver 3) ∷ Own (Run 0) ∷ Own (Run 1) ∷ []
 
 module _ {S : Type 0} (physics : Physics S) (settings : Settings) where
-  pub last : List RemainEvent → Remaining
+  unfoldable pub last : List RemainEvent → Remaining
   last events = after_all (rules_of physics 3 false 100) (opening_remaining settings) events
 
   pub reaches : (events : List RemainEvent) → RunsRemain (rules_of physics 3 false 100) settings events (last events)
   unfolding last
   reaches events = leads_to (rules_of physics 3 false 100) (opening_remaining settings) events
-
-  pub went_on : ((last goes_on).game.stopped 0 ≡ true) × ((last goes_on).gone 1 0 ≡ true) × ((last goes_on).gone 2 0 ≡ true)
-      × IsPair (vanilla_limits 3 false 100) (last goes_on) 1 2
-      × (end_seen ((last goes_on).game.nodes 1) 0 ≡ Some 1) × (end_seen ((last goes_on).game.nodes 2) 0 ≡ Some 1)
-      × (ran ((last goes_on).game.nodes 1) ≡ 2) × (ran ((last goes_on).game.nodes 2) ≡ 2)
-      × (lacks (get_or ((last goes_on).game.nodes 2).rows 0 []) 0 ≡ false)
-      × (lacks (get_or ((last goes_on).game.nodes 2).rows 1 []) 0 ≡ true)
-      × (lacks (get_or ((last goes_on).game.nodes 2).rows 1 []) 1 ≡ false)
-  unfolding last goes_on starts after_all after after_own applied opening_game on_build on_send on_packet on_run_but row_of
-      lowest every longest rows_to on_give_up on_report opening_remaining
-  went_on = (
-    refl,
-    refl,
-    refl,
-    record {
-      one = omega arith;
-      other = omega arith;
-      apart = λ e. absurd (omega arith);
-      here = refl;
-      there = refl;
-    },
-    refl,
-    refl,
-    refl,
-    refl,
-    refl,
-    refl,
-    refl,
-  )
 
   pub started : (ran ((last starts).game.nodes 0) ≡ 1) × (ran ((last starts).game.nodes 1) ≡ 1)
       × (lacks (get_or ((last starts).game.nodes 1).rows 0 []) 2 ≡ true)

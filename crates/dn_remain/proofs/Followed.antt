@@ -1,6 +1,6 @@
 -- What is known of a game in which players may be given up, and that each event of the machine keeps it.
 use Rattle.std.proofs.Common.{◌≡◌, ℕ, ◌<◌, ltb, refl, sym, subst, inl, inr, List, ◌∷◌}
-use Rattle.std.specs.Prelude.{◌&&◌, false, Option, Some, None, slice_get}
+use Rattle.std.specs.Prelude.{◌&&◌, true, false, Option, Some, None, slice_get}
 use Rattle.std.proofs.lemmas.Bool.{ltb-true, and_parts}
 use Rattle.dn_tic.specs.declared.command.TicCmd.{TicCmd}
 use Rattle.dn_tic.specs.declared.input.Input.TheVariants.{Pressed, Given}
@@ -9,6 +9,7 @@ use Rattle.dn_machine.specs.declared.events.Event.TheVariants.{Build, Give, Send
 use Rattle.dn_machine.specs.declared.events.Refusal.{Refusal}
 use Rattle.dn_machine.specs.Flight.{Flight}
 use Rattle.dn_machine.specs.Game.{Game, own_marks, refused_at, refused, delivered, on_event, applied_if, applied}
+use Rattle.dn_machine.specs.Node.{put}
 use Rattle.dn_machine.specs.Worlds.{Rules}
 use Rattle.dn_machine.proofs.Games.{passes}
 use Rattle.dn_vanish.specs.Commands.{Holder, Had}
@@ -17,7 +18,7 @@ use Rattle.dn_remain.specs.Wary.{Report}
 use Rattle.dn_remain.specs.Remaining.{Telling, Remaining, is_barred_flight, is_barred, after_run, after_event}
 use Rattle.dn_remain.specs.RunsRemain.{NextOwn}
 use Rattle.dn_remain.proofs.ButRuns.{IsNoRun}
-use Rattle.dn_remain.proofs.Known.{Follows, Went}
+use Rattle.dn_remain.proofs.Known.{Follows, Went, known_so}
 use Rattle.dn_remain.proofs.Making.{builds}
 use Rattle.dn_remain.proofs.Hearing.{hears}
 use Rattle.dn_remain.proofs.Running.{runs, quits}
@@ -38,16 +39,8 @@ AreFollowed known rules all = (older : List (ℕ → Holder TicCmd)) × IsFollow
 module _ {S : Type 0} (known : ℕ → Holder TicCmd → Type 0) (rules : Rules S) where
   pub anchored : (all : Remaining) (older : List (ℕ → Holder TicCmd)) → IsFollowed known rules all older
       → Follows (Had (now_of all.game all.gone ∷ older)) rules all.game all.gone older
-  anchored all older f = record {
-    run = f.follows.run;
-    handed = f.follows.handed;
-    flights = f.follows.flights;
-    ends = f.follows.ends;
-    endless = f.follows.endless;
-    resend = f.follows.resend;
-    rows = f.follows.rows;
-    knows = λ r u k. k;
-  }
+  anchored all older f = known_so known (Had (now_of all.game all.gone ∷ older)) rules all.game
+      all.game.stopped all.gone older f.follows (λ r u k. k)
 
   -- what was had before is had still
   pub carried : (past : List (ℕ → Holder TicCmd)) → ((r : ℕ) (u : Holder TicCmd) → known r u → Had past r u)
@@ -58,16 +51,8 @@ module _ {S : Type 0} (known : ℕ → Holder TicCmd → Type 0) (rules : Rules 
   carried past has next older f newest reports = (
     older,
     record {
-      follows = record {
-        run = f.run;
-        handed = f.handed;
-        flights = f.flights;
-        ends = f.ends;
-        endless = f.endless;
-        resend = f.resend;
-        rows = f.rows;
-        knows = λ r u k. f.knows r u (has r u k);
-      };
+      follows = known_so (Had past) known rules next.game next.game.stopped next.gone older f
+          (λ r u k. f.knows r u (has r u k));
       newest = λ q r report h. f.knows r report (newest q r report h);
       reports = λ which t h. f.knows t.from t.report (reports which t h);
     },
@@ -111,16 +96,7 @@ module _ {S : Type 0} (known : ℕ → Holder TicCmd → Type 0) (rules : Rules 
         (named node h)
     happens (Stop node) h b n = (
       older,
-      record {
-        run = follows.run;
-        handed = follows.handed;
-        flights = follows.flights;
-        ends = follows.ends;
-        endless = follows.endless;
-        resend = follows.resend;
-        rows = follows.rows;
-        knows = follows.knows;
-      },
+      known_so _ _ rules all.game (put all.game.stopped node true) all.gone older follows follows.knows,
     )
 
     applies : (event : Event) → is_barred all event ≡ false → IsNoRun event

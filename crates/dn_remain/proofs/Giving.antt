@@ -16,7 +16,7 @@ use Rattle.dn_remain.proofs.Rows.{rows_are}
 use Rattle.dn_vanish.proofs.Always.{always}
 use Rattle.dn_vanish.proofs.Invariant.{IsGrown}
 use Rattle.dn_remain.proofs.Seeing.{length_rows, seen_put}
-use Rattle.dn_remain.proofs.Known.{IsEnd, Follows}
+use Rattle.dn_remain.proofs.Known.{IsEnd, Follows, told_later}
 
 -- another node, which has given up these, in one place
 moved_set : (game : Game) (gone : ℕ → ℕ → Bool) (q : ℕ) (new : machine.Node) (set : ℕ → Bool)
@@ -116,18 +116,7 @@ module _ {S : Type 0} (known : ℕ → Holder TicCmd → Type 0) (rules : Rules 
         run = (step, follows.run);
         handed = (hand, follows.handed);
         flights = λ which flight h.
-            let old = follows.flights which flight h in
-            record {
-              sender = old.sender;
-              receiver = old.receiver;
-              apart = old.apart;
-              state = old.state;
-              had = inr old.had;
-              open_to = old.open_to;
-              piece = old.piece;
-              reaches = old.reaches;
-              exit = old.exit;
-            };
+            told_later rules.players (now_of game gone ∷ older) _ flight (follows.flights which flight h);
         ends = ends_set;
         endless = endless_set;
         resend = resend_set;

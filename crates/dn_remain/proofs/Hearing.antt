@@ -15,7 +15,7 @@ use Rattle.dn_machine.proofs.Peers.{asked_low, asked_end, flight_low, flight_end
 use Rattle.dn_vanish.specs.Commands.{Holder}
 use Rattle.dn_remain.specs.Seen.{reached, holder_of, now_of}
 use Rattle.dn_remain.proofs.Seeing.{same_holder}
-use Rattle.dn_remain.proofs.Known.{IsTold, Follows, Went, fit_self, not_left}
+use Rattle.dn_remain.proofs.Known.{IsTold, Follows, Went, IsFit, fit_self, not_left}
 use Rattle.dn_remain.proofs.Following.{stays}
 use Rattle.dn_remain.proofs.Arriving.{quiet}
 use Rattle.dn_remain.proofs.Taking.{stale, gap, taken}
@@ -24,6 +24,12 @@ module _ {S : Type 0} (known : ℕ → Holder TicCmd → Type 0) (rules : Rules 
     (follows : Follows known rules game gone older) (flight : Flight)
     (told : IsTold rules.players (now_of game gone ∷ older) flight)
     (open_from : gone flight.to flight.from ≡ false) where
+  -- nothing that is seen of the node changes
+  goes_on : (new : machine.Node) → IsFit rules.limits game.nodes gone flight.to new
+      → holder_of new (gone flight.to) ≡ holder_of (game.nodes flight.to) (gone flight.to)
+      → Went known rules (with_node game flight.to new) gone
+  goes_on new fit same = (older, stays known rules game gone older follows flight.to new fit same)
+
   pub hears : Went known rules (with_node game flight.to (on_packet rules.limits flight.to (game.nodes flight.to) flight).0) gone
   hears =
       let node : machine.Node = game.nodes flight.to in
@@ -33,30 +39,20 @@ module _ {S : Type 0} (known : ℕ → Holder TicCmd → Type 0) (rules : Rules 
       ((game.nodes flight.to).peers flight.from) flight in
       let low = flight_low rules.places (made flight.to (game.nodes flight.to))
       ((game.nodes flight.to).peers flight.from) flight (follows.resend flight.to flight.from) in
-      let same : Went known rules (with_node game flight.to (game.nodes flight.to)) gone =
-      (older, stays known rules game gone older follows flight.to (game.nodes flight.to) self refl) in
+      let same = goes_on (game.nodes flight.to) self refl in
       packet_cases rules.limits flight.to (game.nodes flight.to) flight
       (λ (r : machine.Node × Heard). Went known rules (with_node game flight.to r.0) gone) (record {
         dropped = λ number why. same;
-        starts = λ s e k. (
-          older,
-          stays known rules game gone older follows flight.to _
-              (record { ends = self.ends; endless = self.endless; resend = self.resend; rows = inl refl })
-              (same_holder _ (holder_of (game.nodes flight.to) (gone flight.to)) refl refl refl
-              (sym (not_left (game.nodes flight.to) (ap is_ended e))) refl),
-        );
-        completes = λ word e all. (
-          older,
-          stays known rules game gone older follows flight.to _
-              (record { ends = self.ends; endless = self.endless; resend = self.resend; rows = inl refl })
-              (same_holder _ (holder_of (game.nodes flight.to) (gone flight.to)) refl refl refl
-              (sym (not_left (game.nodes flight.to) (ap is_ended e))) refl),
-        );
-        notes = λ word e some. (
-          older,
-          stays known rules game gone older follows flight.to _
-              (record { ends = self.ends; endless = self.endless; resend = self.resend; rows = inl refl }) refl,
-        );
+        starts = λ s e k. goes_on _
+            (record { ends = self.ends; endless = self.endless; resend = self.resend; rows = inl refl })
+            (same_holder _ (holder_of (game.nodes flight.to) (gone flight.to)) refl refl refl
+            (sym (not_left (game.nodes flight.to) (ap is_ended e))) refl);
+        completes = λ word e all. goes_on _
+            (record { ends = self.ends; endless = self.endless; resend = self.resend; rows = inl refl })
+            (same_holder _ (holder_of (game.nodes flight.to) (gone flight.to)) refl refl refl
+            (sym (not_left (game.nodes flight.to) (ap is_ended e))) refl);
+        notes = λ word e some. goes_on _
+            (record { ends = self.ends; endless = self.endless; resend = self.resend; rows = inl refl }) refl;
         commands = λ plays. record {
           dropped = λ number why. same;
           stale = λ l. stale known rules game gone older follows flight told open_from sender ends low plays l;

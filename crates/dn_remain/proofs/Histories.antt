@@ -1,6 +1,6 @@
 -- Every list of events leads to a game whose nodes have a history.
 use Rattle.std.proofs.Common.{◌≡◌, ℕ, ◌<◌, ltb, refl, subst, arith, List, []}
-use Rattle.std.specs.Prelude.{◌&&◌, Bool, false, Option, Some, None, slice_get}
+use Rattle.std.specs.Prelude.{◌&&◌, Bool, true, false, Option, Some, None, slice_get}
 use Rattle.std.proofs.lemmas.Bool.{ltb-true, and_parts}
 use Rattle.std.proofs.lemmas.Option.{none-some}
 use Rattle.dn_tic.specs.declared.command.TicCmd.{TicCmd}
@@ -10,7 +10,7 @@ use Rattle.dn_machine.specs.declared.events.Event.{Event}
 use Rattle.dn_machine.specs.declared.events.Event.TheVariants.{Build, Give, Send, Deliver, Run, Quit, Stop}
 use Rattle.dn_machine.specs.declared.events.Refusal.{Refusal}
 use Rattle.dn_machine.specs.declared.answers.Ran.{Ran}
-use Rattle.dn_machine.specs.Node.{Node}
+use Rattle.dn_machine.specs.Node.{Node, put}
 use Rattle.dn_machine.specs.Worlds.{Rules}
 use Rattle.dn_machine.specs.Flight.{Flight}
 use Rattle.dn_machine.specs.Game.{Game, opening_game, with_node, own_marks, refused_at, refused, delivered, on_event, applied_if, applied}
@@ -20,7 +20,7 @@ use Rattle.dn_machine.proofs.Games.{passes}
 use Rattle.dn_vanish.specs.Commands.{Holder}
 use Rattle.dn_remain.specs.Seen.{rows_to}
 use Rattle.dn_remain.proofs.ButRuns.{nobody_is}
-use Rattle.dn_remain.proofs.Known.{Follows, Went}
+use Rattle.dn_remain.proofs.Known.{Follows, Went, known_so}
 use Rattle.dn_remain.proofs.Making.{builds}
 use Rattle.dn_remain.proofs.Hearing.{hears}
 use Rattle.dn_remain.proofs.Running.{runs, quits}
@@ -76,16 +76,7 @@ module _ {S : Type 0} (rules : Rules S) (settings : Settings) where
     happens (Quit node) h = quits known rules game nobody older follows node (named node h)
     happens (Stop node) h = (
       older,
-      record {
-        run = follows.run;
-        handed = follows.handed;
-        flights = follows.flights;
-        ends = follows.ends;
-        endless = follows.endless;
-        resend = follows.resend;
-        rows = follows.rows;
-        knows = follows.knows;
-      },
+      known_so known known rules game (put game.stopped node true) nobody older follows follows.knows,
     )
 
     applies : (event : Event) → Went known rules (applied rules game event).0 nobody

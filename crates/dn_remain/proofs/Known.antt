@@ -58,6 +58,23 @@ told_later players history next flight h = record {
   exit = h.exit;
 }
 
+-- it follows whatever has stopped, and other states are known that were had
+pub known_so : {S : Type 0} (known other : ℕ → Holder TicCmd → Type 0) (rules : Rules S) (game : Game)
+    (stopped : ℕ → Bool) (gone : ℕ → ℕ → Bool) (older : List (ℕ → Holder TicCmd))
+    → Follows known rules game gone older
+    → ((r : ℕ) (u : Holder TicCmd) → other r u → Had (now_of game gone ∷ older) r u)
+    → Follows other rules (record game { stopped = stopped }) gone older
+known_so known other rules game stopped gone older follows knows = record {
+  run = follows.run;
+  handed = follows.handed;
+  flights = follows.flights;
+  ends = follows.ends;
+  endless = follows.endless;
+  resend = follows.resend;
+  rows = follows.rows;
+  knows = knows;
+}
+
 -- what is asked of another node in the place of node `q`, of all that is not in the history
 pub record IsFit (limits : Limits) (nodes : ℕ → machine.Node) (gone : ℕ → ℕ → Bool) (q : ℕ) (new : machine.Node)
     : Type 0 where

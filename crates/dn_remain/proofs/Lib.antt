@@ -32,7 +32,6 @@ pub mod Changes
 pub mod Marked
 pub mod MakerRows
 pub mod Checks
-pub mod NoneOff
 pub mod RunMarks
 pub mod Deciding
 pub mod Told

@@ -28,7 +28,7 @@ use Rattle.dn_vanish.specs.Commands.{Holder, Had, seen, past_seen}
 use Rattle.dn_vanish.proofs.Windows.{roomy}
 use Rattle.dn_remain.specs.Seen.{end_seen, now_of}
 use Rattle.dn_remain.proofs.ButRuns.{run_but_cases}
-use Rattle.dn_remain.proofs.NoneOff.{none_off}
+use Rattle.dn_remain.proofs.Checks.{none_off}
 use Rattle.dn_remain.proofs.Known.{Follows}
 use Rattle.dn_remain.proofs.Marked.{IsMarked, world_same}
 use Rattle.dn_remain.proofs.Running.{absent_is}

@@ -27,7 +27,7 @@ use Rattle.dn_remain.specs.Promise.{SteadyInPairs}
 use Rattle.dn_remain.proofs.Answering.{missing}
 use Rattle.dn_remain.proofs.Dropping.{kept}
 use Rattle.dn_remain.proofs.ButRuns.{run_is}
-use Rattle.dn_remain.proofs.NoneOff.{none_off, none_off_at_all}
+use Rattle.dn_remain.proofs.Checks.{none_off, none_off_at_all}
 use Rattle.dn_remain.proofs.Followed.{anchored}
 use Rattle.dn_remain.proofs.Histories
 use Rattle.dn_remain.proofs.Known.{Follows}

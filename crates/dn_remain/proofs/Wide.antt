@@ -31,7 +31,7 @@ use Rattle.dn_remain.specs.Promise.{AgreeInPairs}
 use Rattle.dn_remain.specs.declared.events.RemainEvent.{RemainEvent}
 use Rattle.dn_remain.specs.declared.events.RemainEvent.TheVariants.{Own, GiveUp}
 use Rattle.dn_remain.proofs.ButRuns.{runs_tic}
-use Rattle.dn_remain.proofs.NoneOff.{none_off}
+use Rattle.dn_remain.proofs.Checks.{none_off}
 use Rattle.dn_remain.proofs.Example.{after_own, after_all, after, leads_to}
 use Rattle.dn_remain.proofs.Followed.{anchored}
 use Rattle.dn_remain.proofs.Histories

@@ -9,7 +9,7 @@ use Rattle.dn_vanish.proofs.Put.{put_at, put_off, highest_bounds, highest_reache
 use Rattle.dn_vanish.proofs.Invariant.{IsBase, IsDecision, IsLater, HasSource, IsSound, IsMet, IsKept}
 use Rattle.dn_vanish.proofs.Views.{outside, stands_outside, both_within, base_same, base_kept, source_kept}
 use Rattle.dn_vanish.proofs.Stepping.{IsGood, grows, stays}
-use Rattle.dn_vanish.proofs.Mild.{IsTold, told_still, told_of}
+use Rattle.dn_vanish.proofs.Mild.{IsTold, told_still, told_of, sound_by}
 
 module _ (players : ℕ) (nodes : ℕ → Node) (older : List (ℕ → Node)) (q : ℕ) (l : q < players)
     (here : (nodes q).left ≡ false) (kept : IsKept players (nodes ∷ older)) (heard : ℕ → Node)
@@ -94,6 +94,23 @@ module _ (players : ℕ) (nodes : ℕ → Node) (older : List (ℕ → Node)) (q
       (base_same players (nodes ∷ older) d.gone (nodes q).gone p (d.got p)
       (both_within d.gone (nodes q).gone i (λ r u. j r (s r ∙ u))) (h.base p t)).bound b k
 
+  -- what a state that stood for a set had of one of it is at most what decisions for the set have
+  stood : (r p b : ℕ) (set : ℕ → Bool) (old new : Node) → IsLater players (nodes ∷ older) r old new
+      → Stands set old → set p ≡ true → old.got p ≤ b
+      → ((d : Node) → IsDecision players (nodes ∷ older) r d → Within old.gone d.gone
+      → Within d.gone new.gone → Same old.gone set → d.got p ≤ b)
+      → new.got p ≤ b
+  stood r p b set old new order (inr gone) t low decided =
+      let a : new.got p ≡ old.got p = ap (λ (n : Node). n.got p) (order.left gone.0) in
+      omega arith
+  stood r p b set old new order (inl same) t low decided = elim (order.frozen p (same p ∙ t)) [
+    | inl a ↦ omega arith
+    | inr d ↦
+        let a : d.0.got p ≤ b = decided d.0 d.1 d.2 d.3 same in
+        let f : d.0.got p ≡ new.got p = d.4 in
+        omega arith
+  ]
+
   -- whoever decides for this set decides at least this
   base_new : (p : ℕ) → (nodes q).gone p ≡ true
       → IsBase players (nodes ∷ older) (nodes q).gone p (decided_end players q (nodes q) heard p)
@@ -101,21 +118,10 @@ module _ (players : ℕ) (nodes : ℕ → Node) (older : List (ℕ → Node)) (q
     bound = λ b k. elim (reached p) [
       | inl e ↦
           let w = k q l sound.own in
-          let c : w.0.got p ≤ b = w.3 in
-          let order = kept.order q w.0 w.1 in
-          elim w.2 [
-            | inr gone ↦
-                let a : (nodes q).got p ≡ w.0.got p = ap (λ (n : Node). n.got p) (order.left gone.0) in
-                omega arith
-            | inl same ↦ elim (order.frozen p (same p ∙ t)) [
-              | inl a ↦ omega arith
-              | inr d ↦
-                  let a : d.0.got p ≤ b =
-                  floor q d.0 w.0.gone p b d.1 (d.2 p (same p ∙ t)) d.3 same d.2 k in
-                  let f : d.0.got p ≡ (nodes q).got p = d.4 in
-                  omega arith
-            ]
-          ]
+          let a : (nodes q).got p ≤ b =
+          stood q p b (nodes q).gone w.0 (nodes q) (kept.order q w.0 w.1) w.2 t w.3
+          (λ d i u o same. floor q d w.0.gone p b i (u p (same p ∙ t)) o same u k) in
+          omega arith
       | inr h ↦
           let w = k h.0 h.1 h.3 in
           let c : w.0.got p ≤ b = w.3 in
@@ -123,20 +129,12 @@ module _ (players : ℕ) (nodes : ℕ → Node) (older : List (ℕ → Node)) (q
           let e : decided_end players q (nodes q) heard p ≡ (heard h.0).got p = h.4 in
           elim (kept.pairs h.0 w.0 (heard h.0) w.1 ev.0) [
             | inr order ↦ let a : (heard h.0).got p ≤ w.0.got p = order.got p in omega arith
-            | inl order ↦ elim w.2 [
-              | inr gone ↦
-                  let a : (heard h.0).got p ≡ w.0.got p = ap (λ (n : Node). n.got p) (order.left gone.0) in
-                  omega arith
-              | inl same ↦ elim (order.frozen p (same p ∙ t)) [
-                | inl a ↦ omega arith
-                | inr d ↦
-                    let o : d.0.gone q ≡ false = outside d.0.gone (heard h.0).gone q d.3 (not_q h.0 h.1 h.2 h.3) in
-                    let a : d.0.got p ≤ b =
-                    floor h.0 d.0 w.0.gone p b d.1 (d.2 p (same p ∙ t)) (inside h.0 d.0 d.1 o) same d.2 k in
-                    let f : d.0.got p ≡ (heard h.0).got p = d.4 in
-                    omega arith
-              ]
-            ]
+            | inl order ↦
+                let a : (heard h.0).got p ≤ b =
+                stood h.0 p b (nodes q).gone w.0 (heard h.0) order w.2 t c (λ d i u o same.
+                floor h.0 d w.0.gone p b i (u p (same p ∙ t))
+                (inside h.0 d i (outside d.gone (heard h.0).gone q o (not_q h.0 h.1 h.2 h.3))) same u k) in
+                omega arith
           ]
     ];
   }
@@ -277,26 +275,17 @@ module _ (players : ℕ) (nodes : ℕ → Node) (older : List (ℕ → Node)) (q
         let f : decided_end players q (nodes q) heard p ≡ e = end_is p e t s in
         elim (kept.pairs z v (heard z) w ev.0) [
           | inl order ↦ let g : v.got p ≤ (heard z).got p = order.got p in omega arith
-          | inr order ↦ elim ev.1 [
-            | inr gone ↦
-                let g : v.got p ≡ (heard z).got p = ap (λ (n : Node). n.got p) (order.left gone.0) in
-                omega arith
-            | inl same ↦ elim (order.frozen p (same p ∙ t)) [
-              | inl g ↦ omega arith
-              | inr d ↦
-                  let o : d.0.gone q ≡ false = outside d.0.gone v.gone q d.3 b in
-                  let g : d.0.got p ≤ decided_end players q (nodes q) heard p =
-                  floor z d.0 (heard z).gone p (decided_end players q (nodes q) heard p) d.1
-                  (d.2 p (same p ∙ t)) (inside z d.0 d.1 o) same d.2
-                  (λ r i j.
-                  let k = stands r i j in
-                  let x : k.0.got p ≤ (decided players q (nodes q) heard).got p = k.3 p t in
-                  let y = got_in p t in
-                  (k.0, k.1, k.2, omega arith)) in
-                  let h : d.0.got p ≡ v.got p = d.4 in
-                  omega arith
-            ]
-          ]
+          | inr order ↦
+              let g : v.got p ≤ decided_end players q (nodes q) heard p =
+              stood z p (decided_end players q (nodes q) heard p) (nodes q).gone (heard z) v order ev.1 t c
+              (λ d i u o same. floor z d (heard z).gone p (decided_end players q (nodes q) heard p) i
+              (u p (same p ∙ t)) (inside z d i (outside d.gone v.gone q o b)) same u
+              (λ r i j.
+              let k = stands r i j in
+              let x : k.0.got p ≤ (decided players q (nodes q) heard).got p = k.3 p t in
+              let y = got_in p t in
+              (k.0, k.1, k.2, omega arith))) in
+              omega arith
         ]
   ]
 
@@ -325,22 +314,10 @@ module _ (players : ℕ) (nodes : ℕ → Node) (older : List (ℕ → Node)) (q
                   let g : w.0.got p ≤ d.got p = w.3 p t in
                   elim (kept.pairs r w.0 (heard r) w.1 ev.0) [
                     | inr order ↦ let a : (heard r).got p ≤ w.0.got p = order.got p in omega arith
-                    | inl order ↦ elim w.2 [
-                      | inr gone ↦
-                          let a : (heard r).got p ≡ w.0.got p = ap (λ (n : Node). n.got p) (order.left gone.0) in
-                          omega arith
-                      | inl same ↦ elim (order.frozen p (same p ∙ t)) [
-                        | inl a ↦ omega arith
-                        | inr x ↦
-                            let y : x.0.gone q ≡ false = outside x.0.gone (heard r).gone q x.3 (not_q r i j k) in
-                            let a : x.0.gone z ≡ false =
-                            outside x.0.gone (nodes q).gone z (inside r x.0 x.1 y) b in
-                            let v : x.0.got p ≤ d.got p = kept.met z r d x.0 m i (λ e. c (sym e)) h.was x.1.was u a
-                            p (d.got p) (h.known p t) in
-                            let s : x.0.got p ≡ (heard r).got p = x.4 in
-                            omega arith
-                      ]
-                    ]
+                    | inl order ↦ stood r p (d.got p) d.gone w.0 (heard r) order w.2 t g (λ x y v s same.
+                        let f : x.gone z ≡ false = outside x.gone (nodes q).gone z
+                        (inside r x y (outside x.gone (heard r).gone q s (not_q r i j k))) b in
+                        kept.met z r d x m i (λ e. c (sym e)) h.was y.was u f p (d.got p) (h.known p t))
                   ]
             ]
       ]
@@ -381,14 +358,8 @@ module _ (players : ℕ) (nodes : ℕ → Node) (older : List (ℕ → Node)) (q
       record {
         here = here;
         later = later;
-        sound = record {
-          own = sound.own;
-          full = full;
-          made = made;
-          source = source;
-          rows = told.rows;
-          ahead = told.ahead;
-        };
+        sound = sound_by players (put nodes q (decided players q (nodes q) heard) ∷ nodes ∷ older) q _ sound.own full
+            made source told;
         met_left = met_left;
         met_right = met_right;
       }

@@ -3,7 +3,7 @@ use Rattle.std.proofs.Common.{◌≡◌, ℕ, ◌<◌, ◌≤◌, refl, sym, ◌
 use Rattle.std.specs.Prelude.{◌⊎◌, Bool, true, false, Option, Some, None}
 use Rattle.std.proofs.lemmas.Bool.{both_ways, cases_eq, lt-leb}
 use Rattle.std.proofs.lemmas.Option.{none-some}
-use Rattle.dn_vanish.specs.Node.{Node, put, ran, is_over, Was, Within}
+use Rattle.dn_vanish.specs.Node.{Node, put, ran, is_over, now, Was, Within}
 use Rattle.dn_vanish.specs.Promise.{lacks_at}
 use Rattle.dn_vanish.proofs.Put.{put_at, put_off}
 use Rattle.dn_vanish.proofs.Invariant.{IsGrown, IsLater, HasSource, IsSound, IsMet, IsKept}
@@ -54,6 +54,14 @@ told_still players node new h same got old full = record {
 pub told_of : (players : ℕ) (history : List (ℕ → Node)) (x : ℕ) (u : Node) → IsSound players history x u
     → IsTold players u
 told_of players history x u h = record { rows = h.rows; ahead = h.ahead }
+
+-- a state is sound by its counts and ends, and by what is told of its rows
+pub sound_by : (players : ℕ) (history : List (ℕ → Node)) (x : ℕ) (u : Node) → u.gone x ≡ false
+    → ((p e : ℕ) → u.ends p ≡ Some e → u.got p ≡ e) → ((p : ℕ) → u.got p ≤ (now history p).got p)
+    → ((p e : ℕ) → u.ends p ≡ Some e → HasSource players history x u p e) → IsTold players u
+    → IsSound players history x u
+sound_by players history x u own full made source told =
+    record { own = own; full = full; made = made; source = source; rows = told.rows; ahead = told.ahead }
 
 -- what those steps have in common
 pub record IsMild (players : ℕ) (nodes : ℕ → Node) (q : ℕ) (new : Node) : Type 0 where
@@ -163,14 +171,7 @@ module _ (players : ℕ) (nodes : ℕ → Node) (older : List (ℕ → Node)) (q
   mild_good = record {
     here = mild.here;
     later = later;
-    sound = record {
-      own = mild.own;
-      full = full;
-      made = made;
-      source = source;
-      rows = mild.told.rows;
-      ahead = mild.told.ahead;
-    };
+    sound = sound_by players (put nodes q new ∷ nodes ∷ older) q new mild.own full made source mild.told;
     met_left = met_left;
     met_right = met_right;
   }

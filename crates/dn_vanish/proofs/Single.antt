@@ -6,7 +6,7 @@ use Rattle.std.proofs.lemmas.Option.{same_Some}
 use Rattle.std.proofs.lemmas.List.{get_or_push, get_or_append_left, length_push}
 use Rattle.dn_vanish.specs.Node.{Node, put, ran, is_over}
 use Rattle.dn_vanish.proofs.Put.{put_at, put_off}
-use Rattle.dn_vanish.proofs.Invariant.{IsSound, IsKept}
+use Rattle.dn_vanish.proofs.Invariant.{IsGrown, IsSound, IsKept}
 use Rattle.dn_vanish.proofs.Mild.{IsTold, told_still, told_of, IsMild}
 
 module _ (players : ℕ) (nodes : ℕ → Node) (older : List (ℕ → Node)) (q : ℕ) (l : q < players)
@@ -39,19 +39,27 @@ module _ (players : ℕ) (nodes : ℕ → Node) (older : List (ℕ → Node)) (q
     grown = record { more = omega arith; same = λ tic p m. refl };
   }
 
-  -- it leaves
-  pub leaves : IsMild players nodes q (record (nodes q) { left = true })
-  leaves = record {
+  -- its counts, ends and given-up players stay
+  still : (left : Bool) (rows : List (ℕ → Bool)) → IsTold players (record (nodes q) { left = left; rows = rows })
+      → IsGrown (nodes q) (record (nodes q) { left = left; rows = rows })
+      → IsMild players nodes q (record (nodes q) { left = left; rows = rows })
+  still left rows rows_told grown = record {
     here = here;
     own = sound.own;
     gone = λ r t. t;
     got = λ r. inl refl;
     old_ends = λ r e s. s;
     new_ends = λ r e s. inl (s, refl);
-    told = told_still players (nodes q) (record (nodes q) { left = true }) told refl (λ r. omega arith)
-        (λ r e s. s) sound.full;
-    grown = record { more = omega arith; same = λ tic p m. refl };
+    told = rows_told;
+    grown = grown;
   }
+
+  -- it leaves
+  pub leaves : IsMild players nodes q (record (nodes q) { left = true })
+  leaves = still true (nodes q).rows
+      (told_still players (nodes q) (record (nodes q) { left = true }) told refl (λ r. omega arith)
+      (λ r e s. s) sound.full)
+      (record { more = omega arith; same = λ tic p m. refl })
 
   -- a node that has not left has no end of its own
   no_own_end : (e : ℕ) → (nodes q).ends q ≡ Some e → ⊥
@@ -202,37 +210,25 @@ module _ (players : ℕ) (nodes : ℕ → Node) (older : List (ℕ → Node)) (q
   pub runs : ((p : ℕ) → p < players → is_over ((nodes q).ends p) (ran (nodes q)) ≡ false → ran (nodes q) < (nodes q).got p)
       → IsMild players nodes q
       (record (nodes q) { rows = (nodes q).rows ++ (λ p. is_over ((nodes q).ends p) (ran (nodes q))) ∷ [] })
-  runs h = record {
-    here = here;
-    own = sound.own;
-    gone = λ r t. t;
-    got = λ r. inl refl;
-    old_ends = λ r e s. s;
-    new_ends = λ r e s. inl (s, refl);
-    told = record {
-      rows = λ p tic m n.
-          let row : ℕ → Bool = λ p. is_over ((nodes q).ends p) (ran (nodes q)) in
-          let a = length_push (nodes q).rows row in
-          elim (cases_lt tic (ran (nodes q))) [
-            | inl b ↦ ap (λ (f : ℕ → Bool). f p)
-                (get_or_append_left (nodes q).rows (row ∷ []) (λ r. true) tic b) ∙ sound.rows p tic m b
-            | inr b ↦
-                let c : ran (nodes q) ≡ tic = omega arith in
-                ap (λ (f : ℕ → Bool). f p) (get_or_push (nodes q).rows row (λ r. true) tic c)
-                ∙ ap (λ (i : ℕ). is_over ((nodes q).ends p) i) c
-          ];
-      ahead = λ p m e.
-          let row : ℕ → Bool = λ p. is_over ((nodes q).ends p) (ran (nodes q)) in
-          let a = length_push (nodes q).rows row in
-          let b : ran (nodes q) < (nodes q).got p = h p m (ap (λ (o : Option ℕ). is_over o (ran (nodes q))) e) in
-          omega arith;
-    };
-    grown = record {
-      more =
-          let row : ℕ → Bool = λ p. is_over ((nodes q).ends p) (ran (nodes q)) in
-          let a = length_push (nodes q).rows row in
-          omega arith;
-      same = λ tic p m. ap (λ (f : ℕ → Bool). f p) (get_or_append_left (nodes q).rows
-          ((λ p. is_over ((nodes q).ends p) (ran (nodes q))) ∷ []) (λ r. true) tic m);
-    };
-  }
+  runs h =
+      let row : ℕ → Bool = λ p. is_over ((nodes q).ends p) (ran (nodes q)) in
+      let a = length_push (nodes q).rows row in
+      still (nodes q).left ((nodes q).rows ++ row ∷ [])
+      (record {
+        rows = λ p tic m n. elim (cases_lt tic (ran (nodes q))) [
+          | inl b ↦ ap (λ (f : ℕ → Bool). f p)
+              (get_or_append_left (nodes q).rows (row ∷ []) (λ r. true) tic b) ∙ sound.rows p tic m b
+          | inr b ↦
+              let c : ran (nodes q) ≡ tic = omega arith in
+              ap (λ (f : ℕ → Bool). f p) (get_or_push (nodes q).rows row (λ r. true) tic c)
+              ∙ ap (λ (i : ℕ). is_over ((nodes q).ends p) i) c
+        ];
+        ahead = λ p m e.
+            let b : ran (nodes q) < (nodes q).got p = h p m (ap (λ (o : Option ℕ). is_over o (ran (nodes q))) e) in
+            omega arith;
+      })
+      (record {
+        more = omega arith;
+        same = λ tic p m. ap (λ (f : ℕ → Bool). f p)
+            (get_or_append_left (nodes q).rows (row ∷ []) (λ r. true) tic m);
+      })

@@ -1,23 +1,37 @@
 -- The events lead there.
-use Rattle.dn_remain.proofs.Example.{goes_on, last, reaches, went_on}
+use Rattle.std.proofs.Common.{refl, arith}
+use Rattle.dn_machine.specs.Building.{on_build}
+use Rattle.dn_machine.specs.Sending.{on_send}
+use Rattle.dn_machine.specs.Hearing.{on_packet}
+use Rattle.dn_machine.specs.Game.{applied, opening_game}
+use Rattle.dn_machine.specs.Limits.{row_of}
+use Rattle.dn_machine.specs.Node.{lowest}
+use Rattle.dn_machine.specs.Running.{on_run_but}
+use Rattle.dn_vanish.specs.Calls.{every}
+use Rattle.dn_vanish.specs.Decisions.{longest}
+use Rattle.dn_remain.specs.Remaining.{opening_remaining}
+use Rattle.dn_remain.specs.Seen.{rows_to}
+use Rattle.dn_remain.specs.Wary.{on_give_up, on_report}
+use Rattle.dn_remain.proofs.Example.{after_own, after, after_all, goes_on, last, reaches}
 use Rattle.dn_remain.proofs.laws.a_game_goes_on.Goals as goal
 
 pub returns : goal.returns
+unfolding last goes_on after_all after after_own applied opening_game on_build on_send on_packet on_run_but row_of
+    lowest every longest rows_to on_give_up on_report opening_remaining
 returns g c settings =
-    let p = g.W.World.physics in
-    let k = went_on p settings in (
+    let p = g.W.World.physics in (
       goes_on,
       last p settings goes_on,
       reaches p settings goes_on,
-      k.0,
-      k.1,
-      k.2,
-      k.3,
-      k.4,
-      k.5,
-      k.6,
-      k.7,
-      k.8,
-      k.9,
-      k.10,
+      refl,
+      refl,
+      refl,
+      record { one = omega arith; other = omega arith; apart = λ e. absurd (omega arith); here = refl; there = refl },
+      refl,
+      refl,
+      refl,
+      refl,
+      refl,
+      refl,
+      refl,
     )
