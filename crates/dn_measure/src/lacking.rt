@@ -4,7 +4,8 @@ ghost use Rattle.std.specs.{Prelude.◌≡◌, Prelude.◌++◌, Prelude.Bool, P
 ghost use Rattle.dn_measure.specs.Lacking.{beginning, ending, rate_text, loss_text, figure_text, lack_line, lack_lines, judgement, verdict_lines};
 
 use crate::fields::{push_fields, push_tenths};
-use crate::summary::{Summary, tenths_a_second};
+use crate::rate::tenths_a_second;
+use crate::summary::Summary;
 use crate::text::{longest_millis, push_felt};
 use crate::verdict::{Lack, lacks_of};
 use std::alloc::AllocError;

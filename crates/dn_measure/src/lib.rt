@@ -11,6 +11,7 @@ mod histogram;
 mod lacking;
 mod laws;
 mod measure;
+mod rate;
 mod runs;
 mod status;
 mod summary;

@@ -5,7 +5,7 @@ ghost use Rattle.dn_measure.specs.StatusLine.{rate_text, waiting_text, refused_t
 
 use crate::arrivals::Arrivals;
 use crate::fields::{push_fields, push_tenths};
-use crate::summary::tenths_a_second;
+use crate::rate::tenths_a_second;
 use std::alloc::{AllocError, Global};
 
 /// How a player stands.

@@ -7,7 +7,8 @@ use crate::arrivals::Arrivals;
 use crate::felt::Felt;
 use crate::fields::{push_fields, push_tenths};
 use crate::lacking::push_verdict;
-use crate::summary::{Summary, tenths_a_second};
+use crate::rate::tenths_a_second;
+use crate::summary::Summary;
 use std::alloc::{AllocError, Global};
 
 /// Within how many milliseconds keys were felt.
