@@ -8,24 +8,15 @@ use Rattle.dn_measure.specs.Fields.{labelled, with_tenth}
 use Rattle.dn_measure.specs.Lines.{felt_text}
 use Rattle.dn_measure.specs.Verdict as verdict
 
--- how the line of what is lacking begins and ends
-abbrev pub beginning : Lack → List ℕ
-beginning Time = codes "lacks time: "
-beginning Tics = codes "lacks tics: none was run"
-beginning Rate = codes "lacks tics: "
-beginning Calm = codes "lacks calm: gaps "
-beginning Pause = codes "lacks calm: longest "
-beginning Speed = codes "lacks speed: "
-beginning (Datagrams player loss) = codes "lacks datagrams: "
-
-abbrev pub ending : Lack → List ℕ
-ending Time = codes " seconds, at least 10\n"
-ending Tics = codes "\n"
-ending Rate = codes " a second\n"
-ending Calm = codes ", at most 1 a minute\n"
-ending Pause = codes " ms, at most 1000\n"
-ending Speed = codes " ms, at most 250\n"
-ending (Datagrams player loss) = codes " %, at most 15\n"
+-- how the line of what is lacking begins, and how it ends
+abbrev pub words_of : Lack → List ℕ × List ℕ
+words_of Time = (codes "lacks time: ", codes " seconds, at least 10\n")
+words_of Tics = (codes "lacks tics: none was run", codes "\n")
+words_of Rate = (codes "lacks tics: ", codes " a second\n")
+words_of Calm = (codes "lacks calm: gaps ", codes ", at most 1 a minute\n")
+words_of Pause = (codes "lacks calm: longest ", codes " ms, at most 1000\n")
+words_of Speed = (codes "lacks speed: ", codes " ms, at most 250\n")
+words_of (Datagrams player loss) = (codes "lacks datagrams: ", codes " %, at most 15\n")
 
 -- how many tenths of a tic have to be run in each second: those of 69 of 70 tics that the clock gives, where a
 -- part of a tenth counts as a whole one
@@ -51,7 +42,7 @@ figure_text s Speed = felt_text s.most
 figure_text s (Datagrams player loss) = loss_text player loss
 
 abbrev pub lack_line : Summary → Lack → List ℕ
-lack_line s lack = beginning lack ++ (figure_text s lack ++ ending lack)
+lack_line s lack = (words_of lack).0 ++ (figure_text s lack ++ (words_of lack).1)
 
 abbrev pub lack_lines : Summary → List Lack → List ℕ
 lack_lines s [] = []

@@ -1,5 +1,5 @@
 -- The lines of what was measured.
-use Rattle.std.specs.Prelude.{ℕ, pos, ◌+◌, ◌/◌, List, [], ◌∷◌, ◌++◌, Option, Some, None, codes}
+use Rattle.std.specs.Prelude.{ℕ, pos, ◌+◌, ◌/◌, List, [], ◌∷◌, ◌++◌, codes}
 use Rattle.dn_measure.specs.declared.arrivals.Arrivals.{Arrivals}
 use Rattle.dn_measure.specs.declared.felt.Felt.{Felt}
 use Rattle.dn_measure.specs.declared.felt.Felt.TheVariants.{Never, Within, Longer}
@@ -34,21 +34,18 @@ unfoldable pub keys_line : Summary → List ℕ
 keys_line s =
     codes "keys half " ++ (felt_text s.half ++ (codes " most " ++ (felt_text s.most ++ codes "\n")))
 
+-- what came late, twice or too late to count, and how much was lost
+unfoldable pub flaws_text : Arrivals → List ℕ
+flaws_text a = labelled (
+    (codes " late ", pos a.late)
+    ∷ (codes " twice ", pos a.twice)
+    ∷ (codes " old ", pos a.old)
+    ∷ []) ++ with_tenth (codes " loss ") (loss_of a)
+
 -- what came from a player
 unfoldable pub came_line : ℕ → Arrivals → List ℕ
 came_line player a = labelled (
     (codes "player ", pos player)
     ∷ (codes " came ", pos a.came)
     ∷ (codes " lost ", pos a.lost)
-    ∷ (codes " late ", pos a.late)
-    ∷ (codes " twice ", pos a.twice)
-    ∷ (codes " old ", pos a.old)
-    ∷ []) ++ (with_tenth (codes " loss ") (loss_of a) ++ codes "\n")
-
-abbrev pub peer_line : ℕ → Option Arrivals → List ℕ
-peer_line player None = []
-peer_line player (Some a) = came_line player a
-
-abbrev pub peer_lines : ℕ → List (Option Arrivals) → List ℕ
-peer_lines player [] = []
-peer_lines player (peer ∷ peers) = peer_line player peer ++ peer_lines (player + 1) peers
+    ∷ []) ++ (flaws_text a ++ codes "\n")

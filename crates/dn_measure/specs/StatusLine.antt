@@ -1,10 +1,10 @@
 -- The line that is printed each second of play.
-use Rattle.std.specs.Prelude.{ℕ, pos, ◌+◌, List, [], ◌∷◌, ◌++◌, Option, Some, None, codes}
+use Rattle.std.specs.Prelude.{ℕ, pos, List, [], ◌∷◌, ◌++◌, Option, Some, None, codes}
 use Rattle.dn_measure.specs.declared.status.PeerStatus.{PeerStatus}
 use Rattle.dn_measure.specs.declared.status.Status.{Status}
-use Rattle.dn_measure.specs.Arrivals.{loss_of}
 use Rattle.dn_measure.specs.Rate.{tenths_a_second}
-use Rattle.dn_measure.specs.Fields.{labelled, with_tenth}
+use Rattle.dn_measure.specs.Fields.{labelled, with_tenth, of_each}
+use Rattle.dn_measure.specs.Lines.{flaws_text}
 
 -- how many tics were run a second
 unfoldable pub rate_text : Status → List ℕ
@@ -23,20 +23,9 @@ unfoldable pub standing_text : ℕ → PeerStatus → List ℕ
 standing_text player status = labelled (
     (codes " player ", pos player)
     ∷ (codes " lead ", status.lead)
-    ∷ (codes " late ", pos status.arrivals.late)
-    ∷ (codes " twice ", pos status.arrivals.twice)
-    ∷ (codes " old ", pos status.arrivals.old)
-    ∷ []) ++ with_tenth (codes " loss ") (loss_of status.arrivals)
-
-abbrev pub peer_text : ℕ → Option PeerStatus → List ℕ
-peer_text player None = []
-peer_text player (Some status) = standing_text player status
-
-abbrev pub peer_texts : ℕ → List (Option PeerStatus) → List ℕ
-peer_texts player [] = []
-peer_texts player (peer ∷ peers) = peer_text player peer ++ peer_texts (player + 1) peers
+    ∷ []) ++ flaws_text status.arrivals
 
 -- how the game stands
 abbrev pub status_line : Status → List ℕ
 status_line s =
-    rate_text s ++ (waiting_text s.waiting ++ (refused_text s.refused ++ (peer_texts 0 s.peers ++ codes "\n")))
+    rate_text s ++ (waiting_text s.waiting ++ (refused_text s.refused ++ (of_each standing_text 0 s.peers ++ codes "\n")))

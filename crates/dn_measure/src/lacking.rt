@@ -1,7 +1,7 @@
 //! The lines of what a line carries or lacks.
 
 ghost use Rattle.std.specs.{Prelude.◌≡◌, Prelude.◌++◌, Prelude.Bool, Prelude.OnOk, String.string_bytes};
-ghost use Rattle.dn_measure.specs.Lacking.{beginning, ending, rate_text, loss_text, figure_text, lack_line, lack_lines, judgement, verdict_lines};
+ghost use Rattle.dn_measure.specs.Lacking.{words_of, rate_text, loss_text, figure_text, lack_line, lack_lines, judgement, verdict_lines};
 
 use crate::fields::{push_fields, push_tenths};
 use crate::rate::tenths_a_second;
@@ -10,33 +10,18 @@ use crate::text::{longest_millis, push_felt};
 use crate::verdict::{Lack, lacks_of};
 use std::alloc::AllocError;
 
-/// How the line begins of what is lacking.
-fn beginning(lack: Lack) -> &'static str
-    ensures { result.now ≡ beginning lack }
+/// How the line of what is lacking begins, and how it ends.
+fn words_of(lack: Lack) -> (&'static str, &'static str)
+    ensures { (result.0.now ≡ (words_of lack).0) × (result.1.now ≡ (words_of lack).1) }
 {
     match lack {
-        Lack::Time => "lacks time: ",
-        Lack::Tics => "lacks tics: none was run",
-        Lack::Rate => "lacks tics: ",
-        Lack::Calm => "lacks calm: gaps ",
-        Lack::Pause => "lacks calm: longest ",
-        Lack::Speed => "lacks speed: ",
-        Lack::Datagrams { .. } => "lacks datagrams: ",
-    }
-}
-
-/// How it ends.
-fn ending(lack: Lack) -> &'static str
-    ensures { result.now ≡ ending lack }
-{
-    match lack {
-        Lack::Time => " seconds, at least 10\n",
-        Lack::Tics => "\n",
-        Lack::Rate => " a second\n",
-        Lack::Calm => ", at most 1 a minute\n",
-        Lack::Pause => " ms, at most 1000\n",
-        Lack::Speed => " ms, at most 250\n",
-        Lack::Datagrams { .. } => " %, at most 15\n",
+        Lack::Time => ("lacks time: ", " seconds, at least 10\n"),
+        Lack::Tics => ("lacks tics: none was run", "\n"),
+        Lack::Rate => ("lacks tics: ", " a second\n"),
+        Lack::Calm => ("lacks calm: gaps ", ", at most 1 a minute\n"),
+        Lack::Pause => ("lacks calm: longest ", " ms, at most 1000\n"),
+        Lack::Speed => ("lacks speed: ", " ms, at most 250\n"),
+        Lack::Datagrams { .. } => ("lacks datagrams: ", " %, at most 15\n"),
     }
 }
 
@@ -78,9 +63,10 @@ fn push_figure(text: &mut String, summary: &Summary, lack: Lack) -> Result<(), A
 fn push_lack(text: &mut String, summary: &Summary, lack: Lack) -> Result<(), AllocError>
     ensures { OnOk result (string_bytes text.new ≡ string_bytes text.old ++ lack_line summary.now lack) }
 {
-    text.push_str(beginning(lack))?;
+    let (beginning, ending) = words_of(lack);
+    text.push_str(beginning)?;
     push_figure(text, summary, lack)?;
-    text.push_str(ending(lack))
+    text.push_str(ending)
 }
 
 /// The lines of all that is lacking.

@@ -23,6 +23,7 @@ mod verdict;
 pub use arrivals::Arrivals;
 pub use end::{End, SILENCE, text_of_session};
 pub use felt::Felt;
+pub use fields::{push_fields, push_line};
 pub use laws::keys_are_timed_in_order;
 pub use measure::Measure;
 pub use status::{PeerStatus, Status, text_of_status};

@@ -1,11 +1,12 @@
 //! The line that is printed each second of play.
 
 ghost use Rattle.std.specs.{Prelude.◌≡◌, Prelude.◌++◌, Prelude.OnOk, Prelude.IfOk, String.string_bytes};
-ghost use Rattle.dn_measure.specs.StatusLine.{rate_text, waiting_text, refused_text, peer_text, peer_texts, status_line};
+ghost use Rattle.dn_measure.specs.{StatusLine.rate_text, StatusLine.waiting_text, StatusLine.refused_text, StatusLine.standing_text, StatusLine.status_line, Fields.if_there, Fields.of_each};
 
 use crate::arrivals::Arrivals;
-use crate::fields::{push_fields, push_tenths};
+use crate::fields::{push_each, push_fields, push_tenths};
 use crate::rate::tenths_a_second;
+use crate::text::push_flaws;
 use std::alloc::{AllocError, Global};
 
 /// How a player stands.
@@ -45,31 +46,26 @@ fn push_waiting(text: &mut String, waiting: Option<u8>) -> Result<(), AllocError
 /// How a player stands, and nothing for a number that is no player's.
 #[tactic(auto, unfolding(crate::specs::StatusLine::standing_text))]
 fn push_peer(text: &mut String, player: u8, peer: Option<PeerStatus>) -> Result<(), AllocError>
-    ensures { OnOk result (string_bytes text.new ≡ string_bytes text.old ++ peer_text player peer) }
+    ensures { OnOk result (string_bytes text.new ≡ string_bytes text.old ++ if_there standing_text player peer) }
 {
     let Some(status) = peer else {
         return Ok(());
     };
-    let fields = [
-        (" player ", player as i128),
-        (" lead ", status.lead as i128),
-        (" late ", status.arrivals.late as i128),
-        (" twice ", status.arrivals.twice as i128),
-        (" old ", status.arrivals.old as i128),
-    ];
-    push_fields(text, &fields)?;
-    push_tenths(text, " loss ", u128::from(status.arrivals.loss()))
+    push_fields(
+        text,
+        &[
+            (" player ", player as i128),
+            (" lead ", status.lead as i128),
+        ],
+    )?;
+    push_flaws(text, &status.arrivals)
 }
 
 /// How each player stands.
 fn push_peers(text: &mut String, peers: [Option<PeerStatus>; 4]) -> Result<(), AllocError>
-    ensures { OnOk result (string_bytes text.new ≡ string_bytes text.old ++ peer_texts 0 peers) }
+    ensures { OnOk result (string_bytes text.new ≡ string_bytes text.old ++ of_each standing_text 0 peers) }
 {
-    let [a, b, c, d] = peers;
-    push_peer(text, 0, a)?;
-    push_peer(text, 1, b)?;
-    push_peer(text, 2, c)?;
-    push_peer(text, 3, d)
+    push_each!(text, peers, push_peer)
 }
 
 /// The line of how the game stands. Err where memory is refused.

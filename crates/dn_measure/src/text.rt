@@ -1,11 +1,11 @@
 //! The lines of what was measured.
 
 ghost use Rattle.std.specs.{Prelude.◌≡◌, Prelude.◌+◌, Prelude.◌/◌, Prelude.◌++◌, Prelude.OnOk, Prelude.IfOk, String.string_bytes};
-ghost use Rattle.dn_measure.specs.{Lines.felt_text, Lines.played_line, Lines.gaps_line, Lines.keys_line, Lines.peer_line, Lines.peer_lines, SummaryLines.figure_lines, SummaryLines.summary_lines};
+ghost use Rattle.dn_measure.specs.{Lines.felt_text, Lines.played_line, Lines.gaps_line, Lines.keys_line, Lines.came_line, Lines.flaws_text, Fields.if_there, Fields.of_each, SummaryLines.figure_lines, SummaryLines.summary_lines};
 
 use crate::arrivals::Arrivals;
 use crate::felt::Felt;
-use crate::fields::{push_fields, push_tenths};
+use crate::fields::{push_each, push_fields, push_line, push_tenths};
 use crate::lacking::push_verdict;
 use crate::rate::tenths_a_second;
 use crate::summary::Summary;
@@ -54,8 +54,7 @@ fn push_gaps(text: &mut String, summary: &Summary) -> Result<(), AllocError>
         ("gaps ", summary.gaps as i128),
         (" longest ", longest_millis(summary) as i128),
     ];
-    push_fields(text, &fields)?;
-    text.push_str("\n")
+    push_line(text, &fields)
 }
 
 /// How soon keys were felt.
@@ -70,10 +69,24 @@ fn push_keys(text: &mut String, summary: &Summary) -> Result<(), AllocError>
     text.push_str("\n")
 }
 
+/// What came late, twice or too late to count, and how much was lost.
+#[tactic(auto, unfolding(crate::specs::Lines::flaws_text))]
+pub(crate) fn push_flaws(text: &mut String, arrivals: &Arrivals) -> Result<(), AllocError>
+    ensures { OnOk result (string_bytes text.new ≡ string_bytes text.old ++ flaws_text arrivals.now) }
+{
+    let fields = [
+        (" late ", arrivals.late as i128),
+        (" twice ", arrivals.twice as i128),
+        (" old ", arrivals.old as i128),
+    ];
+    push_fields(text, &fields)?;
+    push_tenths(text, " loss ", u128::from(arrivals.loss()))
+}
+
 /// What came from a player, and nothing for a number that is no player's.
 #[tactic(auto, unfolding(crate::specs::Lines::came_line))]
 fn push_peer(text: &mut String, player: u8, peer: Option<Arrivals>) -> Result<(), AllocError>
-    ensures { OnOk result (string_bytes text.new ≡ string_bytes text.old ++ peer_line player peer) }
+    ensures { OnOk result (string_bytes text.new ≡ string_bytes text.old ++ if_there came_line player peer) }
 {
     let Some(arrivals) = peer else {
         return Ok(());
@@ -82,24 +95,17 @@ fn push_peer(text: &mut String, player: u8, peer: Option<Arrivals>) -> Result<()
         ("player ", player as i128),
         (" came ", arrivals.came as i128),
         (" lost ", arrivals.lost as i128),
-        (" late ", arrivals.late as i128),
-        (" twice ", arrivals.twice as i128),
-        (" old ", arrivals.old as i128),
     ];
     push_fields(text, &fields)?;
-    push_tenths(text, " loss ", u128::from(arrivals.loss()))?;
+    push_flaws(text, &arrivals)?;
     text.push_str("\n")
 }
 
 /// What came from each player.
 fn push_peers(text: &mut String, peers: [Option<Arrivals>; 4]) -> Result<(), AllocError>
-    ensures { OnOk result (string_bytes text.new ≡ string_bytes text.old ++ peer_lines 0 peers) }
+    ensures { OnOk result (string_bytes text.new ≡ string_bytes text.old ++ of_each came_line 0 peers) }
 {
-    let [a, b, c, d] = peers;
-    push_peer(text, 0, a)?;
-    push_peer(text, 1, b)?;
-    push_peer(text, 2, c)?;
-    push_peer(text, 3, d)
+    push_each!(text, peers, push_peer)
 }
 
 /// Appends the lines of what was measured.
