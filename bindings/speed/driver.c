@@ -246,7 +246,7 @@ static void seal(uint8_t *b, size_t length, unsigned flags) {
     for (unsigned k = 0; k < 4; k++) b[k] = (uint8_t)(s >> 8 * k);
 }
 
-static void bad_game(unsigned long counts[3][16]) {
+static void bad_game(unsigned long counts[3][32]) {
     static zmg_lockstep nodes[NODES];
     static walk worlds[NODES];
     static flight flights[FLIGHTS];
@@ -314,7 +314,7 @@ static void bad_game(unsigned long counts[3][16]) {
             }
             zmg_heard h = zmg_lockstep_receive(&nodes[f.to], from, f.bytes, f.length);
             mix(h.code); mix(h.number);
-            counts[1][h.code == ZMG_RECEIVE_DROPPED ? (h.number == 0 ? 15 : h.number) : 0]++;
+            counts[1][h.code == ZMG_RECEIVE_DROPPED ? h.number % 32 : 0]++;
             counts[2][5 + h.code]++;
             if (h.code == ZMG_RECEIVE_STARTED) walk_begin(&worlds[f.to], zmg_lockstep_players(&nodes[f.to]));
             break;
@@ -346,7 +346,7 @@ static void bad_game(unsigned long counts[3][16]) {
 }
 
 static void fuzz(unsigned long games, uint32_t seed) {
-    static unsigned long counts[3][16];
+    static unsigned long counts[3][32];
     dice = seed;
     for (unsigned long g = 0; g < games; g++) bad_game(counts);
     printf("games %lu seed %u sum %016llx\nbuilt", games, (unsigned)seed, (unsigned long long)sum);
@@ -356,7 +356,8 @@ static void fuzz(unsigned long games, uint32_t seed) {
     printf("\nheard");
     for (unsigned k = 5; k < 12; k++) printf(" %lu", counts[2][k]);
     printf("\ndrops");
-    for (unsigned k = 1; k < 15; k++) printf(" %lu", counts[1][k]);
+    for (unsigned k = 1; k < 32; k++)
+        if (counts[1][k] != 0) printf(" %u:%lu", k, counts[1][k]);
     printf("\n");
 }
 

@@ -1,6 +1,6 @@
 //! The structs and codes of zirmegat.h.
 
-use crate::game::KEPT;
+use crate::game::{KEPT, VERSION};
 use crate::game::command::Command;
 use crate::game::packet::{NoPacket, expand};
 use crate::game::settings::{OutOfRange, Settings};
@@ -157,6 +157,19 @@ impl From<NoPacket> for DropFault {
             NoPacket::Sum => DropFault::Sum,
         }
     }
+}
+
+/// The settings that a set-up packet tells, by the two bytes that tell them and its version.
+pub fn settings_told(listens: bool, from: usize, bytes: [u8; 2], version: u8) -> Result<Settings, DropFault> {
+    if !listens || from != 0 {
+        return Err(DropFault::OutOfPlace);
+    }
+    if version != VERSION {
+        return Err(DropFault::Version);
+    }
+    let settings = Settings::from_bytes(bytes);
+    settings.check().map_err(|_| DropFault::Range)?;
+    Ok(settings)
 }
 
 /// The tic of a packet's first command, by the byte of it that the packet carries.

@@ -18,7 +18,7 @@ use game::settings::Settings;
 use game::{AHEAD, KEPT, MAX_PLAYERS, TIC_LIMIT, VERSION};
 use header::{
     Aim, CommandFields, Config, DropFault, Heard, HeardCode, KnownCommand, KnownSettings, Made, MadeCode, Move,
-    NewFault, Number, PhaseAnswer, Ran, RanCode, first_tic, tics,
+    NewFault, Number, PhaseAnswer, Ran, RanCode, first_tic, settings_told, tics,
 };
 
 #[derive(Clone, Copy, PartialEq, Eq)]
@@ -242,14 +242,8 @@ impl Node {
 
     /// Hears the settings.
     fn set_up(&mut self, from: usize, packet: &Packet) -> Result<Heard, DropFault> {
-        if self.phase != Phase::Listening || from != 0 {
-            return Err(DropFault::OutOfPlace);
-        }
-        if packet.player != VERSION {
-            return Err(DropFault::Version);
-        }
-        let settings = Settings::from_bytes([packet.ask, packet.start]);
-        settings.check().map_err(|_| DropFault::Range)?;
+        let listens = self.phase == Phase::Listening;
+        let settings = settings_told(listens, from, [packet.ask, packet.start], packet.player)?;
         self.start(settings);
         Ok(Heard::new(HeardCode::Started))
     }

@@ -23,7 +23,7 @@ use game::settings::Settings;
 use game::{AHEAD, KEPT, MAX_PLAYERS, PAUSE, TIC_LIMIT, VERSION};
 use header::{
     Aim, CommandFields, Config, DropFault, Heard, HeardCode, KnownCommand, KnownSettings, Made, MadeCode, Move,
-    NewFault, Number, PhaseAnswer, RanCode, first_tic, tics,
+    NewFault, Number, PhaseAnswer, RanCode, first_tic, settings_told, tics,
 };
 
 const PLACES: usize = 16; // a power of two above the twelve that the game keeps
@@ -549,18 +549,12 @@ impl Node {
 
     #[cold]
     fn hear_set_up(&mut self, from: u8, head: u64) -> Heard {
-        if self.phase != Phase::Listening || from != 0 {
-            return dropped(DropFault::OutOfPlace);
-        }
         let [_, _, _, _, ask, start, version, _] = head.to_le_bytes();
-        if version != VERSION {
-            return dropped(DropFault::Version);
+        let listens = self.phase == Phase::Listening;
+        match settings_told(listens, usize::from(from), [ask, start], version) {
+            Ok(settings) => self.settings = settings,
+            Err(fault) => return dropped(fault),
         }
-        let settings = Settings::from_bytes([ask, start]);
-        if settings.check().is_err() {
-            return dropped(DropFault::Range);
-        }
-        self.settings = settings;
         self.start();
         Heard::new(HeardCode::Started)
     }

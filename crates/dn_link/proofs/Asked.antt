@@ -19,8 +19,8 @@ use Rattle.dn_machine.specs.Hearing.{on_packet}
 use Rattle.dn_machine.specs.Node as machine
 use Rattle.dn_machine.specs.Node.{made}
 use Rattle.dn_lockstep.specs.Reading.{has_flag, request_in}
-use Rattle.dn_lockstep.specs.Phases.{is_listening, hears_none}
-use Rattle.dn_lockstep.specs.Received.{flight_at, flight_from, heard_as, other_flight, player_flight, read_flight, received, setup_flight, told_flight}
+use Rattle.dn_lockstep.specs.Phases.{hears_none}
+use Rattle.dn_lockstep.specs.Received.{flight_from, heard_as, read_flight, received}
 use Rattle.dn_seal.specs.declared.opened.Opened.{Opened}
 use Rattle.dn_open.specs.Arrivals.{IsRead, asks_alike, flag_in, heard, is_alike, on_opened}
 use Rattle.dn_open.specs.declared.arrived.Arrived.{Arrived}
@@ -45,58 +45,9 @@ IsOf from count packet flight =
     (flight.from ≡ from) × ((flight.request ≡ None)
     ⊎ ((has_flag packet flag.set_up ≡ false) × (flight.request ≡ request_in count packet)))
 
-same_flight : (a b : Flight) → ◌≡◌ {A = Result Flight ℕ} (Ok a) (Ok b) → a ≡ b
-same_flight a b e = ap (λ (r : Result Flight ℕ). flight_or a r) e
-  where
-    flight_or : Flight → Result Flight ℕ → Flight
-    flight_or other (Ok flight) = flight
-    flight_or other (Err number) = other
-
-told_of : (from me count : ℕ) (packet : Packet) (told : Result Settings SetupFault) (flight : Flight)
-    → told_flight from me told ≡ Ok flight → IsOf from count packet flight
-told_of from me count packet (Err fault) flight e = absurd (cc)
-told_of from me count packet (Ok settings) flight e =
-    let same = same_flight _ flight e in
-    (ap (λ (f : Flight). f.from) (sym same), inl (ap (λ (f : Flight). f.request) (sym same)))
-
-setup_of : (from me count : ℕ) (packet : Packet) (told : Result Settings SetupFault) (phase : Phase) (flight : Flight)
-    → setup_flight from me told phase ≡ Ok flight → IsOf from count packet flight
-setup_of from me count packet told phase flight = go (is_listening phase && from == 0)
-  where
-    go : (test : Bool) → (if test then told_flight from me told else Err drops.out_of_place) ≡ Ok flight
-        → IsOf from count packet flight
-    go true e = told_of from me count packet told flight e
-    go false e = absurd (cc)
-
-player_of : (from me count : ℕ) (packet : Packet) (start : Result ℕ ℕ) (flight : Flight)
-    → has_flag packet flag.set_up ≡ false → flight_at from me count packet start ≡ Ok flight → IsOf from count packet flight
-player_of from me count packet (Err number) flight plain e = absurd (cc)
-player_of from me count packet (Ok start) flight plain e =
-    let same = same_flight _ flight e in
-    (ap (λ (f : Flight). f.from) (sym same), inr (plain, ap (λ (f : Flight). f.request) (sym same)))
-
-other_of : (from me count : ℕ) (packet : Packet) (phase : Phase) (flight : Flight) → has_flag packet flag.set_up ≡ false
-    → other_flight from me count packet phase ≡ Ok flight → IsOf from count packet flight
-other_of from me count packet phase flight plain =
-    go (is_listening phase) (not (packet.player == from)) (has_flag packet flag.kill)
-  where
-    go : (one two three : Bool) → (if one then Err drops.not_playing else (if two then Err drops.stranger
-        else (if three then Err drops.kill else player_flight from me count packet phase))) ≡ Ok flight
-        → IsOf from count packet flight
-    go true two three e = absurd (cc)
-    go false true three e = absurd (cc)
-    go false false true e = absurd (cc)
-    go false false false e = player_of from me count packet _ flight plain e
-
 read_of : (from me count : ℕ) (packet : Packet) (told : Result Settings SetupFault) (phase : Phase) (flight : Flight)
     → read_flight from me count told (Ok packet) phase ≡ Ok flight → IsOf from count packet flight
-read_of from me count packet told phase flight = go (has_flag packet flag.set_up) refl
-  where
-    go : (test : Bool) → has_flag packet flag.set_up ≡ test
-        → (if test then setup_flight from me told phase else other_flight from me count packet phase) ≡ Ok flight
-        → IsOf from count packet flight
-    go true set e = setup_of from me count packet told phase flight e
-    go false plain e = other_of from me count packet phase flight plain e
+read_of from me count packet told phase flight e = grind arith
 
 heard_of : (players from me count : ℕ) (played : Bool) (told : Result Settings SetupFault) (packet : Packet) (phase : Phase)
     (flight : Flight) → flight_from players from me count played told (Ok packet) phase ≡ Ok flight
