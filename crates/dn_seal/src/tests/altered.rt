@@ -66,13 +66,28 @@ fn halves(bytes: &[u8], place: usize) -> (&[u8], &[u8]) {
     )
 }
 
+/// Why an envelope is not opened of which a bit of this byte is turned.
+fn fault_at(place: usize) -> SealFault {
+    match place {
+        0 => SealFault::Suite,
+        1 => SealFault::Kind,
+        2..=9 => SealFault::Game,
+        11 => SealFault::Receiver,
+        _ => SealFault::Tag,
+    }
+}
+
 #[test]
 fn each_bit_counts(rt: HostRuntime) {
     let sealed = sealed();
     for place in 0..45 {
         for bits in [1, 2, 4, 8, 16, 32, 64, 128] {
             let altered = turned(sealed.as_slice(), place, bits);
-            assert!(rt; is_refused(altered.as_slice()), "byte {place}, bits {bits}");
+            assert_eq!(rt;
+                fault(altered.as_slice()),
+                Some(fault_at(place)),
+                "byte {place}, bits {bits}"
+            );
         }
     }
 }
