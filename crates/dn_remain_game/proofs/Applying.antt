@@ -34,52 +34,48 @@ after_refused state rules g all event refusal is r =
     subst (λ (x : Remaining × Result Happened Refusal). IsAfter state rules g g x (Err refusal))
     (sym (applied_so rules all event (Some refusal) is)) (record { game = r; answered = refl; kept = keep_all g.nodes })
 
-module _ {W S : Type 0} (state : W → S) (rules : Rules S) (old g : Contents W) (all : Remaining) where
-  -- an event of the machine that is not barred
-  pub own_applied : (event named : Event) (done : Done) → event ≡ named → is_barred all named ≡ false
-      → IsAfter state rules old g (in_game all (on_own rules all named)) done
-      → IsAppliedOwn state rules old g all event (Ok done)
-  own_applied event named done same free after =
-      inl (
-        done,
-        refl,
-        subst (λ (e : Event). IsAfter state rules old g (own_unless rules all e (is_barred all e)) done) (sym same)
-            (subst (λ (b : Bool). IsAfter state rules old g (own_unless rules all named b) done) (sym free) after),
-      )
-
-  -- one that may be
-  pub own_barred : (event named : Event) (done : Done) → event ≡ named
+module _ {W S : Type 0} {state : W → S} {rules : Rules S} {old g : Contents W} (all : Remaining) where
+  -- an event of the machine that may be barred
+  pub own_barred : {event named : Event} {done : Done} → event ≡ named
       → IsAfter state rules old g (own_unless rules all named (is_barred all named)) done
       → IsAppliedOwn state rules old g all event (Ok done)
-  own_barred event named done same after =
+  own_barred {event} {named} {done} same after =
       inl (
         done,
         refl,
         subst (λ (e : Event). IsAfter state rules old g (own_unless rules all e (is_barred all e)) done) (sym same) after,
       )
 
+  -- one that is not barred
+  pub own_applied : {event named : Event} {done : Done} → event ≡ named → is_barred all named ≡ false
+      → IsAfter state rules old g (in_game all (on_own rules all named)) done
+      → IsAppliedOwn state rules old g all event (Ok done)
+  own_applied {event} {named} {done} same free after =
+      own_barred {event = event} {named = named} same
+      (subst (λ (b : Bool). IsAfter state rules old g (own_unless rules all named b) done) (sym free) after)
+
   -- and a send
-  pub own_sent : (event : Event) (node to : ℕ) (answer : Result Done Refusal) → event ≡ Send node to
+  pub own_sent : {event : Event} {node to : ℕ} {answer : Result Done Refusal} → event ≡ Send node to
       → ((done : Done) × (answer ≡ Ok done)
       × IsAfter state rules old g (own_unless rules all (Send node to) (is_barred all (Send node to))) done)
       ⊎ (answer ≡ Err Refusal.Memory)
       → OnErr answer (g ≡ old)
       → IsAppliedOwn state rules old g all event answer
-  own_sent event node to answer same (inl (done, answered, after)) kept =
+  own_sent {event} {node} {to} {answer} same (inl (done, answered, after)) kept =
       inl (
         done,
         answered,
         subst (λ (e : Event). IsAfter state rules old g (own_unless rules all e (is_barred all e)) done) (sym same) after,
       )
-  own_sent event node to answer same (inr memory) kept =
+  own_sent {event} {node} {to} {answer} same (inr memory) kept =
       inr (ap is_send same, subst (λ (a : Result Done Refusal). OnErr a (g ≡ old)) memory kept, memory)
 
   -- any other does what it does
-  pub after_event : (event named : RemainEvent) (done : Happened) → event ≡ named
+  pub after_event : {event named : RemainEvent} {done : Happened} → event ≡ named
       → None ≡ refused_remain rules.players all event
       → IsAfter state rules old g (on_remain rules all named) done
       → IsAfter state rules old g (applied_remain rules all event) (Ok done)
-  after_event event named done same is after =
+  after_event {event} {named} {done} same is after =
       let then : IsAfter state rules old g (on_remain rules all event) done =
       subst (λ (e : RemainEvent). IsAfter state rules old g (on_remain rules all e) done) (sym same) after in
       subst (λ (x : Remaining × Result Happened Refusal). IsAfter state rules old g x (Ok done))
@@ -93,7 +89,7 @@ module _ {W S : Type 0} (state : W → S) (rules : Rules S) (old new : Contents 
       → IsApplied state rules old new all event (Ok (Happened.Own done))
   own_done done (inl (did, answered, after)) =
       let is : done ≡ did = cc in
-      inl (after_event state rules old new all event (Own own) (Happened.Own done) same free
+      inl (after_event all same free
       (record { game = after.game; answered = ap Happened.Own (is ∙ after.answered); kept = after.kept }))
   own_done done (inr (send, stays, wrong)) = absurd (cc)
 
@@ -132,7 +128,7 @@ pub told_so : {W S : Type 0} (state : W → S) (rules : Rules S) (old new : Cont
     → IsApplied state rules old new all event answer
 told_so {W} {S} state rules old new all event named answer same asks free (inl (done, answered, after)) kept =
     inl (subst (λ (a : Result Happened Refusal). IsAfter state rules old new (applied_remain rules all event) a)
-    (sym answered) (after_event state rules old new all event named done same free after))
+    (sym answered) (after_event all same free after))
 told_so {W} {S} state rules old new all event named answer same asks free (inr memory) kept =
     let unchanged : new ≡ old = subst (λ (a : Result Happened Refusal). OnErr a (new ≡ old)) memory kept in
     inr (sym free, record { asks = ap asks_room same ∙ asks; same = unchanged; answered = memory })

@@ -34,11 +34,11 @@ use Rattle.dn_remain_game.specs.Contents.{Contents}
 use Rattle.dn_remain_game.specs.Events.{applied_remain, applied_remain_if, heard_at, own_unless, refused_remain}
 use Rattle.dn_remain_game.specs.Living.{living}
 use Rattle.dn_remain_game.specs.Represents.{flight_of, given_of}
+use Rattle.dn_survivor.proofs.NodeAnswers.{is_dropped}
+use Rattle.dn_survivor.proofs.Tellings.{telling_at}
 use Rattle.dn_remain_game.proofs.Answering.{plays_leads}
-use Rattle.dn_remain_game.proofs.Reporting.{telling_at}
 use Rattle.dn_remain_game.proofs.Standing.{flight_at}
 use Rattle.dn_remain_game.proofs.SteadyAnswers.{steady_at}
-use Rattle.dn_remain_game.proofs.SurvivorAnswers.{is_dropped}
 
 abbrev dropped : Result Happened Refusal
 dropped = Ok (Happened.Own (Done.Heard (Heard.Dropped drops.given_up)))
@@ -97,7 +97,7 @@ module _ {S : Type 0} (rules : Rules S) (all : Remaining) (steady : SteadyInPair
         ap (λ (x : Telling). reported_is (on_report rules.limits x.to (wary_of all x.to) x.from x.report).1) (sym same)
         ∙ (let is_so : reported_is (on_report rules.limits other.to (wary_of all other.to) other.from other.report).1
         ≡ Reported.Dropped drops.given_up = cc in is_so) in
-        elim (steady.reports which t drops.given_up there (is_dropped _ drops.given_up answer)) [
+        elim (steady.reports which t drops.given_up there (is_dropped _ drops.given_up (sym answer))) [
           | inl one ↦ absurd (omega (arith, one))
           | inr two ↦ two.1
         ]

@@ -1,5 +1,5 @@
 -- One event more in a list that was played, and what is promised of the whole.
-use Rattle.std.proofs.Common.{◌≡◌, List, [], ◌∷◌, ◌++◌, Result, Ok, Err, sym, subst, arith}
+use Rattle.std.proofs.Common.{◌≡◌, ◌+◌, List, [], ◌∷◌, ◌++◌, Result, Ok, Err, sym, subst, arith}
 use Rattle.std.specs.Prelude.{count_by, is_ok, is_err}
 use Rattle.dn_setup.specs.Settings.{Settings}
 use Rattle.dn_world.specs.Physics.{Physics}
@@ -8,10 +8,15 @@ use Rattle.dn_machine.specs.Worlds.{rules_within}
 use Rattle.dn_remain.specs.Remaining.{opening_remaining}
 use Rattle.dn_remain.specs.declared.events.RemainEvent.{RemainEvent}
 use Rattle.dn_remain_game.specs.declared.playing.Played.{Played}
+use Rattle.dn_machine.specs.declared.events.Refusal.{Refusal}
+use Rattle.dn_remain_game.specs.declared.happened.Happened.{Happened}
+use Rattle.dn_remain_game.specs.Applied.{IsApplied, TellsReached}
 use Rattle.dn_remain_game.specs.Contents.{contents}
 use Rattle.dn_remain_game.specs.Frame.{KeepGiven}
-use Rattle.dn_remain_game.specs.Promised.{AppliesOne, HasPlayed, IsPlayed}
+use Rattle.dn_remain_game.specs.Promised.{AppliesOne, HasPlayed, IsCarriedOn, IsPlayed}
+use Rattle.dn_remain_game.specs.Room.{StaysWithin}
 use Rattle.dn_remain_game.proofs.Answering.{counts_more, plays_leads}
+use Rattle.dn_remain_game.proofs.Applying.{applied_keeps}
 use Rattle.dn_remain_game.proofs.Given.{given_stays}
 use Rattle.dn_remain_game.proofs.Promising.{promised}
 
@@ -27,6 +32,25 @@ pub one_refused : {A E : Type 0} (answer : Result A E) (refusal : E) → answer 
 one_refused {A} {E} answer refusal is =
     let P : Result A E → Type 0 = λ a. (count_by is_ok (a ∷ []) ≡ 0) × (count_by is_err (a ∷ []) ≡ 1) in
     subst P (sym is) (omega arith, omega arith)
+
+-- an event was applied, and is counted by its answer
+pub applies_one : {W S : Type 0} (state : W → S) (physics : Physics S) {old new : Played W} {event : RemainEvent}
+    (answer : Result Happened Refusal)
+    → IsCarriedOn state physics (contents old.game) (contents new.game) event answer
+    → TellsReached state physics (contents old.game) (λ rules all.
+    IsApplied state rules (contents old.game) (contents new.game) all event answer)
+    → StaysWithin old.game new.game → new.done ≡ old.done + count_by is_ok (answer ∷ [])
+    → new.refused ≡ old.refused + count_by is_err (answer ∷ []) → AppliesOne state physics old new event
+applies_one state physics {old} {new} {event} answer carried applied room done refused = record {
+  answer = answer;
+  carried = carried;
+  worlds = λ limits settings events answers reached.
+      applied_keeps state (rules_within physics limits) (contents old.game) (contents new.game) reached.last event
+      answer (applied limits settings events answers reached);
+  room = room;
+  done = done;
+  refused = refused;
+}
 
 module _ {W S : Type 0} (state : W → S) (physics : Physics S) (limits : Limits) (settings : Settings)
     (events : List RemainEvent) where

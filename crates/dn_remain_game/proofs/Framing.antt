@@ -3,10 +3,9 @@ use Rattle.std.proofs.Common.{◌≡◌, ◌≢◌, ◌<◌, ℕ, zero, suc, Lis
 use Rattle.std.specs.Prelude.{slice_get, slice_index_or}
 use Rattle.std.specs.Option.{option_map}
 use Rattle.std.proofs.lemmas.Option.{slice_get_read}
-use Rattle.dn_machine.specs.declared.events.Event.{Event}
 use Rattle.dn_remain.specs.declared.events.RemainEvent.{RemainEvent}
 use Rattle.dn_remain_game.specs.Contents.{Contents}
-use Rattle.dn_remain_game.specs.Kept.{KeepsOthers, changed_by, changed_by_own}
+use Rattle.dn_remain_game.specs.Kept.{KeepsOthers, changed_by}
 
 -- what stands elsewhere stays
 slice_get-set_other : {X : Type 0} (xs : List X) (i j : ℕ) (y : X) → j ≢ i
@@ -31,11 +30,6 @@ receiver_of view sent which to entry below read is =
     ap (option_map view) (slice_get_read sent (length sent) which entry refl below read) ∙ ap Some (sym is)
 
 -- by the event that it is
-pub others_own : {W : Type 0} (old new : Contents W) (event named : Event) → event ≡ named
-    → KeepsOthers (changed_by_own old named) old new → KeepsOthers (changed_by_own old event) old new
-others_own old new event named same kept i apart =
-    kept i (λ is. apart (ap (changed_by_own old) same ∙ is))
-
 pub others_by : {W : Type 0} (old new : Contents W) (event named : RemainEvent) → event ≡ named
     → KeepsOthers (changed_by old named) old new → KeepsOthers (changed_by old event) old new
 others_by old new event named same kept i apart = kept i (λ is. apart (ap (changed_by old) same ∙ is))

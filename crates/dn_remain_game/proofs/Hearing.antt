@@ -1,5 +1,5 @@
 -- A node that hears a packet starts and begins its world, or leaves its world as it is.
-use Rattle.std.proofs.Common.{◌≡◌, ◌≢◌, ℕ, true, false, List, Some, None, ap, sym, ◌∙◌}
+use Rattle.std.proofs.Common.{◌≡◌, ◌≢◌, ℕ, true, false, List, Some, None, ap, sym, ◌∙◌, subst}
 use Rattle.std.specs.Prelude.{Ok}
 use Rattle.dn_setup.specs.Settings.{Settings}
 use Rattle.dn_setup.specs.Starts.{start_of}
@@ -16,6 +16,7 @@ use Rattle.dn_lockstep.specs.Represents as lockstep_to
 use Rattle.dn_lockstep.specs.Rows.{seats_of}
 use Rattle.dn_lockstep.proofs.Moving.{known_by}
 use Rattle.dn_remain.specs.Wary.{Wary}
+use Rattle.dn_survivor.specs.Surviving.{Surviving}
 use Rattle.dn_survivor.proofs.Steps.{stepped}
 use Rattle.dn_remain_game.specs.Living.{HearsAny, HearsNear, IsAfter, Living, Represents, on_node}
 use Rattle.dn_remain_game.proofs.Beside.{Hears, GoesOn, Starts, heard_beside, is_start}
@@ -71,18 +72,23 @@ module _ {W S : Type 0} (state : W → S) (physics : Physics S) (old new : Livin
               (sym r.survivor.node.stands.played ∙ has.waits here) plays;
         }
 
-  pub hears : (from : ℕ) (bytes : List ℕ)
-      → lockstep.HearsNear from bytes old.survivor.lockstep new.survivor.lockstep answer
+  -- by what the survivor became that heard it
+  pub hears : (from : ℕ) (bytes : List ℕ) (became : Surviving) → new.survivor ≡ became
+      → lockstep.HearsNear from bytes old.survivor.lockstep became.lockstep answer
       → HearsNear state physics from bytes old new answer
   unfolding on_packet
-  hears from bytes near flight fair spelled sent below other close limits me wary r =
+  hears from bytes became same heard flight fair spelled sent below other close limits me wary r =
+      let near = subst (λ (s : Surviving). lockstep.HearsNear from bytes old.survivor.lockstep s.lockstep answer)
+      (sym same) heard in
       let step = (near flight fair spelled sent below other close).step limits me wary.node r.survivor.node in
       go limits me wary r _ (heard_beside limits me wary.node (Ok flight)) step.node step.answer
 
-  pub hears_any : (from : ℕ) (bytes : List ℕ)
-      → lockstep.HearsAny from bytes old.survivor.lockstep new.survivor.lockstep answer
+  pub hears_any : (from : ℕ) (bytes : List ℕ) (became : Surviving) → new.survivor ≡ became
+      → lockstep.HearsAny from bytes old.survivor.lockstep became.lockstep answer
       → HearsAny state physics from bytes old new answer
-  hears_any from bytes any read told is tells limits me wary r =
+  hears_any from bytes became same heard read told is tells limits me wary r =
+      let any = subst (λ (s : Surviving). lockstep.HearsAny from bytes old.survivor.lockstep s.lockstep answer)
+      (sym same) heard in
       let step = any.step read told is tells limits me wary.node r.survivor.node in
       go limits me wary r _ (heard_beside limits me wary.node
       (flight_from limits.players from me (made me wary.node) wary.node.played told read wary.node.phase)) step.node

@@ -22,10 +22,10 @@ pub mod Unstopped
 pub mod InputsMade
 pub mod Nobody
 pub mod GoneInside
-pub mod SurvivorAnswers
 pub mod Whose
 pub mod Framing
 pub mod Roomy
+pub mod Leaving
 pub mod Surviving
 pub mod SteadyAnswers
 pub mod Barred

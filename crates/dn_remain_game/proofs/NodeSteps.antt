@@ -19,9 +19,9 @@ use Rattle.dn_remain_game.specs.Represents.{Represents}
 use Rattle.dn_remain_game.proofs.Keeping.{keep_all, keep_others}
 use Rattle.dn_remain_game.proofs.Standing.{node_at, places}
 
-pub goes_on : {W S A : Type 0} (state : W → S) (physics : Physics S) (g : Contents W) (limits : Limits)
-    (all : Remaining) (r : Represents state (rules_within physics limits) g all) (place : ℕ) (old new : Lived W)
-    (step : Rules S → ℕ → Wary → Node × A) (answer : A) (done : A → Done)
+pub goes_on : {W S A : Type 0} {state : W → S} (physics : Physics S) {g : Contents W} (limits : Limits)
+    {all : Remaining} (r : Represents state (rules_within physics limits) g all) {place : ℕ} {old : Lived W} (new : Lived W)
+    (step : Rules S → ℕ → Wary → Node × A) {answer : A} (done : A → Done)
     → place < length g.nodes → old ≡ slice_index_or g.nodes place old
     → Steps state physics (living old) (living new) (λ rules me wary. on_node wary (step rules me wary))
     (λ x. answer ≡ x)
@@ -30,7 +30,7 @@ pub goes_on : {W S A : Type 0} (state : W → S) (physics : Physics S) (g : Cont
       with_node all.game place (step (rules_within physics limits) place (wary_of all place)).0,
       done (step (rules_within physics limits) place (wary_of all place)).1,
     )) (done answer)
-goes_on {W} {S} state physics g limits all r place old new step answer done below read by =
+goes_on {W} {S} {A} {state} physics {g} limits {all} r {place} {old} new step {answer} done below read by =
     let rules : Rules S = rules_within physics limits in
     let after = by limits place (wary_of all place) (node_at state rules g all r place old below read) in
     record {

@@ -1,7 +1,7 @@
 -- Why an event is refused, by what was looked at.
 use Rattle.std.proofs.Common.{◌≡◌, ◌<◌, ℕ, Bool, true, false, length, Option, Some, None, ap, sym, ◌∙◌, refl, arith}
 use Rattle.std.specs.Prelude.{not, if◌then◌else◌, nat_lt, slice_get, slice_index_or}
-use Rattle.std.proofs.lemmas.Bool.{cond-false}
+use Rattle.std.proofs.lemmas.Bool.{cond-false, cond-true, lt-ltb}
 use Rattle.std.proofs.lemmas.Option.{slice_get_read}
 use Rattle.dn_machine.specs.Flight as exact
 use Rattle.dn_machine.specs.Flight.{is_near}
@@ -29,6 +29,11 @@ refused_send players m node to is = grind arith
 pub refused_nobody : (players : ℕ) (m : Game) (node to : ℕ) → nat_lt to players ≡ false
     → Some Refusal.NoNode ≡ refused players m (Send node to)
 refused_nobody players m node to is = grind arith
+
+-- an event of a player's node is refused where the node has stopped
+refused_there : (players : ℕ) (m : Game) (node : ℕ) → nat_lt node players ≡ true
+    → refused_at players m node ≡ (if m.stopped node then Some Refusal.Stopped else None)
+refused_there players m node is = grind arith
 
 -- a delivery, by what was found of the flight
 module _ (m : Game) (which : ℕ) (flight : exact.Flight) (there : slice_get m.flights which ≡ Some flight)
@@ -73,11 +78,12 @@ module _ {W S : Type 0} (state : W → S) (rules : Rules S) (g : Contents W) (al
   pub told_far : near ≡ false → Some Refusal.Far ≡ refused_flight all.game (slice_get all.game.flights which)
   told_far so = sym (cond-false near _ _ so) ∙ refused_so
 
-  pub told_near : near ≡ true → (place : ℕ) (stopped : Bool) → place ≡ entry.to
-      → stopped ≡ slice_index_or g.stopped place false
-      → (if stopped then Some Refusal.Stopped else None)
-      ≡ refused_flight all.game (slice_get all.game.flights which)
-  told_near so place stopped there is = grind (arith, refused_so, r.stopped, goes_to)
+  pub told_near : near ≡ true → (place : ℕ) → place ≡ entry.to
+      → refused_at rules.players all.game place ≡ refused_flight all.game (slice_get all.game.flights which)
+  told_near so place is =
+      ap (refused_at rules.players all.game) (is ∙ ap (λ (f : Flight). f.to) of)
+      ∙ refused_there rules.players all.game sent.0.to (lt-ltb sent.0.to rules.players sent.1.carried.to)
+      ∙ sym (cond-true near _ _ so) ∙ refused_so
 
 not_far : (near stopped : Bool)
     → ◌≡◌ {A = Option Refusal}

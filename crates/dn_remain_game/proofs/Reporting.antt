@@ -1,10 +1,10 @@
 -- A report joins those that were told, and comes to its receiver.
 use Rattle.dn_remain_game.proofs.Vanilla.{window_of}
-use Rattle.std.proofs.Common.{◌≡◌, ◌≢◌, ◌<◌, ◌≤◌, ◌++◌, ℕ, zero, suc, List, [], ◌∷◌, length, map, set, Option, Some, None, Result, refl, ap, sym, ◌∙◌, subst, arith}
-use Rattle.std.specs.Prelude.{slice_get, slice_index_or}
+use Rattle.std.proofs.Common.{◌≡◌, ◌<◌, ◌≤◌, ◌++◌, ℕ, List, [], ◌∷◌, length, map, set, Option, Some, None, Result, Ok, Err, inl, refl, ap, sym, ◌∙◌, subst, arith}
+use Rattle.std.specs.Prelude.{◌⊎◌, slice_get, slice_index_or}
 use Rattle.std.specs.Option.{option_map}
 use Rattle.std.proofs.lemmas.List.{length-map, map_push}
-use Rattle.std.proofs.lemmas.Option.{none-some, slice_get-map, slice_get_read, slice_get_within}
+use Rattle.std.proofs.lemmas.Option.{slice_get-map, slice_get_read, slice_get_within}
 use Rattle.dn_report.specs.declared.report.Report.{Report as Told}
 use Rattle.dn_setup.specs.Settings.{Settings}
 use Rattle.dn_world.specs.Physics.{Physics}
@@ -13,14 +13,15 @@ use Rattle.dn_machine.specs.Limits.{Limits}
 use Rattle.dn_machine.specs.Worlds.{Rules, rules_within}
 use Rattle.dn_others.specs.Represents.{AreTold, Tells}
 use Rattle.dn_remain.specs.Remaining.{Remaining, Telling as Exact, wary_of}
-use Rattle.dn_remain.specs.Wary.{Report, Wary, on_report, report_to}
+use Rattle.dn_remain.specs.Wary.{Report, on_report, report_to}
 use Rattle.dn_remain.specs.declared.events.RemainEvent.{RemainEvent}
-use Rattle.dn_survivor.specs.OneGame.{AreTelling, IsTelling}
+use Rattle.dn_survivor.specs.OneGame.{AreTelling}
 use Rattle.dn_survivor.specs.Session.{Given}
 use Rattle.dn_survivor.specs.Telling.{report_for}
 use Rattle.dn_survivor.specs.declared.answers.Reported.{Reported}
 use Rattle.dn_survivor.proofs.Decided.{told_can}
 use Rattle.dn_survivor.proofs.Reports as telling
+use Rattle.dn_survivor.proofs.Tellings.{as_many, telling_at, telling_more, told_apart}
 use Rattle.dn_remain_game.specs.declared.happened.Happened.{Happened}
 use Rattle.dn_remain_game.specs.declared.lived.Lived.{Lived}
 use Rattle.dn_remain_game.specs.declared.under_way.Telling.{Telling}
@@ -33,48 +34,18 @@ use Rattle.dn_remain_game.specs.Living.{Hears, living}
 use Rattle.dn_remain_game.specs.Represents.{Represents, given_of}
 use Rattle.dn_remain_game.proofs.Answering.{plays_leads}
 use Rattle.dn_remain_game.proofs.Keeping.{keep_all, keep_others}
-use Rattle.dn_remain_game.proofs.Standing.{node_at, places_wary}
-
--- a report that was given is one that was told
-pub telling_at : (limits : Limits) (reports : List Given) (tellings : List Exact) → AreTelling limits reports tellings
-    → (which : ℕ) (given : Given) → slice_get reports which ≡ Some given
-    → (t : Exact) × (slice_get tellings which ≡ Some t) × IsTelling limits given t
-telling_at limits [] [] h which given at = absurd (none-some given at)
-telling_at limits [] (t ∷ tellings) h which given at = absurd h
-telling_at limits (g ∷ reports) [] h which given at = absurd h
-telling_at limits (g ∷ reports) (t ∷ tellings) h zero given at =
-    (t, refl, subst (λ (x : Given). IsTelling limits x t) (cc) h.0)
-telling_at limits (g ∷ reports) (t ∷ tellings) h (suc which) given at =
-    telling_at limits reports tellings h.1 which given at
-
--- one more is
-telling_more : (limits : Limits) (reports : List Given) (tellings : List Exact) (given : Given) (t : Exact)
-    → AreTelling limits reports tellings → IsTelling limits given t
-    → AreTelling limits (reports ++ given ∷ []) (tellings ++ t ∷ [])
-telling_more limits [] [] given t h is = (is, tt)
-telling_more limits [] (u ∷ tellings) given t h is = absurd h
-telling_more limits (g ∷ reports) [] given t h is = absurd h
-telling_more limits (g ∷ reports) (u ∷ tellings) given t h is =
-    (h.0, telling_more limits reports tellings given t h.1 is)
-
--- and there are as many
-pub as_many : (limits : Limits) (reports : List Given) (tellings : List Exact)
-    → AreTelling limits reports tellings → length reports ≡ length tellings
-as_many limits [] [] h = refl
-as_many limits [] (t ∷ tellings) h = absurd h
-as_many limits (g ∷ reports) [] h = absurd h
-as_many limits (g ∷ reports) (t ∷ tellings) h = ap suc (as_many limits reports tellings h.1)
-
--- no report is for its sender
-told_apart : (limits : Limits) (me : ℕ) (wary : Wary) (to : ℕ) (told : Report)
-    → report_to limits me wary to ≡ Some told → me ≢ to
-told_apart limits me wary to told is e = grind (arith, is, e)
+use Rattle.dn_remain_game.proofs.Standing.{node_at, places_wary, with_posts}
 
 module _ {W S : Type 0} (state : W → S) (rules : Rules S) (g : Contents W) (all : Remaining)
     (r : Represents state rules g all) (node to : ℕ) (n : Lived W) (below : node < length g.nodes)
     (there : to < length g.nodes) (read : n ≡ slice_index_or g.nodes node n) (reports : List Telling) where
   abbrev Tells_to : Option Report → Happened → Type 0
   Tells_to told answer = IsAfter state rules g (record g { reports = reports }) (told_report all node to told) answer
+
+  -- the telling was answered so, or there was no memory for it
+  abbrev Tells_or : Option Report → Result Happened Refusal → Type 0
+  Tells_or told answer =
+      ((done : Happened) × (answer ≡ Ok done) × Tells_to told done) ⊎ (answer ≡ Err Refusal.Memory)
 
   shown : node_to.Represents state rules node (living n) (wary_of all node)
   shown = node_at state rules g all r node n below read
@@ -91,22 +62,19 @@ module _ {W S : Type 0} (state : W → S) (rules : Rules S) (g : Contents W) (al
       → Tells_to told Happened.Untold
   none_of (Some told) h same = absurd h
   none_of None h same = record {
-    game = record {
-      players = r.players;
-      vanilla = r.vanilla;
-      nodes = r.nodes;
-      stopped = r.stopped;
-      flights = r.flights;
-      carried = r.carried;
-      reports = subst (λ (ts : List Telling). AreTelling rules.limits (map given_of ts) all.reports) (sym same) r.reports;
-    };
+    game = with_posts state rules g all r g.flights reports all.game.flights all.reports r.flights r.carried
+        (subst (λ (ts : List Telling). AreTelling rules.limits (map given_of ts) all.reports) (sym same) r.reports);
     answered = refl;
     kept = keep_all g.nodes;
   }
 
   pub tells_none : None ≡ report_for (living n).survivor to → reports ≡ g.reports
-      → Tells_to (report_to rules.limits node (wary_of all node) to) Happened.Untold
-  tells_none is same = none_of (report_to rules.limits node (wary_of all node) to) (are_told None is) same
+      → Tells_or (report_to rules.limits node (wary_of all node) to) (Ok Happened.Untold)
+  tells_none is same = inl (
+    Happened.Untold,
+    refl,
+    none_of (report_to rules.limits node (wary_of all node) to) (are_told None is) same,
+  )
 
   some_of : (given : Told) (told : Option Report) → report_to rules.limits node (wary_of all node) to ≡ told
       → AreTold rules.players rules.places to node (Some given) told
@@ -114,27 +82,21 @@ module _ {W S : Type 0} (state : W → S) (rules : Rules S) (g : Contents W) (al
       → (which : ℕ) → which ≡ length g.reports → Tells_to told (Happened.Told which)
   some_of given None is h more which last = absurd h
   some_of given (Some told) is h more which last = record {
-    game = record {
-      players = r.players;
-      vanilla = r.vanilla;
-      nodes = r.nodes;
-      stopped = r.stopped;
-      flights = r.flights;
-      carried = r.carried;
-      reports = subst (λ (gs : List Given). AreTelling rules.limits gs
-          (all.reports ++ record { from = node; to = to; report = told } ∷ []))
-          (sym (ap (map given_of) more
-          ∙ map_push given_of g.reports (record { from = node; to = to; report = given })))
-          (telling_more rules.limits (map given_of g.reports) all.reports
-          (record { from = node; to = to; report = given }) (record { from = node; to = to; report = told })
-          r.reports (record {
-            from = refl;
-            to = refl;
-            sender = omega (arith, below, r.players);
-            apart = told_apart rules.limits node (wary_of all node) to told is;
-            tells = h;
-          }));
-    };
+    game = with_posts state rules g all r g.flights reports all.game.flights
+        (all.reports ++ record { from = node; to = to; report = told } ∷ []) r.flights r.carried
+        (subst (λ (gs : List Given). AreTelling rules.limits gs
+        (all.reports ++ record { from = node; to = to; report = told } ∷ []))
+        (sym (ap (map given_of) more
+        ∙ map_push given_of g.reports (record { from = node; to = to; report = given })))
+        (telling_more rules.limits (map given_of g.reports) all.reports
+        (record { from = node; to = to; report = given }) (record { from = node; to = to; report = told })
+        r.reports (record {
+          from = refl;
+          to = refl;
+          sender = omega (arith, below, r.players);
+          apart = told_apart rules.limits node (wary_of all node) to told is;
+          tells = h;
+        })));
     answered = ap Happened.Told (last ∙ sym (length-map g.reports given_of)
         ∙ as_many rules.limits (map given_of g.reports) all.reports r.reports);
     kept = keep_all g.nodes;
@@ -143,10 +105,12 @@ module _ {W S : Type 0} (state : W → S) (rules : Rules S) (g : Contents W) (al
   pub tells_some : (given : Told) → Some given ≡ report_for (living n).survivor to
       → reports ≡ g.reports ++ record { from = node; to = to; report = given } ∷ []
       → (which : ℕ) → which ≡ length g.reports
-      → Tells_to (report_to rules.limits node (wary_of all node) to) (Happened.Told which)
-  tells_some given is more which last =
-      some_of given (report_to rules.limits node (wary_of all node) to) refl (are_told (Some given) is) more which
-      last
+      → Tells_or (report_to rules.limits node (wary_of all node) to) (Ok (Happened.Told which))
+  tells_some given is more which last = inl (
+    Happened.Told which,
+    refl,
+    some_of given (report_to rules.limits node (wary_of all node) to) refl (are_told (Some given) is) more which last,
+  )
 
 -- a report comes to its receiver
 pub hears_report : {W S : Type 0} (state : W → S) (physics : Physics S) (g : Contents W) (limits : Limits)

@@ -1,5 +1,5 @@
 -- A run is by the marks of the node's own world, and moves the world on by the row that it tells.
-use Rattle.std.proofs.Common.{◌≡◌, ◌≢◌, ◌<◌, ℕ, ℤ, pos, Bool, true, List, [], ◌∷◌, ◌++◌, length, fold, Option, Some, None, refl, ap, sym, ◌∙◌, subst, arith}
+use Rattle.std.proofs.Common.{◌≡◌, ◌≢◌, ◌<◌, ℕ, ℤ, pos, Bool, true, List, [], ◌∷◌, ◌++◌, length, Option, Some, None, refl, ap, sym, ◌∙◌, subst, arith}
 use Rattle.std.specs.Prelude.{get_or, ◌==◌, if◌then◌else◌}
 use Rattle.std.specs.Option.{option_map}
 use Rattle.std.proofs.lemmas.Bool.{cond_both}
@@ -18,7 +18,7 @@ use Rattle.dn_machine.specs.Game.{own_world, own_marks}
 use Rattle.dn_machine.specs.Limits.{Limits}
 use Rattle.dn_machine.specs.Node.{Node, lowest, ran}
 use Rattle.dn_machine.specs.Running.{first_off_but, full_at, is_awaited, marks_kept, on_run_but, on_run_but_in, on_run_playing, row_held}
-use Rattle.dn_machine.specs.Worlds.{Rules, mark_in, opening, rules_within, world_after}
+use Rattle.dn_machine.specs.Worlds.{Rules, mark_in, rules_within, world_after}
 use Rattle.dn_lockstep.specs.Runs.{RunsBy, marks_in, row_told, told_by}
 use Rattle.dn_lockstep.proofs.Moving.{moved}
 use Rattle.dn_lockstep.proofs.Running.{kept_same}
@@ -84,28 +84,25 @@ module _ (limits : Limits) (gone : ℕ → Bool) (m : Node) where
       unfolding on_run_but
       run_same = same_in m.phase refl
 
+-- one map after another
+maps : {A B C : Type 0} (f : A → B) (next : B → C) (both : A → C) → ((x : A) → next (f x) ≡ both x) → (o : Option A)
+    → option_map next (option_map f o) ≡ option_map both o
+maps f next both each None = refl
+maps f next both each (Some x) = ap Some (each x)
+
 -- the world after one row more
 next_world : {S : Type 0} (rules : Rules S) (m : Node) (row : List (Option Move)) (kept : ℕ → ℤ) (world : S)
     → Some world ≡ own_world rules m (ran m)
     → Some (rules.physics.step world row) ≡ own_world rules (moved m row kept) (length (m.rows ++ row ∷ []))
 unfolding world_after
 next_world {S} rules m row kept world is =
-    ap (option_map (λ (w : S). rules.physics.step w row)) is ∙ go m.settings
+    ap (option_map (λ (w : S). rules.physics.step w row)) is
+    ∙ maps (λ (s : Settings). world_after rules s m.rows (length m.rows)) (λ (w : S). rules.physics.step w row)
+    (λ (s : Settings). world_after rules s (m.rows ++ row ∷ []) (length (m.rows ++ row ∷ []))) one_more m.settings
   where
-    moves : (s : Settings) → rules.physics.step (world_after rules s m.rows (length m.rows)) row
+    one_more : (s : Settings) → rules.physics.step (world_after rules s m.rows (length m.rows)) row
         ≡ world_after rules s (m.rows ++ row ∷ []) (length (m.rows ++ row ∷ []))
-    moves s =
-        ap (λ (rs : List (List (Option Move))). rules.physics.step (fold rules.physics.step
-        (opening rules s) rs) row) (take-length m.rows)
-        ∙ sym (ap (fold rules.physics.step (opening rules s)) (take-length (m.rows ++ row ∷ []))
-        ∙ fold-append rules.physics.step (opening rules s) m.rows (row ∷ []))
-
-    go : (settings : Option Settings) → option_map (λ (w : S). rules.physics.step w row)
-        (option_map (λ (s : Settings). world_after rules s m.rows (length m.rows)) settings)
-        ≡ option_map (λ (s : Settings). world_after rules s (m.rows ++ row ∷ [])
-        (length (m.rows ++ row ∷ []))) settings
-    go None = refl
-    go (Some s) = ap (λ (w : S). Some w) (moves s)
+    one_more s = simp (take-length, fold-append)
 
 module _ {W S : Type 0} (state : W → S) (physics : Physics S) (old new : Living W) (marks : List ℤ)
     (answer : Ran) (row : Option (List (Option Move)))

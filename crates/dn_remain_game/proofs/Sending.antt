@@ -38,7 +38,7 @@ use Rattle.dn_remain_game.specs.Living.{HearsNear, IsGiven, Living, Steps, Tells
 use Rattle.dn_remain_game.specs.Represents.{Represents, IsCarried, flight_of}
 use Rattle.dn_remain_game.proofs.Keeping.{keep_others, keeps_same}
 use Rattle.dn_remain_game.proofs.Refusing.{near_unless}
-use Rattle.dn_remain_game.proofs.Standing.{flight_at, made_at, node_at, places, places_same}
+use Rattle.dn_remain_game.proofs.Standing.{flight_at, made_at, node_at, places, places_same, with_posts}
 
 -- a packet of these numbers and bytes
 abbrev pub packet_with : ℕ → ℕ → Aim → ArrayVec ℕ → Flight
@@ -72,28 +72,16 @@ module _ {W S : Type 0} (state : W → S) (rules : Rules S) (g : Contents W) (al
       → flights ≡ map flight_of more → All (IsCarried rules.players) more
       → Represents state rules (record g { nodes = set g.nodes me new; flights = flights })
       (record all { game = record (with_node all.game me m) { flights = more } })
-  joined m more shows same carried = record {
-    players = shows.players;
-    vanilla = shows.vanilla;
-    nodes = shows.nodes;
-    stopped = shows.stopped;
-    flights = same;
-    carried = carried;
-    reports = shows.reports;
-  }
+  joined m more shows same carried =
+      with_posts state rules (record g { nodes = set g.nodes me new }) (record all { game = with_node all.game me m })
+      shows flights g.reports more all.reports same carried shows.reports
 
   kept : flights ≡ g.flights → (next : Remaining)
       → Represents state rules (record g { nodes = set g.nodes me new }) next
       → Represents state rules (record g { nodes = set g.nodes me new; flights = flights }) next
-  kept same next shows = record {
-    players = shows.players;
-    vanilla = shows.vanilla;
-    nodes = shows.nodes;
-    stopped = shows.stopped;
-    flights = same ∙ shows.flights;
-    carried = shows.carried;
-    reports = shows.reports;
-  }
+  kept same next shows =
+      with_posts state rules (record g { nodes = set g.nodes me new }) next shows flights g.reports next.game.flights
+      next.reports (same ∙ shows.flights) shows.carried shows.reports
 
   -- a packet, by what the machine's node sends
   posts : (keep : KeepWorlds g.nodes (set g.nodes me new)) (o : Option exact.Flight) (m : machine.Node) (done : Done)

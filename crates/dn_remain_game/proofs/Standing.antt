@@ -14,12 +14,13 @@ use Rattle.dn_machine.proofs.Put.{put_at, put_off, set_and_put}
 use Rattle.dn_machine.specs.Node.{put}
 use Rattle.dn_lockstep.specs.Rings.{count_of}
 use Rattle.dn_lockstep.proofs.Counting.{made_is}
-use Rattle.dn_remain.specs.Remaining.{Remaining, wary_of, with_wary}
+use Rattle.dn_remain.specs.Remaining.{Remaining, Telling as Exact, wary_of, with_wary}
 use Rattle.dn_remain.specs.Wary.{Wary}
 use Rattle.dn_remain.proofs.Places.{there}
 use Rattle.dn_survivor.specs.OneGame.{AreTelling}
 use Rattle.dn_remain_game.specs.declared.lived.Lived.{Lived}
 use Rattle.dn_remain_game.specs.declared.under_way.Flight.{Flight}
+use Rattle.dn_remain_game.specs.declared.under_way.Telling.{Telling}
 use Rattle.dn_remain_game.specs.Contents.{Contents}
 use Rattle.dn_remain_game.specs.Living as node_to
 use Rattle.dn_remain_game.specs.Living.{living}
@@ -44,6 +45,13 @@ all_read P xs i x all below is = all_at P xs i x all (slice_get_read xs (length 
 pub joins : {X : Type 0} (new old before : List X) (x : X) → new ≡ old ++ x ∷ [] → old ≡ before
     → new ≡ before ++ x ∷ []
 joins {X} new old before x is kept = is ∙ ap (λ (xs : List X). xs ++ x ∷ []) kept
+
+-- whoever receives a packet or a report that was sent is one of so many
+pub receiver_below : {X : Type 0} (view : X → ℕ) (sent : List X) (count which : ℕ) {to : ℕ} {entry : X}
+    → All (λ x. view x < count) sent → which < length sent → entry ≡ slice_index_or sent which entry
+    → to ≡ view entry → to < count
+receiver_below view sent count which {to} {entry} all below read is =
+    let small = all_read (λ x. view x < count) sent which entry all below read in omega (arith, small, is)
 
 -- the flight of a packet that was sent
 pub record IsFlight (all : Remaining) (players : ℕ) (flights : List Flight) (which : ℕ) (flight : exact.Flight) :
@@ -82,6 +90,22 @@ module _ {W S : Type 0} (state : W → S) (rules : Rules S) (g : Contents W) (al
           carried = all_at (IsCarried rules.players) all.game.flights which at.0 r.carried at.1;
         },
       )
+
+  -- the packets and the reports are others now
+  pub with_posts : (flights : List Flight) (reports : List Telling) (sent : List exact.Flight) (told : List Exact)
+      → flights ≡ map flight_of sent → All (IsCarried rules.players) sent
+      → AreTelling rules.limits (map given_of reports) told
+      → Represents state rules (record g { flights = flights; reports = reports })
+      (record all { game = record all.game { flights = sent }; reports = told })
+  with_posts flights reports sent told same carried tell = record {
+    players = r.players;
+    vanilla = r.vanilla;
+    nodes = r.nodes;
+    stopped = r.stopped;
+    flights = same;
+    carried = carried;
+    reports = tell;
+  }
 
   -- one node is another now
   module _ (place : ℕ) (n : Lived W) (below : place < length g.nodes) where

@@ -37,7 +37,7 @@ use Rattle.dn_remain_game.specs.Applied.{Answers, Plays}
 use Rattle.dn_remain_game.specs.Events.{applied_remain, applied_remain_if, heard_at, on_own, own_unless, refused_remain, told_report}
 use Rattle.dn_remain_game.specs.Promised.{IsSteady}
 use Rattle.dn_remain_game.proofs.Answering.{answers_next, applied_next}
-use Rattle.dn_remain_game.proofs.SurvivorAnswers.{is_dropped, is_excluded, never_improper, not_out, taken_given, taken_reported}
+use Rattle.dn_survivor.proofs.NodeAnswers.{is_dropped, is_excluded, never_improper, not_out, taken_given, taken_reported}
 
 -- a run that is answered by a mark that is off ends the node for it
 off_ends : (limits : Limits) (gone : ℕ → Bool) (node : Node) (marks : ℕ → ℤ) (player : ℕ) (was should : ℤ)
@@ -168,7 +168,7 @@ module _ {S : Type 0} (rules : Rules S) (settings : Settings) (window : IsWindow
     gives_up given = record {
       consistent = λ player was should e. absurd (cc);
       kept = λ number e. absurd (cc);
-      given = λ player reason e. taken_given given player reason (cc);
+      given = λ player reason e. taken_given player reason given (cc);
       reported = λ player reason e. absurd (cc);
       heard = λ number e. absurd (cc);
       included = λ e. absurd (cc);
@@ -184,7 +184,7 @@ module _ {S : Type 0} (rules : Rules S) (settings : Settings) (window : IsWindow
           consistent = λ player was should e. absurd (cc);
           kept = λ number e. absurd (cc);
           given = λ player reason e. absurd (cc);
-          reported = λ player reason e. taken_reported answer player reason (cc);
+          reported = λ player reason e. taken_reported player reason answer (cc);
           heard = λ number e. elim ((steady_at events all run).reports which t number there
               (is_dropped answer number (cc))) [
                 | inl out ↦ inl out

@@ -1,13 +1,19 @@
 -- A step of the lockstep alone is one of the node.
-use Rattle.std.proofs.Common.{◌≡◌, ◌≢◌, ℕ, true, None, ◌∙◌}
+use Rattle.std.proofs.Common.{◌≡◌, ◌≢◌, ℕ, true, None, refl, ◌∙◌}
 use Rattle.dn_world.specs.Physics.{Physics}
+use Rattle.dn_tic.specs.declared.input.Input.{Input}
+use Rattle.dn_machine.specs.Building.{on_build}
+use Rattle.dn_machine.specs.declared.answers.Made.{Made}
 use Rattle.dn_machine.specs.Limits.{Limits}
 use Rattle.dn_machine.specs.Node.{Node}
 use Rattle.dn_machine.specs.Worlds.{rules_within}
 use Rattle.dn_lockstep.specs.Steps as lockstep
+use Rattle.dn_survivor.specs.declared.survivor.Survivor.{Survivor}
+use Rattle.dn_survivor.specs.Surviving.{surviving}
 use Rattle.dn_survivor.proofs.Steps.{stepped}
-use Rattle.dn_remain_game.specs.Living.{Living, Steps, on_node}
-use Rattle.dn_remain_game.proofs.Beside.{IsBeside}
+use Rattle.dn_remain_game.specs.declared.lived.Lived.{Lived}
+use Rattle.dn_remain_game.specs.Living.{Builds, Living, Steps, living, on_node}
+use Rattle.dn_remain_game.proofs.Beside.{IsBeside, build_beside}
 use Rattle.dn_remain_game.proofs.Keeping.{keeps}
 use Rattle.dn_remain_game.proofs.Worlds.{beside}
 
@@ -33,3 +39,15 @@ steps_alone state physics old new step IsAnswer locks others known same leaves l
       kept = keeps old new limits me wary.node (step limits me wary.node).0 r.survivor.node after.node known
           (λ played. is.played ∙ played) same;
     }
+
+-- so is a command that it builds
+pub builds_alone : {W S : Type 0} (state : W → S) (physics : Physics S) (old : Lived W) (new : Survivor)
+    (input : Input) (made : Made)
+    → lockstep.Steps (living old).survivor.lockstep (surviving new).lockstep
+    (λ limits me m. on_build limits me m input) (λ x. made ≡ x)
+    → (surviving new).others ≡ (living old).survivor.others
+    → Builds state physics (living old) (record { survivor = surviving new; world = old.world }) input made
+builds_alone {W} state physics old new input made locks others =
+    let after : Living W = record { survivor = surviving new; world = old.world } in
+    steps_alone state physics (living old) after (λ limits me m. on_build limits me m input) (λ x. made ≡ x) locks others
+    new.lockstep.known refl (λ limits me m. build_beside limits me m input)

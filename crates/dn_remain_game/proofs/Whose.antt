@@ -38,7 +38,7 @@ module _ (old new : Surviving) where
   given_unless (Some reason) player answer is = same_whose is.1
   given_unless None player answer is = is.1.same
 
-  whose_given : (player : ℕ) (answer : GivenUp) → GivesUp player old new answer
+  pub whose_given : (player : ℕ) (answer : GivenUp) → GivesUp player old new answer
       → whose new.lockstep ≡ whose old.lockstep
   whose_given player answer is = given_unless (refused_give_up old player) player answer is
 
@@ -47,7 +47,7 @@ module _ (old new : Surviving) where
   heard_unless (Some reason) from report answer is = same_whose is.1
   heard_unless None from report answer is = is.1.same
 
-  whose_heard : (from : ℕ) (report : Report) (answer : Reported) → HearsReport from report old new answer
+  pub whose_heard : (from : ℕ) (report : Report) (answer : Reported) → HearsReport from report old new answer
       → whose new.lockstep ≡ whose old.lockstep
   whose_heard from report answer is = heard_unless (refused_report old from report) from report answer is
 
@@ -58,23 +58,6 @@ pub whose_step : {W : Type 0} (nodes : List (Lived W)) (place : ℕ) (old next :
 whose_step {W} nodes place old next read kept =
     let own = λ (n : Lived W). whose (living n).survivor.lockstep in
     map-set_same own nodes place next old (kept ∙ ap own read)
-
--- so does one that gives up a player, or hears a report
-pub given_step : {W : Type 0} (nodes : List (Lived W)) (place : ℕ) (old next : Lived W) (player : ℕ)
-    (answer : GivenUp) → old ≡ slice_index_or nodes place old
-    → GivesUp player (living old).survivor (living next).survivor answer
-    → whose_of (set nodes place next) ≡ whose_of nodes
-given_step nodes place old next player answer read is =
-    whose_step nodes place old next read
-    (whose_given (living old).survivor (living next).survivor player answer is)
-
-pub heard_step : {W : Type 0} (nodes : List (Lived W)) (place : ℕ) (old next : Lived W) (from : ℕ)
-    (report : Report) (answer : Reported) → old ≡ slice_index_or nodes place old
-    → HearsReport from report (living old).survivor (living next).survivor answer
-    → whose_of (set nodes place next) ≡ whose_of nodes
-heard_step nodes place old next from report answer read is =
-    whose_step nodes place old next read
-    (whose_heard (living old).survivor (living next).survivor from report answer is)
 
 -- the limits of the demos
 module _ {W : Type 0} (limit : ℕ) where

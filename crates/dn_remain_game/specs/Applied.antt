@@ -14,7 +14,7 @@ use Rattle.dn_remain.specs.declared.events.RemainEvent.{RemainEvent}
 use Rattle.dn_remain.specs.declared.events.RemainEvent.TheVariants.{Own, GiveUp, Tell, Hear}
 use Rattle.dn_remain_game.specs.declared.happened.Happened.{Happened}
 use Rattle.dn_remain_game.specs.Contents.{Contents}
-use Rattle.dn_remain_game.specs.Events.{applied_remain, asks_room, own_unless, refused_remain}
+use Rattle.dn_remain_game.specs.Events.{applied_remain, asks_room, in_game, on_own, own_unless, refused_remain}
 use Rattle.dn_remain_game.specs.Frame.{KeepWorlds}
 use Rattle.dn_remain_game.specs.Represents.{Represents}
 
@@ -64,6 +64,11 @@ pub record IsAfter {W S A : Type 0} (state : W → S) (rules : Rules S) (old new
   pub game : Represents state rules new after.0
   pub answered : answer ≡ after.1
   pub kept : KeepWorlds old.nodes new.nodes
+
+-- an event of the machine does what it does in whatever game it represents
+abbrev pub DoesOwn : {W S : Type 0} → (W → S) → Physics S → Contents W → Contents W → Event → Done → Type 0
+DoesOwn state physics old new event done =
+    Tells state physics old (λ rules all. IsAfter state rules old new (in_game all (on_own rules all event)) done)
 
 -- an event is left out since memory was refused, and nothing changes
 pub record IsLeftOut {W : Type 0} (old new : Contents W) (event : RemainEvent)

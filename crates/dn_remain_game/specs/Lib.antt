@@ -6,6 +6,7 @@ pub mod Represents
 pub mod Events
 pub mod Applied
 pub mod Room
+pub mod Leaves
 pub mod Told
 pub mod Survivors
 pub mod Opening

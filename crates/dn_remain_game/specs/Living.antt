@@ -9,8 +9,11 @@ use Rattle.dn_packet.specs.Text.{text}
 use Rattle.dn_setup.specs.Settings.{Settings}
 use Rattle.dn_setup.specs.declared.setup.SetupFault.{SetupFault}
 use Rattle.dn_report.specs.declared.report.Report.{Report}
+use Rattle.dn_tic.specs.declared.input.Input.{Input}
 use Rattle.dn_world.specs.Physics.{Physics}
 use Rattle.dn_machine.specs.declared.answers.Heard.{Heard}
+use Rattle.dn_machine.specs.declared.answers.Made.{Made}
+use Rattle.dn_machine.specs.Building.{on_build}
 use Rattle.dn_machine.specs.Flight.{Flight, packet_of, is_near}
 use Rattle.dn_machine.specs.Game.{own_world}
 use Rattle.dn_machine.specs.Hearing.{on_packet}
@@ -83,6 +86,12 @@ Tells state physics n Fact =
 -- a step of the machine's node is one of the wary node
 abbrev pub on_node : {A : Type 0} → Wary → Node × A → Wary × A
 on_node wary after = (record wary { node = after.0 }, after.1)
+
+-- a command of this input is built, or none, and that is the answer
+abbrev pub Builds : {W S : Type 0} → (W → S) → Physics S → Living W → Living W → Input → Made → Type 0
+Builds state physics old new input answer =
+    Steps state physics old new (λ rules me wary. on_node wary (on_build rules.limits me wary.node input))
+    (λ made. answer ≡ made)
 
 -- it gives this packet: the numbers and the bytes of a flight
 abbrev pub IsGiven : Option (Aim × ArrayVec ℕ) → Option Flight → Type 0

@@ -23,62 +23,16 @@ use Rattle.dn_survivor.specs.Session.{Given, Session}
 use Rattle.dn_survivor.specs.Surviving.{Surviving, has_given_up}
 use Rattle.dn_survivor.specs.declared.answers.GivenUp.{GivenUp}
 use Rattle.dn_survivor.specs.declared.answers.Reported.{Reported}
+use Rattle.dn_survivor.proofs.NodeAnswers.{is_dropped, is_excluded, never_improper, not_out, taken_given, taken_reported}
 use Rattle.dn_survivor.proofs.OneGame as game_of
 use Rattle.dn_survivor.proofs.Pairs.{steady}
-
--- no answer of a node is that an end was not taken
-taken_given : (answer : remain_given.GivenUp) (player : ℕ) (reason : Settled)
-    → GivenUp.Untaken player reason ≡ given_up_is answer → ⊥
-taken_given remain_given.GivenUp.Waiting player reason e = absurd (cc)
-taken_given remain_given.GivenUp.Decided player reason e = absurd (cc)
-taken_given remain_given.GivenUp.Already player reason e = absurd (cc)
-taken_given remain_given.GivenUp.NotAPlayer player reason e = absurd (cc)
-taken_given remain_given.GivenUp.NotPlaying player reason e = absurd (cc)
-
-taken_reported : (answer : remain_reported.Reported) (player : ℕ) (reason : Settled)
-    → Reported.Untaken player reason ≡ reported_is answer → ⊥
-taken_reported remain_reported.Reported.Kept player reason e = absurd (cc)
-taken_reported remain_reported.Reported.Decided player reason e = absurd (cc)
-taken_reported remain_reported.Reported.Excluded player reason e = absurd (cc)
-taken_reported remain_reported.Reported.Stale player reason e = absurd (cc)
-taken_reported (remain_reported.Reported.Dropped number) player reason e = absurd (cc)
-
--- nor that a report is improper
-never_improper : (answer : remain_reported.Reported) → Reported.Improper ≡ reported_is answer → ⊥
-never_improper remain_reported.Reported.Kept e = absurd (cc)
-never_improper remain_reported.Reported.Decided e = absurd (cc)
-never_improper remain_reported.Reported.Excluded e = absurd (cc)
-never_improper remain_reported.Reported.Stale e = absurd (cc)
-never_improper (remain_reported.Reported.Dropped number) e = absurd (cc)
-
-is_excluded : (answer : remain_reported.Reported) → Reported.Excluded ≡ reported_is answer
-    → answer ≡ remain_reported.Reported.Excluded
-is_excluded remain_reported.Reported.Kept e = absurd (cc)
-is_excluded remain_reported.Reported.Decided e = absurd (cc)
-is_excluded remain_reported.Reported.Excluded e = refl
-is_excluded remain_reported.Reported.Stale e = absurd (cc)
-is_excluded (remain_reported.Reported.Dropped number) e = absurd (cc)
-
-is_dropped : (answer : remain_reported.Reported) (number : ℕ) → Reported.Dropped number ≡ reported_is answer
-    → answer ≡ remain_reported.Reported.Dropped number
-is_dropped remain_reported.Reported.Kept number e = absurd (cc)
-is_dropped remain_reported.Reported.Decided number e = absurd (cc)
-is_dropped remain_reported.Reported.Excluded number e = absurd (cc)
-is_dropped remain_reported.Reported.Stale number e = absurd (cc)
-is_dropped (remain_reported.Reported.Dropped other) number e = cc
-
--- one who is not given up by the sender is not told that it is
-not_out : (limits : Limits) (me : ℕ) (wary : Wary) (from : ℕ) (report : Report) → report.gone me ≡ false
-    → (on_report limits me wary from report).1 ≡ remain_reported.Reported.Excluded → ⊥
-unfolding on_report
-not_out limits me wary from report free e = grind (arith, free, e)
 
 module _ (marking : Marking) (limits : Limits) (settings : Settings) (session : Session)
     (game : AreRemaining marking limits settings session) where
   pub given_up_taken : (here : ℕ) → here < limits.players → (player other : ℕ) (new : Surviving) (reason : Settled)
       → GivesUp player (session.survivors here) new (GivenUp.Untaken other reason) → ⊥
   given_up_taken here mine player other new reason by =
-      taken_given (on_give_up limits here (wary_of game.last here) player).1 other reason
+      taken_given other reason (on_give_up limits here (wary_of game.last here) player).1
       (game_of.gave_up_is marking limits settings game here mine player new (GivenUp.Untaken other reason) by).1
 
   module _ (which : ℕ) (given : Given) (at : slice_get session.reports which ≡ Some given) (new : Surviving) where
@@ -91,7 +45,7 @@ module _ (marking : Marking) (limits : Limits) (settings : Settings) (session : 
     pub reported_taken : (other : ℕ) (reason : Settled)
         → HearsReport given.from given.report (session.survivors given.to) new (Reported.Untaken other reason) → ⊥
     reported_taken other reason by =
-        taken_reported _ other reason (is_reported (Reported.Untaken other reason) by)
+        taken_reported other reason _ (is_reported (Reported.Untaken other reason) by)
 
     pub not_excluded : HearsReport given.from given.report (session.survivors given.to) new Reported.Excluded → ⊥
     not_excluded by =

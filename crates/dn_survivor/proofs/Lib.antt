@@ -12,6 +12,8 @@ pub mod Taken
 pub mod Refusing
 pub mod Decided
 pub mod Quiet
+pub mod Tellings
+pub mod NodeAnswers
 pub mod OneGame
 pub mod Moves
 pub mod Pairs

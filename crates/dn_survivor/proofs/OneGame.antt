@@ -71,6 +71,7 @@ use Rattle.dn_survivor.proofs.Decided.{gone_can, told_can}
 use Rattle.dn_survivor.proofs.Quiet.{give_up_quiet, report_quiet, run_inputs}
 use Rattle.dn_survivor.proofs.Reports as telling
 use Rattle.dn_survivor.proofs.Steps as steps
+use Rattle.dn_survivor.proofs.Tellings.{telling_at, telling_more, told_apart}
 use Rattle.dn_survivor.proofs.Waries as waries
 
 -- one more event
@@ -93,33 +94,6 @@ read_same : {A : Type 0} (f : machine.Node → A) (nodes : ℕ → machine.Node)
     → f (put nodes i m p) ≡ values p
 read_same {A = A} f nodes values i m each same p =
     read_on f nodes values i m (values i) each (same ∙ each i) p ∙ ap (λ (g : ℕ → A). g p) (own_put values i)
-
--- a report that was given is one that was told
-telling_at : (limits : Limits) (reports : List Given) (tellings : List Telling) → AreTelling limits reports tellings
-    → (which : ℕ) (given : Given) → slice_get reports which ≡ Some given
-    → (t : Telling) × (slice_get tellings which ≡ Some t) × IsTelling limits given t
-telling_at limits [] [] h which given at = absurd (none-some given at)
-telling_at limits [] (t ∷ tellings) h which given at = absurd h
-telling_at limits (g ∷ reports) [] h which given at = absurd h
-telling_at limits (g ∷ reports) (t ∷ tellings) h zero given at =
-    (t, refl, subst (λ (x : Given). IsTelling limits x t) (cc) h.0)
-telling_at limits (g ∷ reports) (t ∷ tellings) h (suc which) given at =
-    telling_at limits reports tellings h.1 which given at
-
--- and one more is
-telling_more : (limits : Limits) (reports : List Given) (tellings : List Telling) (given : Given) (t : Telling)
-    → AreTelling limits reports tellings → IsTelling limits given t
-    → AreTelling limits (reports ++ given ∷ []) (tellings ++ t ∷ [])
-telling_more limits [] [] given t h is = (is, tt)
-telling_more limits [] (u ∷ tellings) given t h is = absurd h
-telling_more limits (g ∷ reports) [] given t h is = absurd h
-telling_more limits (g ∷ reports) (u ∷ tellings) given t h is =
-    (h.0, telling_more limits reports tellings given t h.1 is)
-
--- no report is for its sender
-told_apart : (limits : Limits) (me : ℕ) (wary : Wary) (to : ℕ) (told : Report)
-    → report_to limits me wary to ≡ Some told → me ≢ to
-told_apart limits me wary to told is e = grind (arith, is, e)
 
 module _ (marking : Marking) (limits : Limits) (settings : Settings) where
   abbrev pub rules : Rules History

@@ -21,8 +21,8 @@ fn narrow(player: u32) -> u8
 }
 
 impl<W: World> Game<W> {
-    ghost use Rattle.dn_remain_game.specs.{Contents.contents, Applied.Tells, Applied.TellsReached, Applied.IsAfter, Kept.KeepsOthers, Kept.KeepsWhose, Kept.changed_by, Survivors.GivesUpAt};
-    ghost use Rattle.dn_remain_game.specs.{Survivors.HearsAt, Told.TellsReport, Room.IsFullOfReports, Room.KeepsPosts, Room.StaysWithin, Room.room_after, Room.room_of};
+    ghost use Rattle.dn_remain_game.specs.{Contents.contents, Applied.Tells, Applied.TellsReached, Applied.IsAfter, Kept.KeepsOthers, Kept.KeepsWhose, Kept.changed_by, Leaves.Leaves, Survivors.GivesUpAt};
+    ghost use Rattle.dn_remain_game.specs.{Survivors.HearsAt, Told.TellsReport, Room.IsFullOfReports, Room.StaysWithin, Room.room_after, Room.room_of};
 
     /// A node gives up a player.
     pub(super) fn give_up(&mut self, node: u32, player: u32) -> GivenUp
@@ -31,9 +31,7 @@ impl<W: World> Game<W> {
             IsAfter W.state rules (contents self.old) (contents self.new) (gave_up rules.limits all node player)
             (Happened.GivenUp result)) }
         ensures survivor { GivesUpAt (contents self.old) (contents self.new) node player result }
-        ensures posts { KeepsPosts self.old self.new }
-        ensures whose { KeepsWhose (contents self.old) (contents self.new) }
-        ensures others { KeepsOthers (Some node) (contents self.old) (contents self.new) }
+        ensures left { Leaves (Some node) self.old self.new }
     {
         self.nodes[node as usize].give_up(narrow(player))
     }
@@ -64,11 +62,8 @@ impl<W: World> Game<W> {
             return Ok(Happened::Untold);
         };
         let which = self.reports.len();
-        self.reports.push_reserved(Telling {
-            from: node as u8,
-            to,
-            report,
-        });
+        let from = node as u8;
+        self.reports.push_reserved(Telling { from, to, report });
         Ok(Happened::Told(which))
     }
 
@@ -79,10 +74,7 @@ impl<W: World> Game<W> {
             IsAfter W.state rules (contents self.old) (contents self.new)
             (heard_at rules.limits all (slice_get all.reports which)) (Happened.Reported result)) }
         ensures survivor { HearsAt (contents self.old) (contents self.new) which result }
-        ensures posts { KeepsPosts self.old self.new }
-        ensures whose { KeepsWhose (contents self.old) (contents self.new) }
-        ensures others { KeepsOthers (changed_by (contents self.old) (Hear which)) (contents self.old)
-            (contents self.new) }
+        ensures left { Leaves (changed_by (contents self.old) (Hear which)) self.old self.new }
     {
         let telling = &self.reports[which as usize];
         let report = copied(&telling.report);

@@ -63,12 +63,9 @@ impl<W: World> Game<W> {
         let flight = &self.flights[which];
         let receiver = self.nodes[usize::from(flight.to)].survivor().lockstep();
         if !flight.aim.is_near(receiver.made()) {
-            Some(Refusal::Far)
-        } else if self.stopped(u32::from(flight.to)) {
-            Some(Refusal::Stopped)
-        } else {
-            None
+            return Some(Refusal::Far);
         }
+        self.refused_at(u32::from(flight.to))
     }
 
     /// Why the hearing of a report is refused, if it is.

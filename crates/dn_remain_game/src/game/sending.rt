@@ -11,7 +11,7 @@ use dn_machine::{Done, Heard, Refusal};
 use dn_world::World;
 
 impl<W: World> Game<W> {
-    ghost use Rattle.dn_remain_game.specs.{Contents.contents, Applied.Tells, Applied.IsAfter, Kept.KeepsOthers, Kept.KeepsWhose, Kept.changed_by_own, Room.IsFull, Room.KeepsPosts, Room.StaysWithin};
+    ghost use Rattle.dn_remain_game.specs.{Contents.contents, Applied.Tells, Applied.IsAfter, Kept.KeepsOthers, Kept.KeepsWhose, Kept.changed_by_own, Leaves.Leaves, Room.IsFull, Room.StaysWithin};
     ghost use Rattle.dn_remain_game.specs.{Room.room_after, Room.room_of};
 
     /// Asks a node for a packet, which joins those that were sent. Room for it is made first.
@@ -55,10 +55,7 @@ impl<W: World> Game<W> {
             refused_flight all.game (slice_get all.game.flights which) ≡ None
             → IsAfter W.state rules (contents self.old) (contents self.new)
             (own_unless rules all (Deliver which) (is_barred all (Deliver which))) (Done.Heard result)) }
-        ensures posts { KeepsPosts self.old self.new }
-        ensures whose { KeepsWhose (contents self.old) (contents self.new) }
-        ensures others { KeepsOthers (changed_by_own (contents self.old) (Deliver which)) (contents self.old)
-            (contents self.new) }
+        ensures left { Leaves (changed_by_own (contents self.old) (Deliver which)) self.old self.new }
     {
         let flight = &self.flights[which as usize];
         self.nodes[usize::from(flight.to)].receive(flight.from, flight.bytes.as_slice())

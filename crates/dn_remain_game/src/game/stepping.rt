@@ -2,7 +2,6 @@
 
 ghost use Rattle.std.specs.Prelude.{◌≡◌, ◌<◌, Some, None, length};
 ghost use Rattle.dn_machine.specs.declared.events.Event.TheVariants.{Build, Give, Run, Quit, Stop};
-ghost use Rattle.dn_remain_game.specs.Events.{in_game, on_own};
 
 use super::Game;
 use dn_machine::{Made, Ran};
@@ -10,18 +9,14 @@ use dn_tic::{Command, Keys};
 use dn_world::World;
 
 impl<W: World> Game<W> {
-    ghost use Rattle.dn_remain_game.specs.{Contents.contents, Applied.Tells, Applied.IsAfter, Kept.KeepsOthers, Kept.KeepsWhose, Room.KeepsPosts};
+    ghost use Rattle.dn_remain_game.specs.{Contents.contents, Applied.DoesOwn, Leaves.Leaves};
     ghost use Rattle.dn_machine.specs.declared.events.Done.TheVariants as done;
 
     /// A node builds the command of these keys.
     pub(super) fn build(&mut self, node: u32, keys: Keys) -> Made
         requires { node < length (contents self.old).nodes }
-        ensures steps { Tells W.state W.physics (contents self.old) (λ rules all.
-            IsAfter W.state rules (contents self.old) (contents self.new) (in_game all (on_own rules all (Build node keys)))
-            (done.Built result)) }
-        ensures posts { KeepsPosts self.old self.new }
-        ensures whose { KeepsWhose (contents self.old) (contents self.new) }
-        ensures others { KeepsOthers (Some node) (contents self.old) (contents self.new) }
+        ensures steps { DoesOwn W.state W.physics (contents self.old) (contents self.new) (Build node keys) (done.Built result) }
+        ensures left { Leaves (Some node) self.old self.new }
     {
         self.nodes[node as usize].build(keys)
     }
@@ -29,12 +24,8 @@ impl<W: World> Game<W> {
     /// A node takes the command that is given.
     pub(super) fn give(&mut self, node: u32, command: Command) -> Made
         requires { node < length (contents self.old).nodes }
-        ensures steps { Tells W.state W.physics (contents self.old) (λ rules all.
-            IsAfter W.state rules (contents self.old) (contents self.new) (in_game all (on_own rules all (Give node command)))
-            (done.Built result)) }
-        ensures posts { KeepsPosts self.old self.new }
-        ensures whose { KeepsWhose (contents self.old) (contents self.new) }
-        ensures others { KeepsOthers (Some node) (contents self.old) (contents self.new) }
+        ensures steps { DoesOwn W.state W.physics (contents self.old) (contents self.new) (Give node command) (done.Built result) }
+        ensures left { Leaves (Some node) self.old self.new }
     {
         self.nodes[node as usize].give(command)
     }
@@ -42,11 +33,8 @@ impl<W: World> Game<W> {
     /// A node is asked to run a tic.
     pub(super) fn run(&mut self, node: u32) -> Ran
         requires { node < length (contents self.old).nodes }
-        ensures steps { Tells W.state W.physics (contents self.old) (λ rules all.
-            IsAfter W.state rules (contents self.old) (contents self.new) (in_game all (on_own rules all (Run node))) (done.Ran result)) }
-        ensures posts { KeepsPosts self.old self.new }
-        ensures whose { KeepsWhose (contents self.old) (contents self.new) }
-        ensures others { KeepsOthers (Some node) (contents self.old) (contents self.new) }
+        ensures steps { DoesOwn W.state W.physics (contents self.old) (contents self.new) (Run node) (done.Ran result) }
+        ensures left { Leaves (Some node) self.old self.new }
     {
         self.nodes[node as usize].run()
     }
@@ -54,11 +42,8 @@ impl<W: World> Game<W> {
     /// A node quits.
     pub(super) fn quit(&mut self, node: u32) -> bool
         requires { node < length (contents self.old).nodes }
-        ensures steps { Tells W.state W.physics (contents self.old) (λ rules all.
-            IsAfter W.state rules (contents self.old) (contents self.new) (in_game all (on_own rules all (Quit node))) (done.Quit result)) }
-        ensures posts { KeepsPosts self.old self.new }
-        ensures whose { KeepsWhose (contents self.old) (contents self.new) }
-        ensures others { KeepsOthers (Some node) (contents self.old) (contents self.new) }
+        ensures steps { DoesOwn W.state W.physics (contents self.old) (contents self.new) (Quit node) (done.Quit result) }
+        ensures left { Leaves (Some node) self.old self.new }
     {
         self.nodes[node as usize].quit()
     }
@@ -66,11 +51,8 @@ impl<W: World> Game<W> {
     /// A node stops, and takes no further part.
     pub(super) fn stop(&mut self, node: u32)
         requires { node < length (contents self.old).nodes }
-        ensures steps { Tells W.state W.physics (contents self.old) (λ rules all.
-            IsAfter W.state rules (contents self.old) (contents self.new) (in_game all (on_own rules all (Stop node))) done.Stopped) }
-        ensures posts { KeepsPosts self.old self.new }
-        ensures whose { KeepsWhose (contents self.old) (contents self.new) }
-        ensures others { KeepsOthers None (contents self.old) (contents self.new) }
+        ensures steps { DoesOwn W.state W.physics (contents self.old) (contents self.new) (Stop node) done.Stopped }
+        ensures left { Leaves None self.old self.new }
     {
         self.stopped[node as usize] = true;
     }

@@ -19,16 +19,14 @@ use dn_tic::{Command, Keys};
 use dn_world::World;
 
 impl<W: World> Lived<W> {
-    ghost use Rattle.dn_machine.specs.{Building.on_build, Game.own_marks, Running.on_quit, Running.on_run_but};
+    ghost use Rattle.dn_machine.specs.{Game.own_marks, Running.on_quit, Running.on_run_but};
     ghost use Rattle.dn_survivor.specs.Calls as calls;
     ghost use Rattle.dn_survivor.specs.{Calls.HearsReport, Surviving.has_given_up, Telling.report_for};
-    ghost use Rattle.dn_remain_game.specs.Living.{GivesUp, Hears, HearsAny, HearsNear, IsGiven, StaysWhose, Steps, Tells, living, on_node};
+    ghost use Rattle.dn_remain_game.specs.Living.{Builds, GivesUp, Hears, HearsAny, HearsNear, IsGiven, StaysWhose, Steps, Tells, living, on_node};
 
     /// Builds the command of these keys for the next tic. A node that builds none stays as it is.
     pub(crate) fn build(&mut self, keys: Keys) -> Made
-        ensures step { Steps W.state W.physics (living self.old) (living self.new)
-            (λ rules me wary. on_node wary (on_build rules.limits me wary.node (Pressed keys)))
-            (λ made. result ≡ made) }
+        ensures step { Builds W.state W.physics (living self.old) (living self.new) (Pressed keys) result }
         ensures whose { StaysWhose (living self.old) (living self.new) }
     {
         self.survivor.build(keys)
@@ -36,9 +34,7 @@ impl<W: World> Lived<W> {
 
     /// Takes the given command for the next tic, where [`Lived::build`] would build one.
     pub(crate) fn give(&mut self, command: Command) -> Made
-        ensures step { Steps W.state W.physics (living self.old) (living self.new)
-            (λ rules me wary. on_node wary (on_build rules.limits me wary.node (Given command)))
-            (λ made. result ≡ made) }
+        ensures step { Builds W.state W.physics (living self.old) (living self.new) (Given command) result }
         ensures whose { StaysWhose (living self.old) (living self.new) }
     {
         self.survivor.give(command)
@@ -122,12 +118,8 @@ impl<W: World> Lived<W> {
         ensures { (player : ℕ) → player < 4
             → get_or result player (pos 0) ≡ W.physics.mark (W.state (living self.now).world) player }
     {
-        [
-            self.world.mark(0),
-            self.world.mark(1),
-            self.world.mark(2),
-            self.world.mark(3),
-        ]
+        let world = &self.world;
+        [world.mark(0), world.mark(1), world.mark(2), world.mark(3)]
     }
 
     /// Gives up a player, for good. A node that waited only for that one starts.
@@ -148,10 +140,7 @@ impl<W: World> Lived<W> {
         ensures yes { result ≡ true → (living self.now).survivor.lockstep.phase ≡ phase.Gathering }
         ensures no { result ≡ false → (living self.now).survivor.lockstep.phase ≢ phase.Gathering }
     {
-        match self.survivor.lockstep().phase() {
-            Phase::Gathering => true,
-            _ => false,
-        }
+        self.survivor.lockstep().phase() == Phase::Gathering
     }
 
     /// Whether it plays.
@@ -159,10 +148,7 @@ impl<W: World> Lived<W> {
         ensures yes { result ≡ true → (living self.now).survivor.lockstep.phase ≡ phase.Playing }
         ensures no { result ≡ false → (living self.now).survivor.lockstep.phase ≢ phase.Playing }
     {
-        match self.survivor.lockstep().phase() {
-            Phase::Playing => true,
-            _ => false,
-        }
+        self.survivor.lockstep().phase() == Phase::Playing
     }
 
     /// The next report to a player.

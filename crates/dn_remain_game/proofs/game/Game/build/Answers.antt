@@ -2,21 +2,13 @@ use Rattle.std.proofs.Common.{refl}
 use Rattle.dn_machine.specs.declared.events.Done.{Done}
 use Rattle.dn_tic.specs.declared.input.Input.TheVariants.{Pressed}
 use Rattle.dn_machine.specs.Building.{on_build}
-use Rattle.dn_remain_game.specs.Contents.{contents}
-use Rattle.dn_remain_game.proofs.Framing.{others_step}
+use Rattle.dn_remain_game.proofs.Leaving.{left_by}
 use Rattle.dn_remain_game.proofs.NodeSteps.{goes_on}
-use Rattle.dn_remain_game.proofs.Whose.{whose_step}
 use Rattle.dn_remain_game.proofs.game.Game.build.Goals as goal
 
 pub returns-clause-steps : goal.returns-clause-steps
 returns-clause-steps g c limits all r =
-    goes_on g.W.World.state g.W.World.physics (contents c.args.self.now) limits all r c.args.node _ c.build.new.self
-    (λ rules me wary. on_build rules.limits me wary.node (Pressed c.args.keys)) c.build.result Done.Built c.requires c.index_mut.ensures.value c.build.ensures.step
+    goes_on g.W.World.physics limits r c.build.new.self (λ rules me wary. on_build rules.limits me wary.node (Pressed c.args.keys)) Done.Built c.requires c.index_mut.ensures.value c.build.ensures.step
 
-pub returns-clause-whose : goal.returns-clause-whose
-returns-clause-whose g c =
-    whose_step c.args.self.now.nodes.items c.args.node _ c.build.new.self c.index_mut.ensures.value c.build.ensures.whose
-
-pub returns-clause-others : goal.returns-clause-others
-returns-clause-others g c i apart =
-    others_step c.args.self.now.nodes.items c.args.node c.build.new.self _ refl i apart
+pub returns-clause-left : goal.returns-clause-left
+returns-clause-left g c = left_by c.build.new.self (record { flights = refl; reports = refl }) refl refl c.index_mut.ensures.value c.build.ensures.whose

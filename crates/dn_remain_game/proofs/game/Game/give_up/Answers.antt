@@ -1,9 +1,8 @@
 use Rattle.std.proofs.Common.{refl}
 use Rattle.dn_remain_game.specs.Contents.{contents}
-use Rattle.dn_remain_game.proofs.Framing.{others_step}
 use Rattle.dn_remain_game.proofs.GivingUp.{gives_up}
+use Rattle.dn_remain_game.proofs.Leaving.{left_by_giving}
 use Rattle.dn_remain_game.proofs.Surviving.{gives_up_at}
-use Rattle.dn_remain_game.proofs.Whose.{given_step}
 use Rattle.dn_remain_game.proofs.game.Game.give_up.Goals as goal
 
 pub returns-clause-steps : goal.returns-clause-steps
@@ -18,11 +17,7 @@ returns-clause-survivor g c =
     c.give_up.result c.requires c.index_mut.ensures.value c.narrow.ensures.small c.narrow.ensures.large
     c.give_up.ensures.survivor
 
-pub returns-clause-whose : goal.returns-clause-whose
-returns-clause-whose g c =
-    given_step c.args.self.now.nodes.items c.args.node _ c.give_up.new.self c.narrow.result c.give_up.result
-    c.index_mut.ensures.value c.give_up.ensures.survivor
-
-pub returns-clause-others : goal.returns-clause-others
-returns-clause-others g c i apart =
-    others_step c.args.self.now.nodes.items c.args.node c.give_up.new.self _ refl i apart
+pub returns-clause-left : goal.returns-clause-left
+returns-clause-left g c =
+    left_by_giving c.give_up.new.self c.narrow.result c.give_up.result (record { flights = refl; reports = refl }) refl
+    refl c.index_mut.ensures.value c.give_up.ensures.survivor

@@ -1,46 +1,40 @@
-use Rattle.std.proofs.Common.{◌<◌, length, arith}
+use Rattle.std.proofs.Common.{refl, arith}
 use Rattle.dn_remain_game.specs.declared.under_way.Telling.{Telling}
 use Rattle.dn_remain_game.specs.Contents.{contents}
-use Rattle.dn_remain_game.proofs.Framing.{others_step, receiver_of}
+use Rattle.dn_remain_game.specs.Living.{living}
+use Rattle.dn_remain_game.proofs.Framing.{receiver_of}
+use Rattle.dn_remain_game.proofs.Leaving.{left_by}
 use Rattle.dn_remain_game.proofs.Reporting.{hears_report}
-use Rattle.dn_remain_game.proofs.Standing.{all_read}
+use Rattle.dn_remain_game.proofs.Standing.{receiver_below}
 use Rattle.dn_remain_game.proofs.Surviving.{hears_at}
-use Rattle.dn_remain_game.proofs.Whose.{heard_step}
+use Rattle.dn_remain_game.proofs.Whose.{whose_heard}
 use Rattle.dn_remain_game.proofs.game.Game.hear.Goals as goal
 
 pub index_mut-requires : goal.index_mut-requires
 index_mut-requires g c =
     let n = c.args.self.now in
-    let small = all_read (λ (t : Telling). t.to < length n.nodes.items) n.reports.items c.args.which _ n.hearers
-    c.requires c.index-telling.ensures in
-    omega (arith, small, c.from.ensures)
+    omega (arith, receiver_below (λ (t : Telling). t.to) _ _ _ n.hearers c.requires c.index-telling.ensures c.from.ensures)
 
 pub returns-clause-steps : goal.returns-clause-steps
 returns-clause-steps g c limits settings events answers reached =
     let n = c.args.self.now in
-    let small = all_read (λ (t : Telling). t.to < length n.nodes.items) n.reports.items c.args.which _ n.hearers
-    c.requires c.index-telling.ensures in
     hears_report g.W.World.state g.W.World.physics (contents n) limits settings events answers reached c.args.which
     c.from.result _ c.copied-report.result _ c.hear.new.self c.hear.result c.requires c.index-telling.ensures
-    c.from.ensures c.copied-report.ensures (omega (arith, small, c.from.ensures)) c.index_mut.ensures.value
-    c.hear.ensures.step
+    c.from.ensures c.copied-report.ensures
+    (receiver_below (λ (t : Telling). t.to) _ _ _ n.hearers c.requires c.index-telling.ensures c.from.ensures)
+    c.index_mut.ensures.value c.hear.ensures.step
 
 pub returns-clause-survivor : goal.returns-clause-survivor
 returns-clause-survivor g c =
     let n = c.args.self.now in
-    let small = all_read (λ (t : Telling). t.to < length n.nodes.items) n.reports.items c.args.which _ n.hearers
-    c.requires c.index-telling.ensures in
     hears_at (contents n) c.args.which c.from.result _ c.copied-report.result _ c.hear.new.self c.hear.result
-    c.requires c.index-telling.ensures c.from.ensures c.copied-report.ensures (omega (arith, small, c.from.ensures))
+    c.requires c.index-telling.ensures c.from.ensures c.copied-report.ensures
+    (receiver_below (λ (t : Telling). t.to) _ _ _ n.hearers c.requires c.index-telling.ensures c.from.ensures)
     c.index_mut.ensures.value c.hear.ensures.survivor
 
-pub returns-clause-whose : goal.returns-clause-whose
-returns-clause-whose g c =
-    heard_step c.args.self.now.nodes.items c.from.result _ c.hear.new.self _ c.copied-report.result c.hear.result
-    c.index_mut.ensures.value c.hear.ensures.survivor
-
-pub returns-clause-others : goal.returns-clause-others
-returns-clause-others g c i apart =
-    others_step c.args.self.now.nodes.items c.from.result c.hear.new.self _
+pub returns-clause-left : goal.returns-clause-left
+returns-clause-left g c =
+    left_by c.hear.new.self (record { flights = refl; reports = refl }) refl
     (receiver_of (λ (t : Telling). t.to) c.args.self.now.reports.items c.args.which c.from.result _ c.requires
-    c.index-telling.ensures c.from.ensures) i apart
+    c.index-telling.ensures c.from.ensures) c.index_mut.ensures.value
+    (whose_heard _ (living c.hear.new.self).survivor _ c.copied-report.result c.hear.result c.hear.ensures.survivor)

@@ -2,21 +2,13 @@ use Rattle.std.proofs.Common.{refl}
 use Rattle.dn_machine.specs.declared.events.Done.{Done}
 use Rattle.dn_machine.specs.Game.{own_marks}
 use Rattle.dn_machine.specs.Running.{on_run_but}
-use Rattle.dn_remain_game.specs.Contents.{contents}
-use Rattle.dn_remain_game.proofs.Framing.{others_step}
+use Rattle.dn_remain_game.proofs.Leaving.{left_by}
 use Rattle.dn_remain_game.proofs.NodeSteps.{goes_on}
-use Rattle.dn_remain_game.proofs.Whose.{whose_step}
 use Rattle.dn_remain_game.proofs.game.Game.run.Goals as goal
 
 pub returns-clause-steps : goal.returns-clause-steps
 returns-clause-steps g c limits all r =
-    goes_on g.W.World.state g.W.World.physics (contents c.args.self.now) limits all r c.args.node _ c.run.new.self
-    (λ rules me wary. on_run_but rules.limits wary.gone wary.node (own_marks rules wary.node)) c.run.result Done.Ran c.requires c.index_mut.ensures.value c.run.ensures.step
+    goes_on g.W.World.physics limits r c.run.new.self (λ rules me wary. on_run_but rules.limits wary.gone wary.node (own_marks rules wary.node)) Done.Ran c.requires c.index_mut.ensures.value c.run.ensures.step
 
-pub returns-clause-whose : goal.returns-clause-whose
-returns-clause-whose g c =
-    whose_step c.args.self.now.nodes.items c.args.node _ c.run.new.self c.index_mut.ensures.value c.run.ensures.whose
-
-pub returns-clause-others : goal.returns-clause-others
-returns-clause-others g c i apart =
-    others_step c.args.self.now.nodes.items c.args.node c.run.new.self _ refl i apart
+pub returns-clause-left : goal.returns-clause-left
+returns-clause-left g c = left_by c.run.new.self (record { flights = refl; reports = refl }) refl refl c.index_mut.ensures.value c.run.ensures.whose

@@ -1,19 +1,10 @@
-use Rattle.std.proofs.Common.{◌≡◌, refl}
 use Rattle.dn_tic.specs.declared.input.Input.TheVariants.{Given}
-use Rattle.dn_machine.specs.Building.{on_build}
-use Rattle.dn_remain_game.proofs.Beside.{build_beside}
-use Rattle.dn_survivor.specs.Surviving.{surviving}
-use Rattle.dn_remain_game.specs.Living.{living}
-use Rattle.dn_remain_game.proofs.Stepping.{steps_alone}
+use Rattle.dn_remain_game.proofs.Stepping.{builds_alone}
 use Rattle.dn_remain_game.proofs.lived.Lived.give.Goals as goal
 
 pub returns-clause-step : goal.returns-clause-step
-returns-clause-step g c = steps_alone g.W.World.state g.W.World.physics (living c.args.self.now)
-    (record { survivor = surviving c.give.new.self; world = c.args.self.now.world })
-    (λ limits me m. on_build limits me m (Given c.args.command)) (λ made. c.give.result ≡ made)
-    c.give.ensures.step c.give.ensures.others
-    c.give.new.self.lockstep.known refl
-    (λ limits me m. build_beside limits me m (Given c.args.command))
+returns-clause-step g c = builds_alone g.W.World.state g.W.World.physics c.args.self.now c.give.new.self
+    (Given c.args.command) c.give.result c.give.ensures.step c.give.ensures.others
 
 pub returns-clause-whose : goal.returns-clause-whose
 returns-clause-whose g c = c.give.ensures.step.same

@@ -1,8 +1,7 @@
-use Rattle.std.proofs.Common.{◌≡◌, ◌≢◌, ℕ, refl, ap, sym, ◌∙◌, subst}
+use Rattle.std.proofs.Common.{◌≡◌, ◌≢◌, ℕ, refl, ap, sym, ◌∙◌}
 use Rattle.dn_setup.specs.Starts.{start_of}
 use Rattle.dn_machine.specs.declared.answers.Heard.{Heard}
 use Rattle.dn_lockstep.specs.Contents.{whose}
-use Rattle.dn_lockstep.specs.Hearing as lockstep
 use Rattle.dn_lockstep.specs.Rows.{seats_of}
 use Rattle.dn_survivor.specs.Surviving.{Surviving, surviving}
 use Rattle.dn_remain_game.specs.Living.{Living, living}
@@ -35,19 +34,13 @@ pub returns-in-Started-clause-any : goal.returns-in-Started-clause-any
 returns-in-Started-clause-any g c free =
     hears_any g.W.World.state g.W.World.physics (living c.args.self.now) (living c.begin.new.self)
     c.receive-heard.result (started g (goal.at.returns-in-Started-clause-any g c).After-begin) c.args.from
-    c.args.bytes.now
-    (subst (λ (s : Surviving). lockstep.HearsAny c.args.from c.args.bytes.now
-    (surviving c.args.self.now.survivor).lockstep s.lockstep c.receive-heard.result) (sym c.begin.ensures.rest)
-    (c.receive-heard.ensures.any free))
+    c.args.bytes.now _ c.begin.ensures.rest (c.receive-heard.ensures.any free)
 
 pub returns-in-Started-clause-near : goal.returns-in-Started-clause-near
 returns-in-Started-clause-near g c free =
     hears g.W.World.state g.W.World.physics (living c.args.self.now) (living c.begin.new.self)
     c.receive-heard.result (started g (goal.at.returns-in-Started-clause-near g c).After-begin) c.args.from
-    c.args.bytes.now
-    (subst (λ (s : Surviving). lockstep.HearsNear c.args.from c.args.bytes.now
-    (surviving c.args.self.now.survivor).lockstep s.lockstep c.receive-heard.result) (sym c.begin.ensures.rest)
-    (c.receive-heard.ensures.near free))
+    c.args.bytes.now _ c.begin.ensures.rest (c.receive-heard.ensures.near free)
 
 -- it stays whose it is
 same_whose : (g : Over) (c : After-receive-heard g)
@@ -84,9 +77,9 @@ returns-in_default g c =
     record { survivor = surviving c.receive-heard.new.self; world = c.args.self.now.world } in
     record {
       any = λ free. hears_any g.W.World.state g.W.World.physics (living c.args.self.now) new c.receive-heard.result
-          has c.args.from c.args.bytes.now (c.receive-heard.ensures.any free);
+          has c.args.from c.args.bytes.now _ refl (c.receive-heard.ensures.any free);
       near = λ free. hears g.W.World.state g.W.World.physics (living c.args.self.now) new c.receive-heard.result has
-          c.args.from c.args.bytes.now (c.receive-heard.ensures.near free);
+          c.args.from c.args.bytes.now _ refl (c.receive-heard.ensures.near free);
       barred = λ gone. let is = c.receive-heard.ensures.barred gone in (
         is,
         ap (λ (s : Surviving). record { survivor = s; world = c.args.self.now.world })
