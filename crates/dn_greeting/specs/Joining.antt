@@ -52,14 +52,8 @@ one_more joiner = record joiner { calls = min (joiner.calls + 1) 4294967295 }
 
 -- the call of that number
 abbrev pub call_of : Joining → Call
-call_of joiner =
-    record {
-      mark = joiner.mark;
-      number = joiner.calls;
-      seat = joiner.seat;
-      players = joiner.players;
-      cookie = joiner.cookie;
-    }
+call_of j =
+    record { mark = j.mark; number = j.calls; seat = j.seat; players = j.players; cookie = j.cookie }
 
 -- the answer to a later call than that of the answer that it has
 abbrev pub is_later : Option Answer → ℕ → Bool

@@ -61,14 +61,7 @@ contents lockstep =
 -- the limits of its game: a packet carries twelve commands at most
 abbrev pub limits_of : Contents → Limits
 limits_of n =
-    record {
-      players = n.players;
-      extra = n.extra;
-      capacity = n.capacity;
-      ahead = n.ahead;
-      places = n.places;
-      most = 12;
-    }
+    record { players = n.players; extra = n.extra; capacity = n.capacity; ahead = n.ahead; places = n.places; most = 12 }
 
 -- whose a lockstep is, and of what game
 pub record Whose : Type 0 where

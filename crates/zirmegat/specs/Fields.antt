@@ -19,15 +19,7 @@ command_told None = fields (pos 0) (pos 0) (pos 0) (pos 0) 0 0
 
 abbrev pub command_in : CommandFields → TicCmd
 command_in f =
-    record {
-      forward = f.forward;
-      side = f.side;
-      turn = f.turn;
-      mark = f.mark;
-      chat = f.chat;
-      buttons =
-          f.buttons;
-    }
+    record { forward = f.forward; side = f.side; turn = f.turn; mark = f.mark; chat = f.chat; buttons = f.buttons }
 
 -- what twelve places have
 abbrev pub twelve : {A : Type 0} → (ℕ → A) → List A
