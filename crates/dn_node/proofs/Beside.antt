@@ -26,12 +26,7 @@ pub record IsBeside (m after : machine.Node) : Type 0 where
 
 abbrev pub is_start : Heard → Bool
 is_start Heard.Started = true
-is_start Heard.Noted = false
-is_start Heard.Gap = false
-is_start Heard.Stale = false
-is_start Heard.Left = false
-is_start (Heard.Taken count) = false
-is_start (Heard.Dropped number) = false
+is_start other = false
 
 -- whoever hears a datagram goes on beside the same world, or starts, having run nothing
 pub data Hears (m : machine.Node) (after : machine.Node × Heard) : Type 0 where

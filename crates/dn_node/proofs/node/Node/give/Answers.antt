@@ -1,4 +1,4 @@
-use Rattle.std.proofs.Common.{refl, rules}
+use Rattle.std.proofs.Common.{refl}
 use Rattle.dn_tic.specs.declared.input.Input.TheVariants.{Given}
 use Rattle.dn_lockstep.specs.Contents as lockstep
 use Rattle.dn_node.specs.Contents.{contents, with_world}
@@ -10,12 +10,3 @@ returns-clause-step g c =
     builds g.W.World.state g.W.World.physics (contents c.args.self.now)
     (with_world (lockstep.contents c.give.new.self) c.args.self.now.world) (Given c.args.command)
     c.give.result c.give.ensures.step refl
-
-pub returns-clause-full : goal.returns-clause-full
-returns-clause-full g c = search rules
-
-pub returns-clause-idle : goal.returns-clause-idle
-returns-clause-idle g c = search rules
-
-pub returns-clause-world : goal.returns-clause-world
-returns-clause-world g c = search rules
