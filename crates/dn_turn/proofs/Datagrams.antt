@@ -7,12 +7,15 @@ use Rattle.dn_setup.specs.Settings.{Settings}
 use Rattle.dn_setup.specs.Setup.{Told}
 use Rattle.dn_setup.specs.declared.setup.SetupFault.{SetupFault}
 use Rattle.dn_setup.specs.declared.setup.SetupFault.TheVariants.{NotSetup}
+use Rattle.dn_line.specs.Counts.{Done}
 use Rattle.dn_line.specs.declared.line.Datagram.{Datagram}
 use Rattle.dn_line.specs.declared.line.LineFault.{LineFault}
 use Rattle.dn_machine.specs.Worlds.{Rules}
 use Rattle.dn_machine.specs.Node as machine
 use Rattle.dn_lockstep.specs.Received.{IsTold}
-use Rattle.dn_turn.specs.Hearing.{Reading, Polls, Receives, Hears}
+use Rattle.dn_node.specs.Contents.{Contents}
+use Rattle.dn_turn.specs.Hearing.{Ends, Hears, IsHeard, Polls, Reading, Receives, most_polls}
+use Rattle.dn_turn.specs.Leading.{IsLed}
 
 -- settings or a fault that is told by what was read
 abbrev Telling : Result Packet PacketFault → Type 0
@@ -35,6 +38,18 @@ heard_more polls rules me heard datagram old mid new before polled received =
     let P : ℕ → Type 0 = λ k. Hears polls rules me k old new in
     let next : suc heard ≡ heard + 1 = omega arith in
     subst P next (mid, before, record { datagram = datagram; polled = polled; received = received })
+
+-- the datagrams so far are all that are heard, where the polls end so
+pub all_heard : {W S L : Type 0} (polls : Polls L) (state : W → S) (rules : Rules S) (me : ℕ) (n : Contents W)
+    (m : machine.Node) (old between new : L) (heard failed : ℕ) (ending : Option (Result Done LineFault))
+    → IsLed state rules me n (λ after. Hears polls rules me heard (m, old) (after, between))
+    → Ends polls me heard (most_polls rules.players) ending between new failed
+    → IsLed state rules me n (λ after. IsHeard polls rules me (m, old) (after, new) heard failed)
+all_heard polls state rules me n m old between new heard failed ending so_far ends = record {
+  after = so_far.after;
+  node = so_far.node;
+  leads = record { between = between; hears = so_far.leads; ending = ending; ends = ends };
+}
 
 -- a poll by its player's number and its answer, as they are written
 pub polled_as : {L : Type 0} (polls : Polls L) (old new : L) (n me : ℕ)

@@ -4,44 +4,26 @@ use Rattle.dn_line.specs.declared.line.Datagram.{Datagram}
 use Rattle.dn_line.specs.declared.line.LineFault.{LineFault}
 use Rattle.dn_machine.specs.Worlds.{rules_within}
 use Rattle.dn_turn.specs.Hearing.{IsHeard, most_polls}
-use Rattle.dn_turn.proofs.Datagrams.{heard_more, polled_as}
+use Rattle.dn_turn.proofs.Datagrams.{all_heard, heard_more, polled_as}
 use Rattle.dn_turn.proofs.hearing.hear_all.Goals as goal
 
 pub returns-in-Ok-None-clause-heard : goal.returns-in-Ok-None-clause-heard
 returns-in-Ok-None-clause-heard g c limits me m r =
-    let so_far = c.loop-heard.invariant.3 limits me m r in
     let said = polled_as g.L.Line.polls _ _ _ _ _ _ (c.me-me.ensures ∙ r.lockstep.whose.number)
     (c.in-Ok-None.is ∙ ap Ok c.in-Ok-None.field-0-is) c.poll.ensures.polled in
     let most = c.loop-heard.invariant.1 ∙ ap most_polls r.lockstep.whose.players in
     let few : c.loop-heard.heard < most_polls limits.players = omega (arith, c.loop-heard-test.true, most) in
-    record {
-      after = so_far.after;
-      node = so_far.node;
-      leads = record {
-        between = c.loop-heard.line;
-        hears = so_far.leads;
-        ending = Some (Ok tt);
-        ends = (few, said, refl);
-      };
-    }
+    all_heard g.L.Line.polls g.W.World.state (rules_within g.W.World.physics limits) me _ m _ _ _ _ _ (Some (Ok tt))
+    (c.loop-heard.invariant.3 limits me m r) (few, said, refl)
 
 pub returns-in-Err-clause-heard : goal.returns-in-Err-clause-heard
 returns-in-Err-clause-heard g c limits me m r =
-    let so_far = c.loop-heard.invariant.3 limits me m r in
     let said = polled_as g.L.Line.polls _ _ _ _ _ _ (c.me-me.ensures ∙ r.lockstep.whose.number) c.in-Err.is
     c.poll.ensures.polled in
     let most = c.loop-heard.invariant.1 ∙ ap most_polls r.lockstep.whose.players in
     let few : c.loop-heard.heard < most_polls limits.players = omega (arith, c.loop-heard-test.true, most) in
-    record {
-      after = so_far.after;
-      node = so_far.node;
-      leads = record {
-        between = c.loop-heard.line;
-        hears = so_far.leads;
-        ending = Some (Err _);
-        ends = (few, said, refl);
-      };
-    }
+    all_heard g.L.Line.polls g.W.World.state (rules_within g.W.World.physics limits) me _ m _ _ _ _ _ (Some (Err _))
+    (c.loop-heard.invariant.3 limits me m r) (few, said, refl)
 
 pub loop-heard-preserved : goal.loop-heard-preserved
 loop-heard-preserved g c =
