@@ -1,14 +1,13 @@
 -- A packet asks for commands again from the tic that its datagram tells, or not at all.
-use Rattle.std.proofs.Common.{◌≡◌, ◌≢◌, ◌≤◌, ◌<◌, ◌+◌, ◌*◌, ◌/◌, ◌%◌, ◌^◌, ◌⊎◌, ◌&&◌, ◌||◌, ℕ, Bool, true, false, List, refl, ap, sym, ◌∙◌, arith, Option, Some, None, inl, inr}
+use Rattle.std.proofs.Common.{◌≡◌, ◌≢◌, ◌≤◌, ◌<◌, ◌/◌, ◌%◌, ◌⊎◌, ◌&&◌, ◌||◌, ℕ, Bool, true, false, List, refl, ap, sym, ◌∙◌, arith, Option, Some, None, inl, inr}
 use Rattle.std.specs.Prelude.{if◌then◌else◌, not, ◌==◌, bit_and, is_some, nat_lt, slice_index, Result, Ok, Err}
-use Rattle.std.proofs.Math.Nat.{mod-lt}
 use Rattle.std.proofs.lemmas.Bool.{and_parts, eq-eqb, eqb-true, true≢false}
 use Rattle.std.proofs.lemmas.Option.{none-some}
 use Rattle.dn_tic.specs.Tics.{exact_tic}
 use Rattle.dn_packet.specs.declared.packet.Packet.{Packet}
 use Rattle.dn_packet.specs.declared.packet.PacketFault.{PacketFault}
 use Rattle.dn_packet.specs.Flags as flag
-use Rattle.dn_packet.specs.Text.{text, sum_of, body_of, weighted, words}
+use Rattle.dn_packet.specs.Text.{text}
 use Rattle.dn_setup.specs.Settings.{Settings}
 use Rattle.dn_setup.specs.declared.setup.SetupFault.{SetupFault}
 use Rattle.dn_machine.specs.declared.answers.Phase.{Phase}
@@ -24,20 +23,12 @@ use Rattle.dn_lockstep.specs.Received.{flight_from, heard_as, read_flight, recei
 use Rattle.dn_seal.specs.declared.opened.Opened.{Opened}
 use Rattle.dn_open.specs.Arrivals.{IsRead, asks_alike, flag_in, heard, is_alike, on_opened}
 use Rattle.dn_open.specs.declared.arrived.Arrived.{Arrived}
+use Rattle.dn_open.proofs.Alikes.{flags_at}
 use Rattle.dn_link.proofs.Sending.{packet_asked, packet_made, resend_of}
 
 -- a close tic is read from its low byte
 read_close : (made tic : ℕ) → is_close made tic ≡ true → exact_tic made (tic % 256) ≡ Some tic
 read_close made tic close = grind arith
-
--- the upper half of the fourth byte has the flags
-flags_at : (p : Packet) → p.flags < 16 → slice_index (text p) 3 / 16 ≡ p.flags
-flags_at p few =
-    let sum : sum_of (body_of p) < 2 ^ 28 = mod-lt (0x1234567 + weighted 1 (words (body_of p))) (omega arith) in
-    fourth p.flags (sum_of (body_of p)) few sum
-  where
-    fourth : (flags sum : ℕ) → flags < 16 → sum < 2 ^ 28 → (flags * 2 ^ 28 + sum) / 2 ^ 24 % 256 / 16 ≡ flags
-    fourth flags sum few low = omega arith
 
 -- what is heard is a packet of this sender, which asks for what its bytes do, or for nothing
 abbrev IsOf : ℕ → ℕ → Packet → Flight → Type 0

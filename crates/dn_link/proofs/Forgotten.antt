@@ -61,20 +61,20 @@ module _ (old : Linked) where
         }) off)) ∙ is
       ]
 
-  pub forgets_node : (peer : ℕ) → (forgotten peer old).node ≡ old.node
-  forgets_node peer = go (is_peer old.node peer)
+  -- and nothing but the peers
+  pub forgets_but_peers : {A : Type 0} (view : Linked → A)
+      → ((peers : ℕ → PeerState) → view (record old { peers = peers }) ≡ view old)
+      → (peer : ℕ) → view (forgotten peer old) ≡ view old
+  forgets_but_peers view blind peer = go (is_peer old.node peer)
     where
-      go : (test : Bool) → (if test then record old {
+      go : (test : Bool) → view (if test then record old {
         peers = put old.peers peer (record (old.peers peer) { presence = when_forgotten (old.peers peer).gave old.node.phase (old.peers peer).presence });
-      } else old).node ≡ old.node
-      go true = refl
+      } else old) ≡ view old
+      go true = blind _
       go false = refl
 
+  pub forgets_node : (peer : ℕ) → (forgotten peer old).node ≡ old.node
+  forgets_node peer = forgets_but_peers (λ (l : Linked). l.node) (λ peers. refl) peer
+
   pub forgets_others : (peer : ℕ) → (forgotten peer old).others ≡ old.others
-  forgets_others peer = go (is_peer old.node peer)
-    where
-      go : (test : Bool) → (if test then record old {
-        peers = put old.peers peer (record (old.peers peer) { presence = when_forgotten (old.peers peer).gave old.node.phase (old.peers peer).presence });
-      } else old).others ≡ old.others
-      go true = refl
-      go false = refl
+  forgets_others peer = forgets_but_peers (λ (l : Linked). l.others) (λ peers. refl) peer

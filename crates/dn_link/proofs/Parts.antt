@@ -89,17 +89,12 @@ counts_is _ fits long = absurd (omega arith)
 
 flag_is : (byte : ℕ) (flag : Bool) → told_flag byte ≡ Some flag → byte ≡ flag_byte flag
 flag_is byte flag e = elim (cases_eq byte 1) [
-  | inl one ↦
-      let on = eq-eqb byte 1 one in
-      let told : true ≡ flag = same_Some true flag (rw on at e) in
-      one ∙ ap flag_byte told
+  | inl one ↦ let on = eq-eqb byte 1 one in one ∙ ap flag_byte (same_Some true flag (rw on at e))
   | inr other ↦
       let off = ne_eqb byte 1 other in
       elim (cases_eq byte 0) [
         | inl none ↦
-            let on = eq-eqb byte 0 none in
-            let told : false ≡ flag = same_Some false flag (rw (off, on) at e) in
-            none ∙ ap flag_byte told
+            let on = eq-eqb byte 0 none in none ∙ ap flag_byte (same_Some false flag (rw (off, on) at e))
         | inr more ↦
             let off_0 = ne_eqb byte 0 more in
             let none : ◌≡◌ {A = Option Bool} None (Some flag) = rw (off, off_0) at e in
@@ -112,7 +107,9 @@ length-identity identity host = omega (arith, host)
 
 pub identity_back : (identity : Identity) (rest : List ℕ) → IsIdentity identity
     → told_identity (identity_bytes identity ++ rest) ≡ Some identity
-identity_back identity rest is = go identity.extra
+identity_back identity rest is =
+    ap (option_map told) (flag_back identity.extra)
+    ∙ (λ i. Some (record identity { limit = limit i; host = host i }))
   where
     limit : from_le_bytes w32 (to_le_bytes w32 identity.limit) ≡ identity.limit
     limit = from_le_bytes-to_le_bytes_4 identity.limit is.limit
@@ -120,22 +117,16 @@ identity_back identity rest is = go identity.extra
     host : take 16 (identity.host ++ rest) ≡ identity.host
     host = ap (λ (n : ℕ). take n (identity.host ++ rest)) (sym is.host) ∙ take-append_seam identity.host rest
 
-    go : (extra : Bool) → told_identity (identity_bytes (record identity { extra = extra }) ++ rest)
-        ≡ Some (record identity { extra = extra })
-    go true = λ i. Some (record {
-      players = identity.players;
-      extra = true;
-      ahead = identity.ahead;
-      limit = limit i;
-      host = host i;
-    })
-    go false = λ i. Some (record {
-      players = identity.players;
-      extra = false;
-      ahead = identity.ahead;
-      limit = limit i;
-      host = host i;
-    })
+    told : Bool → Identity
+    told extra = record identity {
+      extra = extra;
+      limit = from_le_bytes w32 (to_le_bytes w32 identity.limit);
+      host = take 16 (identity.host ++ rest);
+    }
+
+    flag_back : (extra : Bool) → told_flag (flag_byte extra) ≡ Some extra
+    flag_back true = refl
+    flag_back false = refl
 
 -- what is read as an identity is its bytes
 pub record Identified (bytes : List ℕ) (identity : Identity) : Type 0 where

@@ -45,12 +45,6 @@ module _ (marking : Marking) (limits : Limits) (settings : Settings) (session : 
   node : old.node ≡ session.locksteps player
   node = base.node marking limits settings session links player linked mine
 
-  own : old.node.me ≡ player
-  own = base.own marking limits settings session links player linked mine
-
-  same_much : (new : Contents) → new ≡ session.locksteps player → HasAsMuch player (session.locksteps player) new
-  same_much = base.same_much marking limits settings session links player linked mine
-
   left_on : (later : Session) → IsLater session later → (peer cause : ℕ) → (old.peers peer).presence ≡ Left cause
       → has_ended (later.locksteps peer) ≡ true
   left_on = base.left_on marking limits settings session links player linked mine
@@ -88,7 +82,10 @@ module _ (marking : Marking) (limits : Limits) (settings : Settings) (session : 
               linked.game all heard,
         )
     by_heard bundle new started all false stays =
-        let same = stays.0 ∙ node in (kept_game new.node same, same_much new.node same)
+        let same = stays.0 ∙ node in (
+          kept_game new.node same,
+          base.same_much marking limits settings session links player linked mine new.node same,
+        )
 
     taken_in : (identity : Identity) (fresh : Bool) (bundle : Bundle) (new : Linked) (presence : Presence)
         (differs started : Bool) → All (WasGiven session.given player) (packets_in bundle)
@@ -185,4 +182,5 @@ module _ (marking : Marking) (limits : Limits) (settings : Settings) (session : 
         × IsLater session (with_lockstep session player new.node)
     received seal identity pace bytes new answer genuine receives =
         received_as seal identity pace bytes new answer genuine receives.0
-        (subst (λ (k : ℕ). IsBundledAs (sealing_of seal k) bytes receives.0) own receives.1) receives.2
+        (subst (λ (k : ℕ). IsBundledAs (sealing_of seal k) bytes receives.0)
+        (base.own marking limits settings session links player linked mine) receives.1) receives.2

@@ -167,6 +167,21 @@ later_by session later player new locksteps given much =
       ];
     }
 
+-- what the links keep was given later, too, where what another link keeps that takes the place of one was
+pub all_put : (given later : List Flight) → ((which : ℕ) (flight : Flight) → slice_get given which ≡ Some flight
+    → slice_get later which ≡ Some flight) → (links : ℕ → Linked) (player : ℕ) (new : Linked)
+    → ((peer : ℕ) → AreGiven later player peer (new.peers peer).kept.packets) → (other peer : ℕ)
+    → AreGiven given other peer ((links other).peers peer).kept.packets
+    → AreGiven later other peer ((put links player new other).peers peer).kept.packets
+all_put given later stay links player new kept other peer was = elim (cases_eq other player) [
+  | inl at ↦ subst (λ (l : Linked). AreGiven later other peer (l.peers peer).kept.packets)
+      (sym (put_at links player other new at))
+      (subst (λ (k : ℕ). AreGiven later k peer (new.peers peer).kept.packets) (sym at) (kept peer))
+  | inr off ↦ subst (λ (l : Linked). AreGiven later other peer (l.peers peer).kept.packets)
+      (sym (put_off links player other new off))
+      (all_later given later stay other peer ((links other).peers peer).kept.packets was)
+]
+
 -- a link is another now, and the session another
 pub relinked : (marking : Marking) (limits : Limits) (settings : Settings) (session later : Session)
     (links : ℕ → Linked) (player : ℕ) (new : Linked) → AreLinked marking limits settings session links
@@ -186,15 +201,8 @@ relinked marking limits settings session later links player new linked game lock
         | inr off ↦ ap (λ (l : Linked). l.node) (put_off links player other new off) ∙ linked.nodes other below
             ∙ sym (ap (λ (f : ℕ → Contents). f other) locksteps ∙ put_off session.locksteps player other new.node off)
       ];
-      kept = λ other peer below. elim (cases_eq other player) [
-        | inl at ↦ subst (λ (l : Linked). AreGiven later.given other peer (l.peers peer).kept.packets)
-            (sym (put_at links player other new at))
-            (subst (λ (k : ℕ). AreGiven later.given k peer (new.peers peer).kept.packets) (sym at) (kept peer))
-        | inr off ↦ subst (λ (l : Linked). AreGiven later.given other peer (l.peers peer).kept.packets)
-            (sym (put_off links player other new off))
-            (all_later session.given later.given is.given other peer ((links other).peers peer).kept.packets
-            (linked.kept other peer below))
-      ];
+      kept = λ other peer below. all_put session.given later.given is.given links player new kept other peer
+          (linked.kept other peer below);
       reported = λ other peer which below apart. elim (cases_eq other player) [
         | inl at ↦ subst (λ (l : Linked). slice_index (l.peers peer).reported which ≤ has_of (later.locksteps peer) which)
             (sym (put_at links player other new at)) (told peer which apart)

@@ -1,8 +1,6 @@
 -- What was sealed in a game in which players may be given up.
-use Rattle.std.proofs.Common.{◌≡◌, ℕ, List, [], refl, ap, sym, subst, arith, All, inl, inr}
+use Rattle.std.proofs.Common.{◌≡◌, ℕ, List, ap, arith, inl, inr}
 use Rattle.std.specs.Prelude.{Result, Ok, Err, slice_index}
-use Rattle.std.specs.List.{flat_map}
-use Rattle.std.proofs.lemmas.List.Elements.{All-nil}
 use Rattle.dn_survivor.specs.Session.{Session}
 use Rattle.dn_seal.specs.declared.seal.Seal.{Seal}
 use Rattle.dn_notice.specs.declared.fault.ReportDatagramFault.{ReportDatagramFault}
@@ -11,12 +9,9 @@ use Rattle.dn_notice.proofs.Openings.{one_opening}
 use Rattle.dn_open.specs.Sealed.{sealing_of}
 use Rattle.dn_link.specs.declared.bundle.Bundle.{Bundle}
 use Rattle.dn_link.specs.declared.bundle.BundleFault.{BundleFault}
-use Rattle.dn_link.specs.declared.bundle.Part.{Part}
-use Rattle.dn_link.specs.Bundles.{WasGiven}
-use Rattle.dn_link.specs.Packets.{packets_in, packets_of}
+use Rattle.dn_link.specs.Packets.{packets_in}
 use Rattle.dn_link.specs.Reading.{IsBundledAs}
 use Rattle.dn_link.specs.RemainingLinks.{IsGenuineIn, KeepsGiven, WasSealedIn}
-use Rattle.dn_link.specs.Text.{IsBundle, sealed_bytes}
 use Rattle.dn_link.proofs.Genuine.{opened_later}
 use Rattle.dn_link.proofs.Noticed.{not_both}
 use Rattle.dn_link.proofs.Openings.{only_bundle}
@@ -41,17 +36,6 @@ module _ (seal : Seal) (session : Session) where
       )
   stay later bytes stays (inr (which, given, found, proper, is)) =
       inr (which, given, stays.reports which given found, proper, is)
-
-  pub empty : (bundle : Bundle) → IsBundle bundle → bundle.parts.items ≡ []
-      → WasSealedIn seal session (sealed_bytes seal bundle)
-  empty bundle fits none =
-      inl (
-        bundle,
-        fits,
-        refl,
-        subst (λ (parts : List Part). All (WasGiven session.packets bundle.to)
-            (flat_map (packets_of bundle.from) parts)) (sym none) (All-nil (WasGiven session.packets bundle.to)),
-      )
 
   pub genuine : (player : ℕ) (bytes : List ℕ) → WasSealedIn seal session bytes
       → IsGenuineIn seal session player bytes

@@ -34,7 +34,7 @@ use Rattle.dn_link.specs.Surviving.{GivesUpPeer, forgotten_if, is_given_up}
 use Rattle.dn_link.proofs.Forgotten.{forgets, forgets_node, forgets_others}
 use Rattle.dn_link.proofs.Kepts.{AreKept}
 use Rattle.dn_link.proofs.Noticed.{reports_stay}
-use Rattle.dn_link.proofs.Relinking.{AreGiven, all_later}
+use Rattle.dn_link.proofs.Relinking.{AreGiven, all_later, all_put}
 
 -- what was given is where no more was
 pub nothing_given : (session later : Session) → later.packets ≡ session.packets → later.reports ≡ session.reports
@@ -82,15 +82,8 @@ module _ (marking : Marking) (limits : Limits) (settings : Settings) (session : 
             ∙ sym (ap (λ (f : ℕ → Surviving). f other) placed
             ∙ put_off session.survivors player other (surviving_of new) off)
       ];
-      kept = λ other peer below. elim (cases_eq other player) [
-        | inl at ↦ subst (λ (l : Linked). AreGiven later.packets other peer (l.peers peer).kept.packets)
-            (sym (put_at links player other new at))
-            (subst (λ (k : ℕ). AreGiven later.packets k peer (new.peers peer).kept.packets) (sym at) (kept peer))
-        | inr off ↦ subst (λ (l : Linked). AreGiven later.packets other peer (l.peers peer).kept.packets)
-            (sym (put_off links player other new off))
-            (all_later session.packets later.packets given.packets other peer ((links other).peers peer).kept.packets
-            (linked.kept other peer below))
-      ];
+      kept = λ other peer below. all_put session.packets later.packets given.packets links player new kept other
+          peer (linked.kept other peer below);
     },
     given,
   )

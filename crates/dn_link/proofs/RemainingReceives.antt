@@ -45,9 +45,6 @@ module _ (marking : Marking) (limits : Limits) (settings : Settings) (session : 
   abbrev old : Linked
   old = links player
 
-  survivor : surviving_of old ≡ session.survivors player
-  survivor = base.survivor marking limits settings session links linked player mine
-
   own : old.node.me ≡ player
   own = base.own marking limits settings session links linked player mine
 
@@ -64,7 +61,9 @@ module _ (marking : Marking) (limits : Limits) (settings : Settings) (session : 
   AreHere now = AreWith marking limits settings session player old.others now
 
   here : AreHere old.node
-  here = one_game.keeps marking limits settings linked.game player (surviving_of old) survivor
+  here =
+      one_game.keeps marking limits settings linked.game player (surviving_of old)
+      (base.survivor marking limits settings session links linked player mine)
 
   -- the packets of a datagram are heard, or none
   by_heard : (bundle : Bundle) (new : Linked) (started : Bool)

@@ -7,23 +7,17 @@ use Rattle.dn_survivor.specs.Surviving.{Surviving}
 use Rattle.dn_survivor.specs.declared.answers.GivenUp.{GivenUp}
 use Rattle.dn_survivor.specs.declared.answers.Reported.{Reported}
 
-pub hears_own : (from : ℕ) (report : Report) (old new : Surviving) (answer : Reported)
-    → HearsReport from report old new answer → new.lockstep.me ≡ old.lockstep.me
-hears_own from report old new answer hears = go (refused_report old from report) hears
+-- and whom it has given up, where it hears a report
+pub hears_same : (from : ℕ) (report : Report) (old new : Surviving) (answer : Reported)
+    → HearsReport from report old new answer
+    → (new.lockstep.me ≡ old.lockstep.me) × (new.others.gone ≡ old.others.gone)
+hears_same from report old new answer hears = go (refused_report old from report) hears
   where
     go : (refused : Option Reported) → HearsReportUnless refused from report old new answer
-        → new.lockstep.me ≡ old.lockstep.me
-    go (Some reason) stays = ap (λ (n : Surviving). n.lockstep.me) stays.1
-    go None steps = ap (λ w. w.me) steps.1.same
-
-pub hears_gone : (from : ℕ) (report : Report) (old new : Surviving) (answer : Reported)
-    → HearsReport from report old new answer → new.others.gone ≡ old.others.gone
-hears_gone from report old new answer hears = go (refused_report old from report) hears
-  where
-    go : (refused : Option Reported) → HearsReportUnless refused from report old new answer
-        → new.others.gone ≡ old.others.gone
-    go (Some reason) stays = ap (λ (n : Surviving). n.others.gone) stays.1
-    go None steps = ap (λ (o : Others). o.gone) steps.0
+        → (new.lockstep.me ≡ old.lockstep.me) × (new.others.gone ≡ old.others.gone)
+    go (Some reason) stays =
+        (ap (λ (n : Surviving). n.lockstep.me) stays.1, ap (λ (n : Surviving). n.others.gone) stays.1)
+    go None steps = (ap (λ w. w.me) steps.1.same, ap (λ (o : Others). o.gone) steps.0)
 
 pub gives_up_own : (player : ℕ) (old new : Surviving) (answer : GivenUp)
     → GivesUp player old new answer → new.lockstep.me ≡ old.lockstep.me

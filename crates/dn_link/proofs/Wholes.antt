@@ -109,16 +109,7 @@ module _ (seal : Seal) (b : Bundle) (long : 8 ≤ length seal.game) (is : IsBund
       ap told_counts after_head ∙ counts_back b.counts tail is.counts in
       ap (told_with body) message
       ∙ ap (option_map (bundle_with body b.message)) parts
-      ∙ (λ i. Some (record {
-        from = from i;
-        to = to i;
-        number = number i;
-        lead = lead i;
-        holes = holes i;
-        counts = counts i;
-        message = b.message;
-        parts = record { items = b.parts.items };
-      }))
+      ∙ (λ i. Some (record b { from = from i; to = to i; number = number i; lead = lead i; holes = holes i; counts = counts i }))
 
 -- the eighteen bytes in front, by what was tested of them
 head_is : (body : List ℕ) (seal : Seal) (b : Bundle) → Fit body → 18 ≤ length body

@@ -8,6 +8,7 @@ pub mod Linked
 pub mod Surviving
 pub mod Notices
 pub mod Linking
+pub mod Running
 pub mod Packing
 pub mod OpenPacking
 pub mod Kept

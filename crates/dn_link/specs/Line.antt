@@ -18,6 +18,19 @@ pub record LineState : Type 0 where
   pub own_lead : ℤ
   pub tally : TallyState
 
+-- a line from which nothing came
+abbrev pub new_line : LineState
+new_line =
+    record {
+      newest = None;
+      holes = 0;
+      before = 0;
+      reported_holes = 0;
+      lead = pos 0;
+      own_lead = pos 0;
+      tally = record { came = 0; lost = 0; repeated = 0; too_old = 0; seen = 0 };
+    }
+
 -- a number that has one byte at most
 abbrev pub byte_of : ℕ → ℕ
 byte_of n = min n 255

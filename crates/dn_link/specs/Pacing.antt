@@ -3,23 +3,10 @@ use Rattle.std.specs.Prelude.{ℕ, List, None, pos}
 use Rattle.dn_link.specs.declared.line.Line.{Line}
 use Rattle.dn_link.specs.declared.link.Link.{Link}
 use Rattle.dn_link.specs.declared.pace.Pace.{Pace}
-use Rattle.dn_link.specs.Line.{LineState}
+use Rattle.dn_link.specs.Line.{LineState, new_line}
 use Rattle.dn_link.specs.Lines.{leaning_of, line_of, stretching_of}
 use Rattle.dn_link.specs.Paced.{PaceState}
 use Rattle.dn_link.specs.Places.{by_place}
-
--- a line from which nothing came
-abbrev pub new_line : LineState
-new_line =
-    record {
-      newest = None;
-      holes = 0;
-      before = 0;
-      reported_holes = 0;
-      lead = pos 0;
-      own_lead = pos 0;
-      tally = record { came = 0; lost = 0; repeated = 0; too_old = 0; seen = 0 };
-    }
 
 abbrev pub lines_of : List Line → ℕ → LineState
 lines_of lines = by_place line_of new_line lines

@@ -122,13 +122,13 @@ pub enum BundleFault {
     #[error("sealed, but no datagram of a link")]
     Kind,
     /// Another game's number.
-    #[error("sealed in another game")]
+    #[error("a link's datagram of another game")]
     Game,
     /// Another receiver.
-    #[error("sealed to another receiver")]
+    #[error("a link's datagram to another receiver")]
     Receiver,
     /// A tag that is not that of the bytes before it.
-    #[error("the tag is wrong")]
+    #[error("a link's datagram whose tag is wrong")]
     Tag,
     /// Under the tag stands what no datagram has.
     #[error("sealed, but malformed")]

@@ -2,7 +2,7 @@
 
 ghost use Rattle.std.specs.Prelude.{◌≡◌, ◌<◌, ◌≤◌, ◌+ℤ◌, ◌-ℤ◌, None, nat_abs, pos};
 ghost use Rattle.dn_lockstep.specs.Contents.{contents};
-ghost use Rattle.dn_link.specs.{Line.after_old, Line.byte_of, Line.counted, Line.heard_on, Line.lead_over, Line.missing, Line.after_newest, Line.with_tally, Lines.line_of};
+ghost use Rattle.dn_link.specs.{Line.after_old, Line.byte_of, Line.counted, Line.heard_on, Line.lead_over, Line.missing, Line.after_newest, Line.new_line, Line.with_tally, Lines.line_of};
 
 use crate::bundle::Bundle;
 use crate::presence::LATEST;
@@ -71,15 +71,7 @@ pub(crate) struct Line {
 impl Line {
     /// From which nothing came.
     pub(crate) fn new() -> Line
-        ensures { line_of result ≡ record {
-          newest = None;
-          holes = 0;
-          before = 0;
-          reported_holes = 0;
-          lead = pos 0;
-          own_lead = pos 0;
-          tally = record { came = 0; lost = 0; repeated = 0; too_old = 0; seen = 0 };
-        } }
+        ensures { line_of result ≡ new_line }
     {
         Line {
             newest: None,
@@ -88,7 +80,7 @@ impl Line {
             reported_holes: 0,
             lead: 0,
             own_lead: 0,
-            tally: Tally::new(),
+            tally: Tally::default(),
         }
     }
 

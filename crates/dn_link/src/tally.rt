@@ -8,7 +8,7 @@ ghost use Rattle.dn_link.specs.{Lines.tally_of};
 const KNOWN: u32 = 64;
 
 /// What came over a line.
-#[derive(Clone, Copy)]
+#[derive(Clone, Copy, Default)]
 pub(crate) struct Tally {
     /// How many datagrams came.
     pub(crate) came: u32,
@@ -38,19 +38,6 @@ fn was_seen(back: u32, seen: u64) -> bool
 }
 
 impl Tally {
-    /// Nothing.
-    pub(crate) fn new() -> Tally
-        ensures { tally_of result ≡ record { came = 0; lost = 0; repeated = 0; too_old = 0; seen = 0 } }
-    {
-        Tally {
-            came: 0,
-            lost: 0,
-            repeated: 0,
-            too_old: 0,
-            seen: 0,
-        }
-    }
-
     /// The first came, or the first of one who begins anew.
     pub(crate) fn begin(&mut self)
         ensures { tally_of self.new ≡ begins (tally_of self.old) }

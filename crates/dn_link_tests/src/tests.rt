@@ -88,20 +88,24 @@ fn altered(bytes: &ArrayVec<u8, 1200>, place: usize) -> ArrayVec<u8, 60> {
     all
 }
 
+/// The fault of a datagram of which this byte is altered.
+fn fault_at(place: usize) -> BundleFault {
+    match place {
+        0 => BundleFault::Suite,
+        1 => BundleFault::Kind,
+        2..=9 => BundleFault::Game,
+        11 => BundleFault::Receiver,
+        _ => BundleFault::Tag,
+    }
+}
+
 #[test]
 fn each_byte_counts(rt: HostRuntime) {
     let rt = &rt;
     let bytes = sealed(Message::Game);
     same!(rt; bytes.len(), 60);
     for place in 0..60 {
-        let wanted = match place {
-            0 => BundleFault::Suite,
-            1 => BundleFault::Kind,
-            2..=9 => BundleFault::Game,
-            11 => BundleFault::Receiver,
-            _ => BundleFault::Tag,
-        };
-        same!(rt; opened(0, altered(&bytes, place).as_slice()), Err(wanted), place);
+        same!(rt; opened(0, altered(&bytes, place).as_slice()), Err(fault_at(place)), place);
     }
     same!(rt; opened(0, &[1; 59]), Err(BundleFault::Short));
     same!(rt; opened(0, &[1; 1201]), Err(BundleFault::Long));

@@ -1,5 +1,5 @@
 -- Bytes are opened as one thing, and what passes all tests is an envelope.
-use Rattle.std.proofs.Common.{◌≡◌, ◌≢◌, ◌<◌, ◌≤◌, ◌+◌, ◌-◌, ◌^◌, ℕ, zero, suc, List, [], ◌∷◌, ◌++◌, length, take, drop, get_or, refl, ap, sym, ◌∙◌, arith, Option, Some, None, Result, Ok, Err, inl, inr, Bool, true, false}
+use Rattle.std.proofs.Common.{◌≡◌, ◌≢◌, ◌⊎◌, ◌<◌, ◌≤◌, ◌+◌, ◌-◌, ◌^◌, ℕ, zero, suc, List, [], ◌∷◌, ◌++◌, length, take, drop, get_or, refl, ap, sym, ◌∙◌, arith, Option, Some, None, Result, Ok, Err, inl, inr, Bool, true, false}
 use Rattle.std.specs.Prelude.{slice_index, IfSome, ◌==◌, ◌&&◌, if◌then◌else◌}
 use Rattle.std.specs.Int.{w32, to_le_bytes, from_le_bytes}
 use Rattle.std.proofs.lemmas.Bool.{cases_eq, eq-eqb, ne_eqb}
@@ -12,7 +12,7 @@ use Rattle.dn_seal.specs.declared.opened.SealFault.TheVariants.{Short, Long, Sui
 use Rattle.dn_seal.specs.Hmac.{tag_of}
 use Rattle.dn_seal.specs.Keys.{suite_byte}
 use Rattle.dn_seal.specs.Envelope.{ask_bytes, head_bytes, body_bytes, envelope}
-use Rattle.dn_seal.specs.Opening.{Sealing, letter_to, IsOpenedAs, IsFor, IsTagged, told_game, told_body, told_tag, told_tic, ask_in}
+use Rattle.dn_seal.specs.Opening.{Sealing, letter_to, IsOpenedAs, IsSized, IsFor, IsTagged, told_game, told_body, told_tag, told_tic, ask_in}
 use Rattle.dn_seal.proofs.Envelopes.{length-envelope, body-envelope, tag-envelope, datagram-envelope, game-envelope, from-envelope, to-envelope, start-envelope, ask-envelope}
 
 module _ (s : Sealing) (bytes : List ℕ) (o : Opened) (is : IsOpenedAs s bytes (Ok o)) where
@@ -57,31 +57,39 @@ module _ (s : Sealing) (bytes : List ℕ) (o : Opened) (is : IsOpenedAs s bytes 
       (datagram-envelope s.seal.key (letter_to s o) is.0.game)
 
 module _ (s : Sealing) (bytes : List ℕ) where
-  -- bytes that are too short have no other fault
+  -- bytes are too short, or too long, and have that fault alone, or pass the test of their number
+  abbrev IsByLength : Result Opened SealFault → Type 0
+  IsByLength read =
+      ((length bytes < 37) × (Err Short ≡ read)) ⊎ (((141 < length bytes) × (Err Long ≡ read)) ⊎ IsSized bytes)
+
+  by_length : (read : Result Opened SealFault) → IsOpenedAs s bytes read → IsByLength read
+  by_length (Ok o) h = inr (inr (opened-tagged s bytes o h).0.0.0.0.0)
+  by_length (Err Short) h = inl (h, refl)
+  by_length (Err Long) h = inr (inl (h, refl))
+  by_length (Err Suite) h = inr (inr h.0)
+  by_length (Err Kind) h = inr (inr h.0.0)
+  by_length (Err Game) h = inr (inr h.0.0.0)
+  by_length (Err Receiver) h = inr (inr h.0.0.0.0)
+  by_length (Err Tag) h = inr (inr h.0.0.0.0.0)
+  by_length (Err Request) h = inr (inr h.0.0.0.0.0.0)
+
   pub only_short : length bytes < 37 → (read : Result Opened SealFault) → IsOpenedAs s bytes read
       → Err Short ≡ read
-  only_short few (Ok o) h = absurd (let t = (opened-tagged s bytes o h).0.0.0.0.0.0 in omega arith)
-  only_short few (Err Short) h = refl
-  only_short few (Err Long) h = absurd (omega arith)
-  only_short few (Err Suite) h = absurd (let t = h.0.0 in omega arith)
-  only_short few (Err Kind) h = absurd (let t = h.0.0.0 in omega arith)
-  only_short few (Err Game) h = absurd (let t = h.0.0.0.0 in omega arith)
-  only_short few (Err Receiver) h = absurd (let t = h.0.0.0.0.0 in omega arith)
-  only_short few (Err Tag) h = absurd (let t = h.0.0.0.0.0.0 in omega arith)
-  only_short few (Err Request) h = absurd (let t = h.0.0.0.0.0.0.0 in omega arith)
+  only_short few read h = go (by_length read h)
+    where
+      go : IsByLength read → Err Short ≡ read
+      go (inl short) = short.1
+      go (inr (inl long)) = absurd (omega (arith, few, long.0))
+      go (inr (inr sized)) = absurd (omega (arith, few, sized.0))
 
-  -- nor have those that are too long
   pub only_long : 141 < length bytes → (read : Result Opened SealFault) → IsOpenedAs s bytes read
       → Err Long ≡ read
-  only_long many (Ok o) h = absurd (let t = (opened-tagged s bytes o h).0.0.0.0.0.1 in omega arith)
-  only_long many (Err Short) h = absurd (omega arith)
-  only_long many (Err Long) h = refl
-  only_long many (Err Suite) h = absurd (let t = h.0.1 in omega arith)
-  only_long many (Err Kind) h = absurd (let t = h.0.0.1 in omega arith)
-  only_long many (Err Game) h = absurd (let t = h.0.0.0.1 in omega arith)
-  only_long many (Err Receiver) h = absurd (let t = h.0.0.0.0.1 in omega arith)
-  only_long many (Err Tag) h = absurd (let t = h.0.0.0.0.0.1 in omega arith)
-  only_long many (Err Request) h = absurd (let t = h.0.0.0.0.0.0.1 in omega arith)
+  only_long many read h = go (by_length read h)
+    where
+      go : IsByLength read → Err Long ≡ read
+      go (inl short) = absurd (omega (arith, many, short.0))
+      go (inr (inl long)) = long.1
+      go (inr (inr sized)) = absurd (omega (arith, many, sized.1))
 
   -- nor have those whose tag is wrong
   pub only_tag : IsFor s bytes → told_tag bytes ≢ tag_of s.seal.key (told_body bytes)

@@ -24,7 +24,7 @@ impl Link {
     ghost use Rattle.dn_survivor.specs.Telling.{report_for};
     ghost use Rattle.dn_survivor.specs.declared.answers.Reported.TheVariants as reported;
     ghost use Rattle.dn_link.specs.declared.received.Received.TheVariants as received;
-    ghost use Rattle.dn_link.specs.{Linked.IsWhole, Linked.surviving_of, Notices.HearsNotice, Notices.notice_for, Linking.identity_of, Linking.linked, Linking.seal_of, Pacing.pace_of};
+    ghost use Rattle.dn_link.specs.{Linked.IsWhole, Linked.surviving_of, Notices.HearsNotice, Notices.notice_for, Pace.after_refusal, Linking.identity_of, Linking.linked, Linking.seal_of, Pacing.pace_of};
 
     /// The report to a player, sealed, for each tick while somebody is given up, and while this player has left:
     /// what `report` returns, which has the form of a report.
@@ -36,6 +36,18 @@ impl Link {
             Some(report) => Some(seal_report(&self.sealer, to, &report)),
             None => None,
         }
+    }
+
+    /// Counts bytes that are neither a datagram nor a report to this player, and answers so.
+    pub(super) fn refuse(&mut self, answer: Received) -> Received
+        ensures answer { result ≡ answer }
+        ensures link { linked self.new ≡ linked self.old }
+        ensures pace { pace_of self.new ≡ after_refusal (pace_of self.old) }
+        ensures seal { seal_of self.new ≡ seal_of self.old }
+        ensures identity { identity_of self.new ≡ identity_of self.old }
+    {
+        self.pace.refuse();
+        answer
     }
 
     /// Takes in bytes of the kind of reports.
@@ -51,10 +63,7 @@ impl Link {
         ensures identity { identity_of self.new ≡ identity_of self.old }
     {
         match open_report(&self.sealer, bytes) {
-            Err(fault) => {
-                self.pace.refuse();
-                Received::Unreported(fault)
-            }
+            Err(fault) => self.refuse(Received::Unreported(fault)),
             Ok((from, report)) => {
                 let reported = self.hear_report(from, report);
                 Received::Reported { from, reported }

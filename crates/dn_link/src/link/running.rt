@@ -1,6 +1,7 @@
 //! How a link runs a tic.
 
-ghost use Rattle.std.specs.Prelude.{◌≡◌};
+ghost use Rattle.std.specs.Prelude.{◌≡◌, ◌≢◌, ℕ, None};
+ghost use Rattle.dn_machine.specs.declared.answers.Ran.TheVariants as ran;
 ghost use Rattle.dn_lockstep.specs.Runs.{told_by};
 
 use super::Link;
@@ -8,28 +9,27 @@ use dn_machine::Ran;
 use dn_tic::Move;
 
 /// The row, if a tic was run; else none.
-fn told_by(ran: Ran, row: [Option<Move>; 4]) -> Option<[Option<Move>; 4]>
-    ensures { result ≡ told_by ran row }
+fn told_by(answer: Ran, row: [Option<Move>; 4]) -> Option<[Option<Move>; 4]>
+    ensures row { result ≡ told_by answer row }
+    ensures none { ((tic : ℕ) → answer ≢ ran.Ran tic) → result ≡ None }
 {
-    match ran {
+    match answer {
         Ran::Ran(_) => Some(row),
         Ran::Waiting(_) | Ran::DemoFull | Ran::Inconsistent { .. } | Ran::NotPlaying => None,
     }
 }
 
 impl Link {
-    ghost use Rattle.std.specs.Prelude.{ℕ, ℤ, ◌≢◌, ◌+◌, None};
-    ghost use Rattle.dn_machine.specs.Running.{on_run, on_run_but, row_held};
-    ghost use Rattle.dn_machine.specs.declared.answers.Ran.TheVariants as ran;
+    ghost use Rattle.std.specs.Prelude.{ℤ, ◌+◌};
+    ghost use Rattle.dn_machine.specs.Running.{on_run, row_held};
     ghost use Rattle.dn_lockstep.specs.{Runs.RunsBy, Steps.Tells};
-    ghost use Rattle.dn_link.specs.{Linked.IsWhole, Linked.has_given_up, Linking.identity_of, Linking.linked, Linking.seal_of, Pacing.pace_of};
+    ghost use Rattle.dn_link.specs.{Linked.IsWhole, Linking.identity_of, Linking.linked, Linking.seal_of, Pacing.pace_of, Running.RunsBut};
 
     /// As `Lockstep::run`, but no mark is compared of players who are given up.
     pub fn run(&mut self, marks: &[i16; 4]) -> (Ran, Option<[Option<Move>; 4]>)
         ensures step { IsWhole (linked self.old) → RunsBy marks.now (linked self.old).node (linked self.new).node
             (λ limits m marks. on_run limits m marks) (λ ran row. (result.0 ≡ ran) × (result.1 ≡ row)) }
-        ensures but { RunsBy marks.now (linked self.old).node (linked self.new).node
-            (λ limits m marks. on_run_but limits (has_given_up (linked self.old)) m marks)
+        ensures but { RunsBut marks.now (linked self.old) (linked self.new)
             (λ ran row. (result.0 ≡ ran) × (result.1 ≡ row)) }
         ensures further { (tic : ℕ) → result.0 ≡ ran.Ran tic
             → (linked self.new).node.ran ≡ (linked self.old).node.ran + 1 }
@@ -53,8 +53,7 @@ impl Link {
     pub fn run_into(&mut self, marks: &[i16; 4], row: &mut [Option<Move>; 4]) -> Ran
         ensures step { IsWhole (linked self.old) → RunsBy marks.now (linked self.old).node (linked self.new).node
             (λ limits m marks. on_run limits m marks) (λ ran told. (result ≡ ran) × (told_by result row.new ≡ told)) }
-        ensures but { RunsBy marks.now (linked self.old).node (linked self.new).node
-            (λ limits m marks. on_run_but limits (has_given_up (linked self.old)) m marks)
+        ensures but { RunsBut marks.now (linked self.old) (linked self.new)
             (λ ran told. (result ≡ ran) × (told_by result row.new ≡ told)) }
         ensures further { (tic : ℕ) → result ≡ ran.Ran tic
             → (linked self.new).node.ran ≡ (linked self.old).node.ran + 1 }

@@ -119,10 +119,7 @@ impl Link {
         ensures identity { identity_of self.new ≡ identity_of self.old }
     {
         match open_bundle(&self.sealer, bytes) {
-            Err(fault) => {
-                self.pace.refuse();
-                Received::Unopened(fault)
-            }
+            Err(fault) => self.refuse(Received::Unopened(fault)),
             Ok(bundle) => self.take(&bundle),
         }
     }

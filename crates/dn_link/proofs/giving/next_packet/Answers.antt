@@ -1,10 +1,9 @@
 use Rattle.std.proofs.Common.{ℕ, List, ◌++◌, take, ap, sym, ◌∙◌}
 use Rattle.std.specs.Prelude.{is_some}
-use Rattle.std.specs.Option.{option_map}
 use Rattle.dn_lockstep.specs.Contents.{contents}
 use Rattle.dn_lockstep.specs.Giving.{aim_in}
-use Rattle.dn_lockstep.specs.Sent.{aim_of}
-use Rattle.dn_lockstep.proofs.Giving.{no_flight, some_given}
+use Rattle.dn_lockstep.proofs.Giving.{some_given}
+use Rattle.dn_open.proofs.Giving.{gives_none}
 use Rattle.dn_link.specs.Giving.{carried_of}
 use Rattle.dn_link.proofs.Carrying.{gives_some}
 use Rattle.dn_link.proofs.giving.next_packet.Goals as goal
@@ -12,15 +11,7 @@ use Rattle.dn_link.proofs.giving.next_packet.Goals as goal
 pub returns-in_default-clause-step : goal.returns-in_default-clause-step
 returns-in_default-clause-step c =
     let given = c.packet_with_aim.ensures in
-    record {
-      same = given.sent.2.same;
-      step = λ limits me m r.
-          record {
-            node = (given.sent.2.step limits me m r).node;
-            answer = sym (ap (option_map carried_of) (no_flight aim_of _
-                (ap aim_in (sym c.in_default.is) ∙ given.aimed limits me m r)));
-          };
-    }
+    gives_none carried_of c.args.to _ _ _ _ given.sent.2 given.aimed (ap aim_in (sym c.in_default.is))
 
 pub returns-in_default-clause-idle : goal.returns-in_default-clause-idle
 returns-in_default-clause-idle c = λ none.

@@ -2,7 +2,8 @@ use Rattle.std.proofs.Common.{rules, ◌≡◌, ◌<◌, ℕ, length, ap, ◌∙
 use Rattle.dn_machine.specs.Node.{put}
 use Rattle.dn_link.specs.Line.{LineState, heard_on}
 use Rattle.dn_link.specs.Lines.{line_of}
-use Rattle.dn_link.specs.Pacing.{lines_of, new_line, state_of}
+use Rattle.dn_link.specs.Line.{new_line}
+use Rattle.dn_link.specs.Pacing.{lines_of, state_of}
 use Rattle.dn_link.proofs.Places.{place_at, place_put}
 use Rattle.dn_link.proofs.pace.Pace.hear.Goals as goal
 

@@ -1,6 +1,6 @@
 use Rattle.std.proofs.Common.{rules, ◌≡◌, length, arith}
 use Rattle.dn_link.specs.Lines.{line_of}
-use Rattle.dn_link.specs.Pacing.{new_line}
+use Rattle.dn_link.specs.Line.{new_line}
 use Rattle.dn_link.proofs.Places.{place_at}
 use Rattle.dn_link.proofs.pace.Pace.line.Goals as goal
 

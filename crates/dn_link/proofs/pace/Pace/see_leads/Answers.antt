@@ -4,7 +4,8 @@ use Rattle.dn_machine.proofs.Put.{same_functions}
 use Rattle.dn_lockstep.specs.Contents.{contents}
 use Rattle.dn_link.specs.Line.{LineState, lead_over}
 use Rattle.dn_link.specs.Lines.{line_of}
-use Rattle.dn_link.specs.Pacing.{lines_of, new_line, state_of}
+use Rattle.dn_link.specs.Line.{new_line}
+use Rattle.dn_link.specs.Pacing.{lines_of, state_of}
 use Rattle.dn_link.proofs.Places.{place_past}
 use Rattle.dn_link.proofs.pace.Pace.see_leads.Goals as goal
 
