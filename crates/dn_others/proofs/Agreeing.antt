@@ -22,18 +22,14 @@ every_alike : (n : ℕ) (one other : ℕ → Bool) → ((i : ℕ) → i < n → 
 unfolding every
 every_alike zero one other alike = refl
 every_alike (suc n) one other alike =
-    let before = every_alike n one other (λ i below. alike i (omega (arith, below))) in
-    let last = alike n (omega arith) in
-    λ i. before i && last i
+    λ i. every_alike n one other (λ k below. alike k (omega (arith, below))) i && alike n (omega arith) i
 
 -- numbers that are alike have the same largest
 highest_alike : (n : ℕ) (one other : ℕ → ℕ) → ((i : ℕ) → i < n → one i ≡ other i) → highest n one ≡ highest n other
 unfolding highest
 highest_alike zero one other alike = refl
 highest_alike (suc n) one other alike =
-    let before = highest_alike n one other (λ i below. alike i (omega (arith, below))) in
-    let last = alike n (omega arith) in
-    λ i. max (before i) (last i)
+    λ i. max (highest_alike n one other (λ k below. alike k (omega (arith, below))) i) (alike n (omega arith) i)
 
 -- sets that are alike
 within_alike : (n : ℕ) (a b c d : ℕ → Bool) → ((i : ℕ) → i < n → a i ≡ b i) → ((i : ℕ) → i < n → c i ≡ d i)
