@@ -1,10 +1,11 @@
 -- The sum over the words of commands, two of each, as the code goes on by it.
-use Rattle.std.proofs.Common.{◌≡◌, ◌≤◌, ◌+◌, ◌*◌, ◌%◌, ◌^◌, ℕ, zero, suc, List, [], ◌∷◌, ◌++◌, length, take, drop, refl, ap, sym, ◌∙◌, arith, append_assoc}
+use Rattle.std.proofs.Common.{◌≡◌, ◌≤◌, ◌+◌, ◌*◌, ◌%◌, ◌^◌, ℕ, zero, suc, List, [], ◌∷◌, ◌++◌, length, take, drop, All, refl, ap, sym, ◌∙◌, arith, append_assoc}
 use Rattle.std.proofs.Math.Nat.{mod-add-mod, add-mul, mul-add}
-use Rattle.std.proofs.lemmas.List.{flat_map_more}
+use Rattle.std.proofs.lemmas.List.{flat_map_more, length_push, length-append}
+use Rattle.std.proofs.lemmas.List.Elements.{All-push}
 use Rattle.std.specs.List.{flat_map}
 use Rattle.byteorder.specs.Endian.{little_number}
-use Rattle.dn_tic.specs.Command.{command_bytes}
+use Rattle.dn_tic.specs.Command.{command_bytes, IsCommand}
 use Rattle.dn_tic.specs.declared.command.TicCmd.{TicCmd}
 use Rattle.dn_packet.specs.Text.{words, weighted, sum_of}
 use Rattle.dn_packet.proofs.Sums.{low_bits}
@@ -51,8 +52,14 @@ sum_of_parts (a ∷ b ∷ c ∷ d ∷ e ∷ f ∷ g ∷ h ∷ rest) head sum lon
     ∙ low_bits (n + r) ∙ ap (λ (x : ℕ). x % 2 ^ 28) (omega arith)
 sum_of_parts _ head sum long first all = absurd (omega arith)
 
+-- these commands were read, and this is left
+pub record AreRead (bytes : List ℕ) (found : List TicCmd) (rest : List ℕ) : Type 0 where
+  pub spelled : bytes ≡ flat_map command_bytes found ++ rest
+  pub valid : All IsCommand found
+  pub counted : 8 * length found + length rest ≡ length bytes
+
 -- one more command is read from the front of the rest
-pub spelled_more : (bytes rest command after : List ℕ) (found more : List TicCmd) (next : TicCmd)
+spelled_more : (bytes rest command after : List ℕ) (found more : List TicCmd) (next : TicCmd)
     → bytes ≡ flat_map command_bytes found ++ rest → rest ≡ command ++ after → command_bytes next ≡ command
     → more ≡ found ++ next ∷ [] → bytes ≡ flat_map command_bytes more ++ after
 spelled_more bytes rest command after found more next so_far front spelled pushed =
@@ -61,3 +68,15 @@ spelled_more bytes rest command after found more next so_far front spelled pushe
     ∙ sym (append_assoc (flat_map command_bytes found) (command_bytes next) after)
     ∙ ap (λ (xs : List ℕ). xs ++ after) (flat_map_more command_bytes [] found next)
     ∙ (λ i. flat_map command_bytes (sym pushed i) ++ after)
+
+pub one_more_read : (bytes rest command after : List ℕ) (found more : List TicCmd) (next : TicCmd)
+    → AreRead bytes found rest → rest ≡ command ++ after → length command ≡ 8
+    → command_bytes next ≡ command → IsCommand next → more ≡ found ++ next ∷ [] → AreRead bytes more after
+one_more_read bytes rest command after found more next read front eight spelled valid pushed =
+    let one = ap (length {A = TicCmd}) pushed ∙ length_push found next in
+    let both = ap (length {A = ℕ}) front ∙ length-append command after in
+    record {
+      spelled = spelled_more bytes rest command after found more next read.spelled front spelled pushed;
+      valid = rw pushed (All-push IsCommand found next read.valid valid);
+      counted = omega (arith, read.counted, one, both, eight);
+    }

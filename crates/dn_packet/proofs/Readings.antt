@@ -64,14 +64,7 @@ one_more a b c d e f g h rest ha hb hc hd he hf hg hh others =
     let spelled : command_bytes first ≡ a ∷ b ∷ c ∷ d ∷ e ∷ f ∷ g ∷ h ∷ [] = cc in
     record {
       commands = first ∷ others.commands;
-      valid = All-cons IsCommand first others.commands (record {
-        forward = read_sfits w8 a;
-        side = read_sfits w8 b;
-        turn = read_sfits w16 (pair c d);
-        mark = read_sfits w16 (pair e f);
-        chat = hg;
-        buttons = hh;
-      }) others.valid;
+      valid = All-cons IsCommand first others.commands (search (rules, read_sfits, hg, hh)) others.valid;
       spelled = ap (λ (xs : List ℕ). a ∷ b ∷ c ∷ d ∷ e ∷ f ∷ g ∷ h ∷ xs) others.spelled
           ∙ ap (λ (xs : List ℕ). xs ++ flat_map command_bytes others.commands) (sym spelled);
     }
