@@ -1,5 +1,5 @@
 -- Every list of bytes is read as something.
-use Rattle.std.proofs.Common.{◌≡◌, ◌<◌, ◌≤◌, ◌+◌, ◌*◌, ◌/◌, ◌^◌, ℕ, zero, suc, List, [], ◌∷◌, ◌++◌, length, drop, get_or, All, refl, ap, sym, ◌∙◌, arith, inl, inr, Ok, Err, w8}
+use Rattle.std.proofs.Common.{rules, ◌≡◌, ◌<◌, ◌≤◌, ◌+◌, ◌*◌, ◌/◌, ◌^◌, ℕ, zero, suc, List, [], ◌∷◌, ◌++◌, length, drop, get_or, All, refl, ap, sym, ◌∙◌, arith, inl, inr, Ok, Err, w8}
 use Rattle.std.specs.Int.{w16, cast_signed, cast_unsigned, from_le_bytes, to_le_bytes}
 use Rattle.std.specs.List.{flat_map}
 use borrow.Author.Gap.{read_sfits}
