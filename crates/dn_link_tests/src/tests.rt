@@ -88,24 +88,25 @@ fn altered(bytes: &ArrayVec<u8, 1200>, place: usize) -> ArrayVec<u8, 60> {
     all
 }
 
-/// The fault of a datagram of which this byte is altered.
-fn fault_at(place: usize) -> BundleFault {
-    match place {
-        0 => BundleFault::Suite,
-        1 => BundleFault::Kind,
-        2..=9 => BundleFault::Game,
-        11 => BundleFault::Receiver,
-        _ => BundleFault::Tag,
-    }
-}
-
 #[test]
 fn each_byte_counts(rt: HostRuntime) {
     let rt = &rt;
     let bytes = sealed(Message::Game);
     same!(rt; bytes.len(), 60);
+    let head = [
+        (0, 1, BundleFault::Suite),
+        (1, 2, BundleFault::Kind),
+        (2, 10, BundleFault::Game),
+        (11, 12, BundleFault::Receiver),
+    ];
     for place in 0..60 {
-        same!(rt; opened(0, altered(&bytes, place).as_slice()), Err(fault_at(place)), place);
+        let mut wanted = BundleFault::Tag;
+        for (first, end, fault) in head.iter() {
+            if *first <= place && place < *end {
+                wanted = *fault;
+            }
+        }
+        same!(rt; opened(0, altered(&bytes, place).as_slice()), Err(wanted), place);
     }
     same!(rt; opened(0, &[1; 59]), Err(BundleFault::Short));
     same!(rt; opened(0, &[1; 1201]), Err(BundleFault::Long));

@@ -14,16 +14,8 @@ sealing_of seal me = record { seal = seal; me = me }
 
 -- the envelope of a packet: its datagram, with its exact numbers in front
 abbrev pub letter_of : Seal → Flight → Letter
-letter_of seal flight =
-    record {
-      suite = seal.suite;
-      game = seal.game;
-      from = flight.from;
-      to = flight.to;
-      start = flight.start;
-      ask = flight.request;
-      datagram = bytes_of flight;
-    }
+letter_of s f =
+    record { suite = s.suite; game = s.game; from = f.from; to = f.to; start = f.start; ask = f.request; datagram = bytes_of f }
 
 abbrev pub envelope_of : Seal → Flight → List ℕ
 envelope_of seal flight = envelope seal.key (letter_of seal flight)
@@ -31,12 +23,7 @@ envelope_of seal flight = envelope seal.key (letter_of seal flight)
 -- what its receiver opens that envelope as
 abbrev pub opened_of : Flight → Opened
 opened_of sent =
-    record {
-      from = sent.from;
-      start = sent.start;
-      ask = sent.request;
-      datagram = record { items = bytes_of sent };
-    }
+    record { from = sent.from; start = sent.start; ask = sent.request; datagram = record { items = bytes_of sent } }
 
 -- the bytes are the envelope of one of these packets, which nodes of a game have sent
 abbrev pub WasSealed : Seal → List Flight → List ℕ → Type 0
