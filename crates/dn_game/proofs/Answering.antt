@@ -1,20 +1,17 @@
 -- One event more in a list that was played.
-use Rattle.std.proofs.Common.{◌≡◌, ◌+◌, ℕ, Bool, cond, List, [], ◌∷◌, ◌++◌, Option, Some, None, Result, Err, refl, inl, inr, arith}
+use Rattle.std.proofs.Common.{◌≡◌, ◌+◌, ℕ, suc, Bool, cond, length, ap, List, [], ◌∷◌, ◌++◌, Option, Some, None, Result, Err, refl, inl, inr, arith}
 use Rattle.std.specs.Prelude.{IsTrue, count_by, is_ok, is_err}
 use Rattle.std.proofs.lemmas.List.Sums.{sum_by-append}
 use Rattle.dn_setup.specs.Settings.{Settings}
-use Rattle.dn_world.specs.Physics.{Physics}
 use Rattle.dn_machine.specs.declared.events.Done.{Done}
 use Rattle.dn_machine.specs.declared.events.Event.{Event}
 use Rattle.dn_machine.specs.declared.events.Refusal.{Refusal}
 use Rattle.dn_machine.specs.Game.{Game, applied, opening_game, refused}
 use Rattle.dn_machine.specs.Runs.{Leads, Next, is_send}
-use Rattle.dn_machine.specs.Worlds.{Rules, rules_of}
-use Rattle.dn_machine.proofs.Games.{goes_on}
-use Rattle.dn_game.specs.Applied.{Tells, IsApplied}
+use Rattle.dn_machine.specs.Worlds.{Rules}
+use Rattle.dn_game.specs.Applied.{IsApplied}
 use Rattle.dn_game.specs.Contents.{Contents, contents}
-use Rattle.dn_game.specs.Played.{Answers, Plays, IsPlayed}
-use Rattle.dn_game.specs.Promised.{IsCarriedOn}
+use Rattle.dn_game.specs.Played.{Answers, Plays, PlaysBy, IsPlayed, IsPlayedBy}
 use Rattle.dn_game.specs.Represents.{Represents}
 use Rattle.dn_game.specs.declared.played.Played.{Played}
 
@@ -29,35 +26,44 @@ abbrev answer_of : Option Refusal → Result Done Refusal
 answer_of None = Err Refusal.Memory
 answer_of (Some refusal) = Err refusal
 
-module _ {S : Type 0} (rules : Rules S) where
+module _ {G E A : Type 0} (Step : G → E → A → G → Type 0) where
   -- what was played, and then more
-  pub plays_on : (events more : List Event) (answers others : List (Result Done Refusal))
-      (game mid last : Game) → Plays rules game events answers mid → Plays rules mid more others last
-      → Plays rules game (events ++ more) (answers ++ others) last
+  pub plays_on : (events more : List E) (answers others : List A) (game mid last : G)
+      → PlaysBy Step game events answers mid → PlaysBy Step mid more others last
+      → PlaysBy Step game (events ++ more) (answers ++ others) last
   plays_on [] more [] others game mid last same next = rw same at next
   plays_on [] more (a ∷ answers) others game mid last way next = absurd way
   plays_on (e ∷ events) more [] others game mid last way next = absurd way
   plays_on (e ∷ events) more (a ∷ answers) others game mid last way next =
       (way.0, way.1, plays_on events more answers others way.0 mid last way.2 next)
 
-  pub plays_more : (events : List Event) (answers : List (Result Done Refusal)) (event : Event)
-      (answer : Result Done Refusal) (game mid last : Game)
-      → Plays rules game events answers mid → Answers rules mid event answer last
-      → Plays rules game (events ++ event ∷ []) (answers ++ answer ∷ []) last
+  pub plays_more : (events : List E) (answers : List A) (event : E) (answer : A) (game mid last : G)
+      → PlaysBy Step game events answers mid → Step mid event answer last
+      → PlaysBy Step game (events ++ event ∷ []) (answers ++ answer ∷ []) last
   plays_more events answers event answer game mid last way next =
       plays_on events (event ∷ []) answers (answer ∷ []) game mid last way (last, next, refl)
 
-  -- what was played is one of the runs
-  pub plays_leads : (events : List Event) (answers : List (Result Done Refusal)) (game last : Game)
-      → Plays rules game events answers last → Leads rules game events last
-  plays_leads [] [] game last same = same
-  plays_leads [] (a ∷ answers) game last way = absurd way
-  plays_leads (e ∷ events) [] game last way = absurd way
-  plays_leads (e ∷ events) (a ∷ answers) game last (next, inl (same, answered), rest) =
-      (next, inl same, plays_leads events answers next last rest)
-  plays_leads (e ∷ events) (a ∷ answers) game last (next, inr (free, send, same, answered), rest) =
-      (next, inr (send, same), plays_leads events answers next last rest)
+  -- each event has an answer
+  pub as_many : (events : List E) (answers : List A) (game last : G) → PlaysBy Step game events answers last
+      → length events ≡ length answers
+  as_many [] [] game last way = refl
+  as_many [] (a ∷ answers) game last way = absurd way
+  as_many (e ∷ events) [] game last way = absurd way
+  as_many (e ∷ events) (a ∷ answers) game last way = ap suc (as_many events answers way.0 last way.2)
 
+  -- what follows from each step holds of what was played
+  pub follows : (Way : G → List E → G → Type 0) → ((game last : G) → last ≡ game → Way game [] last)
+      → ((event : E) (answer : A) (events : List E) (game next last : G) → Step game event answer next
+      → Way next events last → Way game (event ∷ events) last)
+      → (events : List E) (answers : List A) (game last : G) → PlaysBy Step game events answers last
+      → Way game events last
+  follows Way none one [] [] game last way = none game last way
+  follows Way none one [] (a ∷ answers) game last way = absurd way
+  follows Way none one (e ∷ events) [] game last way = absurd way
+  follows Way none one (e ∷ events) (a ∷ answers) game last way =
+      one e a events game way.0 last way.1 (follows Way none one events answers way.0 last way.2)
+
+module _ {S : Type 0} (rules : Rules S) where
   -- a send that is left out has its answer
   left_out : (event : Event) (game next : Game) → IsTrue (is_send event) → next ≡ game
       → (answer : Result Done Refusal) × Answers rules game event answer next
@@ -82,6 +88,13 @@ module _ {S : Type 0} (rules : Rules S) where
       → Answers rules game event answer next → Next rules game event next
   answers_next event answer game next is = grind arith
 
+  -- so what was played is one of the runs
+  pub plays_leads : (events : List Event) (answers : List (Result Done Refusal)) (game last : Game)
+      → Plays rules game events answers last → Leads rules game events last
+  plays_leads =
+      follows (Answers rules) (Leads rules) (λ game last same. same)
+      (λ event answer events game next last one rest. (next, answers_next event answer game next one, rest))
+
 -- an event that was applied has its answer
 pub answers_one : {W S : Type 0} (state : W → S) (rules : Rules S) (old new : Contents W) (m : Game)
     (event : Event) (answer : Result Done Refusal)
@@ -90,7 +103,39 @@ pub answers_one : {W S : Type 0} (state : W → S) (rules : Rules S) (old new : 
 answers_one {W} {S} state rules old new m event answer r (inl after) =
     ((applied rules m event).0, inl (refl, after.answered), after.game)
 answers_one {W} {S} state rules old new m event answer r (inr (free, left)) =
-    (m, inr (free, left.send, refl, left.answered), rw left.same r)
+    (m, inr (free, left.asks, refl, left.answered), rw left.same r)
+
+-- a game that was played by such steps: with no event so far, and with one more. Abbrevs, so that their answers
+-- compute where they are cited.
+module _ {W S E A : Type 0} (state : W → S) (rules : Rules S)
+    (Step : Game → E → Result A Refusal → Game → Type 0) (settings : Settings) where
+  abbrev pub none_played : (played : Played W) → Represents state rules (contents played.game) (opening_game settings)
+      → played.done ≡ 0 → played.refused ≡ 0 → IsPlayedBy state rules Step settings [] played
+  none_played played opened done refused =
+      record {
+        last = opening_game settings;
+        answers = [];
+        plays = refl;
+        game = opened;
+        done = done;
+        refused = refused;
+      }
+
+  abbrev pub step_played : (events : List E) (event : E) (answer : Result A Refusal) (played next : Played W)
+      → (r : IsPlayedBy state rules Step settings events played) → (last : Game) → Step r.last event answer last
+      → Represents state rules (contents next.game) last
+      → next.done ≡ played.done + count_by is_ok (answer ∷ [])
+      → next.refused ≡ played.refused + count_by is_err (answer ∷ [])
+      → IsPlayedBy state rules Step settings (events ++ event ∷ []) next
+  step_played events event answer played next r last step game done refused =
+      record {
+        last = last;
+        answers = r.answers ++ answer ∷ [];
+        plays = plays_more Step events r.answers event answer (opening_game settings) r.last last r.plays step;
+        game = game;
+        done = counts_more is_ok r.answers answer _ _ r.done done;
+        refused = counts_more is_err r.answers answer _ _ r.refused refused;
+      }
 
 -- one event more, played. An abbrev, so that its answers compute where it is cited.
 abbrev pub played_more : {W S : Type 0} (state : W → S) (rules : Rules S) (settings : Settings)
@@ -103,41 +148,4 @@ abbrev pub played_more : {W S : Type 0} (state : W → S) (rules : Rules S) (set
 played_more state rules settings events event answer played next r is done refused =
     let one = answers_one state rules (contents played.game) (contents next.game) r.last event answer r.game
     is in
-    record {
-      last = one.0;
-      answers = r.answers ++ answer ∷ [];
-      plays = plays_more rules events r.answers event answer (opening_game settings) r.last one.0 r.plays
-          one.1;
-      game = one.2;
-      done = counts_more is_ok r.answers answer _ _ r.done done;
-      refused = counts_more is_err r.answers answer _ _ r.refused refused;
-    }
-
--- whatever events led to a game, they and one that was applied lead to the next
-pub carries : {W S : Type 0} (state : W → S) (physics : Physics S) (old new : Contents W) (event : Event)
-    (answer : Result Done Refusal)
-    → Tells state physics old (λ rules m. IsApplied state rules old new m event answer)
-    → IsCarriedOn state physics old new event answer
-carries state physics old new event answer is =
-    record {
-      reached = λ players extra capacity settings events r.
-          let rules = rules_of physics players extra capacity in
-          let one = answers_one state rules old new r.last event answer r.game
-          (is players extra capacity r.last r.game) in
-          record {
-            last = one.0;
-            run = goes_on rules settings events event (opening_game settings) r.last one.0 r.run
-                (answers_next rules event answer r.last one.0 one.1);
-            game = one.2;
-          };
-      answered = λ players extra capacity settings events answers r.
-          let rules = rules_of physics players extra capacity in
-          let one = answers_one state rules old new r.last event answer r.game
-          (is players extra capacity r.last r.game) in
-          record {
-            last = one.0;
-            plays = plays_more rules events answers event answer (opening_game settings) r.last one.0 r.plays
-                one.1;
-            game = one.2;
-          };
-    }
+    step_played state rules (Answers rules) settings events event answer played next r one.0 one.1 one.2 done refused

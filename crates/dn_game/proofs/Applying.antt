@@ -18,7 +18,7 @@ use Rattle.dn_node.specs.Steps as step
 use Rattle.dn_game.specs.Applied.{IsAfter, IsApplied, IsAddressed, IsLeftOut}
 use Rattle.dn_game.specs.Contents.{Contents}
 use Rattle.dn_game.specs.Represents.{Represents}
-use Rattle.dn_game.proofs.Moving.{places}
+use Rattle.dn_game.proofs.Moving.{moved, places}
 use Rattle.dn_game.proofs.Standing.{node_at}
 
 pub applied_so : {S : Type 0} (rules : Rules S) (m : machine.Game) (event : Event) (refusal : Option Refusal)
@@ -49,12 +49,12 @@ pub after_send : {W S : Type 0} (state : W → S) (rules : Rules S) (old : Conte
     (new : Contents W) (event : Event) (node to : ℕ) (answer : Result Done Refusal)
     → event ≡ Send node to → None ≡ refused rules.players m event
     → ((done : Done) × (answer ≡ Ok done) × IsAfter state rules new (on_event rules m (Send node to)) done)
-    ⊎ IsLeftOut old new (Send node to) answer
+    ⊎ IsLeftOut old new true answer
     → IsApplied state rules old new m event answer
 after_send state rules old m new event node to answer same is (inl (done, answered, after)) =
     inl (rw answered (after_event state rules new m event (Send node to) same done is after))
 after_send state rules old m new event node to answer same is (inr left) =
-    inr (sym is, rw same left)
+    inr (sym is, record { asks = rw same refl; same = left.same; answered = left.answered })
 
 -- an event that names one node, by the step of that node
 pub after_step : {W S A : Type 0} (state : W → S) (rules : Rules S) (g : Contents W) (m : machine.Game)
@@ -84,13 +84,7 @@ pub stops : {W S : Type 0} (state : W → S) (rules : Rules S) (g : Contents W) 
     (record m { stopped = put m.stopped place true }, Done.Stopped) Done.Stopped
 stops state rules g m place r below =
     record {
-      game = record {
-        players = r.players;
-        nodes = r.nodes;
-        stopped = λ i. grind (arith, get_or-set_same, get_or-set_other, r.stopped i);
-        flights = r.flights;
-        vanilla = r.vanilla;
-        carried = r.carried;
-      };
+      game = moved state rules g m r _ _ refl r.nodes
+          (λ i. grind (arith, get_or-set_same, get_or-set_other, r.stopped i)) r.flights r.carried;
       answered = refl;
     }

@@ -15,10 +15,10 @@ use Rattle.dn_game.specs.declared.rounds.RoundFault.{RoundFault}
 use Rattle.dn_game.specs.Applied.{IsApplied}
 use Rattle.dn_game.specs.Contents.{Contents}
 use Rattle.dn_game.specs.Represents.{Represents}
-use Rattle.dn_game.specs.Frame.{KeepsFlights}
+use Rattle.dn_game.specs.Frame.{KeepsFlights, Leaves}
 use Rattle.dn_game.specs.Rounds.{pressed_by, IsUnsent, IsCutShort, IsCarriedOut, KeepsIdleWorlds}
 use Rattle.dn_game.specs.RoundEvents.{events_in_order, exchange_events, turn_events, after_all}
-use Rattle.dn_game.proofs.Idling.{Leaves, idle_more, idle_one}
+use Rattle.dn_game.proofs.Idling.{idle_more, idle_one}
 use Rattle.dn_game.proofs.Rounding.{all_after, after_exchange, after_in_order, events_split}
 use Rattle.dn_tic.specs.Inputs.{input_of}
 
@@ -45,7 +45,7 @@ module _ {W S : Type 0} (state : W → S) (rules : Rules S) where
       → (is_send event ≡ true → answer ≢ Err Refusal.Memory) → IsApplied state rules old new m event answer
       → Represents state rules new (after rules event m)
   after_applied old new m event answer sent (inl done) = done.game
-  after_applied old new m event answer sent (inr (free, left)) = absurd (sent left.send left.answered)
+  after_applied old new m event answer sent (inr (free, left)) = absurd (sent left.asks left.answered)
 
   -- as is every event but a send
   pub after_other : (old new : Contents W) (m : Game) (event : Event) (answer : Result Done Refusal)

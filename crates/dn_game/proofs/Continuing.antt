@@ -25,7 +25,7 @@ use Rattle.dn_game.specs.declared.rounds.RoundFault.{RoundFault}
 use Rattle.dn_game.specs.declared.played.Played.{Played}
 use Rattle.dn_game.specs.Contents.{Contents, contents}
 use Rattle.dn_game.specs.GoingOn.{NoneLost, AllRan, HasRoom, GoesOn, HasGoneOn, HasPlayedOn}
-use Rattle.dn_game.specs.Played.{IsReachedWith}
+use Rattle.dn_game.specs.Played.{Answers, IsReachedWith}
 use Rattle.dn_game.specs.Promised.{IsReached, HasPlayed}
 use Rattle.dn_game.specs.Represents.{Represents}
 use Rattle.dn_game.specs.Told.{HasNode}
@@ -126,7 +126,7 @@ module _ {W S : Type 0} (state : W → S) (rules : Rules S) (settings : Settings
           game = reached.game;
         }) several inputs rounds shown;
         promised = promised state rules settings _ _ _ later
-            (plays_on rules events _ answers _ (opening_game settings) reached.last _ reached.plays
+            (plays_on (Answers rules) events _ answers _ (opening_game settings) reached.last _ reached.plays
             (plays_rounds rules inputs rounds reached.last)) shown;
       }
 

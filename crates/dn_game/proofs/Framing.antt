@@ -1,13 +1,23 @@
 -- What the step of one node leaves as it is.
-use Rattle.std.proofs.Common.{◌≡◌, ◌≢◌, ◌++◌, ℕ, zero, suc, List, [], ◌∷◌, Option, Some, Ok, map, set, ap, sym, ◌∙◌, refl, subst}
+use Rattle.std.proofs.Common.{◌≡◌, ◌≢◌, ◌++◌, ℕ, zero, suc, List, [], ◌∷◌, Option, Some, Result, Ok, append-nil, map, set, ap, sym, ◌∙◌, refl, subst}
+use Rattle.std.specs.Borrow.{Bor}
 use Rattle.std.specs.Prelude.{slice_get, slice_index_or}
 use Rattle.std.proofs.Math.Seq.{map-set_same}
+use Rattle.dn_machine.specs.declared.answers.Heard.{Heard}
 use Rattle.dn_machine.specs.declared.answers.Ran.{Ran}
 use Rattle.dn_machine.specs.declared.events.Done.{Done}
+use Rattle.dn_machine.specs.declared.events.Event.{Event}
+use Rattle.dn_machine.specs.declared.events.Refusal.{Refusal}
+use Rattle.dn_open.specs.declared.arrived.Arrived.{Arrived}
+use Rattle.dn_open.specs.declared.open_event.OpenEvent.{OpenEvent}
+use Rattle.dn_open.specs.declared.open_event.OpenEvent.TheVariants.{Own, Arrive}
 use Rattle.dn_node.specs.declared.node.Node.{Node}
 use Rattle.dn_node.specs.Contents as node
 use Rattle.dn_game.specs.declared.flight.Flight.{Flight}
-use Rattle.dn_game.specs.Frame.{MovesNoWorld}
+use Rattle.dn_game.specs.declared.open_done.OpenDone.{OpenDone}
+use Rattle.dn_game.specs.Contents.{Contents}
+use Rattle.dn_game.specs.Frame.{KeepsOthers, KeepsWorlds, Leaves, LeavesOpen, Leaving, MovesNoWorld, MovesNoWorldOpen}
+use Rattle.dn_game.specs.OpenPlayed.{arrival_answer}
 use Rattle.dn_game.specs.Fresh.{worlds_of}
 
 -- what stands elsewhere stays
@@ -41,6 +51,56 @@ module _ {W : Type 0} (nodes : List (Node W)) (place : ℕ) (next : Node W) wher
   holds_step old read kept =
       let own = λ (n : Node W). node.contents n in
       map-set_same own nodes place next old (kept ∙ ap own read)
+
+-- where neither the nodes nor the packets change, all is left
+pub leaves_all : {W : Type 0} (named : Option ℕ) (IsStill : Type 0) (old new : Contents W)
+    → new.nodes ≡ old.nodes → new.flights ≡ old.flights → Leaving named IsStill old new
+leaves_all {W} named IsStill old new nodes flights =
+    record {
+      others = λ i apart. ap (λ (ns : List (Node W)). slice_get ns i) nodes;
+      worlds = λ still. ap worlds_of nodes;
+      more = ([], flights ∙ sym (append-nil old.flights));
+    }
+
+pub leaves_same : {W : Type 0} (named : Option ℕ) (IsStill : Type 0) (old new : Contents W) → new ≡ old
+    → Leaving named IsStill old new
+leaves_same {W} named IsStill old new same =
+    leaves_all named IsStill old new (ap (λ (g : Contents W). g.nodes) same)
+    (ap (λ (g : Contents W). g.flights) same)
+
+-- the step of the node that is named leaves the others, and the worlds where it keeps its own
+pub leaves_step : {W : Type 0} (g : Contents W) (place : ℕ) (old next : Node W) (named : Option ℕ)
+    (IsStill : Type 0) → named ≡ Some place → old ≡ slice_index_or g.nodes place old
+    → (IsStill → (node.contents next).world ≡ (node.contents old).world)
+    → Leaving named IsStill g (record g { nodes = set g.nodes place next })
+leaves_step g place old next named IsStill is read kept =
+    record {
+      others = others_step g.nodes place next named is;
+      worlds = λ still. worlds_step g.nodes place next old read (kept still);
+      more = ([], sym (append-nil g.flights));
+    }
+
+-- by the event that it is
+pub leaves_as : {W : Type 0} (old new : Contents W) (event is : Event) (answer : Result Done Refusal)
+    → event ≡ is → Leaves old new is answer → Leaves old new event answer
+leaves_as old new event is answer same left = rw same left
+
+-- an open event that is one of the game, and bytes that came
+pub own_leaves : {W : Type 0} (old new : Contents W) (event : OpenEvent) (own : Event) (done : Done)
+    → event ≡ Own own → Leaves old new own (Ok done) → LeavesOpen old new event (Ok (OpenDone.Own done))
+own_leaves old new event own done same left =
+    rw same (record { others = left.others; worlds = left.worlds; more = left.more })
+
+pub arrival_leaves : {W : Type 0} (old new : Contents W) (event : OpenEvent) (node : ℕ) (bytes : Bor (List ℕ))
+    (arrived : Arrived) → event ≡ Arrive node bytes → KeepsOthers (Some node) old new
+    → (◌≢◌ {A = Result Arrived Refusal} (Ok arrived) (Ok (Arrived.Heard Heard.Started)) → KeepsWorlds old new)
+    → new.flights ≡ old.flights → LeavesOpen old new event (Ok (OpenDone.Arrived arrived))
+arrival_leaves old new event node bytes arrived same others worlds flights =
+    rw same (record {
+      others = others;
+      worlds = λ moves. worlds (λ is. subst (λ (r : Result Arrived Refusal). MovesNoWorldOpen (arrival_answer r)) is moves refl);
+      more = ([], flights ∙ sym (append-nil old.flights));
+    })
 
 -- packets that joined those that were kept
 pub sent_after : (old kept new more : List Flight) → new ≡ kept ++ more → kept ≡ old

@@ -15,7 +15,7 @@ use Rattle.dn_game.specs.Represents as represents
 use Rattle.dn_game.specs.declared.flight.Flight.{Flight}
 
 -- what stands in a list with one more: it stood there before, or it is the last
-pub slice_get-more : {A : Type 0} (xs : List A) (y : A) (k : ℕ) (x : A) → slice_get (xs ++ y ∷ []) k ≡ Some x
+slice_get-more : {A : Type 0} (xs : List A) (y : A) (k : ℕ) (x : A) → slice_get (xs ++ y ∷ []) k ≡ Some x
     → (slice_get xs k ≡ Some x) ⊎ ((k ≡ length xs) × (x ≡ y))
 slice_get-more [] y zero x h = inr (refl, sym (same_Some _ _ h))
 slice_get-more [] y (suc k) x h = absurd (cc)
@@ -25,25 +25,27 @@ slice_get-more (z ∷ xs) y (suc k) x h = elim (slice_get-more xs y k x h) [
   | inr (at, last) ↦ inr (ap suc at, last)
 ]
 
+-- what holds of each at its place holds with one more
+pub each_more : {A : Type 0} (P : ℕ → A → Type 0) (xs : List A) (y : A)
+    → ((k : ℕ) (x : A) → slice_get xs k ≡ Some x → P k x) → P (length xs) y
+    → (k : ℕ) (x : A) → slice_get (xs ++ y ∷ []) k ≡ Some x → P k x
+each_more P xs y before one k x there = elim (slice_get-more xs y k x there) [
+  | inl old ↦ before k x old
+  | inr (at, last) ↦ rw (last, at) one
+]
+
 pub fresh_more : {W S : Type 0} (state : W → S) (rules : Rules S) (settings : Settings)
     (nodes : List (Node W)) (node : Node W)
     → AreFresh state rules settings nodes → Represents state rules (length nodes) (contents node)
     (fresh settings (length nodes))
     → AreFresh state rules settings (nodes ++ node ∷ [])
-fresh_more {W} {S} state rules settings nodes node before one i n there =
-    elim (slice_get-more nodes node i n there) [
-      | inl old ↦ before i n old
-      | inr (at, last) ↦
-          rw (last, at) one
-    ]
+fresh_more {W} {S} state rules settings nodes node =
+    each_more (λ (i : ℕ) (n : Node W). Represents state rules i (contents n) (fresh settings i)) nodes node
 
 pub limited_more : {W : Type 0} (limit : ℕ) (nodes : List (Node W)) (node : Node W) → AreLimited limit nodes
     → (contents node).demo.limit ≡ limit → AreLimited limit (nodes ++ node ∷ [])
 limited_more {W} limit nodes node before one =
     All-push (λ (n : Node W). (contents n).demo.limit ≡ limit) nodes node before one
-
-nobody : (i : ℕ) → slice_index_or (false ∷ false ∷ false ∷ false ∷ []) i false ≡ false
-nobody i = grind arith
 
 pub opens : {W S : Type 0} (state : W → S) (rules : Rules S) (vanilla : represents.IsVanilla rules.limits)
     (settings : Settings) (nodes : List (Node W))
@@ -58,7 +60,7 @@ opens state rules vanilla settings nodes flights count nodes_fresh none =
       players = count;
       vanilla = vanilla;
       nodes = nodes_fresh;
-      stopped = nobody;
+      stopped = λ i. grind arith;
       flights = none;
       carried = λ k d far. absurd (omega arith);
     }

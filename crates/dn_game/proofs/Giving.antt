@@ -9,22 +9,17 @@ use Rattle.dn_machine.specs.declared.events.Done.{Done}
 use Rattle.dn_machine.specs.declared.events.Event.{Event}
 use Rattle.dn_machine.specs.declared.events.Event.TheVariants.{Build, Give, Send, Deliver, Run, Quit, Stop}
 use Rattle.dn_machine.specs.declared.events.Refusal.{Refusal}
-use Rattle.dn_machine.specs.Game.{Game}
-use Rattle.dn_machine.specs.Worlds.{Rules}
 use Rattle.dn_node.specs.declared.node.Node.{Node}
 use Rattle.dn_node.specs.Contents as node
-use Rattle.dn_seal.specs.declared.seal.Seal.{Seal}
 use Rattle.dn_open.specs.declared.open_event.OpenEvent.{OpenEvent}
 use Rattle.dn_open.specs.declared.open_event.OpenEvent.TheVariants.{Own, Arrive}
 use Rattle.dn_game.specs.declared.flight.Flight.{Flight}
-use Rattle.dn_game.specs.declared.open_done.OpenDone.{OpenDone}
 use Rattle.dn_game.specs.declared.played.Played.{Played}
 use Rattle.dn_game.specs.Contents.{Contents, contents}
 use Rattle.dn_game.specs.Frame.{KeepsOthers, KeepsWorlds, MovesNoWorld, named_in, named_in_open}
 use Rattle.dn_game.specs.Fresh.{worlds_of}
 use Rattle.dn_game.specs.Given.{KeepsGiven, NeverMoves}
-use Rattle.dn_game.specs.OpenPlayed.{PlaysOpen}
-use Rattle.dn_game.specs.Played.{AppliesOne, Plays}
+use Rattle.dn_game.specs.Played.{AppliesOne}
 
 -- this node is named, or it is not
 named_or : (o : Option ℕ) (i : ℕ) → (o ≡ Some i) ⊎ (o ≢ Some i)
@@ -73,23 +68,6 @@ pub named_stays : (flights more : List Flight) (event : OpenEvent) (i : ℕ) →
 named_stays flights more (Own event) i h = own_stays flights more event i h
 named_stays flights more (Arrive node bytes) i h = h
 
--- each event has an answer
-pub as_many : {S : Type 0} (rules : Rules S) (events : List Event) (answers : List (Result Done Refusal))
-    (game last : Game) → Plays rules game events answers last → length events ≡ length answers
-as_many rules [] [] game last way = refl
-as_many rules [] (a ∷ answers) game last way = absurd way
-as_many rules (e ∷ events) [] game last way = absurd way
-as_many rules (e ∷ events) (a ∷ answers) game last way = ap suc (as_many rules events answers way.0 last way.2)
-
-pub as_many_open : {S : Type 0} (rules : Rules S) (seal : Seal) (events : List OpenEvent)
-    (answers : List (Result OpenDone Refusal)) (game last : Game) → PlaysOpen rules seal game events answers last
-    → length events ≡ length answers
-as_many_open rules seal [] [] game last way = refl
-as_many_open rules seal [] (a ∷ answers) game last way = absurd way
-as_many_open rules seal (e ∷ events) [] game last way = absurd way
-as_many_open rules seal (e ∷ events) (a ∷ answers) game last way =
-    ap suc (as_many_open rules seal events answers way.0 last way.2)
-
 module _ {W E A : Type 0} (named_of : List Flight → E → Option ℕ) (MovesNone : A → Type 0)
     (stays : (flights more : List Flight) (event : E) (i : ℕ) → named_of flights event ≡ Some i
     → named_of (flights ++ more) event ≡ Some i)
@@ -129,5 +107,5 @@ pub given_more : {W S : Type 0} (state : W → S) (physics : Physics S) (played 
     → KeepsGiven worlds events answers (contents played.game)
     → KeepsGiven worlds (events ++ event ∷ []) (answers ++ answer ∷ []) (contents next.game)
 given_more state physics played next event answer one =
-    keeps_more named_in MovesNoWorld own_stays (contents played.game) (contents next.game) event answer one.others
-    one.worlds one.more.0 one.more.1
+    keeps_more named_in MovesNoWorld own_stays (contents played.game) (contents next.game) event answer
+    one.leaves.others one.leaves.worlds one.leaves.more.0 one.leaves.more.1

@@ -9,20 +9,13 @@ use Rattle.dn_machine.specs.Worlds.{Rules}
 use Rattle.dn_game.specs.declared.flight.Flight.{Flight}
 use Rattle.dn_game.specs.Applied.{IsApplied}
 use Rattle.dn_game.specs.Contents.{Contents}
-use Rattle.dn_game.specs.Frame.{KeepsFlights, KeepsOthers, KeepsWorlds, MovesNoWorld, named_by, named_in}
+use Rattle.dn_game.specs.Frame.{KeepsFlights, Leaves, MovesNoWorld, named_in}
 use Rattle.dn_game.specs.Fresh.{worlds_of}
 use Rattle.dn_game.specs.Given.{KeepsGiven}
 use Rattle.dn_game.specs.RoundEvents.{after_all, answers_to}
 use Rattle.dn_game.specs.Rounds.{KeepsIdleWorlds}
 use Rattle.dn_game.proofs.Giving.{at_front, own_stays, stays_at}
 use Rattle.dn_game.proofs.Rounding.{answers_after, answers_each}
-
--- what an event with this answer leaves as it is
-pub record Leaves {W : Type 0} (old new : Contents W) (event : Event) (answer : Result Done Refusal) : Type 0
-  where
-    pub others : KeepsOthers (named_by old event) old new
-    pub worlds : MovesNoWorld answer → KeepsWorlds old new
-    pub more : KeepsFlights old new
 
 -- what follows a list stands behind it
 at_back : {X : Type 0} (xs more : List X) (k : ℕ) → slice_get (xs ++ more) (length xs + k) ≡ slice_get more k

@@ -1,37 +1,34 @@
 -- One open event more in a list that was played.
-use Rattle.std.proofs.Common.{◌≡◌, ◌+◌, ℕ, List, [], ◌∷◌, ◌++◌, Result, Ok, Err, refl}
-use Rattle.std.specs.Prelude.{count_by, is_ok, is_err}
+use Rattle.std.proofs.Common.{◌≡◌, ◌<◌, ℕ, List, [], ◌∷◌, ◌++◌, length, set, None, Result, Ok, Err, refl, inl}
+use Rattle.std.specs.Prelude.{slice_index_or}
 use Rattle.std.specs.Borrow.{Bor}
 use Rattle.dn_setup.specs.Settings.{Settings}
 use Rattle.dn_world.specs.Physics.{Physics}
 use Rattle.dn_machine.specs.declared.events.Done.{Done}
 use Rattle.dn_machine.specs.declared.events.Event.{Event}
 use Rattle.dn_machine.specs.declared.events.Refusal.{Refusal}
-use Rattle.dn_machine.specs.Game.{Game, opening_game}
-use Rattle.dn_machine.specs.Worlds.{Rules, rules_of}
+use Rattle.dn_machine.specs.Game.{Game, on_event, opening_game, refused, with_node}
+use Rattle.dn_machine.specs.Limits.{Limits}
+use Rattle.dn_machine.specs.Node as machine_node
+use Rattle.dn_machine.specs.Worlds.{Rules, rules_of, rules_within}
+use Rattle.dn_node.specs.declared.node.Node.{Node}
+use Rattle.dn_node.specs.Contents as node
+use Rattle.dn_node.specs.Represents as node_to
+use Rattle.dn_node.specs.Steps as step
+use Rattle.dn_machine.proofs.Games.{goes_on}
 use Rattle.dn_seal.specs.declared.seal.Seal.{Seal}
 use Rattle.dn_open.specs.declared.arrived.Arrived.{Arrived}
 use Rattle.dn_open.specs.declared.open_event.OpenEvent.{OpenEvent}
 use Rattle.dn_open.specs.declared.open_event.OpenEvent.TheVariants.{Own, Arrive}
 use Rattle.dn_game.specs.declared.open_done.OpenDone.{OpenDone}
-use Rattle.dn_game.specs.declared.played.Played.{Played}
-use Rattle.dn_game.specs.Applied.{IsApplied, Tells}
+use Rattle.dn_game.specs.Applied.{IsAddressed, IsApplied, Tells}
 use Rattle.dn_game.specs.Arrived.{Opening, IsArrived, after_arrival}
-use Rattle.dn_game.specs.Contents.{Contents, contents}
-use Rattle.dn_game.specs.OpenPlayed.{AnswersOpen, ArrivesSo, IsAppliedOpen, IsCarriedOnOpen, IsPlayedOpen, PlaysOpen, own_answer, arrival_answer}
+use Rattle.dn_game.specs.Contents.{Contents}
+use Rattle.dn_game.specs.OpenPlayed.{AnswersOpen, ArrivesSo, IsAppliedOpen, IsCarriedOnOpen, LeadsOn, own_answer, arrival_answer}
+use Rattle.dn_game.specs.Played.{Answers}
 use Rattle.dn_game.specs.Represents.{Represents}
-use Rattle.dn_game.proofs.Answering.{answers_one, counts_more}
-
-module _ {S : Type 0} (rules : Rules S) (seal : Seal) where
-  pub open_more : (events : List OpenEvent) (answers : List (Result OpenDone Refusal)) (event : OpenEvent)
-      (answer : Result OpenDone Refusal) (game mid last : Game)
-      → PlaysOpen rules seal game events answers mid → AnswersOpen rules seal mid event answer last
-      → PlaysOpen rules seal game (events ++ event ∷ []) (answers ++ answer ∷ []) last
-  open_more [] [] event answer game mid last same next = (last, rw same at next, refl)
-  open_more [] (a ∷ answers) event answer game mid last way next = absurd way
-  open_more (e ∷ events) [] event answer game mid last way next = absurd way
-  open_more (e ∷ events) (a ∷ answers) event answer game mid last way next =
-      (way.0, way.1, open_more events answers event answer way.0 mid last way.2 next)
+use Rattle.dn_game.proofs.Answering.{answers_next, answers_one, plays_more}
+use Rattle.dn_game.proofs.Applying.{after_step}
 
 -- bytes that came to a node have led somewhere
 pub arrival_leads : {W S : Type 0} (state : W → S) (rules : Rules S) (seal : Seal) (m : Game) (node : ℕ)
@@ -84,7 +81,7 @@ carries_open state physics seal old new event answer is players extra capacity s
     let one = is players extra capacity r.last r.game in
     record {
       last = one.0;
-      plays = open_more rules seal events answers event answer (opening_game settings) r.last one.0 r.plays one.1;
+      plays = plays_more (AnswersOpen rules seal) events answers event answer (opening_game settings) r.last one.0 r.plays one.1;
       game = one.2;
     }
 
@@ -107,6 +104,60 @@ carries_own state physics seal old new own answer is =
     own_leads state (rules_of physics players extra capacity) seal m old new own answer r
     (is players extra capacity m r))
 
+-- an event that is applied leads on
+pub leads_on : {W S : Type 0} (state : W → S) (physics : Physics S) (old new : Contents W) (event : Event)
+    (answer : Result Done Refusal)
+    → Tells state physics old (λ rules m. IsApplied state rules old new m event answer)
+    → LeadsOn state physics old new event answer
+leads_on state physics old new event answer is =
+    record {
+      applied = is;
+      carried = record {
+        reached = λ players extra capacity settings events r.
+            let rules = rules_of physics players extra capacity in
+            let one = answers_one state rules old new r.last event answer r.game
+            (is players extra capacity r.last r.game) in
+            record {
+              last = one.0;
+              run = goes_on rules settings events event (opening_game settings) r.last one.0 r.run
+                  (answers_next rules event answer r.last one.0 one.1);
+              game = one.2;
+            };
+        answered = λ players extra capacity settings events answers r.
+            let rules = rules_of physics players extra capacity in
+            let one = answers_one state rules old new r.last event answer r.game
+            (is players extra capacity r.last r.game) in
+            record {
+              last = one.0;
+              plays = plays_more (Answers rules) events answers event answer (opening_game settings) r.last one.0 r.plays
+                  one.1;
+              game = one.2;
+            };
+      };
+      carried_open = λ seal. carries_own state physics seal old new event answer is;
+    }
+
+-- and so does the step of the one node that it names
+pub step_leads : {W S A : Type 0} (state : W → S) (physics : Physics S) (g : Contents W) (event named : Event)
+    (place : ℕ) (old new : Node W) (by : Limits → ℕ → machine_node.Node → machine_node.Node × A) (answer : A)
+    (done : A → Done)
+    → Tells state physics g (λ rules m. None ≡ refused rules.players m event) → IsAddressed g event
+    → event ≡ named → (IsAddressed g named → place < length g.nodes) → old ≡ slice_index_or g.nodes place old
+    → ((limits : Limits) (me : ℕ) (n : machine_node.Node)
+    → node_to.Represents state (rules_within physics limits) me (node.contents old) n
+    → step.IsAfter state (rules_within physics limits) me (node.contents new)
+    (by limits me n) (λ x. answer ≡ x))
+    → ((limits : Limits) (m : Game) → ◌≡◌ {A = Game × Done} (on_event (rules_within physics limits) m named)
+    (with_node m place (by limits place (m.nodes place)).0, done (by limits place (m.nodes place)).1))
+    → LeadsOn state physics g (record g { nodes = set g.nodes place new }) event (Ok (done answer))
+step_leads state physics g event named place old new by answer done told there same names read steps is =
+    leads_on state physics g (record g { nodes = set g.nodes place new }) event (Ok (done answer))
+    (λ players extra capacity m r.
+    let rules = rules_of physics players extra capacity in
+    inl (after_step state rules g m event named place old new (by rules.limits place (m.nodes place)) answer done r
+    (told players extra capacity m r) there same names read (steps rules.limits place (m.nodes place))
+    (is rules.limits m)))
+
 came_leads : {W S : Type 0} (state : W → S) (rules : Rules S) (seal : Seal) (m : Game) (node : ℕ)
     (bytes : Bor (List ℕ)) (new : Contents W) (answer : Result Arrived Refusal) → Opening seal node bytes.now
     → IsArrived state rules seal m node bytes.now new answer
@@ -125,21 +176,3 @@ carries_arrival state physics seal old new node bytes answer opening is =
     (λ players extra capacity m r.
     came_leads state (rules_of physics players extra capacity) seal m node bytes new answer opening
     (is players extra capacity m r))
-
--- one open event more, played. An abbrev, so that its answers compute where it is cited.
-abbrev pub open_played_more : {W S : Type 0} (state : W → S) (rules : Rules S) (seal : Seal) (settings : Settings)
-    (events : List OpenEvent) (event : OpenEvent) (answer : Result OpenDone Refusal) (played next : Played W)
-    → (r : IsPlayedOpen state rules seal settings events played)
-    → IsAppliedOpen state rules seal r.last event answer (contents next.game)
-    → next.done ≡ played.done + count_by is_ok (answer ∷ [])
-    → next.refused ≡ played.refused + count_by is_err (answer ∷ [])
-    → IsPlayedOpen state rules seal settings (events ++ event ∷ []) next
-open_played_more state rules seal settings events event answer played next r is done refused =
-    record {
-      last = is.0;
-      answers = r.answers ++ answer ∷ [];
-      plays = open_more rules seal events r.answers event answer (opening_game settings) r.last is.0 r.plays is.1;
-      game = is.2;
-      done = counts_more is_ok r.answers answer _ _ r.done done;
-      refused = counts_more is_err r.answers answer _ _ r.refused refused;
-    }

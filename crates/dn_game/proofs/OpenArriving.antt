@@ -1,5 +1,6 @@
 -- Bytes come to a node, and the game is what the machine makes of them.
 use Rattle.std.proofs.Common.{◌≡◌, ◌<◌, ◌-◌, ◌&&◌, ℕ, Bool, true, false, List, length, set, drop, Option, Some, None, Result, Ok, Err, refl, ap, sym, ◌∙◌, subst}
+use Rattle.std.specs.Prelude.{slice_index_or}
 use Rattle.std.proofs.lemmas.List.Elements.{All-take, All-drop}
 use Rattle.dn_packet.specs.Read as packet
 use Rattle.dn_packet.specs.declared.packet.Packet.{Packet}
@@ -17,6 +18,7 @@ use Rattle.dn_machine.specs.Game.{refused_at, with_node}
 use Rattle.dn_machine.specs.Node as exact
 use Rattle.dn_machine.specs.Node.{made}
 use Rattle.dn_machine.specs.Worlds.{Rules}
+use Rattle.dn_lockstep.specs.Rings.{count_of}
 use Rattle.dn_lockstep.specs.Received.{received, IsTold}
 use Rattle.dn_node.specs.declared.node.Node.{Node}
 use Rattle.dn_node.specs.Contents as node_in
@@ -36,6 +38,7 @@ use Rattle.dn_game.specs.Arrived.{Opening, IsArrived}
 use Rattle.dn_game.specs.Contents.{Contents}
 use Rattle.dn_game.specs.Represents.{Represents}
 use Rattle.dn_game.proofs.Moving.{places}
+use Rattle.dn_game.proofs.Standing.{made_at}
 
 -- what was opened so is read as something
 abbrev Reads : Result Opened SealFault → Type 0
@@ -142,29 +145,43 @@ module _ {W S : Type 0} (state : W → S) (rules : Rules S) (g : Contents W) (m 
         → IsArrived state rules seal m node bytes g (Ok (Arrived.Unopened fault))
     unopened fault only = spares (Err fault) (Arrived.Unopened fault) only (λ read told. refl)
 
-    module _ (o : Opened) (only : IsOnly (Ok o)) where
+    -- what a sealer of this node opened, by the tests of its exact numbers
+    module _ (below : node < length g.nodes) (s : Sealing) (o : Opened)
+        (sealer : s ≡ record { seal = seal; me = node })
+        (only : (read : Result Opened SealFault) → IsOpenedAs s bytes read → Ok o ≡ read) (count : ℕ) (n : Node W)
+        (there : n ≡ slice_index_or g.nodes node n)
+        (counted : count ≡ count_of (node_in.contents n).rings (node_in.contents n).me) (near : Bool)
+        (tested : near ≡ (is_close count o.start && is_request_close count o.ask)) where
+      only_so : IsOnly (Ok o)
+      only_so = only_at s seal node node bytes (Ok o) sealer refl only
+
       abbrev timely : Bool
       timely = is_close (made node (m.nodes node)) o.start && is_request_close (made node (m.nodes node)) o.ask
 
-      pub late : timely ≡ false → IsArrived state rules seal m node bytes g (Ok Arrived.Late)
-      late far = spares (Ok o) Arrived.Late only (λ read told. rw far refl)
+      is_timely : timely ≡ near
+      is_timely =
+          ap (λ (k : ℕ). is_close k o.start && is_request_close k o.ask)
+          (sym (made_at state rules g m r node count n below there counted)) ∙ sym tested
 
-      pub unlike : timely ≡ true → is_alike o ≡ false
+      pub late : near ≡ false → IsArrived state rules seal m node bytes g (Ok Arrived.Late)
+      late far = spares (Ok o) Arrived.Late only_so (λ read told. rw (is_timely ∙ far) refl)
+
+      pub unlike : near ≡ true → is_alike o ≡ false
           → IsArrived state rules seal m node bytes g (Ok Arrived.Unlike)
-      unlike close other = spares (Ok o) Arrived.Unlike only (λ read told. rw (close, other) refl)
+      unlike close other = spares (Ok o) Arrived.Unlike only_so (λ read told. rw (is_timely ∙ close, other) refl)
 
-      pub hears : timely ≡ true → is_alike o ≡ true → node < length g.nodes → (n : Node W) (heard : Heard)
+      pub hears : near ≡ true → is_alike o ≡ true → (next : Node W) (heard : Heard)
           → ((read : Result Packet PacketFault) (told : Result Settings SetupFault)
           → packet.IsReadAs o.datagram.items read → IsTold read told
-          → step.IsAfter state rules node (node_in.contents n)
+          → step.IsAfter state rules node (node_in.contents next)
           (received rules.limits node (m.nodes node) o.from told read) (λ x. heard ≡ x))
-          → IsArrived state rules seal m node bytes (record g { nodes = set g.nodes node n })
+          → IsArrived state rules seal m node bytes (record g { nodes = set g.nodes node next })
           (Ok (Arrived.Heard heard))
-      hears close like below n heard after =
-          arrives_as (Ok o) (record g { nodes = set g.nodes node n }) (Arrived.Heard heard) only
+      hears close like next heard after =
+          arrives_as (Ok o) (record g { nodes = set g.nodes node next }) (Arrived.Heard heard) only_so
           (λ read told reads.
           let a = after read told reads.0 reads.1 in
-          rw (close, like) (record {
-            game = places state rules g m node n _ r below a.node;
+          rw (is_timely ∙ close, like) (record {
+            game = places state rules g m node next _ r below a.node;
             answered = ap (λ (h : Heard). Ok (Arrived.Heard h)) a.answer;
           }))

@@ -28,7 +28,7 @@ use Rattle.dn_game.specs.Contents.{Contents}
 use Rattle.dn_game.specs.InputsMade.{inputs_by, inputs_made}
 use Rattle.dn_game.specs.OpenPlayed.{AnswersOpen, PlaysOpen}
 use Rattle.dn_game.specs.OpenPromised.{AreGenuine, IsPromisedOpen, IsSteadyOpen, StandFor, open_inputs_made, plain_answer, plain_answers, sent_by}
-use Rattle.dn_game.specs.Played.{Plays}
+use Rattle.dn_game.specs.Played.{Answers, Plays}
 use Rattle.dn_game.specs.Promised.{IsSteady}
 use Rattle.dn_game.specs.Represents.{Represents, IsCarried, flight_of}
 use Rattle.dn_game.specs.Sealed.{IsGenuine}
@@ -174,7 +174,7 @@ module _ {S : Type 0} (rules : Rules S) (seal : Seal) (settings : Settings) (win
       record {
         plain = first.plain ++ on.plain;
         stand = (first.plain, on.plain, refl, first.stand, on.stand);
-        plays = plays_on rules first.plain on.plain (plain_answer e a) (plain_answers events answers) game next last
+        plays = plays_on (Answers rules) first.plain on.plain (plain_answer e a) (plain_answers events answers) game next last
             first.plays on.plays;
         inputs = λ player. inputs_on rules seal player first.plain on.plain (plain_answer e a)
             (plain_answers events answers) game next first.plays

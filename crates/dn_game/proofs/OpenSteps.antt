@@ -61,12 +61,9 @@ genuine_so seal flights node bytes genuine opened is =
 -- so is an envelope
 envelope_so : (seal : Seal) (flights : List exact.Flight) (node : ℕ) (bytes : List ℕ) (which : ℕ)
     → network.IsEnvelope seal flights node bytes which → IsEnvelope seal (map flight_of flights) node bytes which
-envelope_so seal flights node bytes which is = record {
-  packet = flight_of is.flight;
-  sent = slice_get-map flight_of flights which ∙ ap (option_map flight_of) is.sent;
-  receiver = is.receiver;
-  same = is.same;
-}
+envelope_so seal flights node bytes which is =
+    let sent = slice_get-map flight_of flights which ∙ ap (option_map flight_of) is.sent in
+    (flight_of is.flight, sent, is.receiver, is.same)
 
 -- what an answer tells to have been heard
 abbrev heard_in : Heard → Result Arrived Refusal → Heard

@@ -11,6 +11,7 @@ use Rattle.dn_game.specs.declared.flight.Flight.{Flight}
 use Rattle.dn_game.specs.Applied.{IsAfter}
 use Rattle.dn_game.specs.Contents.{Contents}
 use Rattle.dn_game.specs.Represents.{Represents, IsCarried, flight_of}
+use Rattle.dn_game.proofs.Moving.{moved}
 
 module _ {W S : Type 0} (state : W → S) (rules : Rules S) (g : Contents W) (m : machine.Game)
     (r : Represents state rules g m)
@@ -20,14 +21,7 @@ module _ {W S : Type 0} (state : W → S) (rules : Rules S) (g : Contents W) (m 
       → IsAfter state rules (record g { flights = flights }) (posted m given) Done.Silent
   posts_none none same =
       rw none (record {
-        game = record {
-          players = r.players;
-          nodes = r.nodes;
-          stopped = r.stopped;
-          flights = same ∙ r.flights;
-          vanilla = r.vanilla;
-          carried = r.carried;
-        };
+        game = moved state rules g m r _ _ refl r.nodes r.stopped (same ∙ r.flights) r.carried;
         answered = refl;
       })
 
@@ -37,15 +31,9 @@ module _ {W S : Type 0} (state : W → S) (rules : Rules S) (g : Contents W) (m 
       → IsAfter state rules (record g { flights = flights }) (posted m given) (Done.Sent which)
   posts_some flight some f is carried more which last =
       rw some (record {
-        game = record {
-          players = r.players;
-          nodes = r.nodes;
-          stopped = r.stopped;
-          flights = more ∙ ap (λ (fs : List Flight). fs ++ f ∷ []) r.flights
-              ∙ ap (λ (x : Flight). map flight_of m.flights ++ x ∷ []) is
-              ∙ sym (map_push flight_of m.flights flight);
-          vanilla = r.vanilla;
-          carried = All-push (IsCarried rules.players) m.flights flight r.carried carried;
-        };
+        game = moved state rules g m r _ _ refl r.nodes r.stopped
+            (more ∙ ap (λ (fs : List Flight). fs ++ f ∷ []) r.flights
+            ∙ ap (λ (x : Flight). map flight_of m.flights ++ x ∷ []) is ∙ sym (map_push flight_of m.flights flight))
+            (All-push (IsCarried rules.players) m.flights flight r.carried carried);
         answered = ap Done.Sent (last ∙ ap length r.flights ∙ length-map m.flights flight_of);
       })

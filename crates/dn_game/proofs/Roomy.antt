@@ -1,7 +1,12 @@
 -- Room for twice the packets that there are, and one.
-use Rattle.std.proofs.Common.{◌≡◌, ◌≤◌, ◌⊎◌, ◌+◌, ◌*◌, ◌++◌, ℕ, List, length, ap, ◌∙◌, length-append, arith, inl, inr}
+use Rattle.std.proofs.Common.{◌≡◌, ◌≤◌, ◌⊎◌, ◌+◌, ◌*◌, ◌++◌, ℕ, List, length, ap, refl, ◌∙◌, length-append, arith, inl, inr}
 use Rattle.std.proofs.lemmas.Grind.{flat_map-append}
 use Rattle.dn_game.specs.declared.flight.Flight.{Flight}
+use Rattle.dn_game.specs.declared.game.Game.{Game}
+use Rattle.dn_game.specs.Contents.{contents}
+use Rattle.dn_game.specs.Frame.{KeepsFlights}
+use Rattle.dn_game.specs.Room.{Continues, KeepsWhose, room_of}
+use Rattle.dn_game.proofs.Idling.{flights_on, flights_same}
 use Rattle.dn_game.specs.Pool.{Room, HasGrown, IsWithinTwice, grown, joined}
 
 -- what has grown for one more is within twice as many as there are, and one
@@ -34,6 +39,31 @@ stays_within flights more now old new within grows is =
 pub stays : (flights now : List Flight) (old new : Room) → HasGrown flights old new
     → (more : List Flight) × (now ≡ flights ++ more) → IsWithinTwice flights old → IsWithinTwice now new
 stays flights now old new grows more within = stays_within flights more.0 now old new within grows more.1
+
+-- a game goes on while nothing happens
+pub continues_same : {W : Type 0} (g : Game W) → Continues g g
+continues_same g =
+    record { whose = refl; grown = λ within. within; more = flights_same (contents g).flights }
+
+-- by an event
+pub continues_one : {W : Type 0} (old new : Game W) → KeepsWhose (contents old) (contents new)
+    → HasGrown (contents old).flights (room_of old) (room_of new) → KeepsFlights (contents old) (contents new)
+    → Continues old new
+continues_one old new whose grown more =
+    record {
+      whose = whose;
+      grown = stays (contents old).flights (contents new).flights (room_of old) (room_of new) grown more;
+      more = more;
+    }
+
+-- and then on
+pub continues_on : {W : Type 0} (old mid new : Game W) → Continues old mid → Continues mid new → Continues old new
+continues_on old mid new first then =
+    record {
+      whose = then.whose ∙ first.whose;
+      grown = λ within. then.grown (first.grown within);
+      more = flights_on (contents old).flights (contents mid).flights (contents new).flights first.more then.more;
+    }
 
 -- before the first packet no memory is taken
 pub none_within : (flights : List Flight) (room : Room) → room ≡ record { bytes = 0; records = 0 }

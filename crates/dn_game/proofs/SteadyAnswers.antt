@@ -1,6 +1,6 @@
 -- No event of a game that a list of events may leave is answered by a failed check.
 use Rattle.dn_machine.specs.Limits.{IsWindow}
-use Rattle.std.proofs.Common.{◌≡◌, ℕ, ℤ, Bool, true, false, true≢false, not, List, [], ◌∷◌, cond, Option, Some, None, Result, Ok, Err, ltb, refl, ap, sym, ◌∙◌, inl, inr, arith}
+use Rattle.std.proofs.Common.{◌≡◌, ◌≢◌, ℕ, ℤ, Bool, true, false, true≢false, not, List, [], ◌∷◌, cond, Option, Some, None, Result, Ok, Err, ltb, refl, ap, sym, ◌∙◌, inl, inr, arith}
 use Rattle.std.specs.Prelude.{All, slice_get}
 use Rattle.std.proofs.lemmas.List.Elements.{All-cons, All-nil}
 use Rattle.std.proofs.lemmas.Bool.{ltb-true}
@@ -37,10 +37,13 @@ is_other (Ok (Done.Ran ran)) = false
 is_other (Ok (Done.Heard heard)) = false
 is_other _ = true
 
+apart : (answer is : Result Done Refusal) → is_other answer ≡ true → is_other is ≡ false → answer ≢ is
+apart answer is other unlike e = true≢false (sym other ∙ ap is_other e ∙ unlike)
+
 other_steady : (answer : Result Done Refusal) → is_other answer ≡ true → IsSteady answer
 other_steady answer other = record {
-  consistent = λ player was should e. absurd (true≢false (sym other ∙ ap is_other e));
-  kept = λ number e. absurd (true≢false (sym other ∙ ap is_other e));
+  consistent = λ player was should. apart answer _ other refl;
+  kept = λ number e. absurd (apart answer _ other refl e);
 }
 
 -- an event of a number that is not refused is one of a player

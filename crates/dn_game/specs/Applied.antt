@@ -26,10 +26,9 @@ pub record IsAfter {W S A : Type 0} (state : W → S) (rules : Rules S) (new : C
   pub game : Represents state rules new after.0
   pub answered : answer ≡ after.1
 
--- a send is left out since memory was refused, and nothing changes
-pub record IsLeftOut {W : Type 0} (old new : Contents W) (event : Event)
-    (answer : Result Done Refusal) : Type 0 where
-  pub send : IsTrue (is_send event)
+-- an event that asks for room is left out since memory was refused, and nothing changes
+pub record IsLeftOut {G A : Type 0} (old new : G) (asks_room : Bool) (answer : Result A Refusal) : Type 0 where
+  pub asks : IsTrue asks_room
   pub same : new ≡ old
   pub answered : answer ≡ Err Refusal.Memory
 
@@ -38,14 +37,18 @@ abbrev pub IsApplied : {W S : Type 0} → (W → S) → Rules S → Contents W �
     → Result Done Refusal → Type 0
 IsApplied state rules old new m event answer =
     IsAfter state rules new (applied rules m event) answer
-    ⊎ ((refused rules.players m event ≡ None) × IsLeftOut old new event answer)
+    ⊎ ((refused rules.players m event ≡ None) × IsLeftOut old new (is_send event) answer)
 
--- the nodes and the packet that the event names are there
+-- the nodes and the packet that the event names are there, of so many nodes and packets
+abbrev pub IsWithin : ℕ → ℕ → Event → Type 0
+IsWithin nodes flights (Build node keys) = node < nodes
+IsWithin nodes flights (Give node command) = node < nodes
+IsWithin nodes flights (Send node to) = (node < nodes) × (to < nodes)
+IsWithin nodes flights (Deliver which) = which < flights
+IsWithin nodes flights (Run node) = node < nodes
+IsWithin nodes flights (Quit node) = node < nodes
+IsWithin nodes flights (Stop node) = node < nodes
+
+-- of those of a game
 abbrev pub IsAddressed : {W : Type 0} → Contents W → Event → Type 0
-IsAddressed g (Build node keys) = node < length g.nodes
-IsAddressed g (Give node command) = node < length g.nodes
-IsAddressed g (Send node to) = (node < length g.nodes) × (to < length g.nodes)
-IsAddressed g (Deliver which) = which < length g.flights
-IsAddressed g (Run node) = node < length g.nodes
-IsAddressed g (Quit node) = node < length g.nodes
-IsAddressed g (Stop node) = node < length g.nodes
+IsAddressed g event = IsWithin (length g.nodes) (length g.flights) event

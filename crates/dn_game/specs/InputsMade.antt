@@ -16,8 +16,12 @@ inputs_by (Give node command) (Ok (Done.Built (Made.Made tic))) player =
     if player == node then Given command ∷ [] else []
 inputs_by _ _ player = []
 
+-- the inputs of events and their answers, in order, by those of one
+abbrev pub inputs_of_all : {E A : Type 0} → (E → A → Inputs) → List E → List A → Inputs
+inputs_of_all by (event ∷ events) (answer ∷ answers) player =
+    by event answer player ++ inputs_of_all by events answers player
+inputs_of_all by _ _ player = []
+
 -- the inputs of each player's builds that made a command, in order
 abbrev pub inputs_made : List Event → List (Result Done Refusal) → Inputs
-inputs_made (event ∷ events) (answer ∷ answers) player =
-    inputs_by event answer player ++ inputs_made events answers player
-inputs_made _ _ player = []
+inputs_made = inputs_of_all inputs_by

@@ -7,6 +7,8 @@ use Rattle.dn_machine.specs.declared.events.Refusal.{Refusal}
 use Rattle.dn_machine.specs.Worlds.{Rules}
 use Rattle.dn_world.specs.Physics.{Physics}
 use Rattle.dn_game.specs.declared.played.Played.{Played}
+use Rattle.dn_game.specs.Contents.{contents}
+use Rattle.dn_game.specs.Given.{KeepsGiven}
 use Rattle.dn_game.specs.Played.{AppliesOne}
 use Rattle.dn_game.specs.Promised.{HasPlayed}
 use Rattle.dn_game.specs.Stormed.{HasStormed}
@@ -43,3 +45,10 @@ pub record IsStormedObserved {W S L : Type 0} (state : W → S) (rules : Rules S
     (settings : Settings) (seed count : ℕ) (old new : L) (played : Played W) : Type 0 where
   pub promised : HasStormed state rules settings seed count played
   pub observed : ObservesAll observes old 0 promised.stormed.events promised.stormed.answers new
+
+-- and a node has the world that was given for it, by the answers that the observer was told
+abbrev pub IsStormedObservedFrom : {W S L : Type 0} → (W → S) → Rules S → Observing L → Settings → List W
+    → (seed count : ℕ) → L → L → Played W → Type 0
+IsStormedObservedFrom state rules observes settings worlds seed count old new played =
+    (all : IsStormedObserved state rules observes settings seed count old new played)
+    × KeepsGiven worlds all.promised.stormed.events all.promised.stormed.answers (contents played.game)

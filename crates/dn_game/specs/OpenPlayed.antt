@@ -3,6 +3,7 @@ use Rattle.std.specs.Prelude.{◌≡◌, ◌+◌, ◌++◌, ℕ, Bool, false, Li
 use Rattle.dn_setup.specs.Settings.{Settings}
 use Rattle.dn_world.specs.Physics.{Physics}
 use Rattle.dn_machine.specs.declared.events.Done.{Done}
+use Rattle.dn_machine.specs.declared.events.Event.{Event}
 use Rattle.dn_machine.specs.declared.events.Refusal.{Refusal}
 use Rattle.dn_machine.specs.Game as machine
 use Rattle.dn_machine.specs.Game.{opening_game}
@@ -14,10 +15,12 @@ use Rattle.dn_open.specs.declared.open_event.OpenEvent.{OpenEvent}
 use Rattle.dn_open.specs.declared.open_event.OpenEvent.TheVariants.{Own, Arrive}
 use Rattle.dn_game.specs.declared.open_done.OpenDone.{OpenDone}
 use Rattle.dn_game.specs.declared.played.Played.{Played}
-use Rattle.dn_game.specs.Applied.{Tells}
+use Rattle.dn_game.specs.Applied.{IsApplied, Tells}
 use Rattle.dn_game.specs.Arrived.{Opening, SparesArrived, after_arrival}
 use Rattle.dn_game.specs.Contents.{Contents, contents}
-use Rattle.dn_game.specs.Played.{Answers}
+use Rattle.dn_game.specs.Frame.{LeavesOpen}
+use Rattle.dn_game.specs.Played.{Answers, IsPlayedBy, PlaysBy}
+use Rattle.dn_game.specs.Promised.{IsCarriedOn}
 use Rattle.dn_game.specs.Represents.{Represents}
 
 -- bytes that come to a node lead from a game to the next with this answer
@@ -42,12 +45,7 @@ AnswersOpen rules seal game (Arrive node bytes) (Err refusal) next =
 -- a list of open events leads from a game to another, and each event has its answer
 abbrev pub PlaysOpen : {S : Type 0} → Rules S → Seal → machine.Game → List OpenEvent
     → List (Result OpenDone Refusal) → machine.Game → Type 0
-PlaysOpen rules seal game [] [] last = last ≡ game
-PlaysOpen rules seal game (event ∷ events) (answer ∷ answers) last =
-    (next : machine.Game) × AnswersOpen rules seal game event answer next
-    × PlaysOpen rules seal next events answers last
-PlaysOpen rules seal game [] (answer ∷ answers) last = ⊥
-PlaysOpen rules seal game (event ∷ events) [] last = ⊥
+PlaysOpen rules seal = PlaysBy (AnswersOpen rules seal)
 
 -- an open event that sends: bytes that come send nothing
 abbrev pub sends : OpenEvent → Bool
@@ -93,20 +91,24 @@ IsCarriedOnOpen state physics seal old new event answer =
     → IsReachedOpen state (rules_of physics players extra capacity) seal settings (events ++ event ∷ [])
     (answers ++ answer ∷ []) new
 
+-- an event is applied as the machine applies it. Whatever events led to the game, they and this one lead to what
+-- it is afterwards; and so do whatever open events led to it, in whichever game of sealed nodes, and this one.
+pub record LeadsOn {W S : Type 0} (state : W → S) (physics : Physics S) (old new : Contents W) (event : Event)
+    (answer : Result Done Refusal) : Type 0 where
+  pub applied : Tells state physics old (λ rules m. IsApplied state rules old new m event answer)
+  pub carried : IsCarriedOn state physics old new event answer
+  pub carried_open : (seal : Seal) → IsCarriedOnOpen state physics seal old new (Own event) (own_answer answer)
+
 -- one more open event was applied, and counted by its answer
 pub record AppliesOpen {W S : Type 0} (state : W → S) (physics : Physics S) (seal : Seal) (old new : Played W)
     (event : OpenEvent) (answer : Result OpenDone Refusal) : Type 0 where
   pub applied : Tells state physics (contents old.game)
       (λ rules m. IsAppliedOpen state rules seal m event answer (contents new.game))
+  pub leaves : LeavesOpen (contents old.game) (contents new.game) event answer
   pub done : new.done ≡ old.done + count_by is_ok (answer ∷ [])
   pub refused : new.refused ≡ old.refused + count_by is_err (answer ∷ [])
 
 -- the game that is left represents one that the open events lead to, and the answers are counted
-pub record IsPlayedOpen {W S : Type 0} (state : W → S) (rules : Rules S) (seal : Seal) (settings : Settings)
-    (events : List OpenEvent) (played : Played W) : Type 0 where
-  pub last : machine.Game
-  pub answers : List (Result OpenDone Refusal)
-  pub plays : PlaysOpen rules seal (opening_game settings) events answers last
-  pub game : Represents state rules (contents played.game) last
-  pub done : played.done ≡ count_by is_ok answers
-  pub refused : played.refused ≡ count_by is_err answers
+abbrev pub IsPlayedOpen : {W S : Type 0} → (W → S) → Rules S → Seal → Settings → List OpenEvent → Played W
+    → Type 0
+IsPlayedOpen state rules seal = IsPlayedBy state rules (AnswersOpen rules seal)

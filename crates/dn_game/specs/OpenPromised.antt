@@ -15,7 +15,7 @@ use Rattle.dn_game.specs.declared.flight.Flight.{Flight}
 use Rattle.dn_game.specs.declared.open_done.OpenDone.{OpenDone}
 use Rattle.dn_game.specs.declared.played.Played.{Played}
 use Rattle.dn_game.specs.Contents.{Contents, contents}
-use Rattle.dn_game.specs.InputsMade.{inputs_by, inputs_made}
+use Rattle.dn_game.specs.InputsMade.{inputs_by, inputs_made, inputs_of_all}
 use Rattle.dn_game.specs.OpenPlayed.{IsPlayedOpen}
 use Rattle.dn_game.specs.Promised.{IsPromised, IsSteady}
 use Rattle.dn_game.specs.Sealed.{IsEnvelope, IsGenuine}
@@ -45,9 +45,7 @@ open_inputs_by _ _ player = []
 
 -- the inputs of each player's builds that made a command, in order
 abbrev pub open_inputs_made : List OpenEvent → List (Result OpenDone Refusal) → Inputs
-open_inputs_made (event ∷ events) (answer ∷ answers) player =
-    open_inputs_by event answer player ++ open_inputs_made events answers player
-open_inputs_made _ _ player = []
+open_inputs_made = inputs_of_all open_inputs_by
 
 -- these events of a game stand for an open one, by its answer, where these packets were sent before it: an
 -- event of the game for itself; for bytes that were heard, the delivery of the packet whose envelope they are;

@@ -12,7 +12,7 @@ use Rattle.dn_machine.specs.Worlds.{Rules}
 use Rattle.dn_game.specs.declared.played.Played.{Played}
 use Rattle.dn_game.specs.Applied.{Tells, IsApplied}
 use Rattle.dn_game.specs.Contents.{Contents, contents}
-use Rattle.dn_game.specs.Frame.{KeepsFlights, KeepsOthers, KeepsWorlds, MovesNoWorld, named_by}
+use Rattle.dn_game.specs.Frame.{Leaves}
 use Rattle.dn_game.specs.Represents.{Represents}
 
 -- an event leads from a game to the next with this answer; a send that nothing else refuses may be left out,
@@ -24,14 +24,18 @@ Answers rules game event answer next =
     ⊎ ((refused rules.players game event ≡ None) × IsTrue (is_send event) × (next ≡ game)
     × (answer ≡ Err Refusal.Memory))
 
+-- a list of events leads from a game to another, each by such a step with its answer
+abbrev pub PlaysBy : {G E A : Type 0} → (G → E → A → G → Type 0) → G → List E → List A → G → Type 0
+PlaysBy Step game [] [] last = last ≡ game
+PlaysBy {G} Step game (event ∷ events) (answer ∷ answers) last =
+    (next : G) × Step game event answer next × PlaysBy Step next events answers last
+PlaysBy Step game [] (answer ∷ answers) last = ⊥
+PlaysBy Step game (event ∷ events) [] last = ⊥
+
 -- a list of events leads from a game to another, and each event has its answer
 abbrev pub Plays : {S : Type 0} → Rules S → machine.Game → List Event → List (Result Done Refusal)
     → machine.Game → Type 0
-Plays rules game [] [] last = last ≡ game
-Plays rules game (event ∷ events) (answer ∷ answers) last =
-    (next : machine.Game) × Answers rules game event answer next × Plays rules next events answers last
-Plays rules game [] (answer ∷ answers) last = ⊥
-Plays rules game (event ∷ events) [] last = ⊥
+Plays rules = PlaysBy (Answers rules)
 
 -- the events lead from the opening to the game that this one represents, and each has its answer
 pub record IsReachedWith {W S : Type 0} (state : W → S) (rules : Rules S) (settings : Settings)
@@ -40,23 +44,27 @@ pub record IsReachedWith {W S : Type 0} (state : W → S) (rules : Rules S) (set
   pub plays : Plays rules (opening_game settings) events answers last
   pub game : Represents state rules g last
 
--- the game that is left represents one that the events lead to, and the answers are counted
-pub record IsPlayed {W S : Type 0} (state : W → S) (rules : Rules S) (settings : Settings)
-    (events : List Event) (played : Played W) : Type 0 where
+-- the game that is left represents one that the events lead to from the opening, each by such a step with its
+-- answer, and the answers are counted
+pub record IsPlayedBy {W S E A : Type 0} (state : W → S) (rules : Rules S)
+    (Step : machine.Game → E → Result A Refusal → machine.Game → Type 0) (settings : Settings)
+    (events : List E) (played : Played W) : Type 0 where
   pub last : machine.Game
-  pub answers : List (Result Done Refusal)
-  pub plays : Plays rules (opening_game settings) events answers last
+  pub answers : List (Result A Refusal)
+  pub plays : PlaysBy Step (opening_game settings) events answers last
   pub game : Represents state rules (contents played.game) last
   pub done : played.done ≡ count_by is_ok answers
   pub refused : played.refused ≡ count_by is_err answers
+
+-- by events of the game
+abbrev pub IsPlayed : {W S : Type 0} → (W → S) → Rules S → Settings → List Event → Played W → Type 0
+IsPlayed state rules = IsPlayedBy state rules (Answers rules)
 
 -- one more event was applied, and counted by its answer
 pub record AppliesOne {W S : Type 0} (state : W → S) (physics : Physics S) (old new : Played W)
     (event : Event) (answer : Result Done Refusal) : Type 0 where
   pub applied : Tells state physics (contents old.game)
       (λ rules m. IsApplied state rules (contents old.game) (contents new.game) m event answer)
-  pub others : KeepsOthers (named_by (contents old.game) event) (contents old.game) (contents new.game)
-  pub worlds : MovesNoWorld answer → KeepsWorlds (contents old.game) (contents new.game)
-  pub more : KeepsFlights (contents old.game) (contents new.game)
+  pub leaves : Leaves (contents old.game) (contents new.game) event answer
   pub done : new.done ≡ old.done + count_by is_ok (answer ∷ [])
   pub refused : new.refused ≡ old.refused + count_by is_err (answer ∷ [])

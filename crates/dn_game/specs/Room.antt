@@ -2,6 +2,7 @@
 use Rattle.std.specs.Prelude.{◌≡◌}
 use Rattle.dn_game.specs.declared.game.Game.{Game}
 use Rattle.dn_game.specs.Contents.{Contents, contents}
+use Rattle.dn_game.specs.Frame.{KeepsFlights}
 use Rattle.dn_node.specs.Contents.{whose_of}
 use Rattle.dn_game.specs.Pool.{Room, IsWithinTwice, LacksRoom}
 
@@ -21,3 +22,9 @@ KeepsWhose old new = whose_of new.nodes ≡ whose_of old.nodes
 abbrev pub StaysWithin : {W : Type 0} → Game W → Game W → Type 0
 StaysWithin old new = IsWithinTwice (contents old).flights (room_of old)
     → IsWithinTwice (contents new).flights (room_of new)
+
+-- what stays so while a game goes on: whose its nodes are, its room, and the packets that were sent
+pub record Continues {W : Type 0} (old new : Game W) : Type 0 where
+  pub whose : KeepsWhose (contents old) (contents new)
+  pub grown : StaysWithin old new
+  pub more : KeepsFlights (contents old) (contents new)

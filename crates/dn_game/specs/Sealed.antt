@@ -27,8 +27,6 @@ IsGenuine seal packets node bytes =
     → (which : ℕ) × (packet : Flight) × (slice_get packets which ≡ Some packet) × (bytes ≡ sealed seal packet)
 
 -- the packet of this number is one of these, goes to the node, and the bytes are its envelope
-pub record IsEnvelope (seal : Seal) (packets : List Flight) (node : ℕ) (bytes : List ℕ) (which : ℕ) : Type 0 where
-  pub packet : Flight
-  pub sent : slice_get packets which ≡ Some packet
-  pub receiver : packet.to ≡ node
-  pub same : bytes ≡ sealed seal packet
+abbrev pub IsEnvelope : Seal → List Flight → ℕ → List ℕ → ℕ → Type 0
+IsEnvelope seal packets node bytes which =
+    (packet : Flight) × (slice_get packets which ≡ Some packet) × (packet.to ≡ node) × (bytes ≡ sealed seal packet)

@@ -10,6 +10,7 @@ use Rattle.dn_machine.specs.Game.{opening_game}
 use Rattle.dn_machine.specs.Worlds.{Rules}
 use Rattle.dn_game.specs.declared.played.Played.{Played}
 use Rattle.dn_game.specs.Contents.{contents}
+use Rattle.dn_game.specs.Given.{KeepsGiven}
 use Rattle.dn_game.specs.Played.{Answers}
 use Rattle.dn_game.specs.Promised.{IsPromised}
 use Rattle.dn_game.specs.Represents.{Represents}
@@ -47,3 +48,11 @@ pub record HasStormed {W S : Type 0} (state : W → S) (rules : Rules S) (settin
   pub stormed : IsStormed state rules settings seed count played
   pub promised : IsPromised state rules settings stormed.events stormed.answers stormed.last
       (contents played.game)
+
+-- and a node has the world that was given for it, unless an answer to an event that names it tells that it
+-- started or ran
+abbrev pub HasStormedFrom : {W S : Type 0} → (W → S) → Rules S → Settings → List W → (seed count : ℕ) → Played W
+    → Type 0
+HasStormedFrom state rules settings worlds seed count played =
+    (all : HasStormed state rules settings seed count played)
+    × KeepsGiven worlds all.stormed.events all.stormed.answers (contents played.game)

@@ -12,7 +12,7 @@ use crate::flight::Flight;
 use crate::pool::Pool;
 use dn_node::Node;
 use dn_world::World;
-pub use opening::nodes_of;
+pub use opening::{config_of, nodes_of};
 
 /// All nodes of a game, who of them has stopped, and every packet that was ever sent, in order.
 #[derive(Drop)]
@@ -50,10 +50,7 @@ impl<W: World> Game<W> {
     pub fn stopped(&self, node: u32) -> bool
         ensures { result ≡ slice_index_or (contents self.now).stopped node false }
     {
-        match self.stopped.get(node as usize) {
-            Some(stopped) => *stopped,
-            None => false,
-        }
+        self.stopped.get(node as usize).copied().unwrap_or(false)
     }
 
     /// How many packets were sent.

@@ -6,18 +6,16 @@ ghost use Rattle.dn_machine.specs.{declared.events.Done.Done, declared.events.Ev
 use dn_machine::{Done, Event, Refusal};
 use std::alloc::AllocError;
 
+/// What an event did, or why it was refused.
+type Answer = Result<Done, Refusal>;
+
 /// Is told of each event, in order, with its number, counted from 0, and its answer.
 pub trait Observer {
     /// What it promises of one call: before, the number, the event, the answer, after.
     ghost observes: { Self → ℕ → Event → Result Done Refusal → Self → Type 0 };
 
     /// Takes note of an event, or fails for lack of memory.
-    fn observe(
-        &mut self,
-        number: usize,
-        event: Event,
-        answer: Result<Done, Refusal>,
-    ) -> Result<(), AllocError>
+    fn observe(&mut self, number: usize, event: Event, answer: Answer) -> Result<(), AllocError>
         ensures { OnOk result (observes self.old number event answer self.new) };
 }
 
@@ -30,12 +28,7 @@ impl Observer for Nobody {
 
     // It takes no memory, so it never fails.
     #[inline(always)]
-    fn observe(
-        &mut self,
-        _number: usize,
-        _event: Event,
-        _answer: Result<Done, Refusal>,
-    ) -> Result<(), AllocError>
+    fn observe(&mut self, _number: usize, _event: Event, _answer: Answer) -> Result<(), AllocError>
         ensures seen { self.new ≡ self.old }
         ensures never { IsOk result }
     {

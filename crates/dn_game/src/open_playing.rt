@@ -41,11 +41,7 @@ pub fn play_open<W: World>(
 {
     settings_found_again();
     let game = Game::new(alloc, config, worlds)?;
-    let mut played = Played {
-        game,
-        done: 0,
-        refused: 0,
-    };
+    let mut played = Played::new(game);
     for event in events {
         let _ = played.apply_open(seal, event);
     }

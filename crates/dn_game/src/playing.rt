@@ -68,11 +68,7 @@ pub fn play_observed<W: World, L: Observer>(
     ensures untold { (result ≡ Err Players) ⊎ (result ≡ Err Limit) → observer.new ≡ observer.old }
 {
     let game = Game::new(alloc, config, worlds)?;
-    let mut played = Played {
-        game,
-        done: 0,
-        refused: 0,
-    };
+    let mut played = Played::new(game);
     for event in events {
         played.apply_observed(event, observer)?;
     }

@@ -3,7 +3,7 @@
 ghost use Rattle.std.specs.Prelude.{◌≡◌, ◌↔◌, true, map, Err};
 ghost use Rattle.dn_tic.specs.{declared.input.Input.TheVariants.Pressed, Inputs.input_of};
 ghost use Rattle.dn_machine.specs.{declared.events.Refusal.Refusal, Progress.build_of, Progress.exchange, Progress.turn, Progress.good_round, Progress.good_rounds};
-ghost use Rattle.dn_game.specs.{Applied.Tells, Contents.contents, Frame.KeepsFlights, Room.IsFull, Room.KeepsWhose, Room.StaysWithin, RoundEvents.exchange_events, RoundEvents.turn_events};
+ghost use Rattle.dn_game.specs.{Applied.Tells, Contents.contents, Room.Continues, Room.IsFull, RoundEvents.exchange_events, RoundEvents.turn_events};
 ghost use Rattle.dn_game.specs.{RoundEvents.round_events, RoundEvents.rounds_events, Rounds.pressed_by, Rounds.IsCarriedOut, declared.rounds.RoundFault.RoundFault};
 
 use crate::game::Game;
@@ -60,9 +60,7 @@ impl<W: World> Game<W> {
             IsCarriedOut W.state rules m (exchange_events node m to) (exchange rules node m to)
             (contents self.old) (contents self.new) result) }
         ensures memory { result ≡ Err RoundFault.Memory → IsFull self.new }
-        ensures whose { KeepsWhose (contents self.old) (contents self.new) }
-        ensures grown { StaysWithin self.old self.new }
-        ensures more { KeepsFlights (contents self.old) (contents self.new) }
+        ensures continues { Continues self.old self.new }
     {
         let Ok(which) = u32::try_from(self.flights()) else {
             return Err(RoundFault::Packets);
@@ -80,9 +78,7 @@ impl<W: World> Game<W> {
             IsCarriedOut W.state rules m (turn_events rules (λ me. input) m node) (turn rules (λ me. input) m node)
             (contents self.old) (contents self.new) result) }
         ensures memory { result ≡ Err RoundFault.Memory → IsFull self.new }
-        ensures whose { KeepsWhose (contents self.old) (contents self.new) }
-        ensures grown { StaysWithin self.old self.new }
-        ensures more { KeepsFlights (contents self.old) (contents self.new) }
+        ensures continues { Continues self.old self.new }
     {
         let _ = self.apply(build_of(node, input));
         for to in 0..self.players() {
@@ -102,9 +98,7 @@ impl<W: World> Game<W> {
             IsCarriedOut W.state rules m (round_events rules (input_of inputs.now) m)
             (good_round rules (input_of inputs.now) m) (contents self.old) (contents self.new) result) }
         ensures memory { result ≡ Err RoundFault.Memory → IsFull self.new }
-        ensures whose { KeepsWhose (contents self.old) (contents self.new) }
-        ensures grown { StaysWithin self.old self.new }
-        ensures more { KeepsFlights (contents self.old) (contents self.new) }
+        ensures continues { Continues self.old self.new }
     {
         for node in 0..self.players() {
             self.turn(node, input_of(inputs, node))?;
@@ -118,9 +112,7 @@ impl<W: World> Game<W> {
             IsCarriedOut W.state rules m (round_events rules (pressed_by keys) m)
             (good_round rules (pressed_by keys) m) (contents self.old) (contents self.new) result) }
         ensures memory { result ≡ Err RoundFault.Memory → IsFull self.new }
-        ensures whose { KeepsWhose (contents self.old) (contents self.new) }
-        ensures grown { StaysWithin self.old self.new }
-        ensures more { KeepsFlights (contents self.old) (contents self.new) }
+        ensures continues { Continues self.old self.new }
     {
         self.good_round_with(&pressed(keys))
     }
@@ -132,9 +124,7 @@ impl<W: World> Game<W> {
             (good_rounds rules (λ round. input_of inputs.now) count m)
             (contents self.old) (contents self.new) result) }
         ensures memory { result ≡ Err RoundFault.Memory → IsFull self.new }
-        ensures whose { KeepsWhose (contents self.old) (contents self.new) }
-        ensures grown { StaysWithin self.old self.new }
-        ensures more { KeepsFlights (contents self.old) (contents self.new) }
+        ensures continues { Continues self.old self.new }
         ensures none { count ≡ 0 → self.new ≡ self.old }
     {
         for _ in 0..count {
@@ -150,9 +140,7 @@ impl<W: World> Game<W> {
             (good_rounds rules (λ round. pressed_by keys) count m)
             (contents self.old) (contents self.new) result) }
         ensures memory { result ≡ Err RoundFault.Memory → IsFull self.new }
-        ensures whose { KeepsWhose (contents self.old) (contents self.new) }
-        ensures grown { StaysWithin self.old self.new }
-        ensures more { KeepsFlights (contents self.old) (contents self.new) }
+        ensures continues { Continues self.old self.new }
         ensures none { count ≡ 0 → self.new ≡ self.old }
     {
         self.good_rounds_with(&pressed(keys), count)

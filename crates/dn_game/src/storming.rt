@@ -1,8 +1,8 @@
 //! A storm: a game under the events of a schedule.
 
 ghost use Rattle.std.specs.Prelude.{◌≡◌, ◌⊎◌, length, Err, IfOk};
-ghost use Rattle.dn_game.specs.{Contents.contents, Fresh.AreLimited, Given.KeepsGiven, Observed.IsStormedObserved, Opening.IsAdmitted, Opening.rules_in, Pool.IsWithinTwice, Room.room_of};
-ghost use Rattle.dn_game.specs.{Stormed.HasStormed, declared.config.GameFault.TheVariants.Players, declared.config.GameFault.TheVariants.Limit};
+ghost use Rattle.dn_game.specs.{Contents.contents, Fresh.AreLimited, Observed.IsStormedObserved, Observed.IsStormedObservedFrom, Opening.IsAdmitted, Opening.rules_in, Pool.IsWithinTwice, Room.room_of};
+ghost use Rattle.dn_game.specs.{Stormed.HasStormed, Stormed.HasStormedFrom, declared.config.GameFault.TheVariants.Players, declared.config.GameFault.TheVariants.Limit};
 
 use crate::config::{GameConfig, GameFault};
 use crate::game::Game;
@@ -26,9 +26,8 @@ pub fn storm<W: World>(
     ensures promised { IfOk result (λ played. HasStormed W.state
         (rules_in W.physics config (length worlds.items)) config.settings seed count played) }
     // A node has the world that was given for it, as after `play`.
-    ensures given { IfOk result (λ played. (all : HasStormed W.state
-        (rules_in W.physics config (length worlds.items)) config.settings seed count played)
-        × KeepsGiven worlds.items all.stormed.events all.stormed.answers (contents played.game)) }
+    ensures given { IfOk result (λ played. HasStormedFrom W.state
+        (rules_in W.physics config (length worlds.items)) config.settings worlds.items seed count played) }
     // Each demo has the limit of the configuration.
     ensures limits { IfOk result (λ played. AreLimited config.limit (contents played.game).nodes) }
     // There is memory for no more than twice the packets that were sent, and one.
@@ -52,11 +51,10 @@ pub fn storm_observed<W: World, L: Observer>(
     ensures promised { IfOk result (λ played. IsStormedObserved W.state
         (rules_in W.physics config (length worlds.items)) L.observes config.settings seed count observer.old
         observer.new played) }
-    ensures given { IfOk result (λ played. (all : IsStormedObserved W.state
-        (rules_in W.physics config (length worlds.items)) L.observes config.settings seed count observer.old
-        observer.new played)
-        × KeepsGiven worlds.items all.promised.stormed.events all.promised.stormed.answers
-        (contents played.game)) }
+    // And so it is with the worlds that were given, by the answers that the observer was told.
+    ensures given { IfOk result (λ played. IsStormedObservedFrom W.state
+        (rules_in W.physics config (length worlds.items)) L.observes config.settings worlds.items seed count
+        observer.old observer.new played) }
     // Each demo has the limit of the configuration.
     ensures limits { IfOk result (λ played. AreLimited config.limit (contents played.game).nodes) }
     // There is memory for no more than twice the packets that were sent, and one.
@@ -65,11 +63,7 @@ pub fn storm_observed<W: World, L: Observer>(
     ensures untold { (result ≡ Err Players) ⊎ (result ≡ Err Limit) → observer.new ≡ observer.old }
 {
     let game = Game::new(alloc, config, worlds)?;
-    let mut played = Played {
-        game,
-        done: 0,
-        refused: 0,
-    };
+    let mut played = Played::new(game);
     let mut schedule = Schedule::new(seed);
     for _ in 0..count {
         if let Some(event) = schedule.next(&played.game) {

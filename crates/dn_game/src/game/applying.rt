@@ -1,11 +1,9 @@
 //! What an event does to a game.
 
-ghost use Rattle.std.specs.Prelude.{◌≡◌, ◌≢◌, ◌<◌, ◌⊎◌, false, true, Some, None, Ok, Err, length, nat_lt, slice_get, OnErr};
+ghost use Rattle.std.specs.Prelude.{◌≡◌, ◌≢◌, ◌<◌, ◌⊎◌, false, true, Some, None, Ok, Err, length, nat_lt, slice_get, slice_index_or, if◌then◌else◌, OnErr};
 ghost use Rattle.dn_machine.specs.{declared.answers.Heard.TheVariants.Started, declared.events.Event.TheVariants.Send, declared.events.Event.TheVariants.Deliver, declared.events.Done.Done};
 ghost use Rattle.dn_machine.specs.{Game.refused, Game.refused_at, Game.refused_flight, Game.on_event, Runs.is_send, declared.events.Refusal.Refusal};
-ghost use Rattle.dn_seal.specs.declared.seal.Seal.{Seal as AnySeal};
-ghost use Rattle.dn_open.specs.declared.open_event.OpenEvent.TheVariants.{Own};
-ghost use Rattle.dn_game.specs.{OpenPlayed.IsCarriedOnOpen, OpenPlayed.own_answer, Pool.HasGrown};
+ghost use Rattle.dn_game.specs.{OpenPlayed.LeadsOn, Pool.HasGrown};
 
 use super::Game;
 use dn_machine::{Done, Event, Heard, Refusal};
@@ -13,14 +11,27 @@ use dn_packet::MAX_DATAGRAM;
 use dn_world::World;
 
 impl<W: World> Game<W> {
-    ghost use Rattle.dn_game.specs.{Contents.contents, Applied.Tells, Applied.IsAfter, Applied.IsLeftOut, Applied.IsApplied, Applied.IsAddressed, Frame.KeepsOthers, Frame.KeepsWorlds};
-    ghost use Rattle.dn_game.specs.{Frame.KeepsFlights, Frame.MovesNoWorld, Frame.named_by, Promised.IsCarriedOn, Room.room_of, Room.IsFull, Room.KeepsWhose};
+    ghost use Rattle.dn_game.specs.{Contents.contents, Applied.Tells, Applied.IsAfter, Applied.IsLeftOut, Applied.IsAddressed, Frame.KeepsOthers, Frame.KeepsWorlds};
+    ghost use Rattle.dn_game.specs.{Frame.KeepsFlights, Frame.Leaves, Frame.named_by, Room.room_of, Room.IsFull, Room.KeepsWhose};
 
     /// Whether this is the number of a player.
     fn is_player(&self, node: u32) -> bool
         ensures { result ≡ nat_lt node (length (contents self.now).nodes) }
     {
         (node as usize) < self.nodes.len()
+    }
+
+    /// Why an event of a node that is there is refused, if it is.
+    fn refused_stopped(&self, node: u32) -> Option<Refusal>
+        ensures told { result ≡ (if slice_index_or (contents self.now).stopped node false
+            then Some Refusal.Stopped else None) }
+        ensures not_memory { result ≢ Some Refusal.Memory }
+    {
+        if self.stopped(node) {
+            Some(Refusal::Stopped)
+        } else {
+            None
+        }
     }
 
     /// Why an event of one node is refused, if it is.
@@ -31,12 +42,9 @@ impl<W: World> Game<W> {
         ensures there { result ≡ None → node < length (contents self.now).nodes }
     {
         if !self.is_player(node) {
-            Some(Refusal::NoNode)
-        } else if self.stopped(node) {
-            Some(Refusal::Stopped)
-        } else {
-            None
+            return Some(Refusal::NoNode);
         }
+        self.refused_stopped(node)
     }
 
     /// Why a delivery is refused, if it is.
@@ -53,12 +61,9 @@ impl<W: World> Game<W> {
         let flight = self.pool.record(which);
         let receiver = &self.nodes[usize::from(flight.to)];
         if !flight.aim.is_near(receiver.made()) {
-            Some(Refusal::Far)
-        } else if self.stopped(u32::from(flight.to)) {
-            Some(Refusal::Stopped)
-        } else {
-            None
+            return Some(Refusal::Far);
         }
+        self.refused_stopped(u32::from(flight.to))
     }
 
     /// Why an event is refused, if it is, apart from want of memory.
@@ -87,7 +92,7 @@ impl<W: World> Game<W> {
         ensures sent { Tells W.state W.physics (contents self.old) (λ rules m.
             ((done : Done) × (result ≡ Ok done) × IsAfter W.state rules (contents self.new)
             (on_event rules m (Send node to)) done)
-            ⊎ IsLeftOut (contents self.old) (contents self.new) (Send node to) result) }
+            ⊎ IsLeftOut (contents self.old) (contents self.new) true result) }
         ensures unchanged { OnErr result (contents self.new ≡ contents self.old) }
         ensures memory { OnErr result (IsFull self.new) }
         ensures alone { OnErr result (result ≡ Err Refusal.Memory) }
@@ -133,14 +138,13 @@ impl<W: World> Game<W> {
     // Inlined, so that a caller that knows the event's kind does not ask for it again.
     #[inline(always)]
     pub fn apply(&mut self, event: Event) -> Result<Done, Refusal>
-        ensures applied { Tells W.state W.physics (contents self.old)
-            (λ rules m. IsApplied W.state rules (contents self.old) (contents self.new) m event result) }
+        // As the machine applies it. Whatever events led to the game, or open events in whichever game of sealed
+        // nodes: they and this one lead to what it is afterwards.
+        ensures leads { LeadsOn W.state W.physics (contents self.old) (contents self.new) event result }
         ensures unchanged { OnErr result (contents self.new ≡ contents self.old) }
         // `Memory` is answered only to a send, and where there is no room for one more packet; that more was
         // asked for is tested.
         ensures memory { result ≡ Err Refusal.Memory → (is_send event ≡ true) × IsFull self.new }
-        // Whatever events led to the game: they and this one lead to what it is afterwards.
-        ensures carried { IsCarriedOn W.state W.physics (contents self.old) (contents self.new) event result }
         // Memory is taken by a send alone, for one more packet or for as many again as there are. The demos'
         // rooms are their limits, which stay.
         ensures room { is_send event ≡ false → room_of self.new ≡ room_of self.old }
@@ -148,15 +152,9 @@ impl<W: World> Game<W> {
         // And an event that is refused takes none, unless memory was refused to it.
         ensures refused { OnErr result (result ≢ Err Refusal.Memory → room_of self.new ≡ room_of self.old) }
         ensures whose { KeepsWhose (contents self.old) (contents self.new) }
-        // And whatever open events led to the game, in whichever game of sealed nodes.
-        ensures carried_open { (seal : AnySeal) → IsCarriedOnOpen W.state W.physics seal (contents self.old)
-            (contents self.new) (Own event) (own_answer result) }
-        // Each node but the one that the event names is as it was, and each has the world that it had, but for
-        // a node that starts or runs a tic.
-        ensures others { KeepsOthers (named_by (contents self.old) event) (contents self.old)
-            (contents self.new) }
-        ensures worlds { MovesNoWorld result → KeepsWorlds (contents self.old) (contents self.new) }
-        ensures more { KeepsFlights (contents self.old) (contents self.new) }
+        // Each node but the one that the event names is as it was, each has the world that it had, but for a node
+        // that starts or runs a tic, and the packets that were sent stay.
+        ensures leaves { Leaves (contents self.old) (contents self.new) event result }
     {
         if let Some(refusal) = self.refused(event) {
             return Err(refusal);

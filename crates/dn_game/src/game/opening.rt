@@ -45,8 +45,8 @@ impl<W: World> Game<W> {
     }
 }
 
-/// The configuration of a player's node.
-fn config_of(config: &GameConfig, players: u8, me: u8) -> Config
+/// The configuration of a player's node: player 0 has the settings.
+pub fn config_of(config: &GameConfig, players: u8, me: u8) -> Config
     ensures { result ≡ config_of config.now players me }
 {
     Config {

@@ -3,10 +3,11 @@ use Rattle.dn_demo.specs.Recorded.{capacity}
 use Rattle.dn_game.specs.Contents.{contents}
 use Rattle.dn_game.specs.Opening.{rules_in}
 use Rattle.dn_tic.specs.Inputs.{input_of}
+use Rattle.dn_game.specs.Played.{Answers}
 use Rattle.dn_game.specs.Rounds.{IsUnsent}
 use Rattle.dn_game.specs.RoundEvents.{answers_to, rounds_events}
 use Rattle.dn_game.proofs.Continuing.{has_played_on, same_round}
-use Rattle.dn_game.proofs.Giving.{as_many}
+use Rattle.dn_game.proofs.Answering.{as_many}
 use Rattle.dn_game.proofs.Idling.{keeps_all}
 use Rattle.dn_game.proofs.Whose.{limits_stay}
 use Rattle.dn_game.proofs.going_on.play_on_with.Goals as goal
@@ -38,8 +39,8 @@ returns-in-Ok-good_rounds_with-clause-given g c =
           good.0 refl refl;
       given = keeps_all c.args.worlds.items c.args.events.now behind e.answers (answers_to rules behind e.last)
           (contents c.in-Ok.played.game) (contents c.good_rounds_with.new.self)
-          (as_many rules c.args.events.now e.answers _ e.last e.plays) first.1
-          c.good_rounds_with.ensures.more good.1;
+          (as_many (Answers rules) c.args.events.now e.answers _ e.last e.plays) first.1
+          c.good_rounds_with.ensures.continues.more good.1;
     }
 
 pub returns-in-Err-good_rounds_with-clause-stopped : goal.returns-in-Err-good_rounds_with-clause-stopped
@@ -59,7 +60,7 @@ returns-in-Err-good_rounds_with-clause-stopped g c fault is =
 
 pub returns-in-Ok-good_rounds_with-clause-limits : goal.returns-in-Ok-good_rounds_with-clause-limits
 returns-in-Ok-good_rounds_with-clause-limits g c =
-    limits_stay _ _ _ c.good_rounds_with.ensures.whose c.in-Ok.ensures.limits
+    limits_stay _ _ _ c.good_rounds_with.ensures.continues.whose c.in-Ok.ensures.limits
 
 pub returns-in-Ok-good_rounds_with-clause-room : goal.returns-in-Ok-good_rounds_with-clause-room
-returns-in-Ok-good_rounds_with-clause-room g c = c.good_rounds_with.ensures.grown c.in-Ok.ensures.room
+returns-in-Ok-good_rounds_with-clause-room g c = c.good_rounds_with.ensures.continues.grown c.in-Ok.ensures.room

@@ -1,29 +1,22 @@
-use Rattle.std.proofs.Common.{◌<◌, [], ◌∷◌, ◌++◌, length, take, ap, refl, sym, ◌∙◌, arith}
+use Rattle.std.proofs.Common.{◌<◌, ◌∷◌, ◌++◌, [], length, take, ap, refl, sym, ◌∙◌, arith}
 use Rattle.std.proofs.lemmas.List.{take_all, take_more}
 use Rattle.dn_open.specs.declared.open_event.OpenEvent.{OpenEvent}
 use Rattle.dn_game.specs.Contents.{contents}
 use Rattle.dn_game.specs.Frame.{MovesNoWorldOpen, named_in_open}
 use Rattle.dn_game.specs.Opening.{rules_in}
 use Rattle.dn_game.proofs.Agreeing.{few, short}
-use Rattle.dn_game.proofs.OpenAnswering.{open_played_more}
-use Rattle.dn_game.proofs.Giving.{as_many_open, keeps_more, named_stays, same_at}
-use Rattle.dn_game.proofs.Roomy.{none_within, stays_within}
+use Rattle.dn_game.proofs.Answering.{as_many, none_played, step_played}
+use Rattle.dn_game.proofs.Giving.{keeps_more, named_stays, same_at}
+use Rattle.dn_game.proofs.Roomy.{none_within, stays}
 use Rattle.dn_game.proofs.OpenStanding.{open_promised}
 use Rattle.dn_game.proofs.Whose.{limits_stay}
 use Rattle.dn_game.proofs.open_playing.play_open.Goals as goal
 
 pub loop-event-init : goal.loop-event-init
-loop-event-init g c = (
+loop-event-init g c = rw c.new-played.ensures (
   refl,
   (
-    record {
-      last = _;
-      answers = [];
-      plays = refl;
-      game = c.in_ok-game.ensures.opened;
-      done = refl;
-      refused = refl;
-    },
+    none_played _ _ _ _ _ c.in_ok-game.ensures.opened refl refl,
     λ i never. same_at _ _ i c.in_ok-game.ensures.given,
   ),
   none_within _ _ c.in_ok-game.ensures.room,
@@ -40,18 +33,19 @@ loop-event-preserved g c =
     let next = c.apply_open.new.self in
     let one = c.apply_open.ensures.applied in
     let counted = c.apply_open.ensures.counted in
+    let is = one.applied _ _ _ was.last was.game in
     let longer = take_more events at c.event-item.result c.loop-event-test.true
     ∙ ap (λ (event : OpenEvent). take at events ++ event ∷ []) (sym c.event-item.is) in (
       omega (arith, counted, before.0),
       rw longer (
-        open_played_more _ _ c.args.seal config.settings (take at events) _ _ c.loop-event.played next was
-            (one.applied _ _ _ was.last was.game) one.done one.refused,
+        step_played _ _ _ config.settings (take at events) _ _ c.loop-event.played next was is.0 is.1 is.2 one.done
+            one.refused,
         keeps_more named_in_open MovesNoWorldOpen named_stays (contents c.loop-event.played.game) (contents next.game)
-            _ _ c.apply_open.ensures.others c.apply_open.ensures.worlds c.apply_open.ensures.more.0
-            c.apply_open.ensures.more.1 c.args.worlds.items (take at events) was.answers
-            (as_many_open _ c.args.seal (take at events) was.answers _ was.last was.plays) before.1.1,
+            _ _ one.leaves.others one.leaves.worlds one.leaves.more.0
+            one.leaves.more.1 c.args.worlds.items (take at events) was.answers
+            (as_many _ (take at events) was.answers _ was.last was.plays) before.1.1,
       ),
-      stays_within _ c.apply_open.ensures.more.0 _ _ _ before.2 c.apply_open.ensures.grown c.apply_open.ensures.more.1,
+      stays _ _ _ _ c.apply_open.ensures.grown one.leaves.more before.2,
       limits_stay _ _ _ c.apply_open.ensures.whose before.3,
     )
 

@@ -1,25 +1,18 @@
 use Rattle.std.proofs.Common.{[], ◌∷◌, ◌++◌, take, ap, refl, sym, ◌∙◌, arith}
 use Rattle.std.proofs.lemmas.List.{take_all, take_more, length-take-le}
 use Rattle.dn_machine.specs.declared.events.Event.{Event}
-use Rattle.dn_game.proofs.Answering.{played_more}
-use Rattle.dn_game.proofs.Giving.{as_many, given_more, same_at}
+use Rattle.dn_game.proofs.Answering.{as_many, none_played, played_more}
+use Rattle.dn_game.proofs.Giving.{given_more, same_at}
 use Rattle.dn_game.proofs.Observed.{observes_more, played_observed}
 use Rattle.dn_game.proofs.Roomy.{none_within, stays}
 use Rattle.dn_game.proofs.Whose.{limits_stay}
 use Rattle.dn_game.proofs.playing.play_observed.Goals as goal
 
 pub loop-event-init : goal.loop-event-init
-loop-event-init g c = (
+loop-event-init g c = rw c.new-played.ensures (
   refl,
   (
-    record {
-      last = _;
-      answers = [];
-      plays = refl;
-      game = c.in_ok-game.ensures.opened;
-      done = refl;
-      refused = refl;
-    },
+    none_played _ _ _ _ _ c.in_ok-game.ensures.opened refl refl,
     refl,
     λ i never. same_at _ _ i c.in_ok-game.ensures.given,
   ),
@@ -51,7 +44,7 @@ loop-event-preserved g c =
             (as_many _ (take at events) before.1.0.answers _ before.1.0.last before.1.0.plays) before.1.2,
       ),
       limits_stay _ _ _ c.apply_observed.ensures.whose before.2,
-      stays _ _ _ _ c.apply_observed.ensures.grown one.more before.3,
+      stays _ _ _ _ c.apply_observed.ensures.grown one.leaves.more before.3,
     )
 
 pub returns-clause-promised : goal.returns-clause-promised

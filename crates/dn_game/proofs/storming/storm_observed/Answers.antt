@@ -4,8 +4,10 @@ use Rattle.std.proofs.Common.{◌≡◌, [], length, refl, ap, sym, ◌∙◌, a
 use Rattle.dn_game.specs.Schedule.{behind_three, scheduled}
 use Rattle.dn_machine.specs.Game.{opening_game}
 use Rattle.dn_game.specs.Schedule.{generator_of}
+use Rattle.dn_game.specs.Played.{Answers}
+use Rattle.dn_game.proofs.Answering.{as_many}
 use Rattle.dn_game.proofs.Following.{follows_plays, stormed_more}
-use Rattle.dn_game.proofs.Giving.{as_many, given_more, same_at}
+use Rattle.dn_game.proofs.Giving.{given_more, same_at}
 use Rattle.dn_game.proofs.Observed.{observes_more, stormed_observed}
 use Rattle.dn_game.proofs.NeverStopping.{storm_goes_on}
 use Rattle.dn_game.proofs.Roomy.{none_within, stays}
@@ -14,7 +16,7 @@ use Rattle.dn_game.proofs.storming.storm_observed.Goals as goal
 use Rattle.dn_game.proofs.storming.storm_observed.Goals.{in-Some+in_ok-apply_observed, in_default}
 
 pub loop-init : goal.loop-init
-loop-init g c = (
+loop-init g c = rw c.new-played.ensures (
   refl,
   (
     record {
@@ -61,12 +63,12 @@ loop-preserved g c =
           let plays = follows_plays game (generator_of c.args.seed) s.events s.answers s.rest
           (opening_game config.settings) s.last s.follows in
           let given_on = given_more _ _ c.loop.played next _ told.answer one c.args.worlds.items s.events s.answers
-          (as_many game s.events s.answers _ s.last plays) c.loop.invariant.1.3 in
+          (as_many (Answers game) s.events s.answers _ s.last plays) c.loop.invariant.1.3 in
           rw (w.observer-is, w.played-is) (
             omega (arith, counted, c.loop.invariant.0),
             (more, ap behind_three left ∙ sym c.next.ensures.drawn, heard, given_on),
             limits_stay _ _ _ w.apply_observed.ensures.whose c.loop.invariant.2,
-            stays _ _ _ _ w.apply_observed.ensures.grown one.more c.loop.invariant.3,
+            stays _ _ _ _ w.apply_observed.ensures.grown one.leaves.more c.loop.invariant.3,
           )
       | in_default w ↦
           absurd (storm_goes_on _ game config.settings c.args.seed c.loop.counter c.loop.played s

@@ -1,5 +1,4 @@
-use Rattle.std.proofs.Common.{◌<◌, ◌&&◌, ℕ, List, Ok, length, refl, ap, sym, ◌∙◌, subst, arith}
-use Rattle.dn_machine.specs.Flight.{is_close, is_request_close}
+use Rattle.std.proofs.Common.{ℕ, List, Ok, refl, ap, sym, ◌∙◌, subst, arith}
 use Rattle.dn_machine.specs.Worlds.{rules_of}
 use Rattle.dn_machine.specs.declared.answers.Heard.{Heard}
 use Rattle.dn_open.specs.declared.arrived.Arrived.{Arrived}
@@ -8,7 +7,7 @@ use Rattle.dn_game.specs.Contents.{contents}
 use Rattle.dn_game.proofs.OpenArriving.{only_at, comes_to_nobody, unopened, late, unlike, hears}
 use Rattle.dn_game.proofs.Framing.{others_step, worlds_step, holds_step}
 use Rattle.dn_game.proofs.OpenAnswering.{carries_arrival}
-use Rattle.dn_game.proofs.Standing.{node_at, made_at}
+use Rattle.dn_game.proofs.Standing.{node_at}
 use Rattle.dn_node.proofs.Whose.{whose_step}
 use Rattle.dn_game.proofs.game.Game.arrive.Goals as goal
 
@@ -27,45 +26,29 @@ returns-in-Err-clause-arrived g c players extra capacity m r =
 
 pub returns-then-not-are_tics_near-clause-arrived : goal.returns-then-not-are_tics_near-clause-arrived
 returns-then-not-are_tics_near-clause-arrived g c players extra capacity m r =
-    let n = c.args.self.now in
-    let rules = rules_of g.W.World.physics players extra capacity in
-    let below : c.args.node < length n.nodes.items = c.in_default.ensures.there refl in
-    let count = made_at _ rules (contents n) m r c.args.node _ _ below c.index.ensures c.made-made.ensures in
-    let o = c.in-Ok.opened in
-    late _ rules _ m r c.args.seal c.args.node
-    c.args.bytes.now (c.in_default.ensures.told players extra capacity m r) o
-    (only_at _ c.args.seal _ c.args.node c.args.bytes.now _ c.of.ensures (omega (arith, below, n.few)) c.in-Ok.ensures.only)
-    (ap (λ (k : ℕ). is_close k o.start && is_request_close k o.ask) (sym count)
-    ∙ sym c.are_tics_near.ensures ∙ c.if-not-are_tics_near.true)
+    late _ (rules_of g.W.World.physics players extra capacity) _ m r c.args.seal c.args.node c.args.bytes.now
+    (c.in_default.ensures.told players extra capacity m r) (c.in_default.ensures.there refl) _ _
+    c.of.ensures c.in-Ok.ensures.only _ _ c.index.ensures c.made-made.ensures _ c.are_tics_near.ensures
+    c.if-not-are_tics_near.true
 
 pub returns-then-not-is_alike-clause-arrived : goal.returns-then-not-is_alike-clause-arrived
 returns-then-not-is_alike-clause-arrived g c players extra capacity m r =
-    let n = c.args.self.now in
-    let rules = rules_of g.W.World.physics players extra capacity in
-    let below : c.args.node < length n.nodes.items = c.in_default.ensures.there refl in
-    let count = made_at _ rules (contents n) m r c.args.node _ _ below c.index.ensures c.made-made.ensures in
-    let o = c.in-Ok.opened in
-    unlike _ rules _ m r c.args.seal c.args.node
-    c.args.bytes.now (c.in_default.ensures.told players extra capacity m r) o
-    (only_at _ c.args.seal _ c.args.node c.args.bytes.now _ c.of.ensures (omega (arith, below, n.few)) c.in-Ok.ensures.only)
-    (ap (λ (k : ℕ). is_close k o.start && is_request_close k o.ask) (sym count)
-    ∙ sym c.are_tics_near.ensures ∙ c.if-not-are_tics_near.false)
-    (sym c.is_alike.ensures ∙ c.if-not-is_alike.true)
+    let below = c.in_default.ensures.there refl in
+    unlike _ (rules_of g.W.World.physics players extra capacity) _ m r c.args.seal c.args.node c.args.bytes.now
+    (c.in_default.ensures.told players extra capacity m r) below _ _
+    c.of.ensures c.in-Ok.ensures.only _ _ c.index.ensures c.made-made.ensures _ c.are_tics_near.ensures
+    c.if-not-are_tics_near.false (sym c.is_alike.ensures ∙ c.if-not-is_alike.true)
 
 pub returns-clause-arrived : goal.returns-clause-arrived
 returns-clause-arrived g c players extra capacity m r =
-    let n = c.args.self.now in
     let rules = rules_of g.W.World.physics players extra capacity in
-    let below : c.args.node < length n.nodes.items = c.in_default.ensures.there refl in
-    let count = made_at _ rules (contents n) m r c.args.node _ _ below c.index.ensures c.made-made.ensures in
-    let o = c.in-Ok.opened in
-    let shown = node_at _ rules (contents n) m r c.args.node _ below c.index_mut.ensures.value in
-    hears _ rules _ m r c.args.seal c.args.node
-    c.args.bytes.now (c.in_default.ensures.told players extra capacity m r) o
-    (only_at _ c.args.seal _ c.args.node c.args.bytes.now _ c.of.ensures (omega (arith, below, n.few)) c.in-Ok.ensures.only)
-    (ap (λ (k : ℕ). is_close k o.start && is_request_close k o.ask) (sym count)
-    ∙ sym c.are_tics_near.ensures ∙ c.if-not-are_tics_near.false)
-    (sym c.is_alike.ensures ∙ c.if-not-is_alike.false) below c.receive-heard.new.self c.receive-heard.result
+    let below = c.in_default.ensures.there refl in
+    let shown = node_at _ rules (contents c.args.self.now) m r c.args.node _ below c.index_mut.ensures.value in
+    hears _ rules _ m r c.args.seal c.args.node c.args.bytes.now
+    (c.in_default.ensures.told players extra capacity m r) below _ _
+    c.of.ensures c.in-Ok.ensures.only _ _ c.index.ensures c.made-made.ensures _ c.are_tics_near.ensures
+    c.if-not-are_tics_near.false (sym c.is_alike.ensures ∙ c.if-not-is_alike.false) c.receive-heard.new.self
+    c.receive-heard.result
     (λ read told is_read is_told. c.receive-heard.ensures.any.step read told
     (subst (λ (xs : List ℕ). IsReadAs xs read) (sym c.as_slice.ensures.value) is_read) is_told _ c.args.node
     (m.nodes c.args.node) shown)

@@ -6,16 +6,14 @@ use Rattle.dn_tic.specs.Inputs.{input_of}
 use Rattle.dn_game.specs.RoundEvents.{turn_events}
 use Rattle.dn_game.proofs.Rounding.{after_turn}
 use Rattle.dn_game.proofs.Arriving.{by_own_input, goes_on, ends, ended}
-use Rattle.dn_game.proofs.Idling.{flights_on, flights_same}
+use Rattle.dn_game.proofs.Roomy.{continues_on, continues_same}
 use Rattle.dn_game.proofs.game.Game.good_round_with.Goals as goal
 
 pub loop-node-init : goal.loop-node-init
 unfolding in_order
 loop-node-init g c = (
   λ players extra capacity m r. (r, λ i never. refl),
-  refl,
-  λ within. within,
-  flights_same _,
+  continues_same _,
 )
 
 pub loop-node-preserved : goal.loop-node-preserved
@@ -26,13 +24,11 @@ loop-node-preserved g c = (
       let taken = c.loop-node.invariant.0 players extra capacity m r in
       goes_on _ rules (turn rules inputs) (turn_events rules inputs) (after_turn rules inputs) m
       (contents c.args.self.now) (contents c.loop-node.self) (contents c.turn.new.self) c.loop-node.node
-      c.turn.result taken c.turn.ensures.more
+      c.turn.result taken c.turn.ensures.continues.more
       (by_own_input _ rules _ inputs _ c.loop-node.node (contents c.loop-node.self) (contents c.turn.new.self)
       c.turn.result c.input_of.ensures (c.turn.ensures.good players extra capacity _ taken.0)) _
       c.in_ok-turn.was,
-  c.turn.ensures.whose ∙ c.loop-node.invariant.1,
-  λ within. c.turn.ensures.grown (c.loop-node.invariant.2 within),
-  flights_on _ _ _ c.loop-node.invariant.3 c.turn.ensures.more,
+  continues_on _ _ _ c.loop-node.invariant.1 c.turn.ensures.continues,
 )
 
 pub returns-in_err-turn-clause-good : goal.returns-in_err-turn-clause-good
@@ -41,17 +37,12 @@ returns-in_err-turn-clause-good g c players extra capacity m r =
     let rules = rules_of g.W.World.physics players extra capacity in
     let inputs = input_of c.args.inputs.now in
     let taken = c.loop-node.invariant.0 players extra capacity m r in
-    let below : c.loop-node.node < players = omega (
-      arith,
-      c.loop-node-test.true,
-      c.loop-node.auto.node-end,
-      c.players-node-end.ensures.value,
-      r.players,
-    ) in
+    let count = c.players-node-end.ensures.value ∙ r.players in
+    let below : c.loop-node.node < players = omega (arith, c.loop-node-test.true, c.loop-node.auto.node-end, count) in
     ended _ rules _ m _ (contents c.args.self.now) (contents c.turn.new.self) _ _ same
     (ends _ rules (turn rules inputs) (turn_events rules inputs) (after_turn rules inputs) m
     (contents c.args.self.now) (contents c.loop-node.self) (contents c.turn.new.self) c.loop-node.node
-    c.turn.result taken c.turn.ensures.more
+    c.turn.result taken c.turn.ensures.continues.more
     (by_own_input _ rules _ inputs _ c.loop-node.node (contents c.loop-node.self) (contents c.turn.new.self)
     c.turn.result c.input_of.ensures (c.turn.ensures.good players extra capacity _ taken.0)) players below _
     c.in_err-turn.was)
@@ -59,29 +50,13 @@ returns-in_err-turn-clause-good g c players extra capacity m r =
 pub returns-clause-good : goal.returns-clause-good
 unfolding good_round
 returns-clause-good g c players extra capacity m r =
-    let all : c.loop-node.node ≡ players = omega (
-      arith,
-      c.loop-node-test.false,
-      c.loop-node.auto.node-end,
-      c.players-node-end.ensures.value,
-      r.players,
-    ) in
+    let count = c.players-node-end.ensures.value ∙ r.players in
+    let all : c.loop-node.node ≡ players = omega (arith, c.loop-node-test.false, c.loop-node.auto.node-end, count) in
     rw all at (c.loop-node.invariant.0 players extra capacity m r)
 
-pub returns-in_err-turn-clause-whose : goal.returns-in_err-turn-clause-whose
-returns-in_err-turn-clause-whose g c = c.turn.ensures.whose ∙ c.loop-node.invariant.1
+pub returns-in_err-turn-clause-continues : goal.returns-in_err-turn-clause-continues
+returns-in_err-turn-clause-continues g c =
+    continues_on _ _ _ c.loop-node.invariant.1 c.turn.ensures.continues
 
-pub returns-clause-whose : goal.returns-clause-whose
-returns-clause-whose g c = c.loop-node.invariant.1
-
-pub returns-in_err-turn-clause-grown : goal.returns-in_err-turn-clause-grown
-returns-in_err-turn-clause-grown g c within = c.turn.ensures.grown (c.loop-node.invariant.2 within)
-
-pub returns-clause-grown : goal.returns-clause-grown
-returns-clause-grown g c = c.loop-node.invariant.2
-
-pub returns-in_err-turn-clause-more : goal.returns-in_err-turn-clause-more
-returns-in_err-turn-clause-more g c = flights_on _ _ _ c.loop-node.invariant.3 c.turn.ensures.more
-
-pub returns-clause-more : goal.returns-clause-more
-returns-clause-more g c = c.loop-node.invariant.3
+pub returns-clause-continues : goal.returns-clause-continues
+returns-clause-continues g c = c.loop-node.invariant.1

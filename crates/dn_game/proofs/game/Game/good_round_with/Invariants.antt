@@ -1,8 +1,7 @@
 use Rattle.dn_machine.specs.Progress.{turn}
 use Rattle.dn_game.specs.Applied.{Tells}
 use Rattle.dn_game.specs.Contents.{contents}
-use Rattle.dn_game.specs.Frame.{KeepsFlights}
-use Rattle.dn_game.specs.Room.{KeepsWhose, StaysWithin}
+use Rattle.dn_game.specs.Room.{Continues}
 use Rattle.dn_game.specs.RoundEvents.{turn_events}
 use Rattle.dn_tic.specs.Inputs.{input_of}
 use Rattle.dn_game.proofs.Arriving.{HasTaken}
@@ -12,5 +11,4 @@ abbrev pub invariant-loop-node : goal.invariant-loop-node
 invariant-loop-node g l = (Tells g.W.World.state g.W.World.physics (contents l.fn.self) (λ rules m.
     HasTaken g.W.World.state rules (turn rules (input_of l.fn.inputs))
     (turn_events rules (input_of l.fn.inputs)) m l.node (contents l.fn.self) (contents l.self)))
-    × KeepsWhose (contents l.fn.self) (contents l.self) × StaysWithin l.fn.self l.self
-    × KeepsFlights (contents l.fn.self) (contents l.self)
+    × Continues l.fn.self l.self

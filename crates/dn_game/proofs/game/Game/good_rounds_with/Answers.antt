@@ -1,4 +1,4 @@
-use Rattle.std.proofs.Common.{refl, ◌∙◌, rules, ◌≡◌, ◌<◌, Err, arith}
+use Rattle.std.proofs.Common.{refl, rules, ◌≡◌, ◌<◌, Err, arith}
 use Rattle.dn_machine.specs.Progress.{in_order, good_round, good_rounds}
 use Rattle.dn_machine.specs.Worlds.{rules_of}
 use Rattle.dn_game.specs.Contents.{contents}
@@ -6,17 +6,15 @@ use Rattle.dn_tic.specs.Inputs.{input_of}
 use Rattle.dn_game.specs.RoundEvents.{round_events}
 use Rattle.dn_game.proofs.Rounding.{after_round}
 use Rattle.dn_game.proofs.Arriving.{goes_on, ends, ended}
-use Rattle.dn_game.proofs.Idling.{flights_on, flights_same}
+use Rattle.dn_game.proofs.Roomy.{continues_on, continues_same}
 use Rattle.dn_game.proofs.game.Game.good_rounds_with.Goals as goal
 
 pub loop-init : goal.loop-init
 unfolding in_order
 loop-init g c = (
   λ players extra capacity m r. (r, λ i never. refl),
-  refl,
-  λ within. within,
+  continues_same _,
   λ none. refl,
-  flights_same _,
 )
 
 pub loop-preserved : goal.loop-preserved
@@ -28,12 +26,10 @@ loop-preserved g c = (
       goes_on _ rules (λ before round. good_round rules inputs before)
       (λ before round. round_events rules inputs before) (λ before round. after_round rules inputs before) m
       (contents c.args.self.now) (contents c.loop.self) (contents c.good_round_with.new.self) c.loop.counter
-      c.good_round_with.result taken c.good_round_with.ensures.more
+      c.good_round_with.result taken c.good_round_with.ensures.continues.more
       (c.good_round_with.ensures.good players extra capacity _ taken.0) _ c.in_ok-good_round_with.was,
-  c.good_round_with.ensures.whose ∙ c.loop.invariant.1,
-  λ within. c.good_round_with.ensures.grown (c.loop.invariant.2 within),
+  continues_on _ _ _ c.loop.invariant.1 c.good_round_with.ensures.continues,
   λ none. absurd (omega (arith, none)),
-  flights_on _ _ _ c.loop.invariant.4 c.good_round_with.ensures.more,
 )
 
 pub returns-in_err-good_round_with-clause-good : goal.returns-in_err-good_round_with-clause-good
@@ -47,7 +43,7 @@ returns-in_err-good_round_with-clause-good g c players extra capacity m r =
     (ends _ rules (λ before round. good_round rules inputs before)
     (λ before round. round_events rules inputs before) (λ before round. after_round rules inputs before) m
     (contents c.args.self.now) (contents c.loop.self) (contents c.good_round_with.new.self) c.loop.counter
-    c.good_round_with.result taken c.good_round_with.ensures.more
+    c.good_round_with.result taken c.good_round_with.ensures.continues.more
     (c.good_round_with.ensures.good players extra capacity _ taken.0) c.args.count below _ c.in_err-good_round_with.was)
 
 pub returns-clause-good : goal.returns-clause-good
@@ -56,18 +52,12 @@ returns-clause-good g c players extra capacity m r =
     let all : c.loop.counter ≡ c.args.count = omega (arith, c.loop-test.false, c.loop.auto.counter-end) in
     rw all at (c.loop.invariant.0 players extra capacity m r)
 
-pub returns-in_err-good_round_with-clause-whose : goal.returns-in_err-good_round_with-clause-whose
-returns-in_err-good_round_with-clause-whose g c = c.good_round_with.ensures.whose ∙ c.loop.invariant.1
+pub returns-in_err-good_round_with-clause-continues : goal.returns-in_err-good_round_with-clause-continues
+returns-in_err-good_round_with-clause-continues g c =
+    continues_on _ _ _ c.loop.invariant.1 c.good_round_with.ensures.continues
 
-pub returns-clause-whose : goal.returns-clause-whose
-returns-clause-whose g c = c.loop.invariant.1
-
-pub returns-in_err-good_round_with-clause-grown : goal.returns-in_err-good_round_with-clause-grown
-returns-in_err-good_round_with-clause-grown g c within =
-    c.good_round_with.ensures.grown (c.loop.invariant.2 within)
-
-pub returns-clause-grown : goal.returns-clause-grown
-returns-clause-grown g c = c.loop.invariant.2
+pub returns-clause-continues : goal.returns-clause-continues
+returns-clause-continues g c = c.loop.invariant.1
 
 pub returns-in_err-good_round_with-clause-none : goal.returns-in_err-good_round_with-clause-none
 returns-in_err-good_round_with-clause-none g c none =
@@ -75,11 +65,4 @@ returns-in_err-good_round_with-clause-none g c none =
 
 pub returns-clause-none : goal.returns-clause-none
 returns-clause-none g c none =
-    c.loop.invariant.3 (omega (arith, c.loop-test.false, c.loop.auto.counter-end, none))
-
-pub returns-in_err-good_round_with-clause-more : goal.returns-in_err-good_round_with-clause-more
-returns-in_err-good_round_with-clause-more g c =
-    flights_on _ _ _ c.loop.invariant.4 c.good_round_with.ensures.more
-
-pub returns-clause-more : goal.returns-clause-more
-returns-clause-more g c = c.loop.invariant.4
+    c.loop.invariant.2 (omega (arith, c.loop-test.false, c.loop.auto.counter-end, none))

@@ -2,8 +2,7 @@ use Rattle.std.proofs.Common.{◌≡◌}
 use Rattle.dn_machine.specs.Progress.{good_round}
 use Rattle.dn_game.specs.Applied.{Tells}
 use Rattle.dn_game.specs.Contents.{contents}
-use Rattle.dn_game.specs.Frame.{KeepsFlights}
-use Rattle.dn_game.specs.Room.{KeepsWhose, StaysWithin}
+use Rattle.dn_game.specs.Room.{Continues}
 use Rattle.dn_game.specs.RoundEvents.{round_events}
 use Rattle.dn_tic.specs.Inputs.{input_of}
 use Rattle.dn_game.proofs.Arriving.{HasTaken}
@@ -14,5 +13,4 @@ invariant-loop g l = (Tells g.W.World.state g.W.World.physics (contents l.fn.sel
     HasTaken g.W.World.state rules (λ before round. good_round rules (input_of l.fn.inputs) before)
     (λ before round. round_events rules (input_of l.fn.inputs) before) m l.counter (contents l.fn.self)
     (contents l.self)))
-    × KeepsWhose (contents l.fn.self) (contents l.self) × StaysWithin l.fn.self l.self
-    × (l.counter ≡ 0 → l.self ≡ l.fn.self) × KeepsFlights (contents l.fn.self) (contents l.self)
+    × Continues l.fn.self l.self × (l.counter ≡ 0 → l.self ≡ l.fn.self)

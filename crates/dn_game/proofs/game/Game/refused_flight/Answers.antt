@@ -1,4 +1,4 @@
-use Rattle.std.proofs.Common.{true, false, sym, ◌∙◌, ◌<◌, length, rules, arith}
+use Rattle.std.proofs.Common.{◌∙◌, ◌<◌, length, refl, rules, arith}
 use Rattle.dn_game.proofs.Packing.{receiver_below}
 use Rattle.dn_game.proofs.Refusing.{told_far, told_near}
 use Rattle.dn_game.proofs.game.Game.refused_flight.Goals as goal
@@ -17,16 +17,9 @@ returns-then-not-is_near-clause-told g c players extra capacity m r =
     told_far _ _ _ m r _ below _ c.record-flight.ensures _ _ c.from.ensures c.index-receiver.ensures
     _ c.made.ensures _ c.is_near.ensures.near c.if-not-is_near.true
 
-pub returns-then-stopped-clause-told : goal.returns-then-stopped-clause-told
-returns-then-stopped-clause-told g c players extra capacity m r =
+pub returns-clause-told : goal.returns-clause-told
+returns-clause-told g c players extra capacity m r =
     let below : c.args.which < length c.args.self.now.pool.flights = search rules in
-    told_near _ _ _ m r _ below _ c.record-flight.ensures _ _ c.from.ensures c.index-receiver.ensures
-    _ c.made.ensures _ c.is_near.ensures.near c.if-not-is_near.false _ true c.from-else-not-is_near.ensures
-    (sym c.if-stopped.true ∙ c.stopped.ensures)
-
-pub returns-else-stopped-clause-told : goal.returns-else-stopped-clause-told
-returns-else-stopped-clause-told g c players extra capacity m r =
-    let below : c.args.which < length c.args.self.now.pool.flights = search rules in
-    told_near _ _ _ m r _ below _ c.record-flight.ensures _ _ c.from.ensures c.index-receiver.ensures
-    _ c.made.ensures _ c.is_near.ensures.near c.if-not-is_near.false _ false c.from-else-not-is_near.ensures
-    (sym c.if-stopped.false ∙ c.stopped.ensures)
+    c.refused_stopped.ensures.told ∙ told_near _ _ _ m r _ below _ c.record-flight.ensures _ _ c.from.ensures
+    c.index-receiver.ensures _ c.made.ensures _ c.is_near.ensures.near c.if-not-is_near.false _ _
+    c.from-2.ensures refl

@@ -7,8 +7,8 @@ use Rattle.dn_game.specs.Contents.{contents}
 use Rattle.dn_game.specs.RoundEvents.{events_in_order, exchange_events}
 use Rattle.dn_game.proofs.Rounding.{after_exchange}
 use Rattle.dn_game.proofs.Arriving.{after_other, build_idle, built, goes_on, ends, ended, turn_idle, within}
-use Rattle.dn_game.proofs.Idling.{flights_on, flights_same, idle_one}
-use Rattle.dn_game.proofs.Roomy.{stays}
+use Rattle.dn_game.proofs.Idling.{flights_on, idle_one}
+use Rattle.dn_game.proofs.Roomy.{continues_on, continues_one, continues_same}
 use Rattle.dn_game.proofs.game.Game.turn.Goals as goal
 
 pub loop-to-init : goal.loop-to-init
@@ -16,12 +16,10 @@ unfolding in_order
 loop-to-init g c = (
   λ players extra capacity m r. (
     built _ (rules_of g.W.World.physics players extra capacity) _ _ m c.args.node c.args.input _ _
-        c.build_of.ensures (c.apply.ensures.applied players extra capacity m r),
+        c.build_of.ensures (c.apply.ensures.leads.applied players extra capacity m r),
     λ i never. refl,
   ),
-  c.apply.ensures.whose,
-  stays _ _ _ _ c.apply.ensures.grown c.apply.ensures.more,
-  flights_same _,
+  continues_same _,
 )
 
 pub loop-to-preserved : goal.loop-to-preserved
@@ -32,11 +30,9 @@ loop-to-preserved g c = (
       let node = c.args.node in
       goes_on _ rules (exchange rules node) (exchange_events node) (after_exchange rules node) _
       (contents c.apply.new.self) (contents c.loop-to.self) (contents c.exchange.new.self) c.loop-to.to
-      c.exchange.result taken c.exchange.ensures.more
+      c.exchange.result taken c.exchange.ensures.continues.more
       (c.exchange.ensures.good players extra capacity _ taken.0) _ c.in_ok-exchange.was,
-  c.exchange.ensures.whose ∙ c.loop-to.invariant.1,
-  λ within. c.exchange.ensures.grown (c.loop-to.invariant.2 within),
-  flights_on _ _ _ c.loop-to.invariant.3 c.exchange.ensures.more,
+  continues_on _ _ _ c.loop-to.invariant.1 c.exchange.ensures.continues,
 )
 
 pub returns-in_err-exchange-clause-good : goal.returns-in_err-exchange-clause-good
@@ -52,27 +48,18 @@ returns-in_err-exchange-clause-good g c players extra capacity m r =
     let sends = events_in_order (exchange rules node) (exchange_events node) players mid in
     let taken = c.loop-to.invariant.0 players extra capacity m r in
     let one = c.exchange.ensures.good players extra capacity _ taken.0 in
-    let applied = c.apply.ensures.applied players extra capacity m r in
+    let applied = c.apply.ensures.leads.applied players extra capacity m r in
     let now = built _ rules old begun m node c.args.input _ _ c.build_of.ensures applied in
-    let idle = build_idle _ rules old begun m node c.args.input _ _ c.build_of.ensures (record {
-      others = c.apply.ensures.others;
-      worlds = c.apply.ensures.worlds;
-      more = c.apply.ensures.more;
-    }) applied in
-    let below : c.loop-to.to < players = omega (
-      arith,
-      c.loop-to-test.true,
-      c.loop-to.auto.to-end,
-      c.players-to-end.ensures.value,
-      now.players,
-    ) in
+    let idle = build_idle _ rules old begun m node c.args.input _ _ c.build_of.ensures c.apply.ensures.leaves applied in
+    let count = c.players-to-end.ensures.value ∙ now.players in
+    let below : c.loop-to.to < players = omega (arith, c.loop-to-test.true, c.loop-to.auto.to-end, count) in
     let at = ends _ rules (exchange rules node) (exchange_events node) (after_exchange rules node) mid begun
-    (contents c.loop-to.self) left c.loop-to.to c.exchange.result taken c.exchange.ensures.more one players
+    (contents c.loop-to.self) left c.loop-to.to c.exchange.result taken c.exchange.ensures.continues.more one players
     below _ c.in_err-exchange.was in
     ended _ rules _ m _ old left _ _ same (
       at.0,
       within _ rules (first ∷ []) sends (Run node ∷ []) m mid old begun left refl idle
-          (flights_on _ _ _ c.loop-to.invariant.3 c.exchange.ensures.more) at.1,
+          (flights_on _ _ _ c.loop-to.invariant.1.more c.exchange.ensures.continues.more) at.1,
     )
 
 pub returns-clause-good : goal.returns-clause-good
@@ -83,49 +70,26 @@ returns-clause-good g c players extra capacity m r =
     let old = contents c.args.self.now in
     let begun = contents c.apply.new.self in
     let asked = contents c.loop-to.self in
-    let applied = c.apply.ensures.applied players extra capacity m r in
+    let applied = c.apply.ensures.leads.applied players extra capacity m r in
     let now = built _ rules old begun m node c.args.input _ _ c.build_of.ensures applied in
-    let idle = build_idle _ rules old begun m node c.args.input _ _ c.build_of.ensures (record {
-      others = c.apply.ensures.others;
-      worlds = c.apply.ensures.worlds;
-      more = c.apply.ensures.more;
-    }) applied in
-    let all : c.loop-to.to ≡ players = omega (
-      arith,
-      c.loop-to-test.false,
-      c.loop-to.auto.to-end,
-      c.players-to-end.ensures.value,
-      now.players,
-    ) in
+    let idle = build_idle _ rules old begun m node c.args.input _ _ c.build_of.ensures c.apply.ensures.leaves applied in
+    let count = c.players-to-end.ensures.value ∙ now.players in
+    let all : c.loop-to.to ≡ players = omega (arith, c.loop-to-test.false, c.loop-to.auto.to-end, count) in
     let taken = rw all at (c.loop-to.invariant.0 players extra capacity m r) in
-    let last = c.apply-2.ensures.applied players extra capacity _ taken.0 in (
+    let last = c.apply-2.ensures.leads.applied players extra capacity _ taken.0 in (
       after_other _ rules _ _ _ _ _ refl last,
       turn_idle _ rules node c.args.input m old begun asked (contents c.apply-2.new.self) idle
-          (flights_on _ _ _ c.loop-to.invariant.3 c.apply-2.ensures.more) taken c.apply-2.ensures.more
-          (idle_one rules _ _ (Run node) _ asked (contents c.apply-2.new.self) (record {
-            others = c.apply-2.ensures.others;
-            worlds = c.apply-2.ensures.worlds;
-            more = c.apply-2.ensures.more;
-          }) last),
+          (flights_on _ _ _ c.loop-to.invariant.1.more c.apply-2.ensures.leaves.more) taken c.apply-2.ensures.leaves.more
+          (idle_one rules _ _ (Run node) _ asked (contents c.apply-2.new.self) c.apply-2.ensures.leaves last),
     )
 
-pub returns-in_err-exchange-clause-whose : goal.returns-in_err-exchange-clause-whose
-returns-in_err-exchange-clause-whose g c = c.exchange.ensures.whose ∙ c.loop-to.invariant.1
+pub returns-in_err-exchange-clause-continues : goal.returns-in_err-exchange-clause-continues
+returns-in_err-exchange-clause-continues g c =
+    continues_on _ c.apply.new.self _ (continues_one _ _ c.apply.ensures.whose c.apply.ensures.grown c.apply.ensures.leaves.more)
+    (continues_on _ c.loop-to.self _ c.loop-to.invariant.1 c.exchange.ensures.continues)
 
-pub returns-clause-whose : goal.returns-clause-whose
-returns-clause-whose g c = c.apply-2.ensures.whose ∙ c.loop-to.invariant.1
-
-pub returns-in_err-exchange-clause-grown : goal.returns-in_err-exchange-clause-grown
-returns-in_err-exchange-clause-grown g c within = c.exchange.ensures.grown (c.loop-to.invariant.2 within)
-
-pub returns-clause-grown : goal.returns-clause-grown
-returns-clause-grown g c within =
-    stays _ _ _ _ c.apply-2.ensures.grown c.apply-2.ensures.more (c.loop-to.invariant.2 within)
-
-pub returns-in_err-exchange-clause-more : goal.returns-in_err-exchange-clause-more
-returns-in_err-exchange-clause-more g c =
-    flights_on _ _ _ c.apply.ensures.more (flights_on _ _ _ c.loop-to.invariant.3 c.exchange.ensures.more)
-
-pub returns-clause-more : goal.returns-clause-more
-returns-clause-more g c =
-    flights_on _ _ _ c.apply.ensures.more (flights_on _ _ _ c.loop-to.invariant.3 c.apply-2.ensures.more)
+pub returns-clause-continues : goal.returns-clause-continues
+returns-clause-continues g c =
+    let last = c.apply-2.ensures in
+    continues_on _ c.apply.new.self _ (continues_one _ _ c.apply.ensures.whose c.apply.ensures.grown c.apply.ensures.leaves.more)
+    (continues_on _ c.loop-to.self _ c.loop-to.invariant.1 (continues_one _ _ last.whose last.grown last.leaves.more))
