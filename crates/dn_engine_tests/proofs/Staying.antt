@@ -18,46 +18,45 @@ Moves next new = (session : Session) (player : ℕ)
     × ((next session player).given ≡ session.given)
 
 module _ (settings : Settings) (pair : Pair) (one : IsOneGame settings pair) where
-  low : 0 < one.limits.players
-  low = omega (arith, one.two)
-
-  high : 1 < one.limits.players
-  high = omega (arith, one.two)
+  -- by what the two are where the call was on one of them
+  moved : (me : ℕ) → me < one.limits.players → (old : Lockstep) → one.session.locksteps me ≡ contents old
+      → (new : Lockstep) (next : Session → ℕ → Session) → LeadsTo (contents old) next → Moves next new
+      → (first second : Lockstep) → put one.session.locksteps me (contents new) 0 ≡ contents first
+      → put one.session.locksteps me (contents new) 1 ≡ contents second
+      → IsOneGame settings (record pair { first = first; second = second })
+  moved me mine old was new next leads moves first second first_is second_is =
+      let is = moves one.session me in
+      record {
+        limits = one.limits;
+        session = next one.session me;
+        game = leads one.limits settings one.session me one.game one.two mine was;
+        two = one.two;
+        first = ap (λ (f : ℕ → Contents). f 0) is.0 ∙ first_is;
+        second = ap (λ (f : ℕ → Contents). f 1) is.0 ∙ second_is;
+        first_late = subst (λ (given : List Flight). AreFor given 1 pair.from_first) (sym is.1) one.first_late;
+        second_late = subst (λ (given : List Flight). AreFor given 0 pair.from_second) (sym is.1)
+            one.second_late;
+      }
 
   pub first_moves : (new : Lockstep) (next : Session → ℕ → Session) → LeadsTo (contents pair.first) next
       → Moves next new → IsOneGame settings (record pair { first = new })
   first_moves new next leads moves =
-      let at : ℕ → Contents = one.session.locksteps in
-      let after : Session = next one.session 0 in
-      let is = moves one.session 0 in
-      record {
-        limits = one.limits;
-        session = after;
-        game = leads one.limits settings one.session 0 one.game one.two low one.first;
-        two = one.two;
-        first = ap (λ (f : ℕ → Contents). f 0) is.0 ∙ put_at at 0 0 (contents new) refl;
-        second = ap (λ (f : ℕ → Contents). f 1) is.0 ∙ put_off at 0 1 (contents new) (λ e. absurd (cc))
-            ∙ one.second;
-        first_late = subst (λ (given : List Flight). AreFor given 1 pair.from_first) (sym is.1) one.first_late;
-        second_late = subst (λ (given : List Flight). AreFor given 0 pair.from_second) (sym is.1)
-            one.second_late;
-      }
+      moved 0 (omega (arith, one.two)) pair.first one.first new next leads moves new pair.second
+      (put_at one.session.locksteps 0 0 (contents new) refl)
+      (put_off one.session.locksteps 0 1 (contents new) (λ e. absurd (cc)) ∙ one.second)
 
   pub second_moves : (new : Lockstep) (next : Session → ℕ → Session) → LeadsTo (contents pair.second) next
       → Moves next new → IsOneGame settings (record pair { second = new })
   second_moves new next leads moves =
-      let at : ℕ → Contents = one.session.locksteps in
-      let after : Session = next one.session 1 in
-      let is = moves one.session 1 in
-      record {
-        limits = one.limits;
-        session = after;
-        game = leads one.limits settings one.session 1 one.game one.two high one.second;
-        two = one.two;
-        first = ap (λ (f : ℕ → Contents). f 0) is.0 ∙ put_off at 1 0 (contents new) (λ e. absurd (cc))
-            ∙ one.first;
-        second = ap (λ (f : ℕ → Contents). f 1) is.0 ∙ put_at at 1 1 (contents new) refl;
-        first_late = subst (λ (given : List Flight). AreFor given 1 pair.from_first) (sym is.1) one.first_late;
-        second_late = subst (λ (given : List Flight). AreFor given 0 pair.from_second) (sym is.1)
-            one.second_late;
-      }
+      moved 1 (omega (arith, one.two)) pair.second one.second new next leads moves pair.first new
+      (put_off one.session.locksteps 1 0 (contents new) (λ e. absurd (cc)) ∙ one.first)
+      (put_at one.session.locksteps 1 1 (contents new) refl)
+
+-- a call on each, the second after the first
+pub both_move : {settings : Settings} {pair : Pair} {first second : Lockstep} {next other : Session → ℕ → Session}
+    → IsOneGame settings pair → LeadsTo (contents pair.first) next → LeadsTo (contents pair.second) other
+    → Moves next first → Moves other second
+    → IsOneGame settings (record pair { first = first; second = second })
+both_move {settings} {pair} {first} {second} {next} {other} one leads leads_too moves moves_too =
+    second_moves settings (record pair { first = first }) (first_moves settings pair one first next leads moves)
+    second other leads_too moves_too

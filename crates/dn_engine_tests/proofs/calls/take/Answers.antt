@@ -1,4 +1,4 @@
-use Rattle.std.proofs.Common.{rules, ◌≡◌, ◌≤◌, ◌+◌, ℕ, List, take, Option, Some, refl, ap, sym, ◌∙◌, subst, length, arith}
+use Rattle.std.proofs.Common.{rules, ◌≡◌, ◌≤◌, ℕ, List, take, Option, Some, refl, ap, sym, ◌∙◌, subst, length, arith}
 use Rattle.std.specs.Prelude.{IfSome, slice_get}
 use Rattle.std.specs.Option.{option_map}
 use Rattle.std.proofs.lemmas.List.{length-take}
@@ -57,13 +57,9 @@ returns-in_default-clause-step c =
 items : (c : After-try_extend_from_slice)
     → c.try_extend_from_slice.new.self.items ≡ take c.in-Some.size c.packet_with_aim.new.room
 items c =
-    let size = c.in-Some.size in
-    let room = c.packet_with_aim.new.room in
-    let short = length-take size room in
+    let short = length-take c.in-Some.size c.packet_with_aim.new.room in
     let empty = ap length c.new-bytes.ensures in
-    let fits : length c.new-bytes.result.items + length (take size room) ≤ 104 = omega arith in
-    let ok = c.try_extend_from_slice.ensures.variant.1 fits in
-    search (rules, ok)
+    search (rules, c.try_extend_from_slice.ensures.variant.1 (omega arith))
 
 pub returns-clause-one_game : goal.returns-clause-one_game
 returns-clause-one_game c limits settings session game mine here =

@@ -1,12 +1,11 @@
 use Rattle.std.proofs.Common.{refl, arith}
 use Rattle.std.proofs.lemmas.Option.{slice_get-get_or}
-use Rattle.dn_engine_tests.proofs.Staying.{first_moves, second_moves}
+use Rattle.dn_engine_tests.proofs.Staying.{both_move}
 use Rattle.dn_engine_tests.proofs.pairs.Pair.give.Goals as goal
 
 pub returns-clause-one_game : goal.returns-clause-one_game
 returns-clause-one_game c settings one =
-    let first = first_moves settings _ one c.give.new.lockstep _ c.give.ensures.one_game (λ s p. (refl, refl)) in
-    second_moves settings _ first c.give-2.new.lockstep _ c.give-2.ensures.one_game (λ s p. (refl, refl))
+    both_move one c.give.ensures.one_game c.give-2.ensures.one_game (λ s p. (refl, refl)) (λ s p. (refl, refl))
 
 pub returns-clause-step : goal.returns-clause-step
 returns-clause-step c = record {

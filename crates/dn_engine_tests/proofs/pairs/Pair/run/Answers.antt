@@ -1,11 +1,10 @@
 use Rattle.std.proofs.Common.{refl}
-use Rattle.dn_engine_tests.proofs.Staying.{first_moves, second_moves}
+use Rattle.dn_engine_tests.proofs.Staying.{both_move}
 use Rattle.dn_engine_tests.proofs.pairs.Pair.run.Goals as goal
 
 pub returns-clause-one_game : goal.returns-clause-one_game
 returns-clause-one_game c settings one =
-    let first = first_moves settings _ one c.run.new.lockstep _ c.run.ensures.one_game (λ s p. (refl, refl)) in
-    second_moves settings _ first c.run-2.new.lockstep _ c.run-2.ensures.one_game (λ s p. (refl, refl))
+    both_move one c.run.ensures.one_game c.run-2.ensures.one_game (λ s p. (refl, refl)) (λ s p. (refl, refl))
 
 pub returns-clause-step : goal.returns-clause-step
 returns-clause-step c = record {
