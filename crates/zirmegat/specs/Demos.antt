@@ -54,17 +54,13 @@ ReadsBy None old new code = (read : Result Recording DemoFault) × IsReadAs old.
 abbrev pub IsReadOut : Reading → Reading → ℕ → Type 0
 IsReadOut old new code = ReadsBy old.demo old new code
 
+-- a start of these bytes, in the order of a demo's header
+abbrev pub start_fields : ℕ → ℕ → ℕ → ℕ → ℕ → ℕ → ℕ → StartFields
+start_fields s e m d r f n =
+    record { skill = s; episode = e; map = m; deathmatch = d; respawn = r; fast = f; no_monsters = n }
+
 abbrev pub start_told : Start → StartFields
-start_told s =
-    record {
-      skill = s.skill;
-      episode = s.episode;
-      map = s.map;
-      deathmatch = s.deathmatch;
-      respawn = s.respawn;
-      fast = s.fast;
-      no_monsters = s.no_monsters;
-    }
+start_told s = start_fields s.skill s.episode s.map s.deathmatch s.respawn s.fast s.no_monsters
 
 abbrev pub seat_told : List Bool → ℕ → ℕ
 seat_told present seat = bit (slice_index_or present seat false)
@@ -94,16 +90,7 @@ no_demo =
       tics = 0;
       cut = 0;
       after = 0;
-      start = record {
-        skill = 0;
-        episode = 0;
-        map = 0;
-        deathmatch = 0;
-        respawn = 0;
-        fast = 0;
-        no_monsters =
-            0;
-      };
+      start = start_fields 0 0 0 0 0 0 0;
       known = 0;
       version = 0;
       view = 0;

@@ -1,8 +1,10 @@
 -- A datagram's packet as plain fields.
 use Rattle.std.specs.Prelude.{◌≡◌, ℕ, ℤ, pos, List, [], ◌∷◌, length, map, take, slice_get, Option, Some, None, Result, Ok, Err}
 use Rattle.dn_tic.specs.declared.command.TicCmd.{TicCmd}
+use Rattle.dn_packet.specs.declared.packet.Head.{Head}
 use Rattle.dn_packet.specs.declared.packet.Packet.{Packet}
 use Rattle.dn_packet.specs.declared.packet.PacketFault.{PacketFault}
+use Rattle.dn_packet.specs.Text.{packet_with}
 use Rattle.zirmegat.specs.declared.packets.CommandFields.{CommandFields}
 use Rattle.zirmegat.specs.declared.packets.PacketFields.{PacketFields}
 use Rattle.zirmegat.specs.Codes.{packet_code}
@@ -25,28 +27,23 @@ command_in f =
 abbrev pub twelve : {A : Type 0} → (ℕ → A) → List A
 twelve at = at 0 ∷ at 1 ∷ at 2 ∷ at 3 ∷ at 4 ∷ at 5 ∷ at 6 ∷ at 7 ∷ at 8 ∷ at 9 ∷ at 10 ∷ at 11 ∷ []
 
+-- the fields of these flags, this request, start and player, with `count` commands
+abbrev pub fields_with : ℕ → ℕ → ℕ → ℕ → ℕ → List CommandFields → PacketFields
+fields_with flags ask start player count commands =
+    record { flags = flags; ask = ask; start = start; player = player; count = count; commands = commands }
+
 -- the fields of a packet, with a place for each of twelve commands
 abbrev pub fields_of : Packet → PacketFields
 fields_of p =
-    record {
-      flags = p.flags;
-      ask = p.ask;
-      start = p.start;
-      player = p.player;
-      count = length p.cmds.items;
-      commands = twelve (λ place. command_told (slice_get p.cmds.items place));
-    }
+    fields_with p.flags p.ask p.start p.player (length p.cmds.items)
+    (twelve (λ place. command_told (slice_get p.cmds.items place)))
+
+abbrev pub head_in : PacketFields → Head
+head_in f = record { flags = f.flags; ask = f.ask; start = f.start; player = f.player }
 
 -- the packet of some fields: the first `count` commands
 abbrev pub packet_in : PacketFields → Packet
-packet_in f =
-    record {
-      flags = f.flags;
-      ask = f.ask;
-      start = f.start;
-      player = f.player;
-      cmds = record { items = map command_in (take f.count f.commands) };
-    }
+packet_in f = packet_with (head_in f) (map command_in (take f.count f.commands))
 
 -- what a reading is told as: 0 and the fields, or the number of the fault
 abbrev pub IsDecodedAs : Result Packet PacketFault → ℕ → PacketFields → PacketFields → Type 0
