@@ -21,10 +21,9 @@ all_same : (one other : ℕ → Bool) (low count : ℕ) → ((p : ℕ) → low �
     → list_all one (range_with_len low count) ≡ list_all other (range_with_len low count)
 all_same one other low zero same = refl
 all_same one other low (suc count) same =
-    let first : one low ≡ other low = same low (omega arith) (omega arith) in
+    let first = same low (omega arith) (omega arith) in
     let rest = all_same one other (low + 1) count (λ p h k. same p (omega arith) (omega arith)) in
-    ap (λ (b : Bool). b && list_all one (range_with_len (low + 1) count)) first
-    ∙ ap (λ (b : Bool). other low && b) rest
+    λ i. first i && rest i
 
 -- the peers are noted by one as by the other
 noted_same : (players : ℕ) (one other : ℕ → Bool) → ((p : ℕ) → is_peer players p ≡ true → one p ≡ other p)

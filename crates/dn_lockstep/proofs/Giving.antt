@@ -1,5 +1,5 @@
 -- A node that was asked for a packet.
-use Rattle.std.proofs.Common.{arith, ◌≡◌, ℕ, List, length, take, drop, subst, Option, Some, None, refl, ap, sym, ◌∙◌, inl, inr}
+use Rattle.std.proofs.Common.{rules, arith, ◌≡◌, ◌≤◌, ◌+◌, ◌++◌, ◌↔◌, ℕ, List, [], IsOk, OnOk, Result, length, take, drop, subst, Option, Some, None, refl, ap, sym, ◌∙◌, inl, inr}
 use Rattle.std.specs.Option.{option_map}
 use Rattle.std.proofs.lemmas.Bool.{cases_lt, cases_eq}
 use Rattle.std.proofs.lemmas.Option.{same_Some}
@@ -86,3 +86,12 @@ module _ (given : Option (List ℕ)) (old new : List ℕ) (count : ℕ) (w : IsG
       let is = of_bytes (bytes_of flight) e in
       ap Some ((λ i. take (is.0 i) (is.1 i))
       ∙ take-append_seam (bytes_of flight) (drop (length (bytes_of flight)) old))
+
+-- an empty list that takes the front of a room, if it can hold that, is the front
+pub front_kept : {A E : Type 0} (result : Result A E) (size most : ℕ) (room old new : List ℕ) → old ≡ []
+    → length (take size room) ≤ most → (IsOk result ↔ (length old + length (take size room) ≤ most))
+    → OnOk result (new ≡ old ++ take size room) → new ≡ take size room
+front_kept result size most room old new empty fits variant ok =
+    let none = ap length empty in
+    let is = variant.1 (omega (arith, none, fits)) in
+    search (rules, is, ok, empty)

@@ -75,43 +75,40 @@ module _ (limits : Limits) (me : ℕ) (m : machine.Node) (flight : Flight) where
     plain : has_flag packet flag.set_up ≡ false
     alive : has_flag packet flag.kill ≡ false
     kinded : kind_in packet ≡ kind
-    same : flight.kind ≡ kind
     begins : start_in (made me m) packet ≡ Ok flight.start
     asks : request_in (made me m) packet ≡ flight.request
     items : packet.cmds.items ≡ flight.commands
 
   -- it is heard as the machine hears its flight
-  play_heard : {packet : Packet} → IsSpelt packet Play → (phase : Phase) → m.phase ≡ phase
+  play_heard : {packet : Packet} → IsSpelt packet Play → flight.kind ≡ Play → (phase : Phase) → m.phase ≡ phase
       → hears_none m.phase m.played ≡ false
       → ◌≡◌ {A = machine.Node × Heard} (on_read limits me m flight.from (Err NotSetup) (Ok packet))
       (on_packet_in limits me m flight phase Play)
-  play_heard {packet} spelt phase at on = grind arith
+  play_heard {packet} spelt same phase at on = grind arith
 
-  exit_heard : {packet : Packet} → IsSpelt packet Exit → (phase : Phase) → m.phase ≡ phase
+  exit_heard : {packet : Packet} → IsSpelt packet Exit → flight.kind ≡ Exit → (phase : Phase) → m.phase ≡ phase
       → hears_none m.phase m.played ≡ false
       → ◌≡◌ {A = machine.Node × Heard} (on_read limits me m flight.from (Err NotSetup) (Ok packet))
       (on_packet_in limits me m flight phase Exit)
-  exit_heard {packet} spelt phase at on = grind arith
+  exit_heard {packet} spelt same phase at on = grind arith
 
   -- a close flight's packet is spelt so
-  spelt_as : (flags : ℕ) (kind : Kind) → kind_in (commands_packet flags flight) ≡ kind → flight.kind ≡ kind
+  spelt_as : (flags : ℕ) {kind : Kind} → kind_in (commands_packet flags flight) ≡ kind
       → has_flag (commands_packet flags flight) flag.set_up ≡ false
       → has_flag (commands_packet flags flight) flag.kill ≡ false
-      → request_in (made me m) (commands_packet flags flight) ≡ flight.request
-      → is_close (made me m) flight.start ≡ true → list_any is_stop flight.commands ≡ false
-      → IsSpelt (commands_packet flags flight) kind
-  spelt_as flags kind kinded same plain alive asks close fine =
-      record {
-        player = refl;
-        plain = plain;
-        alive = alive;
-        kinded = kinded;
-        same = same;
-        begins = ap (start_at (commands_packet flags flight)) (read_close (made me m) flight.start close)
-            ∙ rw fine refl;
-        asks = asks;
-        items = refl;
-      }
+      → (bit_and (flags + 0) 4 ≡ 0) × (bit_and (flags + 4) 4 ≡ 4)
+      → (is_close (made me m) flight.start ≡ true) × (is_request_close (made me m) flight.request ≡ true)
+      → list_any is_stop flight.commands ≡ false → IsSpelt (commands_packet flags flight) kind
+  spelt_as flags kinded plain alive asks close fine = record {
+    player = refl;
+    plain = plain;
+    alive = alive;
+    kinded = kinded;
+    begins = ap (start_at (commands_packet flags flight)) (read_close (made me m) flight.start close.0)
+        ∙ rw fine refl;
+    asks = read_request (made me m) flags flight asks.0 asks.1 close.1;
+    items = refl;
+  }
 
   near_read : (kind : Kind) → flight.kind ≡ kind → IsFairKind flight kind
       → is_near (made me m) (record flight { kind = kind }) ≡ true → hears_none m.phase m.played ≡ false
@@ -120,17 +117,13 @@ module _ (limits : Limits) (me : ℕ) (m : machine.Node) (flight : Flight) where
       (on_packet_in limits me m flight m.phase kind)
   near_read (SetUp settings) is fair near on = set_up_heard settings m.phase refl fair.0 on
   near_read Play is fair near on =
-      let close = and_parts _ _ near in
-      play_heard (spelt_as 0 Play (kind_flagged (commands_packet 0 flight) false
-      (flag_is flight 0 8 false refl refl)) is (flag_is flight 0 2 false refl refl)
-      (flag_is flight 0 1 false refl refl) (read_request (made me m) 0 flight refl refl close.1) close.0
-      fair) m.phase refl on
+      play_heard (spelt_as 0 (kind_flagged (commands_packet 0 flight) false (flag_is flight 0 8 false refl refl))
+      (flag_is flight 0 2 false refl refl) (flag_is flight 0 1 false refl refl) (refl, refl) (and_parts _ _ near) fair)
+      is m.phase refl on
   near_read Exit is fair near on =
-      let close = and_parts _ _ near in
-      exit_heard (spelt_as 8 Exit (kind_flagged (commands_packet 8 flight) true
-      (flag_is flight 8 8 true refl refl)) is (flag_is flight 8 2 false refl refl)
-      (flag_is flight 8 1 false refl refl) (read_request (made me m) 8 flight refl refl close.1) close.0
-      fair) m.phase refl on
+      exit_heard (spelt_as 8 (kind_flagged (commands_packet 8 flight) true (flag_is flight 8 8 true refl refl))
+      (flag_is flight 8 2 false refl refl) (flag_is flight 8 1 false refl refl) (refl, refl) (and_parts _ _ near) fair)
+      is m.phase refl on
 
   ended_heard : (phase : Phase) (played : Bool) (kind : Kind) → m.played ≡ played
       → hears_none phase played ≡ true

@@ -148,6 +148,17 @@ out_of_play limits me m flight h = out_of_play_in limits me m flight m.phase fli
 put_same : {A : Type 0} (f : ℕ → A) (i : ℕ) → put f i (f i) ≡ f
 put_same f i = grind arith
 
+-- packets that are fair, with one more that is, if one is given
+pub fair_on : (packets : List Flight)
+    → ((which : ℕ) (flight : Flight) → slice_get packets which ≡ Some flight → IsFair flight)
+    → (o : Option Flight) → IfSome o IsFair → (which : ℕ) (flight : Flight)
+    → slice_get (given_on packets o) which ≡ Some flight → IsFair flight
+fair_on packets all None fair which flight h = all which flight h
+fair_on packets all (Some one) fair which flight h = elim (slice_get_push packets one which flight h) [
+  | inl before ↦ all which flight before
+  | inr last ↦ subst IsFair (sym last) fair
+]
+
 module _ (marking : Marking) (limits : Limits) (settings : Settings) where
   abbrev pub rules : Rules History
   rules = beside marking limits
@@ -338,15 +349,6 @@ module _ (marking : Marking) (limits : Limits) (settings : Settings) where
           (inputs_stay i _ (run_inputs limits i m (own_marks rules m))) game.flights game.fair
           (read_on (λ (x : machine.Node). x.rows) session.told i _ _ game.rows tells)
 
-      -- a packet, if one is given
-      fair_on : (o : Option Flight) → IfSome o IsFair → (which : ℕ) (flight : Flight)
-          → slice_get (given_on session.given o) which ≡ Some flight → IsFair flight
-      fair_on None fair which flight h = game.fair which flight h
-      fair_on (Some one) fair which flight h = elim (slice_get_push session.given one which flight h) [
-        | inl before ↦ game.fair which flight before
-        | inr last ↦ subst IsFair (sym last) fair
-      ]
-
       sends_to : (to : ℕ) → (applied rules game.last (Send i to)).0
           ≡ record {
             nodes = put node i (sent_to to limits i (node i)).0;
@@ -365,7 +367,7 @@ module _ (marking : Marking) (limits : Limits) (settings : Settings) where
           (given_on session.given (sent_to to limits i (node i)).1) session.inputs session.told new (sends_to to)
           shows (inputs_stay i _ (send_quiet limits i (node i) to).1)
           (ap (λ (fs : List Flight). given_on fs (sent_to to limits i (node i)).1) game.flights)
-          (fair_on _ fair) (rows_stay i _ (send_quiet limits i (node i) to).0)
+          (fair_on session.given game.fair _ fair) (rows_stay i _ (send_quiet limits i (node i) to).0)
 
       pub gives : (to : ℕ) (new : Contents) (bytes : Option (List ℕ))
           → Tells (session.locksteps i) (λ limits me m. IfSome (sent_to to limits me m).1 IsFair)

@@ -83,9 +83,7 @@ pub in_turn : (players : ℕ) (node : Node) (gone : ℕ → Bool) (commands : �
     → ((player : ℕ) → players ≤ player → gone player ≡ false)
     → settled_to players gone commands node ≡ record node {
       held = λ p. if gone p then commands p else node.held p;
-      peers = λ p. if gone p
-          then record (node.peers p) { end = Some (length (commands p)); want = false }
-          else node.peers p;
+      peers = λ p. if gone p then ended gone commands node p (node.peers p) else node.peers p;
     }
 in_turn players node gone commands few =
     let held = each_is gone (λ p held. commands p) node.held players few in

@@ -32,21 +32,26 @@ world_told limits settings rows =
 
 -- each player's lockstep represents the player's node of one game of the machine, in which these inputs were
 -- taken, these packets given, and these rows told
-pub record AreOneGame (marking : Marking) (limits : Limits) (settings : Settings) (session : Session) : Type 0
-  where
-    pub window : IsWindow limits
-    pub events : List Event
-    pub last : Game
-    pub runs : Runs (beside marking limits) settings events last
-    pub nodes : (player : ℕ) → player < limits.players
-        → Represents limits player (session.locksteps player) (last.nodes player)
-    pub inputs : (player : ℕ) → (last.nodes player).inputs ≡ session.inputs player
-    pub flights : last.flights ≡ session.given
-    pub rows : (player : ℕ) → (last.nodes player).rows ≡ session.told player
-    -- a packet that was given is one that a datagram can carry
-    pub fair : (which : ℕ) (flight : Flight) → slice_get session.given which ≡ Some flight → IsFair flight
-    -- nobody was stopped
-    pub going : (player : ℕ) → last.stopped player ≡ false
+pub record AreOneGame (marking : Marking) (limits : Limits) (settings : Settings) (session : Session) : Type 0 where
+  pub window : IsWindow limits
+  pub events : List Event
+  pub last : Game
+  pub runs : Runs (beside marking limits) settings events last
+  pub nodes : (player : ℕ) → player < limits.players
+      → Represents limits player (session.locksteps player) (last.nodes player)
+  pub inputs : (player : ℕ) → (last.nodes player).inputs ≡ session.inputs player
+  pub flights : last.flights ≡ session.given
+  pub rows : (player : ℕ) → (last.nodes player).rows ≡ session.told player
+  -- a packet that was given is one that a datagram can carry
+  pub fair : (which : ℕ) (flight : Flight) → slice_get session.given which ≡ Some flight → IsFair flight
+  -- nobody was stopped
+  pub going : (player : ℕ) → last.stopped player ≡ false
+
+-- numbers that the caller asked for before are those of the packet
+abbrev pub IsAimedAs : Contents → ℕ → Option Flight → Type 0
+IsAimedAs n receiver flight = (numbers : Option Aim)
+    → Tells n (λ limits me m. numbers ≡ option_map aim_of (sent_to receiver limits me m).1)
+    → numbers ≡ option_map aim_of flight
 
 -- what a caller has of the packet that a lockstep gave it, if there is one: who it is from and goes to, its
 -- bytes, and its exact numbers, if the caller asked for them before
@@ -54,6 +59,4 @@ pub record IsGivenAs (n : Contents) (sender receiver : ℕ) (spelling : Option (
     : Type 0 where
   pub players : IfSome flight (λ flight. (flight.from ≡ sender) × (flight.to ≡ receiver))
   pub bytes : spelling ≡ option_map bytes_of flight
-  pub aim : (numbers : Option Aim)
-      → Tells n (λ limits me m. numbers ≡ option_map aim_of (sent_to receiver limits me m).1)
-      → numbers ≡ option_map aim_of flight
+  pub aim : IsAimedAs n receiver flight

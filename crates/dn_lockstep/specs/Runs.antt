@@ -1,12 +1,12 @@
 -- A run by the marks that the caller hands in.
-use Rattle.std.specs.Prelude.{ℕ, ℤ, pos, List, get_or, Option, Some, None}
+use Rattle.std.specs.Prelude.{◌≡◌, ◌+◌, ℕ, ℤ, pos, List, get_or, Option, Some, None}
 use Rattle.dn_tic.specs.declared.command.Move.{Move}
 use Rattle.dn_machine.specs.declared.answers.Ran.{Ran}
 use Rattle.dn_machine.specs.Limits.{Limits}
 use Rattle.dn_machine.specs.Node as machine
 use Rattle.dn_machine.specs.Running.{row_held}
 use Rattle.dn_lockstep.specs.Contents.{Contents}
-use Rattle.dn_lockstep.specs.Steps.{Steps}
+use Rattle.dn_lockstep.specs.Steps.{Steps, Tells}
 
 -- each player's mark, as it is handed in
 abbrev pub marks_in : List ℤ → ℕ → ℤ
@@ -35,3 +35,19 @@ abbrev pub RunsBy : List ℤ → Contents → Contents → (Limits → machine.N
 RunsBy marks old new run IsAnswer =
     Steps old new (λ limits me m. with_row limits m (run limits m (marks_in marks)))
     (λ answer. IsAnswer answer.0 answer.1)
+
+-- a tic that was run is one more
+abbrev pub RunsOne : Contents → Contents → Ran → Type 0
+RunsOne old new ran = (tic : ℕ) → ran ≡ Ran.Ran tic → new.ran ≡ old.ran + 1
+
+-- who waits for a player stays as it was, and so does the row
+abbrev pub WaitsAsItWas : {A : Type 0} → A → A → Ran → List (Option Move) → List (Option Move) → Type 0
+WaitsAsItWas old new ran row after = (player : ℕ) → ran ≡ Ran.Waiting player → (new ≡ old) × (after ≡ row)
+
+-- where a mark is off the row stays as it was
+abbrev pub TellsNoRow : Ran → List (Option Move) → List (Option Move) → Type 0
+TellsNoRow ran row after = (player : ℕ) (was should : ℤ) → ran ≡ Ran.Inconsistent player was should → after ≡ row
+
+-- where the demo is full the row is the one that it has no room for
+abbrev pub FillsIn : Contents → Ran → List (Option Move) → Type 0
+FillsIn old ran after = ran ≡ Ran.DemoFull → Tells old (λ limits me m. after ≡ row_held limits m)

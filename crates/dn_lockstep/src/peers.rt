@@ -5,7 +5,6 @@ ghost use Rattle.dn_machine.specs.{Node.no_peer, Hearing.after_request, Hearing.
 ghost use Rattle.dn_lockstep.specs.Peers.{peer_at};
 
 use dn_machine::Peer;
-use std::marker::Model;
 
 /// After honouring a request, ignore further ones for this many packets (`d_net.c`, RESENDCOUNT).
 const PAUSE: u8 = 10;
@@ -50,15 +49,6 @@ pub(crate) fn is_strange_end(exit: bool, got: u32, known: Option<u32>, end: u32)
 #[derive(Debug, Drop)]
 pub(crate) struct Peers {
     peers: [Peer; 4],
-}
-
-impl Model for Peers {
-    ghost use Rattle.std.specs.Prelude.{List};
-    ghost use Rattle.dn_machine.specs.declared.peer.Peer.{Peer};
-
-    ghost Value = { List Peer };
-
-    ghost view = { λ p. p.peers };
 }
 
 impl Peers {

@@ -69,31 +69,6 @@ fn is_differing(rings: &Rings, peers: &Peers, marks: &Marks, player: u8, tic: u3
     !gone(peers, player, tic) && mark_of(rings, player, tic) != marks.get(player, tic)
 }
 
-/// The lowest player, of those who are not given up, whose command carries another mark than the table has.
-fn differing(
-    rings: &Rings,
-    peers: &Peers,
-    given_up: &[bool; 4],
-    marks: &Marks,
-    players: u8,
-    tic: u32,
-) -> Option<u8>
-    requires few { players ≤ 4 }
-    requires there { lowest players (is_missing (ring_at rings.now) (peer_at peers.now) tic) ≡ None }
-    requires kept { (p : ℕ) → p < players → (ring_at rings.now p).count ≤ tic + 32 }
-    ensures below { IfSome result (λ p. p < players) }
-    ensures there { IfSome result (λ p. tic < (ring_at rings.now p).count) }
-    ensures lowest { result ≡ lowest players (differs_but (has given_up.now)
-        (ring_at rings.now) (peer_at peers.now) (slot marks.now) tic) }
-{
-    for player in 0..players {
-        if !given_up[usize::from(player)] && is_differing(rings, peers, marks, player, tic) {
-            return Some(player);
-        }
-    }
-    None
-}
-
 /// The lowest player, of those who are not given up, whose command is off: it carries another mark than the
 /// table has, for a tic whose marks are compared.
 pub(crate) fn first_off(
@@ -114,8 +89,15 @@ pub(crate) fn first_off(
         (ring_at rings.now) (peer_at peers.now) (slot marks.now) tic)
         else None) }
 {
-    let off = differing(rings, peers, given_up, marks, players, tic);
-    if tic > LAST_UNCHECKED { off } else { None }
+    if tic <= LAST_UNCHECKED {
+        return None;
+    }
+    for player in 0..players {
+        if !given_up[usize::from(player)] && is_differing(rings, peers, marks, player, tic) {
+            return Some(player);
+        }
+    }
+    None
 }
 
 /// Fills in the used moves for the tic of all players who are not gone, whose commands are there, and answers

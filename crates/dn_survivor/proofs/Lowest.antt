@@ -1,5 +1,6 @@
 -- The lowest number that passes a test.
-use Rattle.std.proofs.Common.{◌≡◌, ◌<◌, ℕ, zero, suc, Bool, true, false, not, refl, ap, sym, arith, Option, Some, None}
+use Rattle.std.proofs.Common.{◌≡◌, ◌<◌, ◌+◌, ℕ, zero, suc, Bool, true, false, not, refl, ap, sym, ◌∙◌, arith, inl, inr, Option, Some, None}
+use Rattle.std.proofs.lemmas.Bool.{cases_eq}
 use Rattle.std.specs.Option.{IfSome}
 use Rattle.dn_machine.specs.Node.{lowest}
 use Rattle.dn_lockstep.proofs.Lowest.{lowest_found}
@@ -14,6 +15,14 @@ lowest_none (suc bound) test none =
     let before = lowest_none bound test (λ p h. none p (omega (arith, h))) in
     let here = none bound (omega arith) in
     rw (before, here) refl
+
+-- one more that fails
+pub fails_next : (n : ℕ) (test : ℕ → Bool) → ((p : ℕ) → p < n → test p ≡ false) → test n ≡ false
+    → (p : ℕ) → p < n + 1 → test p ≡ false
+fails_next n test before here p low = elim (cases_eq p n) [
+  | inl same ↦ ap test same ∙ here
+  | inr other ↦ before p (omega (arith, low, other))
+]
 
 -- who fails a test first, if anybody does
 pub first_fails : (n : ℕ) (test : ℕ → Bool) (found : Option ℕ)

@@ -1,5 +1,5 @@
 -- What a survivor answers for its node: each end that the node decides is taken, and no report is improper.
-use Rattle.std.proofs.Common.{◌≡◌, ℕ, false, refl, arith}
+use Rattle.std.proofs.Common.{◌≡◌, ℕ, false, arith}
 use Rattle.dn_machine.specs.Limits.{Limits}
 use Rattle.dn_lockstep.specs.declared.lockstep.settling.Settled.{Settled}
 use Rattle.dn_remain.specs.Wary.{Report, Wary, on_report}
@@ -12,42 +12,22 @@ use Rattle.dn_survivor.specs.declared.answers.Reported.{Reported}
 -- no answer of a node is that an end was not taken
 module _ (player : ℕ) (reason : Settled) where
   pub taken_given : (answer : remain_given.GivenUp) → GivenUp.Untaken player reason ≡ given_up_is answer → ⊥
-  taken_given remain_given.GivenUp.Waiting e = absurd (cc)
-  taken_given remain_given.GivenUp.Decided e = absurd (cc)
-  taken_given remain_given.GivenUp.Already e = absurd (cc)
-  taken_given remain_given.GivenUp.NotAPlayer e = absurd (cc)
-  taken_given remain_given.GivenUp.NotPlaying e = absurd (cc)
+  taken_given answer e = grind (arith, e)
 
   pub taken_reported : (answer : remain_reported.Reported) → Reported.Untaken player reason ≡ reported_is answer → ⊥
-  taken_reported remain_reported.Reported.Kept e = absurd (cc)
-  taken_reported remain_reported.Reported.Decided e = absurd (cc)
-  taken_reported remain_reported.Reported.Excluded e = absurd (cc)
-  taken_reported remain_reported.Reported.Stale e = absurd (cc)
-  taken_reported (remain_reported.Reported.Dropped number) e = absurd (cc)
+  taken_reported answer e = grind (arith, e)
 
 -- nor that a report is improper
 pub never_improper : (answer : remain_reported.Reported) → Reported.Improper ≡ reported_is answer → ⊥
-never_improper remain_reported.Reported.Kept e = absurd (cc)
-never_improper remain_reported.Reported.Decided e = absurd (cc)
-never_improper remain_reported.Reported.Excluded e = absurd (cc)
-never_improper remain_reported.Reported.Stale e = absurd (cc)
-never_improper (remain_reported.Reported.Dropped number) e = absurd (cc)
+never_improper answer e = grind (arith, e)
 
 pub is_excluded : (answer : remain_reported.Reported) → Reported.Excluded ≡ reported_is answer
     → answer ≡ remain_reported.Reported.Excluded
-is_excluded remain_reported.Reported.Kept e = absurd (cc)
-is_excluded remain_reported.Reported.Decided e = absurd (cc)
-is_excluded remain_reported.Reported.Excluded e = refl
-is_excluded remain_reported.Reported.Stale e = absurd (cc)
-is_excluded (remain_reported.Reported.Dropped number) e = absurd (cc)
+is_excluded answer e = grind (arith, e)
 
 pub is_dropped : (answer : remain_reported.Reported) (number : ℕ) → Reported.Dropped number ≡ reported_is answer
     → answer ≡ remain_reported.Reported.Dropped number
-is_dropped remain_reported.Reported.Kept number e = absurd (cc)
-is_dropped remain_reported.Reported.Decided number e = absurd (cc)
-is_dropped remain_reported.Reported.Excluded number e = absurd (cc)
-is_dropped remain_reported.Reported.Stale number e = absurd (cc)
-is_dropped (remain_reported.Reported.Dropped other) number e = cc
+is_dropped answer number e = grind (arith, e)
 
 -- a receiver whom its sender has not given up is not told that it is
 pub not_out : (limits : Limits) (me : ℕ) (wary : Wary) (from : ℕ) (report : Report) → report.gone me ≡ false

@@ -29,7 +29,7 @@ use Rattle.dn_machine.specs.Progress.{build_of}
 use Rattle.dn_machine.specs.Running.{is_over, on_quit, on_run_but}
 use Rattle.dn_machine.specs.Worlds.{Inputs, Rules}
 use Rattle.dn_machine.proofs.Pairs.{accepted_build}
-use Rattle.dn_machine.proofs.Put.{put_at, put_off, slice_get_push}
+use Rattle.dn_machine.proofs.Put.{put_at, put_off}
 use Rattle.dn_lockstep.specs.Contents.{Contents, end_in}
 use Rattle.dn_lockstep.specs.Hearing.{HearsNear, Spares}
 use Rattle.dn_lockstep.specs.Marking.{History, Marking}
@@ -44,7 +44,7 @@ use Rattle.dn_lockstep.specs.Session.{given_on, taken_on, told_on}
 use Rattle.dn_lockstep.specs.Steps.{Steps, Tells, IsAfter}
 use Rattle.dn_lockstep.specs.Told.{made}
 use Rattle.dn_lockstep.proofs.Counting.{got_is}
-use Rattle.dn_lockstep.proofs.OneGame.{IsQuiet, Rows, build_inputs, build_rows, hear_quiet, not_past, own_is, quit_quiet, send_quiet, sent_between}
+use Rattle.dn_lockstep.proofs.OneGame.{IsQuiet, Rows, build_inputs, build_rows, fair_on, hear_quiet, not_past, own_is, quit_quiet, send_quiet, sent_between}
 use Rattle.dn_lockstep.proofs.Running.{but_same, but_tells, kept_same}
 use Rattle.dn_others.specs.Keeping.{nothing_kept}
 use Rattle.dn_others.specs.Represents as others
@@ -120,6 +120,10 @@ module _ (marking : Marking) (limits : Limits) (settings : Settings) where
   }
 
   module _ {session : Session} (game : AreRemaining marking limits settings session) where
+    -- the survivors of this session are those of one game too
+    abbrev Still : Session → Type 0
+    Still = AreRemaining marking limits settings
+
     abbrev pub all : Remaining
     all = game.last
 
@@ -131,9 +135,9 @@ module _ (marking : Marking) (limits : Limits) (settings : Settings) where
 
     -- a survivor that is what it was
     pub keeps : (i : ℕ) (new : Surviving) → new ≡ session.survivors i
-        → AreRemaining marking limits settings (with_survivor session i new)
+        → Still (with_survivor session i new)
     keeps i new same =
-        subst (λ (s : ℕ → Surviving). AreRemaining marking limits settings (record session { survivors = s }))
+        subst (λ (s : ℕ → Surviving). Still (record session { survivors = s }))
         (sym (ap (put session.survivors i) same ∙ own_put session.survivors i)) game
 
     rows_stay : (i : ℕ) (m : machine.Node) → m.rows ≡ (node i).rows → (p : ℕ)
@@ -166,6 +170,11 @@ module _ (marking : Marking) (limits : Limits) (settings : Settings) where
             (sym (put_off session.survivors i p new n)) (game.nodes p below))
       ]
 
+      -- the session with another survivor of this player, and what else joined it
+      abbrev with_own : Inputs → List Flight → (ℕ → Rows) → Surviving → Session
+      with_own inputs packets rows new =
+          record session { inputs = inputs; packets = packets; told = rows; survivors = put session.survivors i new }
+
       -- after an event that changes this node alone
       changes : (event : RemainEvent) (next : Remaining) (inputs : Inputs) (packets : List Flight)
           (rows : ℕ → Rows) (new : Surviving)
@@ -176,13 +185,7 @@ module _ (marking : Marking) (limits : Limits) (settings : Settings) where
           → next.reports ≡ game.last.reports → ((p : ℕ) → (next.game.nodes p).rows ≡ rows p)
           → ((which : ℕ) (packet : Flight) → slice_get packets which ≡ Some packet → IsFair packet)
           → next.game.stopped ≡ game.last.game.stopped
-          → AreRemaining marking limits settings (record {
-            inputs = inputs;
-            packets = packets;
-            reports = session.reports;
-            told = rows;
-            survivors = put session.survivors i new;
-          })
+          → Still (with_own inputs packets rows new)
       changes event next inputs packets rows new step rest shows takes same told tells fair on = record {
         window = game.window;
         events = game.events ++ event ∷ [];
@@ -199,7 +202,7 @@ module _ (marking : Marking) (limits : Limits) (settings : Settings) where
 
       -- after a call that changes nothing of what is represented
       stays : (new : Surviving) → Represents limits i new (wary_of game.last i)
-          → AreRemaining marking limits settings (with_survivor session i new)
+          → Still (with_survivor session i new)
       stays new shows = record {
         window = game.window;
         events = game.events;
@@ -223,13 +226,7 @@ module _ (marking : Marking) (limits : Limits) (settings : Settings) where
           → ((p : ℕ) → (put node i m p).inputs ≡ inputs p) → flights ≡ packets
           → ((which : ℕ) (packet : Flight) → slice_get packets which ≡ Some packet → IsFair packet)
           → ((p : ℕ) → (put node i m p).rows ≡ rows p)
-          → AreRemaining marking limits settings (record {
-            inputs = inputs;
-            packets = packets;
-            reports = session.reports;
-            told = rows;
-            survivors = put session.survivors i new;
-          })
+          → Still (with_own inputs packets rows new)
       owns event m flights packets inputs rows new free is shows takes same fair tells =
           changes (Own event) (record game.last {
             game = record { nodes = put node i m; stopped = game.last.game.stopped; flights = flights };
@@ -260,7 +257,7 @@ module _ (marking : Marking) (limits : Limits) (settings : Settings) where
           → after_event rules game.last event
           ≡ record { nodes = put node i m; stopped = game.last.game.stopped; flights = game.last.game.flights }
           → Represents limits i new (record (wary_of game.last i) { node = m }) → IsQuiet (node i) m
-          → AreRemaining marking limits settings (with_survivor session i new)
+          → Still (with_survivor session i new)
       moves event m new free is shows quiet =
           owns event m game.last.game.flights session.packets session.inputs session.told new free is shows
           (inputs_stay i m quiet.1) game.packets game.fair (rows_stay i m quiet.0)
@@ -289,7 +286,7 @@ module _ (marking : Marking) (limits : Limits) (settings : Settings) where
           → Steps (session.survivors i).lockstep new.lockstep (λ limits me m. on_build limits me m input)
           (λ answer. made ≡ answer)
           → new.others ≡ (session.survivors i).others
-          → AreRemaining marking limits settings (after_build session i input made new)
+          → Still (after_build session i input made new)
       builds new input made by same =
           let after = by.step limits i (node i) shown.node in
           let taken : (on_build limits i (node i) input).0.inputs ≡ taken_on (session.inputs i) input made =
@@ -307,7 +304,7 @@ module _ (marking : Marking) (limits : Limits) (settings : Settings) where
       pub quits : (new : Surviving) (quit : Bool)
           → Steps (session.survivors i).lockstep new.lockstep (λ limits me m. on_quit m) (λ answer. quit ≡ answer)
           → new.others ≡ (session.survivors i).others
-          → AreRemaining marking limits settings (with_survivor session i new)
+          → Still (with_survivor session i new)
       quits new quit by same =
           moves (Quit i) (on_quit (node i)).0 new refl (by_event (Quit i) accepts)
           (steps.stepped limits i (session.survivors i) new (wary_of game.last i) _ shown
@@ -323,7 +320,7 @@ module _ (marking : Marking) (limits : Limits) (settings : Settings) where
           (λ limits m marks. on_run_but limits (has_given_up (session.survivors i)) m marks)
           (λ answer told. (ran ≡ answer) × (row ≡ told))
           → new.others ≡ (session.survivors i).others
-          → AreRemaining marking limits settings (session_of.after_run session i row new)
+          → Still (session_of.after_run session i row new)
       runs new marks ran row duty by others_same =
           let n : Contents = (session.survivors i).lockstep in
           let m : machine.Node = node i in
@@ -356,15 +353,6 @@ module _ (marking : Marking) (limits : Limits) (settings : Settings) where
           (inputs_stay i _ (run_inputs limits gone m (own_marks rules m))) game.packets game.fair
           (read_on (λ (x : machine.Node). x.rows) node session.told i _ _ game.rows tells)
 
-      -- a packet, if one is given
-      fair_on : (o : Option Flight) → IfSome o IsFair → (which : ℕ) (packet : Flight)
-          → slice_get (given_on session.packets o) which ≡ Some packet → IsFair packet
-      fair_on None fair which packet h = game.fair which packet h
-      fair_on (Some one) fair which packet h = elim (slice_get_push session.packets one which packet h) [
-        | inl before ↦ game.fair which packet before
-        | inr last ↦ subst IsFair (sym last) fair
-      ]
-
       sends_to : (to : ℕ) → after_event rules game.last (Send i to)
           ≡ record {
             nodes = put node i (sent_to to limits i (node i)).0;
@@ -384,14 +372,20 @@ module _ (marking : Marking) (limits : Limits) (settings : Settings) where
             absurd (both_ways (game.last.gone i to) (sym (shown.others.given_up to low) ∙ free) on)
       ]
 
-      pub gave_to : (to : ℕ) (new : Surviving) (bytes : Option (List ℕ))
-          → has_given_up (session.survivors i) to ≡ false
-          → Tells (session.survivors i).lockstep (λ limits me m. IfSome (sent_to to limits me m).1 IsFair)
-          → Steps (session.survivors i).lockstep new.lockstep (λ limits me m. sent_to to limits me m)
+      -- its lockstep gives a packet in this way, and a datagram can carry it
+      abbrev IsFairBy : (Limits → ℕ → machine.Node → machine.Node × Option Flight) → Type 0
+      IsFairBy by = Tells (session.survivors i).lockstep (λ limits me m. IfSome (by limits me m).1 IsFair)
+
+      abbrev GivesBy : (Limits → ℕ → machine.Node → machine.Node × Option Flight) → Surviving
+          → Option (List ℕ) → Type 0
+      GivesBy by new bytes = Steps (session.survivors i).lockstep new.lockstep by
           (λ packet. bytes ≡ option_map bytes_of packet)
+
+      pub gave_to : (to : ℕ) (new : Surviving) (bytes : Option (List ℕ))
+          → has_given_up (session.survivors i) to ≡ false → IsFairBy (sent_to to) → GivesBy (sent_to to) new bytes
           → new.others ≡ (session.survivors i).others
           → (packet : Option Flight) × IsGivenAs (session.survivors i) i to bytes packet
-          × AreRemaining marking limits settings (after_packet session i packet new)
+          × Still (after_packet session i packet new)
       gave_to to new bytes free fair by same =
           let r = shown.node in
           let after = by.step limits i (node i) r in (
@@ -407,18 +401,15 @@ module _ (marking : Marking) (limits : Limits) (settings : Settings) where
                 (steps.stepped limits i (session.survivors i) new (wary_of game.last i) _ shown after.node same)
                 (inputs_stay i _ (send_quiet limits i (node i) to).1)
                 (ap (λ (fs : List Flight). given_on fs (sent_to to limits i (node i)).1) game.packets)
-                (fair_on _ (fair limits i (node i) r)) (rows_stay i _ (send_quiet limits i (node i) to).0),
+                (fair_on session.packets game.fair _ (fair limits i (node i) r)) (rows_stay i _ (send_quiet limits i (node i) to).0),
           )
 
       pub gives : (to : ℕ) (new : Surviving) (bytes : Option (List ℕ))
-          → Tells (session.survivors i).lockstep
-          (λ limits me m. IfSome (sent_unless (session.survivors i).others to limits me m).1 IsFair)
-          → Steps (session.survivors i).lockstep new.lockstep
-          (λ limits me m. sent_unless (session.survivors i).others to limits me m)
-          (λ packet. bytes ≡ option_map bytes_of packet)
+          → IsFairBy (sent_unless (session.survivors i).others to)
+          → GivesBy (sent_unless (session.survivors i).others to) new bytes
           → new.others ≡ (session.survivors i).others
           → (packet : Option Flight) × IsGivenAs (session.survivors i) i to bytes packet
-          × AreRemaining marking limits settings (after_packet session i packet new)
+          × Still (after_packet session i packet new)
       gives to new bytes fair by same = elim (cases_Bool (has_given_up (session.survivors i) to)) [
         | inr free ↦ gave_to to new bytes free (as_sent free fair) (as_stepped free by) same
         | inl given ↦
@@ -446,22 +437,12 @@ module _ (marking : Marking) (limits : Limits) (settings : Settings) where
           none_sent given = rw given refl
 
           as_sent : has_given_up (session.survivors i) to ≡ false
-              → Tells (session.survivors i).lockstep
-              (λ limits me m. IfSome (sent_unless (session.survivors i).others to limits me m).1 IsFair)
-              → Tells (session.survivors i).lockstep (λ limits me m. IfSome (sent_to to limits me m).1 IsFair)
-          as_sent free told =
-              subst (λ (b : Bool). Tells (session.survivors i).lockstep
-              (λ limits me m. IfSome (sent_if b limits me m).1 IsFair)) free told
+              → IsFairBy (sent_unless (session.survivors i).others to) → IsFairBy (sent_to to)
+          as_sent free told = subst (λ (b : Bool). IsFairBy (sent_if b)) free told
 
           as_stepped : has_given_up (session.survivors i) to ≡ false
-              → Steps (session.survivors i).lockstep new.lockstep
-              (λ limits me m. sent_unless (session.survivors i).others to limits me m)
-              (λ packet. bytes ≡ option_map bytes_of packet)
-              → Steps (session.survivors i).lockstep new.lockstep (λ limits me m. sent_to to limits me m)
-              (λ packet. bytes ≡ option_map bytes_of packet)
-          as_stepped free told =
-              subst (λ (b : Bool). Steps (session.survivors i).lockstep new.lockstep
-              (λ limits me m. sent_if b limits me m) (λ packet. bytes ≡ option_map bytes_of packet)) free told
+              → GivesBy (sent_unless (session.survivors i).others to) new bytes → GivesBy (sent_to to) new bytes
+          as_stepped free told = subst (λ (b : Bool). GivesBy (sent_if b) new bytes) free told
 
       -- another node is put in its place, with whom it has given up and what it has heard
       elsewhere : (w : Wary) (p : ℕ) → p ≢ i → wary_of (with_wary game.last i w) p ≡ wary_of game.last p
@@ -474,7 +455,7 @@ module _ (marking : Marking) (limits : Limits) (settings : Settings) where
       becomes : (event : RemainEvent) (w : Wary) (new : Surviving)
           → NextRemain rules game.last event (with_wary game.last i w)
           → Represents limits i new w → IsQuiet (node i) w.node
-          → AreRemaining marking limits settings (with_survivor session i new)
+          → Still (with_survivor session i new)
       becomes event w new step shows quiet =
           changes event (with_wary game.last i w) session.inputs session.packets session.told new step (elsewhere w)
           (subst (Represents limits i new) (sym (there game.last i w)) shows) (inputs_stay i w.node quiet.1)
@@ -490,7 +471,7 @@ module _ (marking : Marking) (limits : Limits) (settings : Settings) where
               (λ phase peer can. gone_can rules settings game.window game.events game.last game.runs i player mine
               (grind (arith, peer)) (λ e. absurd (grind (arith, peer, e))) phase can) by
 
-          pub gives_up : AreRemaining marking limits settings (with_survivor session i new)
+          pub gives_up : Still (with_survivor session i new)
           gives_up =
               becomes (GiveUp i player) (on_give_up limits i (wary_of game.last i) player).0 new
               (sym (ap (λ (o : Option Refusal). unless o game.last
@@ -509,7 +490,7 @@ module _ (marking : Marking) (limits : Limits) (settings : Settings) where
         tells_to : (to < limits.players) → (given : Option Told) (told : Option Report)
             → report_to limits i (wary_of game.last i) to ≡ told
             → others.AreTold limits.players limits.places to i given told
-            → AreRemaining marking limits settings (after_report session i to given)
+            → Still (after_report session i to given)
         tells_to low None None is h = game
         tells_to low None (Some told) is h = absurd h
         tells_to low (Some given) None is h = absurd h
@@ -548,13 +529,13 @@ module _ (marking : Marking) (limits : Limits) (settings : Settings) where
                 ∙ ap (with_telling game.last i to) is
 
         pub tells : (report : Option Told) → report ≡ report_for (session.survivors i) to
-            → AreRemaining marking limits settings (after_report session i to report)
+            → Still (after_report session i to report)
         tells report is = elim (cases_lt to limits.players) [
           | inl low ↦ tells_to low report (report_to limits i (wary_of game.last i) to) refl
               (subst (λ (o : Option Told). others.AreTold limits.players limits.places to i o
               (report_to limits i (wary_of game.last i) to)) (sym is)
               (telling.told limits i (session.survivors i) (wary_of game.last i) shown to low))
-          | inr past ↦ subst (λ (o : Option Told). AreRemaining marking limits settings (after_report session i to o))
+          | inr past ↦ subst (λ (o : Option Told). Still (after_report session i to o))
               (sym (is ∙ none_past past)) game
         ]
 
@@ -611,7 +592,7 @@ module _ (marking : Marking) (limits : Limits) (settings : Settings) where
           pub hears : (has_given_up (session.survivors packet.to) packet.from ≡ true → heard ≡ Heard.Dropped drops.given_up)
               → Spares (session.survivors packet.to) new heard
               → new.others ≡ (session.survivors packet.to).others
-              → AreRemaining marking limits settings (with_survivor session packet.to new)
+              → Still (with_survivor session packet.to new)
           hears barred spares same = elim (cases_Bool (has_given_up (session.survivors packet.to) packet.from)) [
             | inl given ↦ keeps packet.to new (spares 15 (barred given))
             | inr free ↦
@@ -655,7 +636,7 @@ module _ (marking : Marking) (limits : Limits) (settings : Settings) where
             (λ phase can. told_can rules settings game.window game.events game.last game.runs which
             (record { from = given.from; to = given.to; report = holder }) there_at phase can) by
 
-        pub reports : AreRemaining marking limits settings (with_survivor session given.to new)
+        pub reports : Still (with_survivor session given.to new)
         reports =
             becomes given.to to_one.0 (Hear which)
             (on_report limits given.to (wary_of game.last given.to) given.from holder).0 new

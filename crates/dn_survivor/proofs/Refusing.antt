@@ -250,6 +250,28 @@ module _ (old new : Surviving) (player : ℕ) where
     | inr gives ↦ ap (λ (o : Others). has o.gone old.lockstep.me) gives.2.0 ∙ stays_own gives.0 own
   ]
 
+  -- a lockstep that takes part in the game, whose survivor gives up another player of it
+  module _ (limits : Limits) (me : ℕ) (m : machine.Node) (mine : me < limits.players)
+      (r : lockstep.Represents limits me old.lockstep m) (own : has_given_up old me ≡ false)
+      (gives : is_no_peer old.lockstep.players old.lockstep.me player ≡ false)
+      (plays : is_in_game old.lockstep.phase ≡ true) where
+    free : has (with_gone old.others player).gone me ≡ false
+    free =
+        let number = r.whose.number in
+        ap (has (with_gone old.others player).gone) (sym number)
+        ∙ stays_own gives (ap (has old.others.gone) number ∙ own)
+
+    excused_is : (on_excuse limits me m player).0 ≡ noted_gone limits m player m.phase
+    excused_is = excused limits me m player
+        (sym (λ i. is_no_peer (r.whose.players i) (r.whose.number i) player) ∙ gives)
+
+    within : (is_listening (on_excuse limits me m player).0.phase || is_ended (on_excuse limits me m player).0.phase)
+        ≡ false
+    within =
+        let phase : is_in_game m.phase ≡ true = ap is_in_game (sym r.stands.phase) ∙ plays in
+        in_game (on_excuse limits me m player).0.phase (ap (λ (x : machine.Node). is_in_game x.phase) excused_is
+        ∙ still_in limits m player m.phase refl phase)
+
   pub gave_up : (limits : Limits) (me : ℕ) (m : machine.Node) (other : ℕ) (reason : Settled)
       → me < limits.players → lockstep.Represents limits me old.lockstep m
       → has_given_up old me ≡ false → GivesUp player old new (GivenUp.Untaken other reason)
@@ -264,20 +286,10 @@ module _ (old new : Surviving) (player : ℕ) where
           ]
         ])
         | inr gives ↦
-            let number = r.whose.number in
-            let peer : is_no_peer limits.players me player ≡ false =
-            sym (λ i. is_no_peer (r.whose.players i) (number i) player) ∙ gives.0 in
-            let free : has (with_gone old.others player).gone me ≡ false =
-            ap (has (with_gone old.others player).gone) (sym number)
-            ∙ stays_own gives.0 (ap (has old.others.gone) number ∙ own) in
             let after = gives.2.1.step limits me m r in
-            let phase : is_in_game m.phase ≡ true = ap is_in_game (sym r.stands.phase) ∙ gives.1 in
-            let within : is_in_game (on_excuse limits me m player).0.phase ≡ true =
-            ap (λ (x : machine.Node). is_in_game x.phase) (excused limits me m player peer)
-            ∙ still_in limits m player m.phase refl phase in
-            let is = decides limits me (with_gone old.others player) mine free (on_excuse limits me m player).0
-            (in_game (on_excuse limits me m player).0.phase within) other reason
-            (given_is _ other reason after.answer) in
+            let is = decides limits me (with_gone old.others player) mine
+            (free limits me m mine r own gives.0 gives.1) (on_excuse limits me m player).0
+            (within limits me m mine r own gives.0 gives.1) other reason (given_is _ other reason after.answer) in
             (is.0, is.1, ap (λ (o : Others). has o.gone other) gives.2.0 ∙ is.2)
       ]
 
@@ -288,21 +300,12 @@ module _ (old new : Surviving) (player : ℕ) where
   phases limits me m answer mine r own by = elim (refusal_is (refused_give_up old player) answer refl by) [
     | inl same ↦ inl (ap (λ (s : Surviving). s.lockstep.phase) same.1)
     | inr gives ↦
-        let number = r.whose.number in
-        let peer : is_no_peer limits.players me player ≡ false =
-        sym (λ i. is_no_peer (r.whose.players i) (number i) player) ∙ gives.0 in
-        let free : has (with_gone old.others player).gone me ≡ false =
-        ap (has (with_gone old.others player).gone) (sym number)
-        ∙ stays_own gives.0 (ap (has old.others.gone) number ∙ own) in
-        let phase : is_in_game m.phase ≡ true = ap is_in_game (sym r.stands.phase) ∙ gives.1 in
-        let noted = excused limits me m player peer in
-        let within : is_in_game (on_excuse limits me m player).0.phase ≡ true =
-        ap (λ (x : machine.Node). is_in_game x.phase) noted ∙ still_in limits m player m.phase refl phase in
         let after : new.lockstep.phase ≡ (noted_gone limits m player m.phase).phase =
         (gives.2.1.step limits me m r).node.stands.phase
-        ∙ (decides_phase limits me (with_gone old.others player) mine free (on_excuse limits me m player).0
-        (in_game (on_excuse limits me m player).0.phase within)
-        ∙ ap (λ (x : machine.Node). x.phase) noted) in
+        ∙ (decides_phase limits me (with_gone old.others player) mine
+        (free limits me m mine r own gives.0 gives.1) (on_excuse limits me m player).0
+        (within limits me m mine r own gives.0 gives.1)
+        ∙ ap (λ (x : machine.Node). x.phase) (excused_is limits me m mine r own gives.0 gives.1)) in
         elim (noted_phase limits m player m.phase refl) [
           | inl same ↦ inl (after ∙ (same ∙ sym r.stands.phase))
           | inr starts ↦ inr (r.stands.phase ∙ starts.0, after ∙ starts.1)

@@ -41,36 +41,18 @@ module _ (n : Contents) (to : ℕ) where
   abbrev pub tails : ℕ → ℕ → List Tail
   tails from count = filter_map (told_in n to) (range_with_len from count)
 
-  -- of each player but the two its own tail is told
-  counted : (count from p : ℕ) → p ≢ n.me → p ≢ to → from ≤ p → p < from + count
-      → count_told (tails from count) p ≡ count_of n.rings p
-  counted zero from p apart other low high = absurd (omega (arith, low, high))
-  counted (suc count) from p apart other low high = elim (cases_eq from p) [
+  -- of each player but the two its own tail is told: how many commands, and the last of them
+  own_told : (count from p : ℕ) → p ≢ n.me → p ≢ to → from ≤ p → p < from + count
+      → (count_told (tails from count) p ≡ count_of n.rings p) × (last_told (tails from count) p ≡ last_in n p)
+  own_told zero from p apart other low high = absurd (omega (arith, low, high))
+  own_told (suc count) from p apart other low high = elim (cases_eq from p) [
     | inl same ↦
         let one = ne_eqb from n.me (λ e. apart (sym same ∙ e)) in
         let two = ne_eqb from to (λ e. other (sym same ∙ e)) in
         let here = eq-eqb from p same in
-        rw (one, two, here) (ap (count_of n.rings) same)
+        rw (one, two, here) (ap (count_of n.rings) same, ap (last_in n) same)
     | inr later ↦
-        let rest = counted count (from + 1) p apart other (omega (arith, low, later)) (omega (arith, high)) in
-        let off = ne_eqb from p later in
-        elim (cases_Bool (from == n.me || from == to)) [
-          | inl skip ↦ rw skip rest
-          | inr told ↦ rw (told, off) rest
-        ]
-  ]
-
-  lasted : (count from p : ℕ) → p ≢ n.me → p ≢ to → from ≤ p → p < from + count
-      → last_told (tails from count) p ≡ last_in n p
-  lasted zero from p apart other low high = absurd (omega (arith, low, high))
-  lasted (suc count) from p apart other low high = elim (cases_eq from p) [
-    | inl same ↦
-        let one = ne_eqb from n.me (λ e. apart (sym same ∙ e)) in
-        let two = ne_eqb from to (λ e. other (sym same ∙ e)) in
-        let here = eq-eqb from p same in
-        rw (one, two, here) (ap (last_in n) same)
-    | inr later ↦
-        let rest = lasted count (from + 1) p apart other (omega (arith, low, later)) (omega (arith, high)) in
+        let rest = own_told count (from + 1) p apart other (omega (arith, low, later)) (omega (arith, high)) in
         let off = ne_eqb from p later in
         elim (cases_Bool (from == n.me || from == to)) [
           | inl skip ↦ rw skip rest
@@ -182,20 +164,25 @@ module _ (limits : Limits) (me : ℕ) (old : Surviving) (wary : Wary) (r : Repre
   left_is = λ i. r.node.stands.played i && is_ended (r.node.stands.phase i)
 
   module _ (to : ℕ) (below : to < limits.players) where
+    -- of one who is neither of the two its own tail is told
+    other_told : (p : ℕ) → p < limits.players → p ≢ to → p ≢ me
+        → (count_told (tails old.lockstep to 0 old.lockstep.players) p ≡ count_of old.lockstep.rings p)
+        × (last_told (tails old.lockstep to 0 old.lockstep.players) p ≡ last_in old.lockstep p)
+    other_told p h other apart =
+        let players = r.node.whose.players in
+        let number = r.node.whose.number in
+        own_told old.lockstep to old.lockstep.players 0 p (λ e. apart (e ∙ number)) other (omega arith)
+        (omega (arith, h, players))
+
     tells : Tells limits.players limits.places to me (report_of wary) (report_in old to)
     tells =
         let n = old.lockstep in
-        let players = r.node.whose.players in
         let number = r.node.whose.number in
         record {
           gone = λ p h. r.others.given_up p h;
           left = left_is;
-          count = λ p h other apart.
-              counted n to n.players 0 p (λ e. apart (e ∙ number)) other (omega arith) (omega (arith, h, players))
-              ∙ count_is limits me n wary.node r.node r.kept p h;
-          last = λ p h other apart.
-              lasted n to n.players 0 p (λ e. apart (e ∙ number)) other (omega arith) (omega (arith, h, players))
-              ∙ last_is limits me n wary.node r.node r.kept p h;
+          count = λ p h other apart. (other_told p h other apart).0 ∙ count_is limits me n wary.node r.node r.kept p h;
+          last = λ p h other apart. (other_told p h other apart).1 ∙ last_is limits me n wary.node r.node r.kept p h;
           neither = ap (λ (k : ℕ). tells_either to k (report_in old to).told.items) (sym number)
               ∙ neither n to n.players 0;
         }

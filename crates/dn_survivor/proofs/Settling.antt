@@ -1,9 +1,8 @@
 -- One end that is settled by what is kept of the others.
-use Rattle.std.proofs.Common.{◌≡◌, ◌≤◌, ◌+◌, ◌-◌, ℕ, false, List, ◌++◌, length, take, drop, refl, sym, ap, ◌∙◌, arith, Option, None}
+use Rattle.std.proofs.Common.{◌≡◌, ◌≤◌, ◌+◌, ◌-◌, ℕ, false, List, ◌++◌, length, take, drop, sym, ap, ◌∙◌, arith}
 use Rattle.std.specs.Prelude.{◌||◌, max}
 use Rattle.std.specs.List.{list_any}
 use Rattle.std.proofs.Math.Seq.{take-length}
-use Rattle.std.proofs.lemmas.Bool.{le-ltb}
 use Rattle.std.proofs.lemmas.List.{length-append}
 use Rattle.std.proofs.lemmas.List.Folds.{list_any-append}
 use Rattle.dn_tic.specs.declared.command.TicCmd.{TicCmd}
@@ -14,7 +13,8 @@ use Rattle.dn_machine.specs.Settling.{settled_one}
 use Rattle.dn_lockstep.specs.declared.lockstep.settling.Settled.{Settled}
 use Rattle.dn_lockstep.specs.Phases.{is_listening}
 use Rattle.dn_lockstep.specs.Rings.{is_stop}
-use Rattle.dn_lockstep.specs.Settling.{has_gap, is_no_peer, is_other_end, missing, on_settle, refused_end, settled_unless}
+use Rattle.dn_lockstep.specs.Settling.{has_gap, is_no_peer, is_other_end, missing, on_settle}
+use Rattle.dn_lockstep.proofs.Wholes as wholes
 
 module _ (limits : Limits) (me player first : ℕ) (m : machine.Node) (commands decided : List TicCmd)
     (near : first ≤ machine.got m player)
@@ -41,23 +41,12 @@ module _ (limits : Limits) (me player first : ℕ) (m : machine.Node) (commands 
       sym (list_any-append is_stop (m.held player) behind) ∙ (ap (list_any is_stop) whole ∙ fair) in
       grind (arith, parts)
 
-  module _ (peer : is_no_peer limits.players me player ≡ false)
-      (within : (is_listening m.phase || is_ended m.phase) ≡ false)
-      (room : length decided ≤ machine.ran m + limits.places) (fair : list_any is_stop decided ≡ false)
-      (same : is_other_end (machine.ran m) (ends_of m player) (length decided) ≡ false) where
-    accepted : refused_end limits me m player (length decided) first commands ≡ None
-    accepted =
-        let on = le-ltb (length decided) (machine.got m player) (omega (arith, counts)) in
-        let fits = le-ltb (machine.ran m + limits.places) (length decided) room in
-        let safe = ap (list_any is_stop) missing_is ∙ clear fair in
-        rw (peer, within, no_gap, on, fits, safe, same) refl
-
-    pub settles : on_settle limits me m player (length decided) first commands
-        ≡ (settled_one m player decided, Settled.Taken (length decided - machine.got m player))
-    unfolding on_settle
-    settles =
-        ap (λ (o : Option Settled). settled_unless o m player (length decided) first commands) accepted
-        ∙ (λ i. (
-          settled_one m player ((ap (λ (xs : List TicCmd). m.held player ++ xs) missing_is ∙ whole) i),
-          Settled.Taken (length decided - machine.got m player),
-        ))
+  pub settles : is_no_peer limits.players me player ≡ false → (is_listening m.phase || is_ended m.phase) ≡ false
+      → length decided ≤ machine.ran m + limits.places → list_any is_stop decided ≡ false
+      → is_other_end (machine.ran m) (ends_of m player) (length decided) ≡ false
+      → on_settle limits me m player (length decided) first commands
+      ≡ (settled_one m player decided, Settled.Taken (length decided - machine.got m player))
+  settles peer within room fair same =
+      let many : length behind ≡ length decided - machine.got m player = omega (arith, counts) in
+      wholes.settles limits me player first m commands decided behind whole missing_is no_gap peer within room
+      (clear fair) same ∙ ap (λ (k : ℕ). (settled_one m player decided, Settled.Taken k)) many

@@ -28,31 +28,29 @@ use Rattle.dn_survivor.proofs.Reports.{lowest_alike}
 pub opened : (limits : Limits) (me : ℕ) (now : Surviving) (node : machine.Node) → me < limits.players
     → limits.players ≤ 4 → limits.places ≤ 24 → lockstep.Represents limits me now.lockstep node
     → now.others ≡ nothing_kept → Represents limits me now (nobody_gone node)
-opened limits me now node mine few kept shows nothing =
-    record {
-      player = mine;
-      few = few;
-      kept = kept;
-      node = shows;
-      others = subst (λ (o : Others). others.Represents limits.players limits.places me o (nobody_gone node).gone
-          (nobody_gone node).newest) (sym nothing) (first limits.players limits.places me few);
-      peers = λ player e. cc;
-    }
+opened limits me now node mine few kept shows nothing = record {
+  player = mine;
+  few = few;
+  kept = kept;
+  node = shows;
+  others = subst (λ (o : Others). others.Represents limits.players limits.places me o (nobody_gone node).gone
+      (nobody_gone node).newest) (sym nothing) (first limits.players limits.places me few);
+  peers = λ player e. cc;
+}
 
 -- a step of the lockstep alone
 pub stepped : (limits : Limits) (me : ℕ) (old new : Surviving) (wary : Wary) (node : machine.Node)
     → Represents limits me old wary → lockstep.Represents limits me new.lockstep node → new.others ≡ old.others
     → Represents limits me new (record wary { node = node })
-stepped limits me old new wary node r shows same =
-    record {
-      player = r.player;
-      few = r.few;
-      kept = r.kept;
-      node = shows;
-      others = subst (λ (o : Others). others.Represents limits.players limits.places me o wary.gone wary.newest)
-          (sym same) r.others;
-      peers = r.peers;
-    }
+stepped limits me old new wary node r shows same = record {
+  player = r.player;
+  few = r.few;
+  kept = r.kept;
+  node = shows;
+  others = subst (λ (o : Others). others.Represents limits.players limits.places me o wary.gone wary.newest)
+      (sym same) r.others;
+  peers = r.peers;
+}
 
 -- a run looks at none but the players of the game
 runs_alike_in : (limits : Limits) (one other : ℕ → Bool) (m : machine.Node) (marks : ℕ → ℤ) (phase : Phase)

@@ -52,31 +52,23 @@ module _ (limits : Limits) (me : ℕ) (now : Surviving) (wary : Wary) (r : Repre
 
 given_is : (answer : remain_given.GivenUp) → GivenUp.Decided ≡ given_up_is answer
     → answer ≡ remain_given.GivenUp.Decided
-given_is remain_given.GivenUp.Waiting e = absurd (cc)
-given_is remain_given.GivenUp.Decided e = refl
-given_is remain_given.GivenUp.Already e = absurd (cc)
-given_is remain_given.GivenUp.NotAPlayer e = absurd (cc)
-given_is remain_given.GivenUp.NotPlaying e = absurd (cc)
+given_is answer e = grind (arith, e)
 
 told_is : (answer : remain_reported.Reported) → Reported.Decided ≡ reported_is answer
     → answer ≡ remain_reported.Reported.Decided
-told_is remain_reported.Reported.Kept e = absurd (cc)
-told_is remain_reported.Reported.Decided e = refl
-told_is remain_reported.Reported.Excluded e = absurd (cc)
-told_is remain_reported.Reported.Stale e = absurd (cc)
-told_is (remain_reported.Reported.Dropped number) e = absurd (cc)
+told_is answer e = grind (arith, e)
 
 -- an end behind all commands is seen
 seen_at : (m : machine.Node) (p : ℕ) → ends_of m p ≡ Some (machine.got m p)
     → end_seen m p ≡ Some (machine.got m p)
 seen_at m p is = ap (reached (machine.got m p)) is ∙ reached_some (machine.got m p) (machine.got m p) (omega arith)
 
-module _ (marking : Marking) (limits : Limits) (settings : Settings) (session : Session)
-    (game : AreRemaining marking limits settings session) where
+module _ (marking : Marking) (limits : Limits) (settings : Settings) (session : Session) where
   -- who has an end that is not settled lacks a report
-  pub lacks : (q : ℕ) → q < limits.players → (p : ℕ) → unsettled_in (session.survivors q) ≡ Some p
+  pub lacks : (q p : ℕ) (game : AreRemaining marking limits settings session) → q < limits.players
+      → unsettled_in (session.survivors q) ≡ Some p
       → (r : ℕ) × (undecided_in (session.survivors q) ≡ Some r)
-  lacks q mine p is = elim (cases_Bool (can_settle limits q (wary_of game.last q))) [
+  lacks q p game mine is = elim (cases_Bool (can_settle limits q (wary_of game.last q))) [
     | inr cannot ↦
         let k = answering.missing limits q (wary_of game.last q) (wary_of game.last q) refl cannot in
         (k.0, steps.asked limits q (session.survivors q) (wary_of game.last q) (game.nodes q mine) ∙ k.1)
@@ -86,18 +78,19 @@ module _ (marking : Marking) (limits : Limits) (settings : Settings) (session : 
         absurd (none-some p (sym gone ∙ is))
   ]
 
-  pub decided : (q : ℕ) → q < limits.players → (player : ℕ) (new : Surviving)
-      → GivesUp player (session.survivors q) new GivenUp.Decided → unsettled_in new ≡ None
-  decided q mine player new by =
+  pub decided : (q player : ℕ) (new : Surviving) (game : AreRemaining marking limits settings session)
+      → q < limits.players → GivesUp player (session.survivors q) new GivenUp.Decided → unsettled_in new ≡ None
+  decided q player new game mine by =
       let is = game_of.gave_up_is marking limits settings game q mine player new GivenUp.Decided by in
       let w : Wary = (on_give_up limits q (wary_of game.last q) player).0 in
       none limits q new w is.0 (λ p gone. seen_at w.node p (answering.decides limits q (wary_of game.last q) player
       (given_is _ is.1) p gone))
 
-  pub reported : (which : ℕ) (given : Given) → slice_get session.reports which ≡ Some given → (new : Surviving)
+  pub reported : (which : ℕ) (given : Given) (new : Surviving) (game : AreRemaining marking limits settings session)
+      → slice_get session.reports which ≡ Some given
       → HearsReport given.from given.report (session.survivors given.to) new Reported.Decided
       → unsettled_in new ≡ None
-  reported which given at new by =
+  reported which given new game at by =
       let is = game_of.reported marking limits settings game which given at new Reported.Decided by in
       let w : Wary = (on_report limits given.to (wary_of game.last given.to) given.from
       (game_of.holder marking limits settings game which given at)).0 in

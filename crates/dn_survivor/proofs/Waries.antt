@@ -14,7 +14,7 @@ use Rattle.dn_machine.specs.Node.{put}
 use Rattle.dn_machine.proofs.Put.{put_off}
 use Rattle.dn_lockstep.specs.Represents as lockstep
 use Rattle.dn_lockstep.specs.Settling.{is_no_peer, on_excuse, on_excuse_in}
-use Rattle.dn_lockstep.specs.Steps.{Steps}
+use Rattle.dn_lockstep.specs.Steps.{IsAfter, Steps}
 use Rattle.dn_vanish.specs.Calls.{is_newer}
 use Rattle.dn_vanish.specs.Commands.{seen}
 use Rattle.dn_others.specs.declared.others.Others.{Others}
@@ -41,6 +41,17 @@ use Rattle.dn_survivor.proofs.Ends.{decides, tests}
 -- what has become of the ends, where all can be taken
 abbrev ends_if : Bool → Ends
 ends_if can = if can then Ends.Taken else Ends.Awaited
+
+-- as which a node of `dn_remain` answers it
+given_is : (can : Bool) → given_up_as (ends_if can)
+    ≡ given_up_is (if can then remain_given.GivenUp.Decided else remain_given.GivenUp.Waiting)
+given_is true = refl
+given_is false = refl
+
+told_is : (can : Bool) → reported_by (ends_if can)
+    ≡ reported_is (if can then remain_reported.Reported.Decided else remain_reported.Reported.Kept)
+told_is true = refl
+told_is false = refl
 
 -- what a node makes of news is what its survivor makes of them
 module _ (limits : Limits) (me : ℕ) (kept : Others) (wary : Wary) (mine : me < limits.players)
@@ -132,6 +143,20 @@ module _ (limits : Limits) (me : ℕ) (old new : Surviving) (wary : Wary) (r : R
       → has old.others.gone player ≡ wary.gone player
   same_gone player peer = r.others.given_up player (below player peer)
 
+  -- after news that it keeps, of which its lockstep makes what the node does
+  represented : {A : Type 0} (now : Wary) (kept : Others) {x : machine.Node × A} {is : A} (answer : A)
+      → new.others ≡ kept → others.Represents limits.players limits.places me kept now.gone now.newest
+      → ((p : ℕ) → now.gone p ≡ true → is_no_peer limits.players me p ≡ false)
+      → x ≡ ((after_news limits me now).node, is) → IsAfter limits me new.lockstep x (λ a. answer ≡ a)
+      → Represents limits me new (after_news limits me now) × (answer ≡ is)
+  represented {A} now kept answer same is_kept peers after step = (
+    shows limits me new now r.player r.few r.kept
+        (subst (λ (o : Others). others.Represents limits.players limits.places me o now.gone now.newest)
+        (sym same) is_kept) peers
+        (subst (λ (y : machine.Node × A). lockstep.Represents limits me new.lockstep y.0) after step.node),
+    step.answer ∙ ap (λ (y : machine.Node × A). y.1) after,
+  )
+
   module _ (player : ℕ) (answer : GivenUp) where
     abbrev IsGivenUp : Wary × remain_given.GivenUp → Type 0
     IsGivenUp after = Represents limits me new after.0 × (answer ≡ given_up_is after.1)
@@ -178,18 +203,9 @@ module _ (limits : Limits) (me : ℕ) (old new : Surviving) (wary : Wary) (r : R
             if can_settle limits me given then remain_given.GivenUp.Decided else remain_given.GivenUp.Waiting,
           )
       gives h =
-          let step = h.1.step limits me wary.node r.node in (
-            shows limits me new given r.player r.few r.kept
-                (subst (λ (o : Others). others.Represents limits.players limits.places me o given.gone given.newest)
-                (sym h.0) kept) peers
-                (subst (λ (x : machine.Node × GivenUp). lockstep.Represents limits me new.lockstep x.0) after step.node),
-            step.answer ∙ ap (λ (x : machine.Node × GivenUp). x.1) after ∙ is (can_settle limits me given),
-          )
-        where
-          is : (b : Bool) → given_up_as (ends_if b)
-              ≡ given_up_is (if b then remain_given.GivenUp.Decided else remain_given.GivenUp.Waiting)
-          is true = refl
-          is false = refl
+          let shown = represented given (call.with_gone old.others player) answer h.0 kept peers after
+          (h.1.step limits me wary.node r.node) in
+          (shown.0, shown.1 ∙ given_is (can_settle limits me given))
 
     pub gave_up : (is_in_game wary.node.phase ≡ true → is_no_peer limits.players me player ≡ false
         → can_settle limits me (with_gone limits wary player) ≡ true
@@ -273,22 +289,13 @@ module _ (limits : Limits) (me : ℕ) (old new : Surviving) (wary : Wary) (r : R
               else remain_reported.Reported.Kept,
         )
     hears here h =
-        let step = h.1.step limits me wary.node r.node in
         let after : heard_by limits me (with_newest old.others from report) wary.node
         ≡ ((after_news limits me told_now).node, reported_by (ends_if (can_settle limits me told_now))) =
         ap (λ (x : machine.Node × Ends). (x.0, reported_by x.1))
-        (news limits me (with_newest old.others from report) told_now r.player newest r.peers here (can here)) in (
-          shows limits me new told_now r.player r.few r.kept
-              (subst (λ (o : Others). others.Represents limits.players limits.places me o told_now.gone told_now.newest)
-              (sym h.0) newest) r.peers
-              (subst (λ (x : machine.Node × Reported). lockstep.Represents limits me new.lockstep x.0) after step.node),
-          step.answer ∙ ap (λ (x : machine.Node × Reported). x.1) after ∙ is (can_settle limits me told_now),
-        )
-      where
-        is : (b : Bool) → reported_by (ends_if b)
-            ≡ reported_is (if b then remain_reported.Reported.Decided else remain_reported.Reported.Kept)
-        is true = refl
-        is false = refl
+        (news limits me (with_newest old.others from report) told_now r.player newest r.peers here (can here)) in
+        let shown = represented told_now (with_newest old.others from report) answer h.0 newest r.peers after
+        (h.1.step limits me wary.node r.node) in
+        (shown.0, shown.1 ∙ told_is (can_settle limits me told_now))
 
     pub heard : HearsReport from report old new answer → IsReported (on_report limits me wary from holder)
     unfolding on_report

@@ -6,10 +6,8 @@ use Rattle.dn_machine.specs.Flight.{Flight}
 use Rattle.dn_machine.specs.Limits.{Limits, IsWindow}
 use Rattle.dn_lockstep.specs.Marking.{Marking}
 use Rattle.dn_lockstep.specs.Near.{IsFair}
-use Rattle.dn_lockstep.specs.OneGame.{beside}
-use Rattle.dn_lockstep.specs.Sent.{aim_of, bytes_of, sent_to}
-use Rattle.dn_lockstep.specs.Steps.{Tells}
-use Rattle.dn_lockstep.specs.declared.lockstep.aiming.Aim.{Aim}
+use Rattle.dn_lockstep.specs.OneGame.{IsAimedAs, beside}
+use Rattle.dn_lockstep.specs.Sent.{bytes_of}
 use Rattle.dn_others.specs.Represents as others
 use Rattle.dn_remain.specs.Remaining.{Remaining, Telling, wary_of}
 use Rattle.dn_remain.specs.RunsRemain.{RunsRemain}
@@ -34,15 +32,13 @@ AreTelling limits (given ∷ reports) (telling ∷ tellings) =
 AreTelling limits [] (telling ∷ tellings) = ⊥
 AreTelling limits (given ∷ reports) [] = ⊥
 
--- what a caller has of the packet that a survivor gave it, if there is one: who it is from and goes to, its
--- bytes, and its exact numbers, if the caller asked the lockstep for them before
+-- what a caller has of the packet that a survivor gave it, as of one that a lockstep gave it: its exact numbers
+-- if it goes to one who is not given up
 pub record IsGivenAs (now : Surviving) (sender receiver : ℕ) (spelling : Option (List ℕ)) (packet : Option Flight)
     : Type 0 where
   pub players : IfSome packet (λ packet. (packet.from ≡ sender) × (packet.to ≡ receiver))
   pub bytes : spelling ≡ option_map bytes_of packet
-  pub aim : has_given_up now receiver ≡ false → (numbers : Option Aim)
-      → Tells now.lockstep (λ limits me m. numbers ≡ option_map aim_of (sent_to receiver limits me m).1)
-      → numbers ≡ option_map aim_of packet
+  pub aim : has_given_up now receiver ≡ false → IsAimedAs now.lockstep receiver packet
 
 -- each player's survivor represents the player's node of one game in which players may be given up, in which
 -- these inputs were taken, these packets and reports given, and these rows told

@@ -23,7 +23,7 @@ pub record Session : Type 0 where
   -- the packets that were given, and the reports
   pub packets : List Flight
   pub reports : List Given
-  -- by player, the rows that were told
+  -- by player, the rows that were told, and the survivor as it is
   pub told : ℕ → List (List (Option Move))
   pub survivors : ℕ → Surviving
 
@@ -45,26 +45,19 @@ with_survivor session player new = record session { survivors = put session.surv
 -- after a build: its input is taken, if a command was made of it
 abbrev pub after_build : Session → ℕ → Input → Made → Surviving → Session
 after_build session player input made new =
-    record session {
+    record (with_survivor session player new) {
       inputs = put session.inputs player (taken_on (session.inputs player) input made);
-      survivors = put session.survivors player new;
     }
 
 -- after a packet, if one was given
 abbrev pub after_packet : Session → ℕ → Option Flight → Surviving → Session
 after_packet session player packet new =
-    record session {
-      packets = given_on session.packets packet;
-      survivors = put session.survivors player new;
-    }
+    record (with_survivor session player new) { packets = given_on session.packets packet }
 
 -- after a run, which tells a row if a tic was run
 abbrev pub after_run : Session → ℕ → Option (List (Option Move)) → Surviving → Session
 after_run session player row new =
-    record session {
-      told = put session.told player (told_on (session.told player) row);
-      survivors = put session.survivors player new;
-    }
+    record (with_survivor session player new) { told = put session.told player (told_on (session.told player) row) }
 
 -- after a report, if one was given: the survivor stays as it is
 abbrev pub reports_on : List Given → ℕ → ℕ → Option Report → List Given

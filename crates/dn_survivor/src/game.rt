@@ -35,6 +35,7 @@ pub fn remaining_game_opens()
 /// of a world that moved on by the rows that its caller was told, of the players who take part in the tic
 /// (`ran`). Whom a survivor gives up, and when, is not asked. `built` is of `build` and `give`, `gave` of
 /// `packet`, `gave_to` of `packet_to`, `told` of `report`, and `kept` of a call that changes nothing.
+#[tactic(auto, using(crate::proofs::OneGame::keeps))]
 pub fn remaining_game_goes_on()
     ensures built { (marking : Marking) (limits : Limits) (settings : Settings) (session : Session) (player : ℕ)
         (new : Surviving) (input : Input) (made : Made)

@@ -12,14 +12,13 @@ use dn_tic::{Command, Keys, Move};
 
 impl Survivor {
     ghost use Rattle.std.specs.{Prelude.◌≡◌, Prelude.◌≢◌, Prelude.◌≤◌, Prelude.ℕ, Prelude.◌+◌, Prelude.ℤ, Prelude.true, Prelude.false, Prelude.None, Prelude.IfSome, Prelude.length, Option.option_map};
-    ghost use Rattle.dn_machine.specs.{Building.on_build, Running.on_quit, Running.on_run_but, Running.row_held};
-    ghost use Rattle.dn_lockstep.specs.{Giving.IsSentTo, Giving.IsSilent, Near.IsFair, Runs.RunsBy, Runs.told_by, Sent.sent_to, Sent.bytes_of, Steps.Steps, Steps.Tells};
+    ghost use Rattle.dn_machine.specs.{Running.on_quit, Running.on_run_but};
+    ghost use Rattle.dn_lockstep.specs.{Commands.Builds, Giving.IsSentTo, Giving.IsSilent, Near.IsFair, Runs.FillsIn, Runs.RunsBy, Runs.RunsOne, Runs.TellsNoRow, Runs.WaitsAsItWas, Runs.told_by, Sent.sent_to, Sent.bytes_of, Steps.Steps, Steps.Tells};
     ghost use Rattle.dn_survivor.specs.{Calls.sent_unless, Surviving.surviving, Surviving.has_given_up};
 
     /// As `Lockstep::build`.
     pub fn build(&mut self, keys: Keys) -> Made
-        ensures step { Steps (surviving self.old).lockstep (surviving self.new).lockstep
-            (λ limits me m. on_build limits me m (Pressed keys)) (λ made. result ≡ made) }
+        ensures step { Builds (surviving self.old).lockstep (surviving self.new).lockstep (Pressed keys) result }
         ensures full { result ≡ made.Full → surviving self.new ≡ surviving self.old }
         ensures idle { result ≡ made.NotPlaying → surviving self.new ≡ surviving self.old }
         ensures others { (surviving self.new).others ≡ (surviving self.old).others }
@@ -29,8 +28,7 @@ impl Survivor {
 
     /// As `Lockstep::give`.
     pub fn give(&mut self, command: Command) -> Made
-        ensures step { Steps (surviving self.old).lockstep (surviving self.new).lockstep
-            (λ limits me m. on_build limits me m (Given command)) (λ made. result ≡ made) }
+        ensures step { Builds (surviving self.old).lockstep (surviving self.new).lockstep (Given command) result }
         ensures full { result ≡ made.Full → surviving self.new ≡ surviving self.old }
         ensures idle { result ≡ made.NotPlaying → surviving self.new ≡ surviving self.old }
         ensures others { (surviving self.new).others ≡ (surviving self.old).others }
@@ -53,16 +51,12 @@ impl Survivor {
         ensures step { RunsBy marks.now (surviving self.old).lockstep (surviving self.new).lockstep
             (λ limits m marks. on_run_but limits (has_given_up (surviving self.old)) m marks)
             (λ ran told. (result ≡ ran) × (told_by result row.new ≡ told)) }
-        ensures further { (tic : ℕ) → result ≡ ran.Ran tic
-            → (surviving self.new).lockstep.ran ≡ (surviving self.old).lockstep.ran + 1 }
-        ensures waits { (player : ℕ) → result ≡ ran.Waiting player
-            → (surviving self.new ≡ surviving self.old) × (row.new ≡ row.old) }
+        ensures further { RunsOne (surviving self.old).lockstep (surviving self.new).lockstep result }
+        ensures waits { WaitsAsItWas (surviving self.old) (surviving self.new) result row.old row.new }
         ensures idle { result ≡ ran.NotPlaying
             → (surviving self.new ≡ surviving self.old) × (row.new ≡ row.old) }
-        ensures off { (player : ℕ) (was should : ℤ) → result ≡ ran.Inconsistent player was should
-            → row.new ≡ row.old }
-        ensures full { result ≡ ran.DemoFull → Tells (surviving self.old).lockstep (λ limits me m.
-            row.new ≡ row_held limits m) }
+        ensures off { TellsNoRow result row.old row.new }
+        ensures full { FillsIn (surviving self.old).lockstep result row.new }
         ensures others { (surviving self.new).others ≡ (surviving self.old).others }
     {
         self.lockstep.run_without(&self.others.gone, marks, row)

@@ -9,8 +9,7 @@ use dn_machine::{Made, Phase};
 use dn_tic::{Command, Input, Keys};
 
 impl Lockstep {
-    ghost use Rattle.dn_machine.specs.Building.{on_build};
-    ghost use Rattle.dn_lockstep.specs.{Contents.contents, Commands.makes, Commands.can_make, Steps.Steps, Steps.Tells};
+    ghost use Rattle.dn_lockstep.specs.{Contents.contents, Commands.Builds, Commands.makes, Commands.can_make, Steps.Tells};
 
     /// Whether [`Lockstep::build`] and [`Lockstep::give`] would make a command now: it plays, and fewer of its
     /// commands wait to be run than its window allows.
@@ -28,8 +27,7 @@ impl Lockstep {
     /// Builds the command of these keys for the next tic. A node that builds none stays as it is.
     #[inline(always)]
     pub fn build(&mut self, keys: Keys) -> Made
-        ensures step { Steps (contents self.old) (contents self.new)
-            (λ limits me m. on_build limits me m (Pressed keys)) (λ made. result ≡ made) }
+        ensures step { Builds (contents self.old) (contents self.new) (Pressed keys) result }
         ensures full { result ≡ Full → contents self.new ≡ contents self.old }
         ensures idle { result ≡ NotPlaying → contents self.new ≡ contents self.old }
     {
@@ -39,8 +37,7 @@ impl Lockstep {
     /// Takes the given command for the next tic, where [`Lockstep::build`] would build one. A forward of -128
     /// counts as -127. A node that takes none stays as it is.
     pub fn give(&mut self, command: Command) -> Made
-        ensures step { Steps (contents self.old) (contents self.new)
-            (λ limits me m. on_build limits me m (Given command)) (λ made. result ≡ made) }
+        ensures step { Builds (contents self.old) (contents self.new) (Given command) result }
         ensures full { result ≡ Full → contents self.new ≡ contents self.old }
         ensures idle { result ≡ NotPlaying → contents self.new ≡ contents self.old }
     {
@@ -51,8 +48,7 @@ impl Lockstep {
     /// input it is.
     #[inline(always)]
     fn make(&mut self, input: Input) -> Made
-        ensures step { Steps (contents self.old) (contents self.new)
-            (λ limits me m. on_build limits me m input) (λ made. result ≡ made) }
+        ensures step { Builds (contents self.old) (contents self.new) input result }
         ensures full { result ≡ Full → contents self.new ≡ contents self.old }
         ensures idle { result ≡ NotPlaying → contents self.new ≡ contents self.old }
     {

@@ -1,6 +1,6 @@
 //! How a lockstep runs a tic.
 
-ghost use Rattle.std.specs.Prelude.{◌≡◌, ◌≢◌, ℕ, ◌+◌, ℤ, None};
+ghost use Rattle.std.specs.Prelude.{◌≡◌, ◌≢◌, ℕ, ℤ, None};
 ghost use Rattle.dn_machine.specs.{declared.answers.Phase.TheVariants.Playing, declared.answers.Ran.TheVariants.Waiting, declared.answers.Ran.TheVariants.NotPlaying, Node.lowest};
 ghost use Rattle.dn_machine.specs.declared.answers.Ran.TheVariants as Ran;
 ghost use Rattle.dn_lockstep.specs.{Rows.has, Rows.is_missing, Runs.told_by};
@@ -22,15 +22,14 @@ fn told_by(ran: Ran, row: [Option<Move>; 4]) -> Option<[Option<Move>; 4]>
 }
 
 impl Lockstep {
-    ghost use Rattle.dn_machine.specs.Running.{on_run, on_run_but, on_run_playing, row_held};
-    ghost use Rattle.dn_lockstep.specs.{Contents.contents, Runs.RunsBy, Steps.Tells};
+    ghost use Rattle.dn_machine.specs.Running.{on_run, on_run_but, on_run_playing};
+    ghost use Rattle.dn_lockstep.specs.{Contents.contents, Runs.FillsIn, Runs.RunsBy, Runs.RunsOne, Runs.TellsNoRow, Runs.WaitsAsItWas};
 
     /// Runs the next tic, as `run_into` does. Returns the row of moves too, if the tic was run.
     pub fn run(&mut self, marks: &[i16; 4]) -> (Ran, Option<[Option<Move>; 4]>)
         ensures step { RunsBy marks.now (contents self.old) (contents self.new)
             (λ limits m marks. on_run limits m marks) (λ ran row. (result.0 ≡ ran) × (result.1 ≡ row)) }
-        ensures further { (tic : ℕ) → result.0 ≡ Ran.Ran tic
-            → (contents self.new).ran ≡ (contents self.old).ran + 1 }
+        ensures further { RunsOne (contents self.old) (contents self.new) result.0 }
         ensures waits { (player : ℕ) → result.0 ≡ Waiting player
             → (contents self.new ≡ contents self.old) × (result.1 ≡ None) }
         ensures idle { result.0 ≡ NotPlaying → (contents self.new ≡ contents self.old) × (result.1 ≡ None) }
@@ -50,15 +49,11 @@ impl Lockstep {
     pub fn run_into(&mut self, marks: &[i16; 4], row: &mut [Option<Move>; 4]) -> Ran
         ensures step { RunsBy marks.now (contents self.old) (contents self.new)
             (λ limits m marks. on_run limits m marks) (λ ran told. (result ≡ ran) × (told_by result row.new ≡ told)) }
-        ensures further { (tic : ℕ) → result ≡ Ran.Ran tic
-            → (contents self.new).ran ≡ (contents self.old).ran + 1 }
-        ensures waits { (player : ℕ) → result ≡ Waiting player
-            → (contents self.new ≡ contents self.old) × (row.new ≡ row.old) }
+        ensures further { RunsOne (contents self.old) (contents self.new) result }
+        ensures waits { WaitsAsItWas (contents self.old) (contents self.new) result row.old row.new }
         ensures idle { result ≡ NotPlaying → (contents self.new ≡ contents self.old) × (row.new ≡ row.old) }
-        ensures off { (player : ℕ) (was should : ℤ) → result ≡ Ran.Inconsistent player was should
-            → row.new ≡ row.old }
-        ensures full { result ≡ Ran.DemoFull → Tells (contents self.old) (λ limits me m.
-            row.new ≡ row_held limits m) }
+        ensures off { TellsNoRow result row.old row.new }
+        ensures full { FillsIn (contents self.old) result row.new }
     {
         self.run_without(&[false; 4], marks, row)
     }
@@ -76,15 +71,11 @@ impl Lockstep {
         ensures step { RunsBy marks.now (contents self.old) (contents self.new)
             (λ limits m marks. on_run_but limits (has given_up.now) m marks)
             (λ ran told. (result ≡ ran) × (told_by result row.new ≡ told)) }
-        ensures further { (tic : ℕ) → result ≡ Ran.Ran tic
-            → (contents self.new).ran ≡ (contents self.old).ran + 1 }
-        ensures waits { (player : ℕ) → result ≡ Waiting player
-            → (contents self.new ≡ contents self.old) × (row.new ≡ row.old) }
+        ensures further { RunsOne (contents self.old) (contents self.new) result }
+        ensures waits { WaitsAsItWas (contents self.old) (contents self.new) result row.old row.new }
         ensures idle { result ≡ NotPlaying → (contents self.new ≡ contents self.old) × (row.new ≡ row.old) }
-        ensures off { (player : ℕ) (was should : ℤ) → result ≡ Ran.Inconsistent player was should
-            → row.new ≡ row.old }
-        ensures full { result ≡ Ran.DemoFull → Tells (contents self.old) (λ limits me m.
-            row.new ≡ row_held limits m) }
+        ensures off { TellsNoRow result row.old row.new }
+        ensures full { FillsIn (contents self.old) result row.new }
     {
         let Phase::Playing = self.phase else {
             return Ran::NotPlaying;
@@ -127,13 +118,11 @@ impl Lockstep {
         ensures step { RunsBy marks.now (contents self.old) (contents self.new)
             (λ limits m marks. on_run_playing limits m marks None None) (λ ran told. (result ≡ ran)
             × (told_by result row.new ≡ told)) }
-        ensures further { (tic : ℕ) → result ≡ Ran.Ran tic
-            → (contents self.new).ran ≡ (contents self.old).ran + 1 }
+        ensures further { RunsOne (contents self.old) (contents self.new) result }
         ensures waits { (player : ℕ) → result ≢ Waiting player }
         ensures idle { result ≢ NotPlaying }
         ensures off { (player : ℕ) (was should : ℤ) → result ≢ Ran.Inconsistent player was should }
-        ensures full { result ≡ Ran.DemoFull → Tells (contents self.old) (λ limits me m.
-            row.new ≡ row_held limits m) }
+        ensures full { FillsIn (contents self.old) result row.new }
     {
         let tic = self.ran;
         *row = [None; 4];

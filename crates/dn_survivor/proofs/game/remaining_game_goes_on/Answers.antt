@@ -1,9 +1,9 @@
-use Rattle.dn_survivor.proofs.OneGame.{builds, gave_to, gives, gives_up, hears, keeps, quits, reports, runs, tells}
+use Rattle.std.proofs.Common.{arith}
+use Rattle.dn_survivor.proofs.OneGame.{builds, gave_to, gives, gives_up, hears, quits, reports, runs, tells}
 use Rattle.dn_survivor.proofs.game.remaining_game_goes_on.Goals as goal
 
 pub returns-clause-built : goal.returns-clause-built
-returns-clause-built c marking limits settings session player new input made game mine =
-    builds marking limits settings game player mine new input made
+returns-clause-built c = grind (arith, builds)
 
 pub returns-clause-gave : goal.returns-clause-gave
 returns-clause-gave c marking limits settings session player to new bytes game mine =
@@ -30,13 +30,8 @@ returns-clause-gave_up c marking limits settings session here player new answer 
     gives_up marking limits settings game here mine player new answer
 
 pub returns-clause-told : goal.returns-clause-told
-returns-clause-told c marking limits settings session player to report game mine =
-    tells marking limits settings game player mine to report
+returns-clause-told c = grind (arith, tells)
 
 pub returns-clause-reported : goal.returns-clause-reported
 returns-clause-reported c marking limits settings session which given new answer game at =
     reports marking limits settings game which given at new answer
-
-pub returns-clause-kept : goal.returns-clause-kept
-returns-clause-kept c marking limits settings session player new game =
-    keeps marking limits settings game player new

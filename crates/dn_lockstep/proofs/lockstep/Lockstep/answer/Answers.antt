@@ -1,9 +1,16 @@
-use Rattle.std.proofs.Common.{refl, ◌≡◌, sym, ap, ◌∙◌, arith}
+use Rattle.std.proofs.Common.{refl, ◌≡◌, ℕ, false, sym, ap, ◌∙◌, arith}
+use Rattle.dn_packet.specs.declared.packet.Packet.{Packet}
+use Rattle.dn_machine.specs.declared.answers.Heard.{Heard}
+use Rattle.dn_machine.specs.declared.answers.Phase.TheVariants.{Ended}
+use Rattle.dn_machine.specs.Flight.{Play}
+use Rattle.dn_machine.specs.Node as machine
 use Rattle.dn_machine.specs.Hearing.{after_request}
 use Rattle.dn_lockstep.specs.Contents.{contents}
 use Rattle.dn_lockstep.specs.Peers.{peer_at}
-use Rattle.dn_lockstep.specs.Reading.{request_in}
-use Rattle.dn_lockstep.proofs.After.{steps}
+use Rattle.dn_lockstep.specs.Reading.{request_in, start_in}
+use Rattle.dn_lockstep.proofs.After.{after, steps}
+use Rattle.dn_lockstep.proofs.Counting.{made_is}
+use Rattle.dn_lockstep.proofs.Flags.{counted, kind_flagged, on_start}
 use Rattle.dn_lockstep.proofs.Kept.{AreKept, kept_asked, same_end, gone_still, stays_gone, resends_low}
 use Rattle.dn_lockstep.proofs.Taking.{IsRead, leaver_asked}
 use Rattle.dn_lockstep.proofs.lockstep.Lockstep.answer.Goals.{After-ask}
@@ -31,18 +38,29 @@ invariant_of-self-clause-endless c =
 
 pub invariant_of-self-clause-gone : goal.invariant_of-self-clause-gone
 invariant_of-self-clause-gone c plays closed =
-    gone_still (kept (goal.at.invariant_of-self-clause-gone c).After-ask) _ _
-    (c.args.self.now.gone plays closed)
+    gone_still (kept (goal.at.invariant_of-self-clause-gone c).After-ask) _ _ (c.args.self.now.gone plays closed)
 
 pub invariant_of-self-clause-reached : goal.invariant_of-self-clause-reached
 invariant_of-self-clause-reached c p below h =
-    c.args.self.now.reached p below
-    (stays_gone (kept (goal.at.invariant_of-self-clause-reached c).After-ask) _ p h)
+    c.args.self.now.reached p below (stays_gone (kept (goal.at.invariant_of-self-clause-reached c).After-ask) _ p h)
 
 pub invariant_of-self-clause-resends : goal.invariant_of-self-clause-resends
 invariant_of-self-clause-resends c =
     resends_low (kept (goal.at.invariant_of-self-clause-resends c).After-ask) c.made-made.ensures _
     c.args.self.now.resends
+
+-- a start that is not read
+pub returns-in-Err-clause-step : goal.returns-in-Err-clause-step
+returns-in-Err-clause-step c cause = steps refl (λ limits me m r.
+    let from : ℕ = c.args.from in
+    let packet : Packet = c.args.packet.now in
+    let many : machine.made me m ≡ c.made-made.result =
+    sym (c.made-made.ensures ∙ made_is limits me (contents c.args.self.now) m r c.args.self.now.me_below) in
+    let unread = ap (λ (made : ℕ). start_in made packet) many ∙ sym c.start.ensures.value ∙ c.in-Err.is in
+    let kind = kind_flagged packet false (sym c.has_flag.ensures ∙ c.if-has_flag.false) in
+    after m (Heard.Dropped c.in-Err.number)
+    (counted limits me m from packet (Ended cause) Play kind refl ∙ ap (on_start limits me m from packet (Ended cause)) unread)
+    r refl)
 
 pub returns-clause-step : goal.returns-clause-step
 returns-clause-step c cause = steps refl (λ limits me m r.

@@ -8,7 +8,7 @@ use Rattle.dn_lockstep.specs.Peers.{peer_at}
 use Rattle.dn_lockstep.specs.Rings.{ring_at, ring_of, is_stop}
 use Rattle.dn_lockstep.specs.Settling.{has_gap, is_no_peer, is_other_end}
 use Rattle.dn_lockstep.proofs.After.{steps}
-use Rattle.dn_lockstep.proofs.Counting.{changed}
+use Rattle.dn_lockstep.proofs.Counting.{changed, still_counted}
 use Rattle.dn_lockstep.proofs.Kept.{AreKept, same_end, gone_still, stays_gone, resends_low}
 use Rattle.dn_lockstep.proofs.Excusing.{peer_below, peer_apart}
 use Rattle.dn_lockstep.proofs.Settling.{missing_length, kept_settled, stranger_shows, out_shows, gap_shows, behind_shows, overrun_shows, stop_shows, other_shows, taken_shows}
@@ -114,22 +114,14 @@ invariant_of-self-clause-endless c =
 
 pub invariant_of-self-clause-gone : goal.invariant_of-self-clause-gone
 invariant_of-self-clause-gone c plays closed =
-    gone_still (kept (goal.at.invariant_of-self-clause-gone c).After-want) _ _
-    (c.args.self.now.gone plays closed)
+    gone_still (kept (goal.at.invariant_of-self-clause-gone c).After-want) _ _ (c.args.self.now.gone plays closed)
 
 pub invariant_of-self-clause-reached : goal.invariant_of-self-clause-reached
 invariant_of-self-clause-reached c p below h =
     let w = (goal.at.invariant_of-self-clause-reached c).After-want in
-    let old = c.args.self.now.reached p below (stays_gone (kept w) _ p h) in
-    elim (changed (ring_at c.args.self.now.rings) (ring_at c.put_all.new.self) c.args.player _
-    c.put_all.ensures.count c.put_all.ensures.others p) [
-      | inl more ↦
-          let here : (ring_at c.args.self.now.rings p).count
-          ≡ (ring_at c.args.self.now.rings c.args.player).count =
-          ap (λ (k : ℕ). (ring_at c.args.self.now.rings k).count) more.0 in
-          omega (arith, old, here, more.1)
-      | inr kept ↦ omega (arith, old, kept)
-    ]
+    still_counted (ring_at c.args.self.now.rings) (ring_at c.put_all.new.self) c.args.player _ _
+    c.put_all.ensures.count c.put_all.ensures.others p
+    (c.args.self.now.reached p below (stays_gone (kept w) _ p h))
 
 pub invariant_of-self-clause-window : goal.invariant_of-self-clause-window
 invariant_of-self-clause-window c p h =

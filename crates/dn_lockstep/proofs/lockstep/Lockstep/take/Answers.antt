@@ -9,7 +9,7 @@ use Rattle.dn_lockstep.specs.Peers.{peer_at}
 use Rattle.dn_lockstep.specs.Reading.{request_in}
 use Rattle.dn_lockstep.specs.Rings.{ring_at, is_stop}
 use Rattle.dn_lockstep.proofs.After.{steps}
-use Rattle.dn_lockstep.proofs.Counting.{changed}
+use Rattle.dn_lockstep.proofs.Counting.{changed, still_counted}
 use Rattle.dn_lockstep.proofs.Kept.{AreKept, kept_asked, kept_told, kept_wanted, same_end, gone_still, stays_gone, resends_low}
 use Rattle.dn_lockstep.proofs.Rests.{rest_length, none_behind}
 use Rattle.dn_lockstep.proofs.Taking.{IsRead, over_shows, odd_shows, stale_shows, gap_shows, taken_shows}
@@ -85,23 +85,23 @@ returns-then-is_strange_end-clause-step c = steps refl (λ limits me m r.
 
 pub invariant_of-self-clause-endless : goal.invariant_of-self-clause-endless
 invariant_of-self-clause-endless c =
-    same_end (kept (goal.at.invariant_of-self-clause-endless c).After-tell) c.args.self.now.me
-    (λ e. c.requires.other (sym e)) ∙ c.args.self.now.endless
+    let now = kept (goal.at.invariant_of-self-clause-endless c).After-tell in
+    same_end now c.args.self.now.me (λ e. c.requires.other (sym e)) ∙ c.args.self.now.endless
 
 pub invariant_of-self-clause-gone : goal.invariant_of-self-clause-gone
 invariant_of-self-clause-gone c plays closed =
-    gone_still (kept (goal.at.invariant_of-self-clause-gone c).After-tell) _ _
-    (c.args.self.now.gone plays closed)
+    let now = kept (goal.at.invariant_of-self-clause-gone c).After-tell in
+    gone_still now _ _ (c.args.self.now.gone plays closed)
 
 pub invariant_of-self-clause-reached : goal.invariant_of-self-clause-reached
 invariant_of-self-clause-reached c p below h =
-    c.args.self.now.reached p below
-    (stays_gone (kept (goal.at.invariant_of-self-clause-reached c).After-tell) _ p h)
+    let now = kept (goal.at.invariant_of-self-clause-reached c).After-tell in
+    c.args.self.now.reached p below (stays_gone now _ p h)
 
 pub invariant_of-self-clause-resends : goal.invariant_of-self-clause-resends
 invariant_of-self-clause-resends c =
-    resends_low (kept (goal.at.invariant_of-self-clause-resends c).After-tell) c.made-made.ensures _
-    c.args.self.now.resends
+    let now = kept (goal.at.invariant_of-self-clause-resends c).After-tell in
+    resends_low now c.made-made.ensures _ c.args.self.now.resends
 
 pub returns-then-end-got-clause-step : goal.returns-then-end-got-clause-step
 returns-then-end-got-clause-step c = steps refl (λ limits me m r.
@@ -169,17 +169,9 @@ invariant_of-self-2-clause-gone c plays closed =
 pub invariant_of-self-2-clause-reached : goal.invariant_of-self-2-clause-reached
 invariant_of-self-2-clause-reached c p below h =
     let before = kept (goal.at.invariant_of-self-2-clause-reached c).After-tell in
-    let old = c.args.self.now.reached p below
-    (stays_gone (kept_wanted before _ c.want-2.ensures.put c.want-2.ensures.others) _ p h) in
-    elim (changed (ring_at c.args.self.now.rings) (ring_at c.put_all.new.self) c.args.from _
-    c.put_all.ensures.count c.put_all.ensures.others p) [
-      | inl more ↦
-          let here : (ring_at c.args.self.now.rings p).count
-          ≡ (ring_at c.args.self.now.rings c.args.from).count =
-          ap (λ (k : ℕ). (ring_at c.args.self.now.rings k).count) more.0 in
-          omega (arith, old, here, more.1)
-      | inr kept ↦ omega (arith, old, kept)
-    ]
+    still_counted (ring_at c.args.self.now.rings) (ring_at c.put_all.new.self) c.args.from _ _
+    c.put_all.ensures.count c.put_all.ensures.others p (c.args.self.now.reached p below
+    (stays_gone (kept_wanted before _ c.want-2.ensures.put c.want-2.ensures.others) _ p h))
 
 pub invariant_of-self-2-clause-window : goal.invariant_of-self-2-clause-window
 invariant_of-self-2-clause-window c p h =

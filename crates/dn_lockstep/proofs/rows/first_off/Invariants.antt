@@ -4,7 +4,7 @@ use Rattle.dn_lockstep.specs.Rings.{ring_at}
 use Rattle.dn_lockstep.specs.Marks.{slot}
 use Rattle.dn_lockstep.specs.Peers.{peer_at}
 use Rattle.dn_lockstep.specs.Rows.{differs_but, has}
-use Rattle.dn_lockstep.proofs.rows.differing.Given as goal
+use Rattle.dn_lockstep.proofs.rows.first_off.Given as goal
 
 abbrev pub invariant-loop-player : goal.invariant-loop-player
 invariant-loop-player l = lowest l.player
