@@ -17,6 +17,17 @@ use std::test::Fail;
 
 type Answer = Result<Happened, Refusal>;
 
+/// What a test does to a game.
+#[derive(Clone, Copy)]
+enum Step {
+    /// An event has this answer.
+    Does(RemainEvent, Answer),
+    /// A node sends a packet to another, which hears it at once.
+    Passes(u32, u32, Heard),
+    /// A node tells another of those it gave up, which hears it at once.
+    Reports(u32, u32, Reported),
+}
+
 fn walks(alloc: Global, count: usize) -> Result<Vec<Walk>, AllocError> {
     let mut worlds = Vec::with_capacity(alloc, count)?;
     for _ in 0..count {
@@ -67,6 +78,98 @@ fn applies(rt: &impl Abort, game: &mut Game<Walk>, rows: &[(RemainEvent, Answer)
     for (event, answer) in rows {
         assert_eq!(rt; game.apply(*event), *answer);
     }
+}
+
+/// The number of an event's packet or report.
+fn number(which: usize) -> u32 {
+    u32::try_from(which).unwrap_or(u32::MAX)
+}
+
+/// Takes the steps, one after another.
+fn takes(rt: &impl Abort, game: &mut Game<Walk>, steps: &[Step]) {
+    for step in steps {
+        match step {
+            Step::Does(event, answer) => assert_eq!(rt; game.apply(*event), *answer),
+            Step::Passes(from, to, answer) => {
+                let which = number(game.flights().len());
+                let rows = [
+                    (send(*from, *to), sent(which)),
+                    (deliver(which), heard(*answer)),
+                ];
+                applies(rt, game, &rows);
+            }
+            Step::Reports(from, to, answer) => {
+                let which = game.reports().len();
+                let rows = [
+                    (tell(*from, *to), told(which)),
+                    (hear(number(which)), reported(*answer)),
+                ];
+                applies(rt, game, &rows);
+            }
+        }
+    }
+}
+
+/// A game that has started, with one command of player 0, which player 1 alone has heard.
+fn one_ahead(rt: &impl Abort, alloc: Global, players: u8) -> Result<Game<Walk>, Fail> {
+    let mut game = started(rt, alloc, players)?;
+    takes(
+        rt,
+        &mut game,
+        &[does(build(0), made(0)), passes(0, 1, Heard::Taken(1))],
+    );
+    Ok(game)
+}
+
+/// Takes the steps, and compares where nodes then take players to end: the node, the player and the tic, up to
+/// which the node has the player's commands.
+fn ends(
+    rt: &impl Abort,
+    mut game: Game<Walk>,
+    steps: &[Step],
+    wanted: &[(u32, u8, u32)],
+) -> Result<(), Fail> {
+    takes(rt, &mut game, steps);
+    for (node, player, end) in wanted {
+        assert_eq!(rt; known(&game, *node, *player), (Some(*end), Some(*end)));
+    }
+    Ok(())
+}
+
+/// Two nodes build their commands of a tic, and each hears those of the other up to it.
+fn trade(rt: &impl Abort, game: &mut Game<Walk>, one: u32, other: u32, tic: u32) {
+    let taken = Heard::Taken(tic.wrapping_add(1));
+    let steps = [
+        does(build(one), made(tic)),
+        does(build(other), made(tic)),
+        passes(one, other, taken),
+        passes(other, one, taken),
+    ];
+    takes(rt, game, &steps);
+}
+
+/// The events of a game of two up to its start, and then these.
+fn from_start(alloc: Global, then: &[RemainEvent]) -> Result<Vec<RemainEvent>, AllocError> {
+    let mut events = Vec::new(alloc);
+    for event in [send(0, 1), deliver(0), send(1, 0), deliver(1)] {
+        events.push(event)?;
+    }
+    for event in then {
+        events.push(*event)?;
+    }
+    Ok(events)
+}
+
+fn does(event: RemainEvent, answer: Answer) -> Step {
+    Step::Does(event, answer)
+}
+
+fn passes(from: u32, to: u32, answer: Heard) -> Step {
+    Step::Passes(from, to, answer)
+}
+
+fn reports(from: u32, to: u32, answer: Reported) -> Step {
+    Step::Reports(from, to, answer)
 }
 
 fn build(node: u32) -> RemainEvent {

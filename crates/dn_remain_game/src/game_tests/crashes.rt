@@ -1,8 +1,9 @@
 //! Players who vanish, one after another or at once.
 
 use super::{
-    applies, build, deliver, give_up, given, hear, heard, known, left, made, place, quit, ran,
-    reported, run, send, sent, silent, started, stop, stopped, tell, told,
+    build, deliver, does, ends, give_up, given, hear, heard, known, left, made, one_ahead, passes,
+    place, quit, ran, reported, reports, run, send, sent, silent, started, stop, stopped, takes,
+    tell, told, trade,
 };
 use crate::{GivenUp, Happened, Refusal, Reported};
 use dn_machine::{Heard, Ran};
@@ -11,46 +12,38 @@ use std::test::Fail;
 
 #[test]
 fn two_remain_where_one_vanishes(rt: HostRuntime) -> Result<(), Fail> {
-    let mut game = started(&rt, rt.alloc(), 3)?;
     // the second takes the one command of the first, and the third hears nothing of it
-    applies(
-        &rt,
-        &mut game,
-        &[
-            (build(0), made(0)),
-            (send(0, 1), sent(4)),
-            (deliver(4), heard(Heard::Taken(1))),
-            (send(0, 2), sent(5)),
-            (stop(0), stopped()),
-            (build(0), Err(Refusal::Stopped)),
-            (build(1), made(0)),
-            (build(2), made(0)),
-            (run(2), ran(Ran::Waiting(0))),
-            (give_up(1, 0), given(GivenUp::Waiting)),
-            (give_up(2, 0), given(GivenUp::Waiting)),
-            // what comes late does not count
-            (deliver(5), heard(Heard::Dropped(15))),
-            (tell(1, 2), told(0)),
-            (tell(2, 1), told(1)),
-            (hear(0), reported(Reported::Decided)),
-            (hear(1), reported(Reported::Decided)),
-            (build(1), made(1)),
-            (build(2), made(1)),
-            (send(1, 2), sent(6)),
-            (send(2, 1), sent(7)),
-            (deliver(6), heard(Heard::Taken(2))),
-            (deliver(7), heard(Heard::Taken(2))),
-            (run(1), ran(Ran::Ran(0))),
-            (run(1), ran(Ran::Ran(1))),
-            (run(1), ran(Ran::Waiting(1))),
-            (run(2), ran(Ran::Ran(0))),
-            (run(2), ran(Ran::Ran(1))),
-            (send(1, 0), silent()),
-            (tell(1, 0), Ok(Happened::Untold)),
-        ],
-    );
-    assert_eq!(&rt; known(&game, 1, 0), (Some(1), Some(1)));
-    assert_eq!(&rt; known(&game, 2, 0), (Some(1), Some(1)));
+    let mut game = one_ahead(&rt, rt.alloc(), 3)?;
+    let steps = [
+        does(send(0, 2), sent(5)),
+        does(stop(0), stopped()),
+        does(build(0), Err(Refusal::Stopped)),
+        does(build(1), made(0)),
+        does(build(2), made(0)),
+        does(run(2), ran(Ran::Waiting(0))),
+        does(give_up(1, 0), given(GivenUp::Waiting)),
+        does(give_up(2, 0), given(GivenUp::Waiting)),
+        // what comes late does not count
+        does(deliver(5), heard(Heard::Dropped(15))),
+        does(tell(1, 2), told(0)),
+        reports(2, 1, Reported::Decided),
+        does(hear(0), reported(Reported::Decided)),
+    ];
+    takes(&rt, &mut game, &steps);
+    trade(&rt, &mut game, 1, 2, 1);
+    let steps = [
+        does(run(1), ran(Ran::Ran(0))),
+        does(run(1), ran(Ran::Ran(1))),
+        does(run(1), ran(Ran::Waiting(1))),
+        does(run(2), ran(Ran::Ran(0))),
+        does(run(2), ran(Ran::Ran(1))),
+        does(send(1, 0), silent()),
+        does(tell(1, 0), Ok(Happened::Untold)),
+    ];
+    takes(&rt, &mut game, &steps);
+    for node in [1, 2] {
+        assert_eq!(&rt; known(&game, node, 0), (Some(1), Some(1)));
+    }
     for player in 0..3 {
         assert!(&rt; place(&game, 1, player).is_some());
         assert_eq!(&rt; place(&game, 1, player), place(&game, 2, player));
@@ -60,106 +53,73 @@ fn two_remain_where_one_vanishes(rt: HostRuntime) -> Result<(), Fail> {
 
 #[test]
 fn two_of_four_vanish_at_once(rt: HostRuntime) -> Result<(), Fail> {
+    let steps = [
+        does(build(0), made(0)),
+        passes(0, 3, Heard::Taken(1)),
+        does(build(0), made(1)),
+        passes(0, 2, Heard::Taken(2)),
+        does(build(1), made(0)),
+        does(build(1), made(1)),
+        does(build(1), made(2)),
+        passes(1, 3, Heard::Taken(3)),
+        does(stop(0), stopped()),
+        does(stop(1), stopped()),
+        does(give_up(2, 1), given(GivenUp::Waiting)),
+        does(tell(2, 3), told(0)),
+        does(give_up(3, 0), given(GivenUp::Waiting)),
+        // it tells of another set
+        does(hear(0), reported(Reported::Kept)),
+        does(give_up(2, 0), given(GivenUp::Waiting)),
+        does(give_up(3, 1), given(GivenUp::Waiting)),
+        reports(2, 3, Reported::Decided),
+        reports(3, 2, Reported::Decided),
+    ];
     let mut game = started(&rt, rt.alloc(), 4)?;
-    applies(
-        &rt,
-        &mut game,
-        &[
-            (build(0), made(0)),
-            (send(0, 3), sent(6)),
-            (deliver(6), heard(Heard::Taken(1))),
-            (build(0), made(1)),
-            (send(0, 2), sent(7)),
-            (deliver(7), heard(Heard::Taken(2))),
-            (build(1), made(0)),
-            (build(1), made(1)),
-            (build(1), made(2)),
-            (send(1, 3), sent(8)),
-            (deliver(8), heard(Heard::Taken(3))),
-            (stop(0), stopped()),
-            (stop(1), stopped()),
-            (give_up(2, 1), given(GivenUp::Waiting)),
-            (tell(2, 3), told(0)),
-            (give_up(3, 0), given(GivenUp::Waiting)),
-            // it tells of another set
-            (hear(0), reported(Reported::Kept)),
-            (give_up(2, 0), given(GivenUp::Waiting)),
-            (give_up(3, 1), given(GivenUp::Waiting)),
-            (tell(2, 3), told(1)),
-            (tell(3, 2), told(2)),
-            (hear(1), reported(Reported::Decided)),
-            (hear(2), reported(Reported::Decided)),
-        ],
-    );
+    takes(&rt, &mut game, &steps);
     for node in 2..4 {
         assert_eq!(&rt; known(&game, node, 0), (Some(2), Some(2)));
         assert_eq!(&rt; known(&game, node, 1), (Some(3), Some(3)));
     }
-    applies(
-        &rt,
-        &mut game,
-        &[
-            (hear(0), reported(Reported::Stale)),
-            (build(2), made(0)),
-            (build(3), made(0)),
-            (send(2, 3), sent(9)),
-            (send(3, 2), sent(10)),
-            (deliver(9), heard(Heard::Taken(1))),
-            (deliver(10), heard(Heard::Taken(1))),
-            (run(2), ran(Ran::Ran(0))),
-            (run(3), ran(Ran::Ran(0))),
-        ],
-    );
-    assert_eq!(&rt; place(&game, 2, 1), place(&game, 3, 1));
+    takes(&rt, &mut game, &[does(hear(0), reported(Reported::Stale))]);
+    trade(&rt, &mut game, 2, 3, 0);
+    for node in 2..4 {
+        takes(&rt, &mut game, &[does(run(node), ran(Ran::Ran(0)))]);
+    }
+    for player in 0..2 {
+        assert_eq!(&rt; place(&game, 2, player), place(&game, 3, player));
+    }
     Ok(())
 }
 
 #[test]
 fn a_farewell_is_lost(rt: HostRuntime) -> Result<(), Fail> {
-    let mut game = started(&rt, rt.alloc(), 3)?;
-    applies(
-        &rt,
-        &mut game,
-        &[
-            (build(0), made(0)),
-            (send(0, 1), sent(4)),
-            (deliver(4), heard(Heard::Taken(1))),
-            (quit(0), left()),
-            // these two are never delivered
-            (send(0, 1), sent(5)),
-            (send(0, 2), sent(6)),
-            (give_up(1, 0), given(GivenUp::Waiting)),
-            (give_up(2, 0), given(GivenUp::Waiting)),
-            (tell(1, 2), told(0)),
-            (hear(0), reported(Reported::Decided)),
-            (tell(2, 1), told(1)),
-            (hear(1), reported(Reported::Decided)),
-            // and are not heard once they come
-            (deliver(6), heard(Heard::Dropped(15))),
-        ],
-    );
-    assert_eq!(&rt; known(&game, 1, 0), (Some(1), Some(1)));
-    assert_eq!(&rt; known(&game, 2, 0), (Some(1), Some(1)));
-    Ok(())
+    let steps = [
+        does(quit(0), left()),
+        // these two are never delivered
+        does(send(0, 1), sent(5)),
+        does(send(0, 2), sent(6)),
+        does(give_up(1, 0), given(GivenUp::Waiting)),
+        does(give_up(2, 0), given(GivenUp::Waiting)),
+        reports(1, 2, Reported::Decided),
+        reports(2, 1, Reported::Decided),
+        // and are not heard once they come
+        does(deliver(6), heard(Heard::Dropped(15))),
+    ];
+    let game = one_ahead(&rt, rt.alloc(), 3)?;
+    ends(&rt, game, &steps, &[(1, 0, 1), (2, 0, 1)])
 }
 
 #[test]
 fn a_split_goes_on_in_two(rt: HostRuntime) -> Result<(), Fail> {
-    let mut game = started(&rt, rt.alloc(), 2)?;
-    applies(
-        &rt,
-        &mut game,
-        &[
-            (build(0), made(0)),
-            (build(1), made(0)),
-            (send(0, 1), sent(2)),
-            (deliver(2), heard(Heard::Taken(1))),
-            (give_up(0, 1), given(GivenUp::Decided)),
-            (give_up(1, 0), given(GivenUp::Decided)),
-            (run(0), ran(Ran::Ran(0))),
-            (run(1), ran(Ran::Ran(0))),
-        ],
-    );
+    let mut game = one_ahead(&rt, rt.alloc(), 2)?;
+    let steps = [
+        does(build(1), made(0)),
+        does(give_up(0, 1), given(GivenUp::Decided)),
+        does(give_up(1, 0), given(GivenUp::Decided)),
+        does(run(0), ran(Ran::Ran(0))),
+        does(run(1), ran(Ran::Ran(0))),
+    ];
+    takes(&rt, &mut game, &steps);
     // the first goes on without the second, and the second had the first's command
     assert_eq!(&rt; known(&game, 0, 1), (Some(0), Some(0)));
     assert_eq!(&rt; known(&game, 1, 0), (Some(1), Some(1)));

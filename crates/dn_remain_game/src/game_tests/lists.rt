@@ -1,6 +1,6 @@
 //! Long lists, and packets that repeat commands.
 
-use super::{build, config, deliver, give_up, known, place, run, send, walks};
+use super::{build, config, deliver, from_start, give_up, known, place, run, send, walks};
 use crate::{GameConfig, RemainEvent, play_remaining};
 use std::alloc::{AllocError, Global};
 use std::process::Abort;
@@ -25,10 +25,7 @@ fn push_round(events: &mut Vec<RemainEvent>, first: u32) -> Result<(), AllocErro
 
 /// Both nodes start, and play so many rounds.
 fn rounds(alloc: Global, count: u32) -> Result<Vec<RemainEvent>, AllocError> {
-    let mut events = Vec::new(alloc);
-    for event in [send(0, 1), deliver(0), send(1, 0), deliver(1)] {
-        events.push(event)?;
-    }
+    let mut events = from_start(alloc, &[])?;
     for round in 1..=count {
         push_round(&mut events, round.wrapping_mul(2))?;
     }
@@ -54,21 +51,13 @@ fn a_long_list_is_played(rt: HostRuntime) -> Result<(), Fail> {
 
 /// From which tic on the last packet has commands, and how many, after two builds with a packet after each.
 fn last_given(alloc: Global, extra: bool) -> Result<Option<(u32, u8)>, Fail> {
-    let events = [
-        send(0, 1),
-        deliver(0),
-        send(1, 0),
-        deliver(1),
-        build(0),
-        send(0, 1),
-        build(0),
-        send(0, 1),
-    ];
+    let twice = [build(0), send(0, 1), build(0), send(0, 1)];
+    let events = from_start(alloc, &twice)?;
     let config = GameConfig {
         extra,
         ..config(1024)?
     };
-    let played = play_remaining(alloc, config, walks(alloc, 2)?, &events)?;
+    let played = play_remaining(alloc, config, walks(alloc, 2)?, events.as_slice())?;
     Ok(
         played
             .game

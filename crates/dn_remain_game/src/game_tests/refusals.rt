@@ -1,8 +1,8 @@
 //! What is refused, and how a list is counted.
 
 use super::{
-    applies, build, config, deliver, give_up, given, hear, known, left, quit, reported, run, send,
-    started, stop, stopped, tell, told, walks,
+    applies, build, config, deliver, from_start, give_up, given, hear, known, left, quit, reported,
+    run, started, stop, stopped, tell, told, walks,
 };
 use crate::{Game, GameFault, GivenUp, Happened, Refusal, Reported, play_remaining};
 use std::process::Abort;
@@ -44,11 +44,7 @@ fn events_are_refused(rt: HostRuntime) -> Result<(), Fail> {
 
 #[test]
 fn a_list_is_played(rt: HostRuntime) -> Result<(), Fail> {
-    let events = [
-        send(0, 1),
-        deliver(0),
-        send(1, 0),
-        deliver(1),
+    let rest = [
         build(0),
         give_up(1, 0),
         hear(0),
@@ -56,8 +52,9 @@ fn a_list_is_played(rt: HostRuntime) -> Result<(), Fail> {
         build(1),
         run(1),
     ];
+    let events = from_start(rt.alloc(), &rest)?;
     let worlds = walks(rt.alloc(), 2)?;
-    let played = play_remaining(rt.alloc(), config(1024)?, worlds, &events)?;
+    let played = play_remaining(rt.alloc(), config(1024)?, worlds, events.as_slice())?;
     assert_eq!(&rt; (played.done, played.refused), (9, 1));
     assert_eq!(&rt; known(&played.game, 1, 0), (Some(0), Some(0)));
     assert_eq!(&rt; played.game.reports().len(), 0);
