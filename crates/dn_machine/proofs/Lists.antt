@@ -41,17 +41,7 @@ module _ {S : Type 0} (rules : Rules S) (settings : Settings) (history : History
       → ((which : ℕ) (flight : Flight) → slice_get others which ≡ Some flight
       → IsPiece rules settings history.inputs left flight)
       → ComesFromInputs rules settings (record history { left = left }) others
-  with_others left others ended pieces = record {
-    counted = from_inputs.counted;
-    run = from_inputs.run;
-    got = from_inputs.got;
-    ahead = from_inputs.ahead;
-    unread = from_inputs.unread;
-    commands = from_inputs.commands;
-    moves = from_inputs.moves;
-    ended = ended;
-    pieces = pieces;
-  }
+  with_others left others ended pieces = grind (arith, ended, pieces)
 
   -- a packet that is sent
   pub sends : (flight : Flight) → IsPiece rules settings history.inputs history.left flight
@@ -63,22 +53,15 @@ module _ {S : Type 0} (rules : Rules S) (settings : Settings) (history : History
       ])
 
   -- more players who have left
+  piece_left : (left : ℕ → Bool) → ((q : ℕ) → history.left q ≡ true → left q ≡ true) → (flight : Flight)
+      → IsPiece rules settings history.inputs history.left flight → IsPiece rules settings history.inputs left flight
+  piece_left left more flight piece = grind (arith, more)
+
   pub leaves : (left : ℕ → Bool) → ((q : ℕ) → history.left q ≡ true → left q ≡ true)
       → ComesFromInputs rules settings (record history { left = left }) flights
   leaves left more = with_others left flights
       (λ q p end l m h. let old = from_inputs.ended q p end l m h in (more p old.0, old.1))
-      (λ which flight h.
-      let piece = from_inputs.pieces which flight h in
-      record {
-        sender = piece.sender;
-        receiver = piece.receiver;
-        apart = piece.apart;
-        reached = piece.reached;
-        commands = piece.commands;
-        set_up = piece.set_up;
-        request = piece.request;
-        exit = λ e. let old = piece.exit e in (more flight.from old.0, old.1);
-      })
+      (λ which flight h. piece_left left more flight (from_inputs.pieces which flight h))
 
   -- tics are run as before where no node has fewer commands
   pub run_with : (held : ℕ → ℕ → List TicCmd)

@@ -146,30 +146,33 @@ module _ {S : Type 0} (rules : Rules S) (settings : Settings) (cap : ℕ) (stay 
             (λ j h k x. passes r j rounds o k h (λ e. absurd (a e)) (λ e. absurd (b e)) x)
             (built_in r o (inputs r) rounds g at))
 
-        -- the turn of the player, up to the run
+        -- the turn of one of the two, up to the run, by what its exchange with the other leads to
+        turn_to : (r s : ℕ) → r < rules.players → s < rules.players → (rounds later : ℕ)
+            → ((j : ℕ) → j ≢ s → (r ≡ p → j ≢ q) × (r ≡ q → j ≢ p))
+            → ((h : Game) → In r rounds h → In r later (exchange rules r h s)) → (g : Game) → At rounds g
+            → In r later (in_order (exchange rules r) rules.players (after rules (build_of r (inputs r)) g))
+        turn_to r s o m rounds later others goes g at =
+            one_of (In r rounds) (In r later) (exchange rules r) rules.players s
+            (λ j h k n x. passes r j rounds o k h (others j n).0 (others j n).1 x)
+            (λ j h k n x. passes r j later o k h (others j n).0 (others j n).1 x)
+            goes (after rules (build_of r (inputs r)) g) m (built_in r o (inputs r) rounds g at)
+
         turn_gives : (rounds later : ℕ) → AfterSent rounds later → (g : Game) → At rounds g
             → In p later (in_order (exchange rules p) rules.players (after rules (build_of p (inputs p)) g))
         turn_gives rounds later fit g at =
-            one_of (In p rounds) (In p later) (exchange rules p) rules.players q
-            (λ j h k n x. passes p j rounds l k h (λ e. n) (λ e. absurd (apart e)) x)
-            (λ j h k n x. passes p j later l k h (λ e. n) (λ e. absurd (apart e)) x)
-            (λ h x. gives rounds later fit h x)
-            (after rules (build_of p (inputs p)) g) m (built_in p l (inputs p) rounds g at)
+            turn_to p q l m rounds later (λ j n. (λ e. n, λ e. absurd (apart e)))
+            (λ h x. gives rounds later fit h x) g at
 
         turn_sender : (rounds later : ℕ) → AfterSent rounds later → (g : Game) → At rounds g
             → At later (turn rules inputs g p)
         unfolding turn
         turn_sender rounds later fit g at = run_at p l later _ (turn_gives rounds later fit g at)
 
-        -- the turn of the other, up to the run
         pub turn_hears : (rounds later : ℕ) → AfterHeard rounds later → (g : Game) → At rounds g
             → In q later (in_order (exchange rules q) rules.players (after rules (build_of q (inputs q)) g))
         turn_hears rounds later fit g at =
-            one_of (In q rounds) (In q later) (exchange rules q) rules.players p
-            (λ j h k n x. passes q j rounds m k h (λ e. absurd (apart (sym e))) (λ e. n) x)
-            (λ j h k n x. passes q j later m k h (λ e. absurd (apart (sym e))) (λ e. n) x)
-            (λ h x. hears rounds later fit h x)
-            (after rules (build_of q (inputs q)) g) l (built_in q m (inputs q) rounds g at)
+            turn_to q p m l rounds later (λ j n. (λ e. absurd (apart (sym e)), λ e. n))
+            (λ h x. hears rounds later fit h x) g at
 
         turn_receiver : (rounds later : ℕ) → AfterHeard rounds later → (g : Game) → At rounds g
             → At later (turn rules inputs g q)
