@@ -20,8 +20,7 @@ fn put_all<const PLACES: usize>(rt: &impl Abort, ring: &mut RingBuffer<PLACES>, 
 }
 
 #[test]
-fn a_ring_keeps_the_last_twelve(rt: HostRuntime) {
-    let rt = &rt;
+fn a_ring_keeps_the_last_twelve(ref rt: HostRuntime) {
     let mut ring = Ring::new();
     assert_eq!(rt; ring.count(), 0);
     same!(rt; ring.get(0), None);
@@ -50,8 +49,7 @@ fn a_ring_keeps_the_last_twelve(rt: HostRuntime) {
 }
 
 #[test]
-fn commands_from_a_tic_on_are_two_pieces(rt: HostRuntime) {
-    let rt = &rt;
+fn commands_from_a_tic_on_are_two_pieces(ref rt: HostRuntime) {
     let mut ring = Ring::new();
     assert_eq!(rt; ring.count(), 0);
     let (first, second) = ring.since(0);
@@ -74,8 +72,7 @@ fn commands_from_a_tic_on_are_two_pieces(rt: HostRuntime) {
 }
 
 #[test]
-fn slots_go_round(rt: HostRuntime) {
-    let rt = &rt;
+fn slots_go_round(ref rt: HostRuntime) {
     let mut ring = Ring::new();
     same!(rt; *ring.slots(), [STILL; 12]);
     put_all(rt, &mut ring, 13);
@@ -86,8 +83,7 @@ fn slots_go_round(rt: HostRuntime) {
 }
 
 #[test]
-fn a_slot_that_was_never_taken_is_zero(rt: HostRuntime) {
-    let rt = &rt;
+fn a_slot_that_was_never_taken_is_zero(ref rt: HostRuntime) {
     let mut ring = Ring::new();
     ring.put(chat(7));
     same!(rt; (ring.slot(0), ring.slot(1)), (chat(7), STILL));
@@ -99,8 +95,7 @@ fn a_slot_that_was_never_taken_is_zero(rt: HostRuntime) {
 }
 
 #[test]
-fn a_wide_ring_keeps_the_last_thirty_two(rt: HostRuntime) {
-    let rt = &rt;
+fn a_wide_ring_keeps_the_last_thirty_two(ref rt: HostRuntime) {
     let mut ring = WideRing::new();
     put_all(rt, &mut ring, 40);
     assert_eq!(rt; ring.count(), 40);
@@ -118,8 +113,7 @@ fn a_wide_ring_keeps_the_last_thirty_two(rt: HostRuntime) {
 }
 
 #[test]
-fn a_range_is_told_in_two_pieces(rt: HostRuntime) {
-    let rt = &rt;
+fn a_range_is_told_in_two_pieces(ref rt: HostRuntime) {
     let mut ring = WideRing::new();
     put_all(rt, &mut ring, 40);
     // tic 31 stands in the last slot, and tic 32 in the first
@@ -135,8 +129,7 @@ fn a_range_is_told_in_two_pieces(rt: HostRuntime) {
 }
 
 #[test]
-fn a_ring_of_one_place_keeps_the_last(rt: HostRuntime) {
-    let rt = &rt;
+fn a_ring_of_one_place_keeps_the_last(ref rt: HostRuntime) {
     let mut ring = RingBuffer::<1>::new();
     put_all(rt, &mut ring, 3);
     same!(rt; (ring.get(1), ring.get(2), ring.get(3)), (None, Some(chat(2)), None));

@@ -78,8 +78,7 @@ fn opened(
 }
 
 #[test]
-fn strange_envelopes_are_dropped(rt: HostRuntime) {
-    let rt = &rt;
+fn strange_envelopes_are_dropped(ref rt: HostRuntime) {
     let (mut key, mut other, first) = opened(rt, rt.alloc(), Seal::new(SECRET, GAME));
     same!(rt; arrives(&mut other, &altered(&first)), Arrived::Unopened(SealFault::Tag));
     same!(rt; arrives(&mut key, &first), Arrived::Unopened(SealFault::Receiver));
@@ -89,8 +88,7 @@ fn strange_envelopes_are_dropped(rt: HostRuntime) {
 }
 
 #[test]
-fn envelopes_of_other_games_are_dropped(rt: HostRuntime) {
-    let rt = &rt;
+fn envelopes_of_other_games_are_dropped(ref rt: HostRuntime) {
     let (_, _, first) = opened(rt, rt.alloc(), Seal::new(SECRET, GAME));
     for (seal, fault) in [
         (Seal::new(SECRET, NEXT), SealFault::Game),
@@ -103,8 +101,7 @@ fn envelopes_of_other_games_are_dropped(rt: HostRuntime) {
 }
 
 #[test]
-fn open_games_play_too(rt: HostRuntime) {
-    let rt = &rt;
+fn open_games_play_too(ref rt: HostRuntime) {
     let (_, mut other, first) = opened(rt, rt.alloc(), Seal::without_secret(GAME));
     let mut unset = lockstep(rt, rt.alloc(), 1, Seal::new([0; 32], GAME));
     same!(rt; arrives(&mut unset, &first), Arrived::Unopened(SealFault::Suite));
@@ -128,8 +125,7 @@ fn playing(
 }
 
 #[test]
-fn sealed_packets_are_heard_by_their_own_numbers(rt: HostRuntime) {
-    let rt = &rt;
+fn sealed_packets_are_heard_by_their_own_numbers(ref rt: HostRuntime) {
     let (mut key, _, one) = playing(rt, rt.alloc(), Seal::new(SECRET, GAME));
     same!(rt; one.len(), 53);
     same!(rt; arrives(&mut key, &one), Arrived::Heard(Heard::Stale));
@@ -152,8 +148,7 @@ fn sealed_packets_are_heard_by_their_own_numbers(rt: HostRuntime) {
 /// player are held against the envelope, and what tells the envelope's numbers is looked into, and has a wrong
 /// sum.
 #[test]
-fn packets_are_held_against_their_envelopes(rt: HostRuntime) {
-    let rt = &rt;
+fn packets_are_held_against_their_envelopes(ref rt: HostRuntime) {
     let (mut key, _, one) = playing(rt, rt.alloc(), Seal::new(SECRET, GAME));
     let by = Sealer::new(SECRET, GAME, 1);
     for (place, wanted) in [
@@ -170,19 +165,20 @@ fn packets_are_held_against_their_envelopes(rt: HostRuntime) {
     }
 }
 
+/// A command that no keys make.
+const TYPED: Command = Command {
+    forward: 50,
+    side: -1,
+    turn: 300,
+    chat: 104,
+    buttons: 129,
+};
+
 #[test]
-fn given_commands_go_in_envelopes(rt: HostRuntime) {
-    let rt = &rt;
+fn given_commands_go_in_envelopes(ref rt: HostRuntime) {
     let (mut key, mut other, first) = opened(rt, rt.alloc(), Seal::new(SECRET, GAME));
     let _ = arrives(&mut other, &first);
-    let typed = Command {
-        forward: 50,
-        side: -1,
-        turn: 300,
-        chat: 104,
-        buttons: 129,
-    };
-    same!(rt; other.give(typed), Made::Made(0));
+    same!(rt; other.give(TYPED), Made::Made(0));
     let one = sealed(rt, &mut other, 0);
     let _ = arrives(&mut key, &one);
     same!(rt; key.command(1, 0), None);
@@ -216,8 +212,7 @@ fn round(rt: &impl Abort, one: &mut SealedLockstep, other: &mut SealedLockstep) 
 /// An envelope whose packet starts 64 tics before what its receiver has made is heard, and a tic later it is
 /// not.
 #[test]
-fn old_envelopes_are_late(rt: HostRuntime) {
-    let rt = &rt;
+fn old_envelopes_are_late(ref rt: HostRuntime) {
     let (mut key, mut other, one) = playing(rt, rt.alloc(), Seal::new(SECRET, GAME));
     for _ in 0..64 {
         round(rt, &mut key, &mut other);
@@ -231,8 +226,7 @@ fn old_envelopes_are_late(rt: HostRuntime) {
 
 /// The same number lets an old game's packets in, and another number does not.
 #[test]
-fn an_old_game_has_another_number(rt: HostRuntime) {
-    let rt = &rt;
+fn an_old_game_has_another_number(ref rt: HostRuntime) {
     let (_, _, one) = playing(rt, rt.alloc(), Seal::new(SECRET, GAME));
     let mut again = lockstep(rt, rt.alloc(), 0, Seal::new(SECRET, GAME));
     same!(rt; arrives(&mut again, &one), Arrived::Heard(Heard::Started));

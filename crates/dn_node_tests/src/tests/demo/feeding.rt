@@ -93,9 +93,10 @@ fn pieces_end_as_their_join(rt: HostRuntime) {
 fn fronts_of_a_demo_are_refused(rt: HostRuntime) {
     for demo in [PLAYED.as_slice(), RECORDED.as_slice()] {
         for len in 0..demo.len() {
-            let fault = match len {
-                0..=12 => FeedFault::Short,
-                _ => FeedFault::NoMarker,
+            let fault = if len < 13 {
+                FeedFault::Short
+            } else {
+                FeedFault::NoMarker
             };
             same!(&rt; fed(&demo[..len], 0, 5).err(), Some(fault), len);
         }
@@ -103,8 +104,7 @@ fn fronts_of_a_demo_are_refused(rt: HostRuntime) {
 }
 
 #[test]
-fn bytes_are_counted_as_they_come(rt: HostRuntime) {
-    let rt = &rt;
+fn bytes_are_counted_as_they_come(ref rt: HostRuntime) {
     let mut feed = Feed::new(Walk::new());
     same!(rt; feed.taken(), 0);
     push(&mut feed, &PLAYED[..17]);
@@ -162,8 +162,7 @@ fn drawn(seats: u8, version: u8) -> [u8; 300] {
 
 /// For each set of players, in both versions: a feed ends as `Demo::read` and `play` do.
 #[test]
-fn any_seats_end_as_they_are_read(rt: HostRuntime) {
-    let rt = &rt;
+fn any_seats_end_as_they_are_read(ref rt: HostRuntime) {
     for seats in 0..16_u8 {
         for version in [109, 111] {
             let bytes = drawn(seats, version);

@@ -4,7 +4,7 @@ use super::stages::{STOP, Stage, at};
 use super::{Written, hears, received};
 use dn_lockstep::{Heard, Lockstep};
 use dn_packet::{EXIT, KILL, RETRANSMIT, SETUP};
-use dn_shared_tests::{must, rows, same};
+use dn_shared_tests::{list, must, rows, same};
 use std::alloc::Global;
 use std::process::Abort;
 use std::test::Fail;
@@ -39,8 +39,7 @@ fn drops_all_of(rt: &impl Abort, node: &mut Lockstep, from: u8) {
 }
 
 #[test]
-fn who_is_no_peer_is_a_stranger(rt: HostRuntime) {
-    let rt = &rt;
+fn who_is_no_peer_is_a_stranger(ref rt: HostRuntime) {
     for stage in PEERS {
         let mut node = must!(rt; at(rt.alloc(), stage));
         for from in [node.me(), 3, 4, 255] {
@@ -63,8 +62,7 @@ fn drops(
 }
 
 #[test]
-fn bytes_that_are_no_packet_are_told_apart(rt: HostRuntime) {
-    let rt = &rt;
+fn bytes_that_are_no_packet_are_told_apart(ref rt: HostRuntime) {
     // one command of player 2, forward 50 and attack, which every phase would answer otherwise
     let one = [
         0xCB, 0x45, 0x25, 0x05, 0, 0, 2, 1, 0x32, 0, 0, 0, 0, 0, 0, 1,
@@ -93,17 +91,6 @@ fn bytes_that_are_no_packet_are_told_apart(rt: HostRuntime) {
     }
 }
 
-/// Settings that come to a node, and what it answers.
-#[derive(Drop)]
-struct Choice {
-    stage: Stage,
-    from: u8,
-    ask: u8,
-    start: u8,
-    version: u8,
-    answer: Heard,
-}
-
 /// A packet with a command that comes to a node before its game, and what the node answers.
 #[derive(Drop)]
 struct Early {
@@ -116,36 +103,44 @@ struct Early {
     answer: Heard,
 }
 
+/// Hands settings to a node that stands so, with each flag that may go with them, and compares its answer.
+fn answers_settings(
+    rt: &impl Abort,
+    alloc: Global,
+    sent: (Stage, u8),
+    numbers: (u8, u8, u8),
+    answer: Heard,
+) {
+    for flags in [SETUP, SETUP + KILL, SETUP + EXIT] {
+        answers(rt, alloc, sent, (flags, numbers, &[]), answer);
+    }
+}
+
 #[test]
-fn set_up_is_for_listeners(rt: HostRuntime) {
-    let rt = &rt;
-    let rows = rows! {
-        Choice { stage,           from, ask, start, version, answer }
-               [ Stage::Listener, 0,    2,   65,    111,     Heard::Started ]
-               [ Stage::Listener, 0,    2,   65,    110,     Heard::Dropped(7) ]
-               [ Stage::Listener, 0,    5,   65,    110,     Heard::Dropped(7) ]
-               [ Stage::Listener, 0,    5,   65,    111,     Heard::Dropped(8) ]
-               [ Stage::Listener, 0,    2,   0,     111,     Heard::Dropped(8) ]
-               [ Stage::Listener, 2,    2,   65,    111,     Heard::Dropped(6) ]
-               [ Stage::Listener, 2,    5,   65,    110,     Heard::Dropped(6) ]
-               [ Stage::Key,      1,    2,   65,    111,     Heard::Dropped(6) ]
-               [ Stage::Key,      2,    5,   65,    1,       Heard::Dropped(6) ]
-               [ Stage::First,    1,    2,   65,    111,     Heard::Dropped(6) ]
-               [ Stage::First,    1,    0,   0,     1,       Heard::Dropped(6) ]
-               [ Stage::Second,   0,    2,   65,    111,     Heard::Dropped(6) ]
-               [ Stage::Second,   2,    5,   65,    110,     Heard::Dropped(6) ]
-    };
-    for row in rows {
-        for flags in [SETUP, SETUP + KILL, SETUP + EXIT] {
-            let packet = (flags, (row.ask, row.start, row.version), [].as_slice());
-            answers(rt, rt.alloc(), (row.stage, row.from), packet, row.answer);
+fn a_listener_takes_settings(ref rt: HostRuntime) {
+    for (numbers, answer) in list! {
+        ((2, 65, 111), Heard::Started),
+        ((2, 65, 110), Heard::Dropped(7)), ((5, 65, 110), Heard::Dropped(7)),
+        ((5, 65, 111), Heard::Dropped(8)), ((2, 0, 111), Heard::Dropped(8))
+    } {
+        answers_settings(rt, rt.alloc(), (Stage::Listener, 0), numbers, answer);
+    }
+}
+
+#[test]
+fn set_up_is_for_listeners(ref rt: HostRuntime) {
+    for sent in list! {
+        (Stage::Listener, 2), (Stage::Key, 1), (Stage::Key, 2), (Stage::First, 1), (Stage::Second, 0),
+        (Stage::Second, 2)
+    } {
+        for numbers in [(2, 65, 111), (5, 65, 110), (5, 65, 1), (0, 0, 1)] {
+            answers_settings(rt, rt.alloc(), sent, numbers, Heard::Dropped(6));
         }
     }
 }
 
 #[test]
-fn before_the_game_nothing_is_taken(rt: HostRuntime) {
-    let rt = &rt;
+fn before_the_game_nothing_is_taken(ref rt: HostRuntime) {
     let rows = rows! {
         Early { stage,           from, flags,             ask, start, player, answer }
               [ Stage::Listener, 0,    0,                 0,   0,     0,      Heard::Dropped(13) ]

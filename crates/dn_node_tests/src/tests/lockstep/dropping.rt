@@ -67,9 +67,7 @@ struct Early {
     stage: Stage,
     from: u8,
     flags: u8,
-    ask: u8,
-    start: u8,
-    player: u8,
+    numbers: (u8, u8, u8),
     number: u8,
 }
 
@@ -78,38 +76,35 @@ struct Early {
 struct Playing<'a> {
     from: u8,
     flags: u8,
-    ask: u8,
-    start: u8,
-    player: u8,
+    numbers: (u8, u8, u8),
     commands: &'a [TicCmd],
     number: u8,
 }
 
 #[test]
-fn before_the_game_nothing_is_changed(rt: HostRuntime) {
-    let rt = &rt;
+fn before_the_game_nothing_is_changed(ref rt: HostRuntime) {
     let rows = rows! {
-        Early { stage,           from, flags,             ask, start, player, number }
-              [ Stage::Listener, 1,    SETUP,             2,   65,    111,    5 ]
-              [ Stage::Listener, 0,    SETUP,             2,   65,    110,    7 ]
-              [ Stage::Listener, 0,    SETUP,             5,   65,    111,    8 ]
-              [ Stage::Listener, 2,    SETUP,             2,   65,    111,    6 ]
-              [ Stage::Listener, 0,    0,                 0,   0,     0,      13 ]
-              [ Stage::Key,      1,    SETUP,             2,   65,    111,    6 ]
-              [ Stage::Key,      1,    KILL,              0,   0,     1,      9 ]
-              [ Stage::Key,      1,    0,                 0,   0,     2,      5 ]
-              [ Stage::Quitter,  0,    SETUP,             2,   65,    111,    13 ]
-              [ Stage::Leaver,   0,    EXIT,              0,   0,     0,      13 ]
-              [ Stage::Leaver,   0,    EXIT + RETRANSMIT, 0,   255,   0,      13 ]
-              [ Stage::Leaver,   0,    SETUP,             2,   65,    111,    6 ]
-              [ Stage::Leaver,   0,    KILL + EXIT,       0,   0,     0,      9 ]
-              [ Stage::Leaver,   0,    RETRANSMIT,        0,   0,     2,      5 ]
-              [ Stage::Leaver,   0,    RETRANSMIT,        0,   255,   0,      10 ]
-              [ Stage::Leaver,   3,    0,                 0,   0,     3,      5 ]
+        Early { stage,           from, flags,             numbers,      number }
+              [ Stage::Listener, 1,    SETUP,             (2, 65, 111), 5 ]
+              [ Stage::Listener, 0,    SETUP,             (2, 65, 110), 7 ]
+              [ Stage::Listener, 0,    SETUP,             (5, 65, 111), 8 ]
+              [ Stage::Listener, 2,    SETUP,             (2, 65, 111), 6 ]
+              [ Stage::Listener, 0,    0,                 (0, 0, 0),    13 ]
+              [ Stage::Key,      1,    SETUP,             (2, 65, 111), 6 ]
+              [ Stage::Key,      1,    KILL,              (0, 0, 1),    9 ]
+              [ Stage::Key,      1,    0,                 (0, 0, 2),    5 ]
+              [ Stage::Quitter,  0,    SETUP,             (2, 65, 111), 13 ]
+              [ Stage::Leaver,   0,    EXIT,              (0, 0, 0),    13 ]
+              [ Stage::Leaver,   0,    EXIT + RETRANSMIT, (0, 255, 0),  13 ]
+              [ Stage::Leaver,   0,    SETUP,             (2, 65, 111), 6 ]
+              [ Stage::Leaver,   0,    KILL + EXIT,       (0, 0, 0),    9 ]
+              [ Stage::Leaver,   0,    RETRANSMIT,        (0, 0, 2),    5 ]
+              [ Stage::Leaver,   0,    RETRANSMIT,        (0, 255, 0),  10 ]
+              [ Stage::Leaver,   3,    0,                 (0, 0, 3),    5 ]
     };
     for row in rows {
         let mut node = must!(rt; at(rt.alloc(), row.stage));
-        let packet = (row.flags, (row.ask, row.start, row.player), [].as_slice());
+        let packet = (row.flags, row.numbers, [].as_slice());
         for _ in 0..2 {
             refuses(rt, &mut node, row.from, packet, row.number);
         }
@@ -118,8 +113,7 @@ fn before_the_game_nothing_is_changed(rt: HostRuntime) {
 
 /// A player whose packet was dropped while the node gathers is still waited for.
 #[test]
-fn who_was_dropped_is_not_noted(rt: HostRuntime) {
-    let rt = &rt;
+fn who_was_dropped_is_not_noted(ref rt: HostRuntime) {
     let mut key = must!(rt; at(rt.alloc(), Stage::Key));
     for (from, flags, player, number) in [(1, KILL, 1, 9), (1, 0, 2, 5), (2, SETUP, 111, 6)] {
         refuses(rt, &mut key, from, (flags, (2, 65, player), &[]), number);
@@ -131,32 +125,31 @@ fn who_was_dropped_is_not_noted(rt: HostRuntime) {
 
 /// What a node of two players that has run four tics drops of player 1, and of others.
 #[test]
-fn in_the_game_nothing_is_changed(rt: HostRuntime) {
-    let rt = &rt;
+fn in_the_game_nothing_is_changed(ref rt: HostRuntime) {
     let stop = [STOP; 1];
     let still = [STILL; 12];
     let rows = rows! {
-        Playing { from, flags,             ask, start, player, commands, number }
-                [ 0,    0,                 0,   4,     0,      &[],      5 ]
-                [ 2,    0,                 0,   4,     2,      &[],      5 ]
-                [ 1,    0,                 0,   4,     0,      &[],      5 ]
-                [ 1,    EXIT,              0,   4,     0x81,   &[],      5 ]
-                [ 1,    SETUP,             2,   65,    111,    &[],      6 ]
-                [ 1,    KILL,              0,   4,     1,      &[],      9 ]
-                [ 1,    RETRANSMIT,        0,   200,   1,      &[],      10 ]
-                [ 1,    RETRANSMIT,        0,   4,     1,      &stop,    11 ]
-                [ 1,    RETRANSMIT,        0,   5,     1,      &still,   12 ]
+        Playing { from, flags,             numbers,       commands, number }
+                [ 0,    0,                 (0, 4, 0),     &[],      5 ]
+                [ 2,    0,                 (0, 4, 2),     &[],      5 ]
+                [ 1,    0,                 (0, 4, 0),     &[],      5 ]
+                [ 1,    EXIT,              (0, 4, 0x81),  &[],      5 ]
+                [ 1,    SETUP,             (2, 65, 111),  &[],      6 ]
+                [ 1,    KILL,              (0, 4, 1),     &[],      9 ]
+                [ 1,    RETRANSMIT,        (0, 200, 1),   &[],      10 ]
+                [ 1,    RETRANSMIT,        (0, 4, 1),     &stop,    11 ]
+                [ 1,    RETRANSMIT,        (0, 5, 1),     &still,   12 ]
         // packets that would tell an end
-                [ 1,    EXIT + KILL,       0,   4,     1,      &[],      9 ]
-                [ 1,    EXIT,              0,   200,   1,      &[],      10 ]
-                [ 1,    EXIT,              0,   4,     1,      &stop,    11 ]
-                [ 1,    EXIT,              0,   17,    1,      &[],      12 ]
-                [ 1,    EXIT + RETRANSMIT, 0,   3,     1,      &[],      14 ]
+                [ 1,    EXIT + KILL,       (0, 4, 1),     &[],      9 ]
+                [ 1,    EXIT,              (0, 200, 1),   &[],      10 ]
+                [ 1,    EXIT,              (0, 4, 1),     &stop,    11 ]
+                [ 1,    EXIT,              (0, 17, 1),    &[],      12 ]
+                [ 1,    EXIT + RETRANSMIT, (0, 3, 1),     &[],      14 ]
     };
     let (mut key, mut other) = must!(rt; pair(rt.alloc(), false));
     tics(&mut key, &mut other, 4, IDLE);
     for row in rows {
-        let packet = (row.flags, (row.ask, row.start, row.player), row.commands);
+        let packet = (row.flags, row.numbers, row.commands);
         refuses(rt, &mut key, row.from, packet, row.number);
     }
     // a request that was dropped is not met: nothing goes out again
@@ -184,8 +177,7 @@ fn is_misled(rt: &impl Abort, key: &mut Lockstep) {
 
 /// The bytes of the next packet are those of a node that was handed nothing.
 #[test]
-fn the_next_packet_is_the_same(rt: HostRuntime) {
-    let rt = &rt;
+fn the_next_packet_is_the_same(ref rt: HostRuntime) {
     let mut key = must!(rt; played(rt.alloc()));
     let mut again = must!(rt; played(rt.alloc()));
     is_misled(rt, &mut key);

@@ -22,8 +22,7 @@ struct Ending {
 
 /// What a node that has left makes of packets of player 2: of one who plays on it hears the request alone.
 #[test]
-fn a_leaver_hears_who_plays_on(rt: HostRuntime) {
-    let rt = &rt;
+fn a_leaver_hears_who_plays_on(ref rt: HostRuntime) {
     let stop = [STOP; 12];
     let still = [STILL; 12];
     let rows = rows! {
@@ -54,8 +53,7 @@ fn a_leaver_hears_who_plays_on(rt: HostRuntime) {
 
 /// A farewell counts as a player who is there where it comes before the start, and its end is not noted.
 #[test]
-fn a_farewell_before_the_start_tells_no_end(rt: HostRuntime) {
-    let rt = &rt;
+fn a_farewell_before_the_start_tells_no_end(ref rt: HostRuntime) {
     let mut key = must!(rt; at(rt.alloc(), Stage::Key));
     hears(rt, &mut key, 2, (EXIT, (0, 0, 2), &[]), Heard::Noted);
     same!(rt; key.end(2), None);
@@ -92,8 +90,7 @@ fn sends(rt: &impl Abort, node: &mut Lockstep, start: u32, count: u8) {
 
 /// A node that has left answers requests as one that plays does, and runs nothing.
 #[test]
-fn a_leaver_answers_requests(rt: HostRuntime) {
-    let rt = &rt;
+fn a_leaver_answers_requests(ref rt: HostRuntime) {
     let (mut key, mut other) = must!(rt; pair(rt.alloc(), false));
     tics(&mut key, &mut other, 30, IDLE);
     holds!(rt; quit(&mut key));
@@ -113,8 +110,7 @@ fn a_leaver_answers_requests(rt: HostRuntime) {
 
 /// A node that has played and ended tells its own end, and any other tells none.
 #[test]
-fn a_node_tells_its_own_end(rt: HostRuntime) {
-    let rt = &rt;
+fn a_node_tells_its_own_end(ref rt: HostRuntime) {
     for (stage, end) in [
         (Stage::Listener, None),
         (Stage::Key, None),
@@ -133,8 +129,7 @@ fn a_node_tells_its_own_end(rt: HostRuntime) {
 
 /// An end is told by an EXIT packet that is not dropped, and stays; what speaks against it is dropped.
 #[test]
-fn an_end_stays(rt: HostRuntime) {
-    let rt = &rt;
+fn an_end_stays(ref rt: HostRuntime) {
     let (mut key, _) = must!(rt; pair(rt.alloc(), false));
     hears(
         rt,
@@ -180,8 +175,7 @@ fn an_end_stays(rt: HostRuntime) {
 
 /// An end may lie neither before the commands that are there, nor before the end of a later packet.
 #[test]
-fn an_end_is_that_of_all_packets(rt: HostRuntime) {
-    let rt = &rt;
+fn an_end_is_that_of_all_packets(ref rt: HostRuntime) {
     let (mut key, mut other) = must!(rt; pair(rt.alloc(), false));
     tics(&mut key, &mut other, 3, IDLE);
     for _ in 0..2 {

@@ -24,8 +24,7 @@ fn exchange(rt: &impl Abort, key: &mut Lockstep, other: &mut Lockstep) -> Result
 
 /// A command carries the mark that was handed in at the run twelve tics before.
 #[test]
-fn marks_come_back_twelve_tics_on(rt: HostRuntime) {
-    let rt = &rt;
+fn marks_come_back_twelve_tics_on(ref rt: HostRuntime) {
     let (mut key, mut other) = must!(rt; pair(rt.alloc(), false));
     for tic in 0i16..30 {
         let carried = must!(rt; exchange(rt, &mut key, &mut other));
@@ -52,8 +51,7 @@ fn differing(rt: &impl Abort, alloc: Global) -> Result<(Lockstep, Lockstep), Fai
 
 /// Worlds that differ before tic 5 end the game at tic 17, at whoever hands in another mark than the player.
 #[test]
-fn other_marks_end_it(rt: HostRuntime) {
-    let rt = &rt;
+fn other_marks_end_it(ref rt: HostRuntime) {
     let (mut key, mut other) = must!(rt; differing(rt, rt.alloc()));
     let ran = Ran::Inconsistent {
         player: 1,
@@ -75,18 +73,19 @@ fn run_without(key: &mut Lockstep, given_up: &[bool; 4], row: &mut [Option<Move>
     key.run_without(given_up, &[7; 4], row)
 }
 
+/// What it finds of player 1 where that one counts.
+const OFF: Ran = Ran::Inconsistent {
+    player: 1,
+    was: 7,
+    should: 8,
+};
+
 /// The marks of players who are given up may be any, and their commands are still in the row.
 #[test]
-fn marks_of_those_given_up_do_not_matter(rt: HostRuntime) {
-    let rt = &rt;
-    let off = Ran::Inconsistent {
-        player: 1,
-        was: 7,
-        should: 8,
-    };
+fn marks_of_those_given_up_do_not_matter(ref rt: HostRuntime) {
     let rows = [
-        ([false; 4], off),
-        ([true, false, true, true], off),
+        ([false; 4], OFF),
+        ([true, false, true, true], OFF),
         ([false, true, false, false], Ran::Ran(17)),
         ([true; 4], Ran::Ran(17)),
     ];
@@ -101,8 +100,7 @@ fn marks_of_those_given_up_do_not_matter(rt: HostRuntime) {
 
 /// Once a player is gone, the player's mark may be any.
 #[test]
-fn marks_of_the_gone_do_not_matter(rt: HostRuntime) {
-    let rt = &rt;
+fn marks_of_the_gone_do_not_matter(ref rt: HostRuntime) {
     let (mut key, mut other) = must!(rt; pair(rt.alloc(), false));
     tics(&mut key, &mut other, 20, IDLE);
     holds!(rt; quit(&mut key));
@@ -119,8 +117,7 @@ fn marks_of_the_gone_do_not_matter(rt: HostRuntime) {
 
 /// Only a tic that was run tells a row.
 #[test]
-fn no_other_run_tells_a_row(rt: HostRuntime) {
-    let rt = &rt;
+fn no_other_run_tells_a_row(ref rt: HostRuntime) {
     let (mut key, mut other) = must!(rt; pair(rt.alloc(), false));
     same!(rt; run_by(&mut key, [0; 4]), (Ran::Waiting(0), None));
     let _ = must!(rt; exchange(rt, &mut key, &mut other));

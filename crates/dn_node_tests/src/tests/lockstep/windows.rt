@@ -20,8 +20,7 @@ fn fault(alloc: Global, limit: u32, ahead: u8) -> Result<Option<NodeFault>, Fail
 
 /// A window that no lockstep has is named before all else, and any other changes no fault.
 #[test]
-fn a_wrong_window_is_named_first(rt: HostRuntime) {
-    let rt = &rt;
+fn a_wrong_window_is_named_first(ref rt: HostRuntime) {
     for ahead in [0, 13, 24, 255] {
         for limit in [LIMIT, 1_023] {
             same!(rt; must!(rt; fault(rt.alloc(), limit, ahead)), Some(NodeFault::Ahead), ahead);
@@ -57,8 +56,7 @@ fn fills(rt: &impl Abort, (key, other): (&mut Lockstep, &mut Lockstep), first: u
 }
 
 #[test]
-fn each_window_is_filled_and_run(rt: HostRuntime) {
-    let rt = &rt;
+fn each_window_is_filled_and_run(ref rt: HostRuntime) {
     for ahead in 1..=12_u8 {
         let (mut key, mut other) = must!(rt; pair(rt.alloc(), ahead));
         let all = u32::from(ahead);
@@ -89,8 +87,7 @@ fn far_ahead(rt: &impl Abort, alloc: Global, ahead: u8) -> (Lockstep, Lockstep) 
 
 /// The other has all of them in one packet, or in two if they are more than twelve.
 #[test]
-fn two_windows_are_made_good(rt: HostRuntime) {
-    let rt = &rt;
+fn two_windows_are_made_good(ref rt: HostRuntime) {
     for ahead in 1..=12_u8 {
         let (mut key, mut other) = far_ahead(rt, rt.alloc(), ahead);
         let due = 2 * u32::from(ahead);
@@ -105,8 +102,7 @@ fn two_windows_are_made_good(rt: HostRuntime) {
 
 /// Of two packets of a player who has left, the second tells the end.
 #[test]
-fn a_cut_packet_tells_no_end(rt: HostRuntime) {
-    let rt = &rt;
+fn a_cut_packet_tells_no_end(ref rt: HostRuntime) {
     for ahead in 1..=12_u8 {
         let (mut key, mut other) = far_ahead(rt, rt.alloc(), ahead);
         assert!(rt; quit(&mut key));
@@ -122,8 +118,7 @@ fn a_cut_packet_tells_no_end(rt: HostRuntime) {
 
 /// A lockstep reports as many of the last commands of a player as it keeps in its window, and no others.
 #[test]
-fn what_is_kept_is_reported(rt: HostRuntime) {
-    let rt = &rt;
+fn what_is_kept_is_reported(ref rt: HostRuntime) {
     for ahead in 1..=12_u8 {
         let (mut key, mut other) = must!(rt; pair(rt.alloc(), ahead));
         let all = u32::from(ahead);
@@ -195,8 +190,7 @@ impl Slow {
 /// Where a packet takes fewer turns than the window is wide, a tic is run in each turn. Else as many as the
 /// window is wide are run in one turn more than a packet takes.
 #[test]
-fn a_window_hides_delay(rt: HostRuntime) {
-    let rt = &rt;
+fn a_window_hides_delay(ref rt: HostRuntime) {
     for ahead in 1..=12_u8 {
         for delay in 0..=15_u8 {
             let mut slow = must!(rt; Slow::new(rt.alloc(), ahead, usize::from(delay)));
@@ -213,8 +207,7 @@ fn a_window_hides_delay(rt: HostRuntime) {
 
 /// Each request for memory may be refused: then the answer says so, and there is no other.
 #[test]
-fn refused_memory_is_told_in_a_window(rt: HostRuntime) {
-    let rt = &rt;
+fn refused_memory_is_told_in_a_window(ref rt: HostRuntime) {
     let made = Lockstep::within(rt.alloc(), must!(rt; config_of((2, 0), false, LIMIT)), 12);
     if let Some(node) = granted!(rt; "Lockstep::within", made, NodeFault::Memory) {
         same!(rt; node.phase(), Phase::Gathering);
