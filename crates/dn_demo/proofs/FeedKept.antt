@@ -10,7 +10,7 @@ use Rattle.dn_demo.specs.Rows.{player_count}
 use Rattle.dn_demo.specs.Text.{marker}
 use Rattle.dn_demo.specs.Places.{seats_in, place}
 use Rattle.dn_demo.specs.Reading.{recording, HasHeader, IsReadAs}
-use Rattle.dn_demo.specs.Feeding.{Feeding, IsUpToMarker, Shows, ShowsRows, TakesFront}
+use Rattle.dn_demo.specs.Feeding.{Feeding, IsUpToMarker, Shows, ShowsRows, Takes, TakesFront}
 use Rattle.dn_demo.specs.declared.demo.DemoFault.TheVariants.{NoMarker}
 use Rattle.dn_demo.proofs.OneReading.{same_layout}
 use Rattle.dn_demo.proofs.Layouts.{place_order}
@@ -89,6 +89,13 @@ pub no_marker : {S W : Type 0} (state : W → S) (physics : Physics S) (layout :
 no_marker state physics layout bytes f h free rows =
     (layout, h, (unmarked state physics layout bytes f free rows).none)
 
+-- what takes one piece, and another behind it
+pub takes_more : {S W : Type 0} (state : W → S) (physics : Physics S) (f g h : Feeding W) (xs ys : List ℕ)
+    → Takes state physics f xs g → Takes state physics g ys h → Takes state physics f (xs ++ ys) h
+takes_more state physics f g h xs ys one other bytes shown =
+    subst (λ (b : List ℕ). Shows state physics b h) (append_assoc bytes xs ys)
+    (other (bytes ++ xs) (one bytes shown))
+
 -- a front, and one behind it
 pub front_more : {S W : Type 0} (state : W → S) (physics : Physics S) (f g h : Feeding W)
     (piece mid rest : List ℕ)
@@ -97,10 +104,7 @@ pub front_more : {S W : Type 0} (state : W → S) (physics : Physics S) (f g h :
 front_more state physics f g h piece mid rest one other =
     record {
       front = one.front ++ other.front;
-      split = one.split ∙ ap (λ (t : List ℕ). one.front ++ t) other.split
-          ∙ sym (append_assoc one.front other.front rest);
+      split = grind (arith, one.split, other.split, append_assoc);
       count = omega (arith, one.count, other.count, length-append one.front other.front);
-      shown = λ bytes shown. subst (λ (b : List ℕ). Shows state physics b h)
-          (append_assoc bytes one.front other.front)
-          (other.shown (bytes ++ one.front) (one.shown bytes shown));
+      shown = takes_more state physics f g h one.front other.front one.shown other.shown;
     }

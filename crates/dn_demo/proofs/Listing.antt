@@ -10,6 +10,7 @@ use Rattle.dn_demo.specs.Places.{seats_in, place, row_in, rows_in}
 use Rattle.dn_demo.specs.Reading.{HasHeader, HasRows}
 use Rattle.dn_demo.specs.Feeding.{Feeding, Shows, ShowsRows, Takes}
 use Rattle.dn_demo.specs.Listed.{told, EndsRow, AreListed, Lists, TellsFront}
+use Rattle.dn_demo.proofs.FeedKept.{takes_more}
 use Rattle.dn_demo.proofs.HeadersKept.{header_kept, header_of_kept, kept_longer}
 use Rattle.dn_demo.proofs.OneReading.{same_layout}
 use Rattle.dn_demo.proofs.TicsCounted.{counted}
@@ -120,12 +121,9 @@ pub tells_more : {S W : Type 0} (state : W → S) (physics : Physics S) (f g h :
 tells_more state physics f g h piece mid rest xs ys one other =
     record {
       front = one.front ++ other.front;
-      split = one.split ∙ ap (λ (t : List ℕ). one.front ++ t) other.split
-          ∙ sym (append_assoc one.front other.front rest);
+      split = grind (arith, one.split, other.split, append_assoc);
       count = omega (arith, one.count, other.count, length-append one.front other.front);
-      shown = λ bytes shown. subst (λ (b : List ℕ). Shows state physics b h)
-          (append_assoc bytes one.front other.front)
-          (other.shown (bytes ++ one.front) (one.shown bytes shown));
+      shown = takes_more state physics f g h one.front other.front one.shown other.shown;
       listed = record {
         tics = omega (arith, one.listed.tics, other.listed.tics, length-append xs ys);
         each = λ bytes before shown listed.
