@@ -1,5 +1,5 @@
 -- What is known of a game whose nodes have a history.
-use Rattle.std.proofs.Common.{◌≡◌, ◌≢◌, ℕ, ◌<◌, ◌≤◌, inl, inr, List, [], ◌∷◌, ◌++◌, length, get_or, take, drop, refl}
+use Rattle.std.proofs.Common.{◌≡◌, ◌≢◌, ℕ, ◌<◌, ◌≤◌, inl, inr, List, [], ◌∷◌, ◌++◌, length, get_or, take, drop, refl, arith}
 use Rattle.std.specs.Prelude.{◌⊎◌, Bool, true, false, Some, None, slice_get}
 use Rattle.std.proofs.lemmas.Bool.{and_right}
 use Rattle.dn_tic.specs.declared.command.TicCmd.{TicCmd}
@@ -64,16 +64,7 @@ pub known_so : {S : Type 0} (known other : ℕ → Holder TicCmd → Type 0) (ru
     → Follows known rules game gone older
     → ((r : ℕ) (u : Holder TicCmd) → other r u → Had (now_of game gone ∷ older) r u)
     → Follows other rules (record game { stopped = stopped }) gone older
-known_so known other rules game stopped gone older follows knows = record {
-  run = follows.run;
-  handed = follows.handed;
-  flights = follows.flights;
-  ends = follows.ends;
-  endless = follows.endless;
-  resend = follows.resend;
-  rows = follows.rows;
-  knows = knows;
-}
+known_so known other rules game stopped gone older follows knows = grind (arith, knows)
 
 -- what is asked of another node in the place of node `q`, of all that is not in the history
 pub record IsFit (limits : Limits) (nodes : ℕ → machine.Node) (gone : ℕ → ℕ → Bool) (q : ℕ) (new : machine.Node)
