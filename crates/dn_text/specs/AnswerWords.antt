@@ -6,7 +6,7 @@ use Rattle.dn_machine.specs.declared.answers.Ran.{Ran}
 use Rattle.dn_machine.specs.declared.events.Done.{Done}
 use Rattle.dn_machine.specs.declared.events.Refusal.{Refusal}
 use Rattle.dn_machine.specs.Drops.{drop_word}
-use Rattle.dn_text.specs.Fields.{labelled}
+use Rattle.dn_measure.specs.Fields.{labelled}
 
 -- what a build answers
 abbrev pub made_words : Made → List ℕ

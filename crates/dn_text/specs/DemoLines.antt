@@ -6,7 +6,7 @@ use Rattle.dn_world.specs.declared.spot.Spot.{Spot}
 use Rattle.dn_world.specs.Plane.{Spots, spot_at, mark_of, walking}
 use Rattle.dn_demo.specs.Reading.{Recording, state_after}
 use Rattle.dn_demo.specs.declared.fed.Fed.{Fed}
-use Rattle.dn_text.specs.Fields.{labelled}
+use Rattle.dn_measure.specs.Fields.{labelled}
 
 -- the numbers of the players who are present, from this player on
 abbrev pub players_present : ℕ → List Bool → List (List ℕ × ℤ)
@@ -14,19 +14,28 @@ players_present player [] = []
 players_present player (true ∷ seats) = (codes " ", pos player) ∷ players_present (player + 1) seats
 players_present player (false ∷ seats) = players_present (player + 1) seats
 
--- what a demo's header has, but for its players
-unfoldable pub header_fields : ℕ → Start → ℕ → List ℕ
-header_fields version start view = labelled (
+-- what a demo's header has of the choice of game
+unfoldable pub choice_fields : ℕ → Start → List ℕ
+choice_fields version start = labelled (
     (codes "version ", pos version)
     ∷ (codes " skill ", pos start.skill)
     ∷ (codes " episode ", pos start.episode)
     ∷ (codes " map ", pos start.map)
-    ∷ (codes " deathmatch ", pos start.deathmatch)
+    ∷ [])
+
+-- what it has of the rules, and whose view it shows
+unfoldable pub rule_fields : Start → ℕ → List ℕ
+rule_fields start view = labelled (
+    (codes " deathmatch ", pos start.deathmatch)
     ∷ (codes " respawn ", pos start.respawn)
     ∷ (codes " fast ", pos start.fast)
     ∷ (codes " nomonsters ", pos start.no_monsters)
     ∷ (codes " view ", pos view)
     ∷ [])
+
+-- all that it has but for its players
+unfoldable pub header_fields : ℕ → Start → ℕ → List ℕ
+header_fields version start view = choice_fields version start ++ rule_fields start view
 
 -- the line of a demo's header
 abbrev pub header_line : ℕ → Start → ℕ → List Bool → List ℕ

@@ -4,7 +4,7 @@ use Rattle.dn_node.specs.declared.node.Node.{Node}
 use Rattle.dn_node.specs.Contents as node
 use Rattle.dn_game.specs.declared.played.Played.{Played}
 use Rattle.dn_game.specs.Contents.{contents}
-use Rattle.dn_text.specs.Fields.{labelled}
+use Rattle.dn_measure.specs.Fields.{labelled}
 use Rattle.dn_text.specs.NodeLines.{node_line}
 
 -- the lines of nodes, the first of which has this number

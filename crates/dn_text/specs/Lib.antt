@@ -1,4 +1,3 @@
-pub mod Fields
 pub mod PacketLines
 pub mod DemoLines
 pub mod RowLines

@@ -7,7 +7,7 @@ use Rattle.dn_machine.specs.declared.answers.Phase.{Phase}
 use Rattle.dn_machine.specs.declared.answers.Phase.TheVariants.{Listening, Gathering, Playing, Ended}
 use Rattle.dn_node.specs.Contents.{Contents}
 use Rattle.dn_lockstep.specs.Rings.{count_of}
-use Rattle.dn_text.specs.Fields.{labelled}
+use Rattle.dn_measure.specs.Fields.{labelled}
 
 -- where a node stands, in words
 abbrev pub phase_text : Phase → List ℕ

@@ -4,7 +4,7 @@ use Rattle.dn_tic.specs.declared.command.TicCmd.{TicCmd}
 use Rattle.dn_packet.specs.declared.packet.Packet.{Packet}
 use Rattle.dn_packet.specs.declared.packet.PacketFault.{PacketFault}
 use Rattle.dn_packet.specs.declared.packet.PacketFault.TheVariants.{Short, Many, Length, Sum}
-use Rattle.dn_text.specs.Fields.{labelled}
+use Rattle.dn_measure.specs.Fields.{labelled}
 
 -- the line of a packet's fields
 unfoldable pub packet_line : Packet → List ℕ
@@ -33,12 +33,16 @@ abbrev pub command_lines : ℕ → List TicCmd → List ℕ
 command_lines index [] = []
 command_lines index (c ∷ cs) = command_line index c ++ command_lines (index + 1) cs
 
+-- the number of what is wrong with bytes that are no packet, and a word for it
+abbrev pub fault_words : PacketFault → List ℕ
+fault_words Short = codes "1 short\n"
+fault_words Many = codes "2 many\n"
+fault_words Length = codes "3 length\n"
+fault_words Sum = codes "4 sum\n"
+
 -- the line of bytes that are no packet
 abbrev pub fault_line : PacketFault → List ℕ
-fault_line Short = codes "dropped 1 short\n"
-fault_line Many = codes "dropped 2 many\n"
-fault_line Length = codes "dropped 3 length\n"
-fault_line Sum = codes "dropped 4 sum\n"
+fault_line fault = codes "dropped " ++ fault_words fault
 
 -- the lines of what a datagram is read as
 abbrev pub lines_of : Result Packet PacketFault → List ℕ

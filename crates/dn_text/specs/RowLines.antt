@@ -1,7 +1,7 @@
 -- The lines of a demo's rows.
 use Rattle.std.specs.Prelude.{ℕ, pos, ◌+◌, List, [], ◌∷◌, ◌++◌, codes, Option, Some, None}
 use Rattle.dn_tic.specs.declared.command.Move.{Move}
-use Rattle.dn_text.specs.Fields.{labelled}
+use Rattle.dn_measure.specs.Fields.{labelled}
 
 -- the line of a player's move in a tic
 unfoldable pub move_line : (tic player : ℕ) → Move → List ℕ

@@ -5,7 +5,7 @@ use Rattle.dn_machine.specs.declared.events.Event.{Event}
 use Rattle.dn_machine.specs.declared.events.Refusal.{Refusal}
 use Rattle.dn_script.specs.Written.{event_words}
 use Rattle.dn_text.specs.AnswerWords.{answer_words}
-use Rattle.dn_text.specs.Fields.{labelled}
+use Rattle.dn_measure.specs.Fields.{labelled}
 
 -- the line of an event: its number, the event in the words of a script, and its answer in words
 unfoldable pub trace_line : ℕ → Event → Result Done Refusal → List ℕ

@@ -4,9 +4,9 @@ ghost use Rattle.std.specs.{Prelude.◌≡◌, Prelude.◌++◌, Prelude.OnOk, S
 ghost use Rattle.dn_text.specs.AnswerWords.{made_words, heard_words, ran_words, quit_words, done_words, refused_words, answer_words};
 ghost use Rattle.dn_machine.specs.declared.answers.Heard.TheVariants.{Dropped};
 
-use crate::fields::push_fields;
 use dn_game::{Done, Refusal};
 use dn_machine::drop_word;
+use dn_measure::push_fields;
 use dn_node::{Heard, Made, Ran};
 use std::alloc::AllocError;
 

@@ -2,10 +2,11 @@
 
 ghost use Rattle.std.specs.{Prelude.◌≡◌, Prelude.◌++◌, Prelude.codes, Prelude.IfOk, Prelude.OnOk, String.string_bytes};
 ghost use Rattle.dn_world.specs.Plane.{spot_at};
-ghost use Rattle.dn_text.specs.{DemoLines.header_fields, DemoLines.size_line, DemoLines.player_line, DemoLines.seat_line, DemoLines.players_present, DemoLines.fed_lines, Fields.labelled};
+ghost use Rattle.dn_text.specs.{DemoLines.choice_fields, DemoLines.rule_fields, DemoLines.header_fields, DemoLines.size_line, DemoLines.player_line, DemoLines.seat_line, DemoLines.players_present, DemoLines.fed_lines};
+ghost use Rattle.dn_measure.specs.Fields.{labelled};
 
-use crate::fields::{push_fields, push_line};
 use dn_demo::Fed;
+use dn_measure::{push_fields, push_line};
 use dn_setup::Start;
 use dn_world::{Walk, World};
 use std::alloc::{AllocError, Global};
@@ -34,15 +35,22 @@ fn push_players(text: &mut String, present: [bool; 4]) -> Result<(), AllocError>
     text.push_str("\n")
 }
 
-fn push_header(text: &mut String, version: u8, start: &Start, view: u8) -> Result<(), AllocError>
-    ensures { OnOk result (string_bytes text.new ≡ string_bytes text.old ++ header_fields version start.now
-        view) }
+fn push_choice(text: &mut String, version: u8, start: &Start) -> Result<(), AllocError>
+    ensures { OnOk result (string_bytes text.new ≡ string_bytes text.old ++ choice_fields version start.now) }
 {
     let fields = [
         ("version ", version as i128),
         (" skill ", start.skill as i128),
         (" episode ", start.episode as i128),
         (" map ", start.map as i128),
+    ];
+    push_fields(text, &fields)
+}
+
+fn push_rules(text: &mut String, start: &Start, view: u8) -> Result<(), AllocError>
+    ensures { OnOk result (string_bytes text.new ≡ string_bytes text.old ++ rule_fields start.now view) }
+{
+    let fields = [
         (" deathmatch ", start.deathmatch as i128),
         (" respawn ", start.respawn as i128),
         (" fast ", start.fast as i128),
@@ -50,6 +58,15 @@ fn push_header(text: &mut String, version: u8, start: &Start, view: u8) -> Resul
         (" view ", view as i128),
     ];
     push_fields(text, &fields)
+}
+
+#[tactic(auto, unfolding(crate::specs::DemoLines::header_fields))]
+fn push_header(text: &mut String, version: u8, start: &Start, view: u8) -> Result<(), AllocError>
+    ensures { OnOk result (string_bytes text.new ≡ string_bytes text.old ++ header_fields version start.now
+        view) }
+{
+    push_choice(text, version, start)?;
+    push_rules(text, start, view)
 }
 
 fn push_size(text: &mut String, tics: u64, cut: u64, after: u64) -> Result<(), AllocError>

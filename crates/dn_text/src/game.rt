@@ -4,9 +4,9 @@ ghost use Rattle.std.specs.{Prelude.◌≡◌, Prelude.◌++◌, Prelude.OnOk, S
 ghost use Rattle.dn_game.specs.Contents.{contents};
 ghost use Rattle.dn_text.specs.GameLines.{node_lines, events_line, game_lines};
 
-use crate::fields::push_line;
 use crate::nodes::push_node;
 use dn_game::{Game, Played};
+use dn_measure::push_line;
 use dn_world::World;
 use std::alloc::AllocError;
 

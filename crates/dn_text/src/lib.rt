@@ -4,7 +4,6 @@
 
 mod answers;
 mod demo;
-mod fields;
 mod game;
 mod nodes;
 mod packet;

@@ -1,18 +1,19 @@
 //! The lines of nodes: where each stands, and how far it has come.
 
-ghost use Rattle.std.specs.{Prelude.◌≡◌, Prelude.◌++◌, Prelude.OnOk, String.string_bytes};
+ghost use Rattle.std.specs.{Prelude.◌≡◌, Prelude.◌++◌, Prelude.codes, Prelude.OnOk, String.string_bytes};
 ghost use Rattle.dn_node.specs.Contents.{contents};
 ghost use Rattle.dn_text.specs.NodeLines.{phase_text, standing, progress, counts, demo_size, line_end, node_line};
 
-use crate::fields::push_fields;
+use dn_measure::push_fields;
 use dn_node::{Cause, Node, Phase};
 use dn_world::World;
 use std::alloc::AllocError;
 
-/// Where a node stands, in words.
+/// Where a node stands, in words behind a space.
 fn push_phase(text: &mut String, phase: Phase) -> Result<(), AllocError>
-    ensures { OnOk result (string_bytes text.new ≡ string_bytes text.old ++ phase_text phase) }
+    ensures { OnOk result (string_bytes text.new ≡ string_bytes text.old ++ (codes " " ++ phase_text phase)) }
 {
+    text.push_str(" ")?;
     match phase {
         Phase::Listening => text.push_str("listening"),
         Phase::Gathering => text.push_str("gathering"),
@@ -43,7 +44,6 @@ fn push_standing<W: World>(text: &mut String, node: &Node<W>) -> Result<(), Allo
     ensures { OnOk result (string_bytes text.new ≡ string_bytes text.old ++ standing (contents node.now)) }
 {
     push_fields(text, &[("node ", node.me() as i128)])?;
-    text.push_str(" ")?;
     push_phase(text, node.phase())
 }
 

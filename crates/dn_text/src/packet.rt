@@ -3,20 +3,22 @@
 ghost use Rattle.std.specs.{Prelude.◌≡◌, Prelude.◌++◌, Prelude.IfOk, Prelude.OnOk, String.string_bytes};
 ghost use Rattle.dn_text.specs.PacketLines.{fault_line, packet_line, command_line, lines_of};
 
-use crate::fields::push_line;
+use dn_measure::push_line;
 use dn_packet::{Packet, PacketFault};
 use dn_tic::TicCmd;
 use std::alloc::{AllocError, Global};
 
-fn line_of_fault(fault: PacketFault) -> &'static str
-    ensures { result.now ≡ fault_line fault }
+fn push_fault(text: &mut String, fault: PacketFault) -> Result<(), AllocError>
+    ensures { OnOk result (string_bytes text.new ≡ string_bytes text.old ++ fault_line fault) }
 {
-    match fault {
-        PacketFault::Short => "dropped 1 short\n",
-        PacketFault::Many => "dropped 2 many\n",
-        PacketFault::Length => "dropped 3 length\n",
-        PacketFault::Sum => "dropped 4 sum\n",
-    }
+    let words = match fault {
+        PacketFault::Short => "1 short\n",
+        PacketFault::Many => "2 many\n",
+        PacketFault::Length => "3 length\n",
+        PacketFault::Sum => "4 sum\n",
+    };
+    text.push_str("dropped ")?;
+    text.push_str(words)
 }
 
 fn push_packet(text: &mut String, packet: &Packet) -> Result<(), AllocError>
@@ -65,7 +67,7 @@ pub fn text_of_packet(
                 push_command(&mut text, index, *command)?;
             }
         }
-        Err(fault) => text.push_str(line_of_fault(*fault))?,
+        Err(fault) => push_fault(&mut text, *fault)?,
     }
     Ok(text)
 }

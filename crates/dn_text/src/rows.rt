@@ -3,7 +3,7 @@
 ghost use Rattle.std.specs.{Prelude.◌≡◌, Prelude.◌++◌, Prelude.[], Prelude.◌∷◌, Prelude.None, Prelude.IsOk, Prelude.OnOk, String.string_bytes};
 ghost use Rattle.dn_text.specs.RowLines.{move_line, step_line, row_lines};
 
-use crate::fields::push_line;
+use dn_measure::push_line;
 use dn_tic::Move;
 use std::alloc::AllocError;
 

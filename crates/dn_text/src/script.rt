@@ -3,7 +3,7 @@
 ghost use Rattle.std.specs.{Prelude.◌≡◌, Prelude.IfOk, String.string_bytes};
 ghost use Rattle.dn_text.specs.ScriptLines.{bad_line};
 
-use crate::fields::push_line;
+use dn_measure::push_line;
 use std::alloc::{AllocError, Global};
 
 /// The line that tells of a script's bad line by its number, counted from 1. Err where memory is refused.

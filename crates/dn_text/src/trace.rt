@@ -4,8 +4,8 @@ ghost use Rattle.std.specs.{Prelude.◌≡◌, Prelude.◌++◌, Prelude.OnOk, S
 ghost use Rattle.dn_text.specs.TraceLines.{trace_line};
 
 use crate::answers::push_answer;
-use crate::fields::push_fields;
 use dn_game::{Done, Event, Refusal};
+use dn_measure::push_fields;
 use dn_script::push_event;
 use std::alloc::AllocError;
 

@@ -1,6 +1,6 @@
 use Rattle.std.proofs.Common.{◌≡◌, ◌++◌, ◌≤◌, drop, length}
 use Rattle.std.specs.String.{string_bytes}
-use Rattle.dn_text.specs.Fields.{labelled}
+use Rattle.dn_measure.specs.Fields.{labelled}
 use Rattle.dn_text.specs.DemoLines.{players_present}
 use Rattle.dn_text.proofs.demo.push_present.Given as goal
 
