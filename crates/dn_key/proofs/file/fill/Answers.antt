@@ -7,7 +7,6 @@ loop-filled-preserved g c =
     let known = c.loop-filled.invariant in
     record {
       within = search rules;
-      same_length = search rules;
       taken = filled_more _ _ _ _ _ _ _ _ known.within c.in-Ok.ensures.bound.0 known.taken
           c.in-Ok.ensures.bytes.0;
     }

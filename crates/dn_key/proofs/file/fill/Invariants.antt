@@ -1,11 +1,10 @@
-use Rattle.std.proofs.Common.{length, take, ◌-◌, ◌≡◌, ◌≤◌}
+use Rattle.std.proofs.Common.{length, take, ◌-◌, ◌≤◌}
 use Rattle.std.specs.Io.KnownBytes.{Consumes}
 use Rattle.dn_key.proofs.file.fill.Given as goal
 
 abbrev pub invariant-loop-filled : goal.invariant-loop-filled
 invariant-loop-filled g l = record {
   within : l.filled ≤ length l.room;
-  same_length : length l.room ≡ length l.initial.room;
   taken : Consumes (g.R.Read.remaining l.initial.file) (g.R.Read.remaining l.file) (take l.filled l.room);
 }
 
