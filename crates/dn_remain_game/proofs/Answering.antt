@@ -21,6 +21,7 @@ use Rattle.dn_remain_game.specs.Applied.{Answers, IsApplied, Plays, TellsReached
 use Rattle.dn_remain_game.specs.Contents.{Contents}
 use Rattle.dn_remain_game.specs.Events.{applied_remain, applied_remain_if, asks_room, heard_at, on_own, own_unless, refused_telling, told_report}
 use Rattle.dn_remain_game.specs.Promised.{IsCarriedOn}
+use Rattle.dn_game.proofs.Answering.{follows, plays_more}
 use Rattle.dn_remain_game.specs.Represents.{Represents}
 
 -- what is counted by a test, with one more
@@ -162,32 +163,12 @@ module _ {S : Type 0} (rules : Rules S) (all : Remaining) where
       subst (λ (x : Remaining). NextRemain rules all event x) (sym same) (left_next event asks)
 
 module _ {S : Type 0} (rules : Rules S) where
-  -- what was played, and then more
-  plays_on : (events more : List RemainEvent) (answers others : List (Result Happened Refusal))
-      (all mid last : Remaining) → Plays rules all events answers mid → Plays rules mid more others last
-      → Plays rules all (events ++ more) (answers ++ others) last
-  plays_on [] more [] others all mid last same next =
-      subst (λ (x : Remaining). Plays rules x more others last) same next
-  plays_on [] more (a ∷ answers) others all mid last way next = absurd way
-  plays_on (e ∷ events) more [] others all mid last way next = absurd way
-  plays_on (e ∷ events) more (a ∷ answers) others all mid last way next =
-      (way.0, way.1, plays_on events more answers others way.0 mid last way.2 next)
-
-  plays_more : (events : List RemainEvent) (answers : List (Result Happened Refusal)) (event : RemainEvent)
-      (answer : Result Happened Refusal) (all mid last : Remaining)
-      → Plays rules all events answers mid → Answers rules mid event answer last
-      → Plays rules all (events ++ event ∷ []) (answers ++ answer ∷ []) last
-  plays_more events answers event answer all mid last way next =
-      plays_on events (event ∷ []) answers (answer ∷ []) all mid last way (last, next, refl)
-
   -- what was played is one of the runs
   pub plays_leads : (events : List RemainEvent) (answers : List (Result Happened Refusal)) (all last : Remaining)
       → Plays rules all events answers last → LeadsRemain rules all events last
-  plays_leads [] [] all last same = same
-  plays_leads [] (a ∷ answers) all last way = absurd way
-  plays_leads (e ∷ events) [] all last way = absurd way
-  plays_leads (e ∷ events) (a ∷ answers) all last way =
-      (way.0, answers_next rules all e a way.0 way.1, plays_leads events answers way.0 last way.2)
+  plays_leads =
+      follows (Answers rules) (LeadsRemain rules) (λ all last same. same)
+      (λ event answer events all next last one rest. (next, answers_next rules all event answer next one, rest))
 
 -- an event that was applied has its answer
 answers_one : {W S : Type 0} (state : W → S) (rules : Rules S) (old new : Contents W) (all : Remaining)
@@ -213,7 +194,7 @@ carries state physics old new event answer is limits settings events answers rea
     (is limits settings events answers reached) in
     record {
       last = one.0;
-      plays = plays_more rules events answers event answer (opening_remaining settings) reached.last one.0
+      plays = plays_more (Answers rules) events answers event answer (opening_remaining settings) reached.last one.0
           reached.plays one.1;
       game = one.2;
     }

@@ -27,13 +27,14 @@ use Rattle.dn_survivor.specs.Surviving.{has_given_up}
 use Rattle.dn_survivor.specs.declared.answers.Reported.{Reported}
 use Rattle.dn_remain_game.specs.declared.happened.Happened.{Happened}
 use Rattle.dn_remain_game.specs.declared.lived.Lived.{Lived}
-use Rattle.dn_remain_game.specs.declared.under_way.Flight.{Flight}
+use Rattle.dn_game.specs.declared.flight.Flight.{Flight}
 use Rattle.dn_remain_game.specs.declared.under_way.Telling as under_way
 use Rattle.dn_remain_game.specs.Applied.{IsReached}
 use Rattle.dn_remain_game.specs.Contents.{Contents}
 use Rattle.dn_remain_game.specs.Events.{applied_remain, applied_remain_if, heard_at, own_unless, refused_remain}
 use Rattle.dn_remain_game.specs.Living.{living}
-use Rattle.dn_remain_game.specs.Represents.{flight_of, given_of}
+use Rattle.dn_game.specs.Represents.{flight_of}
+use Rattle.dn_remain_game.specs.Represents.{given_of}
 use Rattle.dn_survivor.proofs.NodeAnswers.{is_dropped}
 use Rattle.dn_survivor.proofs.Tellings.{telling_at}
 use Rattle.dn_remain_game.proofs.Answering.{plays_leads}

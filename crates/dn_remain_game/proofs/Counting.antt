@@ -7,7 +7,7 @@ use Rattle.dn_machine.specs.Limits.{Limits}
 use Rattle.dn_machine.specs.Worlds.{rules_within}
 use Rattle.dn_remain.specs.Remaining.{opening_remaining}
 use Rattle.dn_remain.specs.declared.events.RemainEvent.{RemainEvent}
-use Rattle.dn_remain_game.specs.declared.playing.Played.{Played}
+use Rattle.dn_remain_game.specs.declared.played.Played.{Played}
 use Rattle.dn_machine.specs.declared.events.Refusal.{Refusal}
 use Rattle.dn_remain_game.specs.declared.happened.Happened.{Happened}
 use Rattle.dn_remain_game.specs.Applied.{IsApplied, TellsReached}

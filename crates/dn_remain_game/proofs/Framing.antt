@@ -1,20 +1,12 @@
 -- What the step of one node leaves as it is.
-use Rattle.std.proofs.Common.{◌≡◌, ◌≢◌, ◌<◌, ℕ, zero, suc, List, [], ◌∷◌, Option, Some, length, set, ap, sym, ◌∙◌, refl}
+use Rattle.std.proofs.Common.{◌≡◌, ◌≢◌, ◌<◌, ℕ, List, Option, Some, length, set, ap, sym, ◌∙◌, refl}
 use Rattle.std.specs.Prelude.{slice_get, slice_index_or}
 use Rattle.std.specs.Option.{option_map}
 use Rattle.std.proofs.lemmas.Option.{slice_get_read}
 use Rattle.dn_remain.specs.declared.events.RemainEvent.{RemainEvent}
+use Rattle.dn_game.proofs.Framing.{slice_get-set_other}
 use Rattle.dn_remain_game.specs.Contents.{Contents}
 use Rattle.dn_remain_game.specs.Kept.{KeepsOthers, changed_by}
-
--- what stands elsewhere stays
-slice_get-set_other : {X : Type 0} (xs : List X) (i j : ℕ) (y : X) → j ≢ i
-    → slice_get (set xs i y) j ≡ slice_get xs j
-slice_get-set_other [] i j y apart = refl
-slice_get-set_other (x ∷ xs) zero zero y apart = absurd (apart refl)
-slice_get-set_other (x ∷ xs) zero (suc j) y apart = refl
-slice_get-set_other (x ∷ xs) (suc i) zero y apart = refl
-slice_get-set_other (x ∷ xs) (suc i) (suc j) y apart = slice_get-set_other xs i j y (λ e. apart (ap suc e))
 
 -- every node but the one that changes
 pub others_step : {X : Type 0} (nodes : List X) (place : ℕ) (next : X) (changed : Option ℕ)

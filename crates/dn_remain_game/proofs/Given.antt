@@ -18,7 +18,7 @@ use Rattle.dn_remain_game.specs.Frame.{KeepGiven, KeepWorlds}
 use Rattle.dn_remain_game.specs.Fresh.{worlds_of}
 use Rattle.dn_remain_game.specs.Living.{living}
 use Rattle.dn_remain_game.specs.Represents.{Represents}
-use Rattle.dn_remain_game.proofs.Standing.{there_is}
+use Rattle.dn_game.proofs.Places.{there_is}
 
 -- who has not started has run nothing
 unrun : {W : Type 0} (n : Lived W) (limits : Limits) (me : ℕ) (m : Node)

@@ -8,7 +8,7 @@ use Rattle.dn_survivor.specs.Calls.{GivesUp}
 use Rattle.dn_survivor.specs.declared.answers.GivenUp.{GivenUp}
 use Rattle.dn_remain_game.specs.declared.game.Game.{Game}
 use Rattle.dn_remain_game.specs.declared.lived.Lived.{Lived}
-use Rattle.dn_remain_game.specs.declared.under_way.Flight.{Flight}
+use Rattle.dn_game.specs.declared.flight.Flight.{Flight}
 use Rattle.dn_remain_game.specs.declared.under_way.Telling.{Telling}
 use Rattle.dn_remain_game.specs.Contents.{contents}
 use Rattle.dn_remain_game.specs.Kept.{changed_by, whose_of}

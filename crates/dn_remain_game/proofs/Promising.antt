@@ -30,9 +30,10 @@ use Rattle.dn_remain_game.specs.declared.lived.Lived.{Lived}
 use Rattle.dn_remain_game.specs.Contents.{Contents}
 use Rattle.dn_remain_game.specs.Living.{living}
 use Rattle.dn_remain_game.specs.Promised.{AreAgreedInGame, AreSurvivors, IsPromised, session_of}
-use Rattle.dn_remain_game.specs.Represents.{Represents, IsCarried}
+use Rattle.dn_game.specs.Represents.{IsCarried}
+use Rattle.dn_remain_game.specs.Represents.{Represents}
 use Rattle.dn_remain_game.proofs.SteadyAnswers.{steady_answers}
-use Rattle.dn_remain_game.proofs.Standing.{all_at, there_is}
+use Rattle.dn_game.proofs.Places.{all_at, there_is}
 use Rattle.dn_remain_game.proofs.Unstopped.{marking_of, unstopped, unstopped_runs}
 use Rattle.dn_machine.specs.declared.events.Refusal.{Refusal}
 use Rattle.dn_machine.specs.Promise.{inputs_of}

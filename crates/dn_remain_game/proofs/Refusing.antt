@@ -1,6 +1,6 @@
 -- Why an event is refused, by what was looked at.
-use Rattle.std.proofs.Common.{◌≡◌, ◌<◌, ℕ, Bool, true, false, length, Option, Some, None, ap, sym, ◌∙◌, refl, arith}
-use Rattle.std.specs.Prelude.{not, if◌then◌else◌, nat_lt, slice_get, slice_index_or}
+use Rattle.std.proofs.Common.{◌≡◌, ◌<◌, ℕ, Bool, true, false, length, Some, None, ap, sym, ◌∙◌, refl, arith}
+use Rattle.std.specs.Prelude.{if◌then◌else◌, nat_lt, slice_get, slice_index_or}
 use Rattle.std.proofs.lemmas.Bool.{cond-false, cond-true, lt-ltb}
 use Rattle.std.proofs.lemmas.Option.{slice_get_read}
 use Rattle.dn_machine.specs.Flight as exact
@@ -14,18 +14,14 @@ use Rattle.dn_lockstep.specs.Rings.{count_of}
 use Rattle.dn_lockstep.specs.Sent.{aim_of}
 use Rattle.dn_remain.specs.Remaining.{Remaining}
 use Rattle.dn_remain_game.specs.declared.lived.Lived.{Lived}
-use Rattle.dn_remain_game.specs.declared.under_way.Flight.{Flight}
+use Rattle.dn_game.specs.declared.flight.Flight.{Flight}
 use Rattle.dn_remain_game.specs.Contents.{Contents}
 use Rattle.dn_remain_game.specs.Living.{living}
-use Rattle.dn_remain_game.specs.Represents.{Represents, flight_of}
+use Rattle.dn_game.specs.Represents.{flight_of}
+use Rattle.dn_remain_game.specs.Represents.{Represents}
 use Rattle.dn_remain_game.proofs.Standing.{IsFlight, made_at, flight_at}
 
--- a send to a player is refused as any event of its node is
-pub refused_send : (players : ℕ) (m : Game) (node to : ℕ) → nat_lt to players ≡ true
-    → refused_at players m node ≡ refused players m (Send node to)
-refused_send players m node to is = grind arith
-
--- and one to nobody is refused
+-- a send to nobody is refused
 pub refused_nobody : (players : ℕ) (m : Game) (node to : ℕ) → nat_lt to players ≡ false
     → Some Refusal.NoNode ≡ refused players m (Send node to)
 refused_nobody players m node to is = grind arith
@@ -84,16 +80,3 @@ module _ {W S : Type 0} (state : W → S) (rules : Rules S) (g : Contents W) (al
       ap (refused_at rules.players all.game) (is ∙ ap (λ (f : Flight). f.to) of)
       ∙ refused_there rules.players all.game sent.0.to (lt-ltb sent.0.to rules.players sent.1.carried.to)
       ∙ sym (cond-true near _ _ so) ∙ refused_so
-
-not_far : (near stopped : Bool)
-    → ◌≡◌ {A = Option Refusal}
-    (if not near then Some Refusal.Far else (if stopped then Some Refusal.Stopped else None)) None
-    → near ≡ true
-not_far near stopped e = grind arith
-
--- what is not refused is near
-pub near_unless : (m : Game) (which : ℕ) (flight : exact.Flight)
-    → slice_get m.flights which ≡ Some flight
-    → refused_flight m (slice_get m.flights which) ≡ None
-    → is_near (made flight.to (m.nodes flight.to)) flight ≡ true
-near_unless m which flight there free = not_far _ _ (ap (refused_flight m) (sym there) ∙ free)

@@ -28,16 +28,17 @@ use Rattle.dn_lockstep.proofs.OneGame.{sent_between}
 use Rattle.dn_remain.specs.Remaining.{Remaining, is_barred, is_barred_flight, wary_of}
 use Rattle.dn_survivor.specs.Surviving.{has_given_up}
 use Rattle.dn_remain_game.specs.declared.lived.Lived.{Lived}
-use Rattle.dn_remain_game.specs.declared.under_way.Flight.{Flight}
+use Rattle.dn_game.specs.declared.flight.Flight.{Flight}
 use Rattle.dn_remain_game.specs.Applied.{IsAfter}
 use Rattle.dn_remain_game.specs.Contents.{Contents}
 use Rattle.dn_remain_game.specs.Events.{in_game, own_unless}
 use Rattle.dn_remain_game.specs.Frame.{KeepWorlds}
 use Rattle.dn_remain_game.specs.Living as node_to
 use Rattle.dn_remain_game.specs.Living.{HearsNear, IsGiven, Living, Steps, Tells, living, on_node}
-use Rattle.dn_remain_game.specs.Represents.{Represents, IsCarried, flight_of}
+use Rattle.dn_game.specs.Represents.{IsCarried, flight_of}
+use Rattle.dn_remain_game.specs.Represents.{Represents}
 use Rattle.dn_remain_game.proofs.Keeping.{keep_others, keeps_same}
-use Rattle.dn_remain_game.proofs.Refusing.{near_unless}
+use Rattle.dn_game.proofs.Refusing.{near_unless}
 use Rattle.dn_remain_game.proofs.Standing.{flight_at, made_at, node_at, places, places_same, with_posts}
 
 -- a packet of these numbers and bytes

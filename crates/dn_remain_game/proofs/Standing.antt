@@ -19,24 +19,16 @@ use Rattle.dn_remain.specs.Wary.{Wary}
 use Rattle.dn_remain.proofs.Places.{there}
 use Rattle.dn_survivor.specs.OneGame.{AreTelling}
 use Rattle.dn_remain_game.specs.declared.lived.Lived.{Lived}
-use Rattle.dn_remain_game.specs.declared.under_way.Flight.{Flight}
+use Rattle.dn_game.specs.declared.flight.Flight.{Flight}
+use Rattle.dn_game.proofs.Places.{all_at, there_is}
 use Rattle.dn_remain_game.specs.declared.under_way.Telling.{Telling}
 use Rattle.dn_remain_game.specs.Contents.{Contents}
 use Rattle.dn_remain_game.specs.Living as node_to
 use Rattle.dn_remain_game.specs.Living.{living}
-use Rattle.dn_remain_game.specs.Represents.{Represents, IsCarried, flight_of, given_of}
+use Rattle.dn_game.specs.Represents.{IsCarried, flight_of}
+use Rattle.dn_remain_game.specs.Represents.{Represents, given_of}
 
--- something stands at each place
-pub there_is : {X : Type 0} (xs : List X) (i : ℕ) → i < length xs → (x : X) × (slice_get xs i ≡ Some x)
-there_is [] i h = absurd (omega arith)
-there_is (x ∷ xs) i h = (_, slice_get-get_or (x ∷ xs) i x h)
-
--- what holds of all holds of the one that stands there
-pub all_at : {X : Type 0} (P : X → Type 0) (xs : List X) (i : ℕ) (x : X) → All P xs → slice_get xs i ≡ Some x
-    → P x
-all_at P xs i x all is = subst P (get_or_from_slice_get xs i x x is) (all i x (slice_get_within xs i x is))
-
--- and of the one that is read there
+-- what holds of all holds of the one that is read there
 pub all_read : {X : Type 0} (P : X → Type 0) (xs : List X) (i : ℕ) (x : X) → All P xs → i < length xs
     → x ≡ slice_index_or xs i x → P x
 all_read P xs i x all below is = all_at P xs i x all (slice_get_read xs (length xs) i x refl below is)

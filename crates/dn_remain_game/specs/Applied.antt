@@ -1,10 +1,9 @@
 -- An event on a game is a step of the game that it represents.
-use Rattle.std.specs.Prelude.{◌≡◌, ◌<◌, ◌⊎◌, List, [], ◌∷◌, IsTrue, length, None, Result, Ok, Err}
+use Rattle.std.specs.Prelude.{◌≡◌, ◌<◌, ◌⊎◌, List, IsTrue, length, None, Result, Ok, Err}
 use Rattle.dn_setup.specs.Settings.{Settings}
 use Rattle.dn_world.specs.Physics.{Physics}
 use Rattle.dn_machine.specs.declared.events.Done.{Done}
 use Rattle.dn_machine.specs.declared.events.Event.{Event}
-use Rattle.dn_machine.specs.declared.events.Event.TheVariants.{Build, Give, Send, Deliver, Run, Quit, Stop}
 use Rattle.dn_machine.specs.declared.events.Refusal.{Refusal}
 use Rattle.dn_machine.specs.Limits.{Limits}
 use Rattle.dn_machine.specs.Runs.{is_send}
@@ -12,6 +11,8 @@ use Rattle.dn_machine.specs.Worlds.{Rules, rules_within}
 use Rattle.dn_remain.specs.Remaining.{Remaining, is_barred, opening_remaining}
 use Rattle.dn_remain.specs.declared.events.RemainEvent.{RemainEvent}
 use Rattle.dn_remain.specs.declared.events.RemainEvent.TheVariants.{Own, GiveUp, Tell, Hear}
+use Rattle.dn_game.specs.Applied.{IsLeftOut, IsWithin}
+use Rattle.dn_game.specs.Played.{PlaysBy}
 use Rattle.dn_remain_game.specs.declared.happened.Happened.{Happened}
 use Rattle.dn_remain_game.specs.Contents.{Contents}
 use Rattle.dn_remain_game.specs.Events.{applied_remain, asks_room, in_game, on_own, own_unless, refused_remain}
@@ -36,11 +37,7 @@ Answers rules all event answer next =
 -- a list of events leads from a game to another, and each event has its answer
 abbrev pub Plays : {S : Type 0} → Rules S → Remaining → List RemainEvent → List (Result Happened Refusal)
     → Remaining → Type 0
-Plays rules all [] [] last = last ≡ all
-Plays rules all (event ∷ events) (answer ∷ answers) last =
-    (next : Remaining) × Answers rules all event answer next × Plays rules next events answers last
-Plays rules all [] (answer ∷ answers) last = ⊥
-Plays rules all (event ∷ events) [] last = ⊥
+Plays rules = PlaysBy (Answers rules)
 
 -- the events lead from the opening to the game that this one represents, and each has its answer
 pub record IsReached {W S : Type 0} (state : W → S) (rules : Rules S) (settings : Settings)
@@ -70,19 +67,12 @@ abbrev pub DoesOwn : {W S : Type 0} → (W → S) → Physics S → Contents W �
 DoesOwn state physics old new event done =
     Tells state physics old (λ rules all. IsAfter state rules old new (in_game all (on_own rules all event)) done)
 
--- an event is left out since memory was refused, and nothing changes
-pub record IsLeftOut {W : Type 0} (old new : Contents W) (event : RemainEvent)
-    (answer : Result Happened Refusal) : Type 0 where
-  pub asks : IsTrue (asks_room event)
-  pub same : new ≡ old
-  pub answered : answer ≡ Err Refusal.Memory
-
 -- an event is applied, or it is left out, which nothing else refuses
 abbrev pub IsApplied : {W S : Type 0} → (W → S) → Rules S → Contents W → Contents W → Remaining → RemainEvent
     → Result Happened Refusal → Type 0
 IsApplied state rules old new all event answer =
     IsAfter state rules old new (applied_remain rules all event) answer
-    ⊎ ((refused_remain rules.players all event ≡ None) × IsLeftOut old new event answer)
+    ⊎ ((refused_remain rules.players all event ≡ None) × IsLeftOut old new (asks_room event) answer)
 
 -- the same of an event of the machine that is not refused: it is applied, or it is a send that is left out
 abbrev pub IsAppliedOwn : {W S : Type 0} → (W → S) → Rules S → Contents W → Contents W → Remaining → Event
@@ -94,13 +84,7 @@ IsAppliedOwn state rules old new all event answer =
 
 -- the nodes and the packet that an event names are there
 abbrev pub IsAddressedOwn : {W : Type 0} → Contents W → Event → Type 0
-IsAddressedOwn g (Build node keys) = node < length g.nodes
-IsAddressedOwn g (Give node command) = node < length g.nodes
-IsAddressedOwn g (Send node to) = (node < length g.nodes) × (to < length g.nodes)
-IsAddressedOwn g (Deliver which) = which < length g.flights
-IsAddressedOwn g (Run node) = node < length g.nodes
-IsAddressedOwn g (Quit node) = node < length g.nodes
-IsAddressedOwn g (Stop node) = node < length g.nodes
+IsAddressedOwn g event = IsWithin (length g.nodes) (length g.flights) event
 
 -- and the report
 abbrev pub IsAddressed : {W : Type 0} → Contents W → RemainEvent → Type 0

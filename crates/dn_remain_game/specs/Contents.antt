@@ -1,8 +1,8 @@
--- What a game holds.
+-- What a game holds, with the reports that were told.
 use Rattle.std.specs.Prelude.{Bool, List}
 use Rattle.dn_remain_game.specs.declared.game.Game.{Game}
 use Rattle.dn_remain_game.specs.declared.lived.Lived.{Lived}
-use Rattle.dn_remain_game.specs.declared.under_way.Flight.{Flight}
+use Rattle.dn_game.specs.declared.flight.Flight.{Flight}
 use Rattle.dn_remain_game.specs.declared.under_way.Telling.{Telling}
 
 pub record Contents (W : Type 0) : Type 0 where

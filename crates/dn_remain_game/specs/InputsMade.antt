@@ -1,5 +1,5 @@
 -- The inputs that count: those of the builds that made a command.
-use Rattle.std.specs.Prelude.{◌==◌, List, [], ◌∷◌, ◌++◌, if◌then◌else◌, Result, Ok}
+use Rattle.std.specs.Prelude.{◌==◌, List, [], ◌∷◌, if◌then◌else◌, Result, Ok}
 use Rattle.dn_tic.specs.declared.input.Input.{Input}
 use Rattle.dn_tic.specs.declared.input.Input.TheVariants.{Pressed, Given}
 use Rattle.dn_machine.specs.declared.answers.Made.{Made}
@@ -9,6 +9,7 @@ use Rattle.dn_machine.specs.declared.events.Refusal.{Refusal}
 use Rattle.dn_machine.specs.Worlds.{Inputs}
 use Rattle.dn_remain.specs.declared.events.RemainEvent.{RemainEvent}
 use Rattle.dn_remain.specs.declared.events.RemainEvent.TheVariants.{Own}
+use Rattle.dn_game.specs.InputsMade.{inputs_of_all}
 use Rattle.dn_remain_game.specs.declared.happened.Happened.{Happened}
 
 -- the input, if this is the answer of a build that made a command
@@ -25,6 +26,4 @@ inputs_by event answer player = []
 
 -- the inputs of each player's builds that made a command, in order
 abbrev pub inputs_made : List RemainEvent → List (Result Happened Refusal) → Inputs
-inputs_made (event ∷ events) (answer ∷ answers) player =
-    inputs_by event answer player ++ inputs_made events answers player
-inputs_made events answers player = []
+inputs_made = inputs_of_all inputs_by

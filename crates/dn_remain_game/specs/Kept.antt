@@ -7,7 +7,7 @@ use Rattle.dn_remain.specs.declared.events.RemainEvent.{RemainEvent}
 use Rattle.dn_remain.specs.declared.events.RemainEvent.TheVariants.{Own, GiveUp, Tell, Hear}
 use Rattle.dn_lockstep.specs.Contents.{Whose, whose}
 use Rattle.dn_remain_game.specs.declared.lived.Lived.{Lived}
-use Rattle.dn_remain_game.specs.declared.under_way.Flight.{Flight}
+use Rattle.dn_game.specs.declared.flight.Flight.{Flight}
 use Rattle.dn_remain_game.specs.declared.under_way.Telling.{Telling}
 use Rattle.dn_remain_game.specs.Contents.{Contents}
 use Rattle.dn_remain_game.specs.Living.{living}

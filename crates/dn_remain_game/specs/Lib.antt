@@ -9,7 +9,6 @@ pub mod Room
 pub mod Leaves
 pub mod Told
 pub mod Survivors
-pub mod Opening
 pub mod Fresh
 pub mod InputsMade
 pub mod Promised

@@ -25,7 +25,7 @@ use Rattle.dn_survivor.specs.Session.{Session}
 use Rattle.dn_survivor.specs.Surviving.{Surviving, has_given_up}
 use Rattle.dn_remain_game.specs.declared.happened.Happened.{Happened}
 use Rattle.dn_remain_game.specs.declared.lived.Lived.{Lived}
-use Rattle.dn_remain_game.specs.declared.playing.Played.{Played}
+use Rattle.dn_remain_game.specs.declared.played.Played.{Played}
 use Rattle.dn_remain_game.specs.Applied.{IsReached, TellsReached}
 use Rattle.dn_remain_game.specs.Contents.{Contents, contents}
 use Rattle.dn_remain_game.specs.Frame.{KeepWorlds}

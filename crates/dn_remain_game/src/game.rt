@@ -11,7 +11,8 @@ mod sending;
 mod stepping;
 
 use crate::lived::Lived;
-use crate::under_way::{Flight, Telling};
+use crate::under_way::Telling;
+use dn_game::Flight;
 use dn_world::World;
 
 /// All nodes of a game, who of them has stopped, and every packet and every report that was ever sent, each in

@@ -7,7 +7,8 @@ ghost use Rattle.dn_machine.specs.{Worlds.rules_within};
 ghost use Rattle.dn_machine.specs.Drops as drops;
 ghost use Rattle.dn_remain.specs.{Remaining.opening_remaining, declared.events.RemainEvent.RemainEvent, declared.events.RemainEvent.TheVariants.Own, declared.events.RemainEvent.TheVariants.Hear};
 ghost use Rattle.dn_survivor.specs.{Surviving.has_given_up, declared.answers.Reported.Reported};
-ghost use Rattle.dn_remain_game.specs.{Applied.IsReached, Contents.Contents, declared.happened.Happened.Happened, declared.lived.Lived.Lived, declared.under_way.Flight.Flight};
+ghost use Rattle.dn_game.specs.declared.flight.Flight.{Flight};
+ghost use Rattle.dn_remain_game.specs.{Applied.IsReached, Contents.Contents, declared.happened.Happened.Happened, declared.lived.Lived.Lived};
 ghost use Rattle.dn_remain_game.specs.{declared.under_way.Telling.Telling, Events.applied_remain, Living.living, Promised.IsPromised, Represents.Represents};
 
 use dn_world::World;

@@ -6,19 +6,19 @@
 //! every list of events holds of it.
 #![tactic(auto)]
 
-mod config;
 mod game;
 #[cfg(test)]
 mod game_tests;
 mod happened;
 mod laws;
 mod lived;
+mod played;
 mod playing;
 #[cfg(test)]
 mod tests;
 mod under_way;
 
-pub use config::{GameConfig, GameFault};
+pub use dn_game::{Flight, GameConfig, GameFault};
 pub use dn_lockstep::{Aim, Config, NodeFault};
 pub use dn_machine::{Done, Event, Refusal};
 pub use dn_remain::RemainEvent;
@@ -27,5 +27,6 @@ pub use game::Game;
 pub use happened::Happened;
 pub use laws::reached_remaining_games_agree;
 pub use lived::Lived;
-pub use playing::{Played, play_remaining};
-pub use under_way::{Flight, Telling};
+pub use played::Played;
+pub use playing::play_remaining;
+pub use under_way::Telling;

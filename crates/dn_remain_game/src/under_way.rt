@@ -4,23 +4,8 @@ ghost use Rattle.std.specs.{Prelude.◌≡◌, Prelude.◌<◌, Prelude.◌≤�
 ghost use Rattle.dn_remain_game.specs.Room.{grown};
 
 use arrayvec::ArrayVec;
-use dn_lockstep::Aim;
-use dn_packet::MAX_DATAGRAM;
 use dn_report::{Report, Tail};
 use std::alloc::AllocError;
-
-/// A packet that was sent. It stays where it is, however often it is delivered.
-#[derive(Debug, Drop, PartialEq, Eq)]
-pub struct Flight {
-    /// The number of the sender.
-    pub from: u8,
-    /// The number of the receiver.
-    pub to: u8,
-    /// Its exact numbers.
-    pub aim: Aim,
-    /// Its datagram.
-    pub bytes: ArrayVec<u8, MAX_DATAGRAM>,
-}
 
 /// A report that was told. It stays where it is, however often it is heard.
 #[derive(Debug, Drop, PartialEq, Eq)]

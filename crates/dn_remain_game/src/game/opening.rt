@@ -3,13 +3,14 @@
 ghost use Rattle.std.specs.{Prelude.◌≡◌, Prelude.length, Prelude.IfOk, Vec.vec_capacity};
 ghost use Rattle.dn_demo.specs.Recorded.{IsLimit};
 ghost use Rattle.dn_lockstep.specs.Opening.{IsGame};
-ghost use Rattle.dn_remain_game.specs.{Opening.IsAdmitted, Opening.config_of, Opening.rules_in, Fresh.AreFresh, Fresh.AreLimited, Fresh.worlds_of};
+ghost use Rattle.dn_game.specs.Opening.{IsAdmitted, rules_in};
+ghost use Rattle.dn_remain_game.specs.{Fresh.AreFresh, Fresh.AreLimited, Fresh.worlds_of};
 
 use super::Game;
-use crate::config::{GameConfig, GameFault};
 use crate::lived::Lived;
 use dn_demo::is_limit;
-use dn_lockstep::{Config, NodeFault, is_game};
+use dn_game::{GameConfig, GameFault, config_of};
+use dn_lockstep::{NodeFault, is_game};
 use dn_world::World;
 use std::alloc::{AllocError, Global};
 
@@ -44,19 +45,6 @@ impl<W: World> Game<W> {
             flights: Vec::new(alloc),
             reports: Vec::new(alloc),
         })
-    }
-}
-
-/// The configuration of a player's node.
-fn config_of(config: &GameConfig, players: u8, me: u8) -> Config
-    ensures { result ≡ config_of config.now players me }
-{
-    Config {
-        players,
-        me,
-        extra: config.extra,
-        limit: config.limit,
-        settings: if me == 0 { Some(config.settings) } else { None },
     }
 }
 

@@ -6,7 +6,8 @@ ghost use Rattle.dn_remain_game.specs.Events.{own_unless};
 ghost use Rattle.dn_remain.specs.{Remaining.is_barred, declared.events.RemainEvent.TheVariants.Own};
 
 use super::Game;
-use crate::under_way::{Flight, grow};
+use crate::under_way::grow;
+use dn_game::Flight;
 use dn_machine::{Done, Heard, Refusal};
 use dn_world::World;
 

@@ -1,5 +1,5 @@
 use Rattle.std.proofs.Common.{refl, arith}
-use Rattle.dn_remain_game.specs.declared.under_way.Flight.{Flight}
+use Rattle.dn_game.specs.declared.flight.Flight.{Flight}
 use Rattle.dn_remain_game.specs.Contents.{contents}
 use Rattle.dn_remain_game.proofs.Framing.{receiver_of}
 use Rattle.dn_remain_game.proofs.Leaving.{left_by}

@@ -1,6 +1,6 @@
 use Rattle.std.proofs.Common.{arith}
 use Rattle.dn_remain_game.proofs.Counting.{applies_one, one_done, one_refused}
-use Rattle.dn_remain_game.proofs.playing.Played.apply.Goals as goal
+use Rattle.dn_remain_game.proofs.played.Played.apply.Goals as goal
 
 pub returns-in-Ok-clause-applied : goal.returns-in-Ok-clause-applied
 returns-in-Ok-clause-applied g c =
