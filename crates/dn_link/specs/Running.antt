@@ -1,4 +1,4 @@
--- A run of a link.
+-- A run of a link, in which no mark is compared of players who are given up.
 use Rattle.std.specs.Prelude.{ℤ, List, Option}
 use Rattle.dn_tic.specs.declared.command.Move.{Move}
 use Rattle.dn_machine.specs.declared.answers.Ran.{Ran}

@@ -122,13 +122,13 @@ pub enum BundleFault {
     #[error("sealed, but no datagram of a link")]
     Kind,
     /// Another game's number.
-    #[error("a link's datagram of another game")]
+    #[error("sealed in another game")]
     Game,
     /// Another receiver.
-    #[error("a link's datagram to another receiver")]
+    #[error("sealed to another receiver")]
     Receiver,
     /// A tag that is not that of the bytes before it.
-    #[error("a link's datagram whose tag is wrong")]
+    #[error("the tag is wrong")]
     Tag,
     /// Under the tag stands what no datagram has.
     #[error("sealed, but malformed")]

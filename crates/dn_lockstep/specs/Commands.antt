@@ -29,7 +29,7 @@ is_made Made.NotPlaying = false
 abbrev pub makes : Limits → ℕ → machine.Node → Input → Bool
 makes limits me m input = is_made (on_build limits me m input).1
 
--- a build with this input is the machine's, and is answered so
+-- a build with this input does what it does in the machine, and has that answer
 abbrev pub Builds : Contents → Contents → Input → Made → Type 0
 Builds old new input made =
     Steps old new (λ limits me m. on_build limits me m input) (λ answer. made ≡ answer)

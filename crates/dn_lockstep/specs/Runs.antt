@@ -36,7 +36,7 @@ RunsBy marks old new run IsAnswer =
     Steps old new (λ limits me m. with_row limits m (run limits m (marks_in marks)))
     (λ answer. IsAnswer answer.0 answer.1)
 
--- a tic that was run is one more
+-- where a tic was run, one more is counted
 abbrev pub RunsOne : Contents → Contents → Ran → Type 0
 RunsOne old new ran = (tic : ℕ) → ran ≡ Ran.Ran tic → new.ran ≡ old.ran + 1
 

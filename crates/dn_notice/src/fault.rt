@@ -20,13 +20,13 @@ pub enum ReportDatagramFault {
     #[error("sealed, but no report")]
     Kind,
     /// Another game's number.
-    #[error("a report of another game")]
+    #[error("sealed in another game")]
     Game,
     /// Another receiver.
-    #[error("a report to another receiver")]
+    #[error("sealed to another receiver")]
     Receiver,
     /// A tag that is not that of the bytes before it.
-    #[error("a report whose tag is wrong")]
+    #[error("the tag is wrong")]
     Tag,
     /// A sender whose number is no player's, or the receiver's own.
     #[error("the sender is no other player")]

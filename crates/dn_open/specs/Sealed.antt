@@ -15,7 +15,15 @@ sealing_of seal me = record { seal = seal; me = me }
 -- the envelope of a packet: its datagram, with its exact numbers in front
 abbrev pub letter_of : Seal → Flight → Letter
 letter_of s f =
-    record { suite = s.suite; game = s.game; from = f.from; to = f.to; start = f.start; ask = f.request; datagram = bytes_of f }
+    record {
+      suite = s.suite;
+      game = s.game;
+      from = f.from;
+      to = f.to;
+      start = f.start;
+      ask = f.request;
+      datagram = bytes_of f;
+    }
 
 abbrev pub envelope_of : Seal → Flight → List ℕ
 envelope_of seal flight = envelope seal.key (letter_of seal flight)

@@ -32,8 +32,8 @@ AreTelling limits (given ∷ reports) (telling ∷ tellings) =
 AreTelling limits [] (telling ∷ tellings) = ⊥
 AreTelling limits (given ∷ reports) [] = ⊥
 
--- what a caller has of the packet that a survivor gave it, as of one that a lockstep gave it: its exact numbers
--- if it goes to one who is not given up
+-- what a caller has of the packet that a survivor gave it, if there is one: who it is from and goes to, its bytes,
+-- and, if it goes to one who is not given up, its exact numbers, if the caller asked the lockstep for them before
 pub record IsGivenAs (now : Surviving) (sender receiver : ℕ) (spelling : Option (List ℕ)) (packet : Option Flight)
     : Type 0 where
   pub players : IfSome packet (λ packet. (packet.from ≡ sender) × (packet.to ≡ receiver))

@@ -50,10 +50,10 @@ fn vectors(rt: HostRuntime) {
             0x55, 0x2b
         ][..]
     );
-    let long = [0xaa; 131];
-    let told = b"Test Using Larger Than Block-Size Key - Hash Key First";
+    let key = [0xaa; 131];
+    let text = b"Test Using Larger Than Block-Size Key - Hash Key First";
     assert_eq!(rt;
-        hmac(&long, told),
+        hmac(&key, text),
         [
             0x60, 0xe4, 0x31, 0x59, 0x1e, 0xe0, 0xb6, 0x7f, 0x0d, 0x8a, 0x26, 0xaa, 0xcb, 0xf5,
             0xb7, 0x7f, 0x8e, 0x0b, 0xc6, 0x21, 0x37, 0x28, 0xc5, 0x14, 0x05, 0x46, 0x04, 0x0f,
@@ -62,7 +62,7 @@ fn vectors(rt: HostRuntime) {
     );
     assert_eq!(rt;
         hmac(
-            &long,
+            &key,
             b"This is a test using a larger than block-size key and a larger than block-size data. The key needs to be hashed before being used by the HMAC algorithm."
         ),
         [

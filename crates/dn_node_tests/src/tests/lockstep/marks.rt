@@ -73,7 +73,7 @@ fn run_without(key: &mut Lockstep, given_up: &[bool; 4], row: &mut [Option<Move>
     key.run_without(given_up, &[7; 4], row)
 }
 
-/// What it finds of player 1 where that one counts.
+/// The answer where the mark of player 1 counts.
 const OFF: Ran = Ran::Inconsistent {
     player: 1,
     was: 7,

@@ -50,7 +50,7 @@ fn the_first_fault_is_told(rt: HostRuntime) -> Result<(), Fail> {
 
 #[test]
 fn a_node_begins_with_nothing(rt: HostRuntime) -> Result<(), Fail> {
-    let all = Some(choice()?);
+    let chosen = Some(choice()?);
     for (players, me, limit) in [
         (2, 0, 1_024),
         (2, 1, 1_024),
@@ -59,7 +59,7 @@ fn a_node_begins_with_nothing(rt: HostRuntime) -> Result<(), Fail> {
         (4, 3, 16_777_216),
     ] {
         let (settings, phase) = if me == 0 {
-            (all, Phase::Gathering)
+            (chosen, Phase::Gathering)
         } else {
             (None, Phase::Listening)
         };
