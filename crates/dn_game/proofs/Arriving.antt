@@ -15,7 +15,7 @@ use Rattle.dn_game.specs.declared.rounds.RoundFault.{RoundFault}
 use Rattle.dn_game.specs.Applied.{IsApplied}
 use Rattle.dn_game.specs.Contents.{Contents}
 use Rattle.dn_game.specs.Represents.{Represents}
-use Rattle.dn_game.specs.Frame.{KeepsFlights, Leaves}
+use Rattle.dn_game.specs.Frame.{KeepsFlights, KeepsRest}
 use Rattle.dn_game.specs.Rounds.{pressed_by, IsUnsent, IsCutShort, IsCarriedOut, KeepsIdleWorlds}
 use Rattle.dn_game.specs.RoundEvents.{events_in_order, exchange_events, turn_events, after_all}
 use Rattle.dn_game.proofs.Idling.{idle_more, idle_one}
@@ -68,7 +68,7 @@ module _ {W S : Type 0} (state : W → S) (rules : Rules S) where
 
   -- and the world of a node that a build does not move
   pub build_idle : (old new : Contents W) (m : Game) (node : ℕ) (input : Input) (event : Event)
-      (answer : Result Done Refusal) → event ≡ build_of node input → Leaves old new event answer
+      (answer : Result Done Refusal) → event ≡ build_of node input → KeepsRest old new event answer
       → IsApplied state rules old new m event answer
       → KeepsIdleWorlds rules m (build_of node input ∷ []) old new
   build_idle old new m node input event answer is left applied =
@@ -77,7 +77,7 @@ module _ {W S : Type 0} (state : W → S) (rules : Rules S) where
 
   pub exchanges : (old mid new : Contents W) (m : Game) (node to which : ℕ) (sent heard : Result Done Refusal)
       → which ≡ length m.flights → sent ≢ Err Refusal.Memory
-      → Leaves old mid (Send node to) sent → Leaves mid new (Deliver which) heard
+      → KeepsRest old mid (Send node to) sent → KeepsRest mid new (Deliver which) heard
       → IsApplied state rules old mid m (Send node to) sent
       → (Represents state rules mid (after rules (Send node to) m)
       → IsApplied state rules mid new (after rules (Send node to) m) (Deliver which) heard)

@@ -16,7 +16,7 @@ use Rattle.dn_node.specs.Contents as node
 use Rattle.dn_game.specs.declared.flight.Flight.{Flight}
 use Rattle.dn_game.specs.declared.open_done.OpenDone.{OpenDone}
 use Rattle.dn_game.specs.Contents.{Contents}
-use Rattle.dn_game.specs.Frame.{KeepsOthers, KeepsWorlds, Leaves, LeavesOpen, Leaving, MovesNoWorld, MovesNoWorldOpen}
+use Rattle.dn_game.specs.Frame.{KeepsOthers, KeepsWorlds, KeepsRest, KeepsRestOpen, Keeping, MovesNoWorld, MovesNoWorldOpen}
 use Rattle.dn_game.specs.OpenPlayed.{arrival_answer}
 use Rattle.dn_game.specs.Fresh.{worlds_of}
 
@@ -53,27 +53,27 @@ module _ {W : Type 0} (nodes : List (Node W)) (place : ℕ) (next : Node W) wher
       map-set_same own nodes place next old (kept ∙ ap own read)
 
 -- where neither the nodes nor the packets change, all is left
-pub leaves_all : {W : Type 0} (named : Option ℕ) (IsStill : Type 0) (old new : Contents W)
-    → new.nodes ≡ old.nodes → new.flights ≡ old.flights → Leaving named IsStill old new
-leaves_all {W} named IsStill old new nodes flights =
+pub rest_all : {W : Type 0} (named : Option ℕ) (IsStill : Type 0) (old new : Contents W)
+    → new.nodes ≡ old.nodes → new.flights ≡ old.flights → Keeping named IsStill old new
+rest_all {W} named IsStill old new nodes flights =
     record {
       others = λ i apart. ap (λ (ns : List (Node W)). slice_get ns i) nodes;
       worlds = λ still. ap worlds_of nodes;
       more = ([], flights ∙ sym (append-nil old.flights));
     }
 
-pub leaves_same : {W : Type 0} (named : Option ℕ) (IsStill : Type 0) (old new : Contents W) → new ≡ old
-    → Leaving named IsStill old new
-leaves_same {W} named IsStill old new same =
-    leaves_all named IsStill old new (ap (λ (g : Contents W). g.nodes) same)
+pub rest_same : {W : Type 0} (named : Option ℕ) (IsStill : Type 0) (old new : Contents W) → new ≡ old
+    → Keeping named IsStill old new
+rest_same {W} named IsStill old new same =
+    rest_all named IsStill old new (ap (λ (g : Contents W). g.nodes) same)
     (ap (λ (g : Contents W). g.flights) same)
 
 -- the step of the node that is named leaves the others, and the worlds where it keeps its own
-pub leaves_step : {W : Type 0} (g : Contents W) (place : ℕ) (old next : Node W) (named : Option ℕ)
+pub rest_step : {W : Type 0} (g : Contents W) (place : ℕ) (old next : Node W) (named : Option ℕ)
     (IsStill : Type 0) → named ≡ Some place → old ≡ slice_index_or g.nodes place old
     → (IsStill → (node.contents next).world ≡ (node.contents old).world)
-    → Leaving named IsStill g (record g { nodes = set g.nodes place next })
-leaves_step g place old next named IsStill is read kept =
+    → Keeping named IsStill g (record g { nodes = set g.nodes place next })
+rest_step g place old next named IsStill is read kept =
     record {
       others = others_step g.nodes place next named is;
       worlds = λ still. worlds_step g.nodes place next old read (kept still);
@@ -81,20 +81,20 @@ leaves_step g place old next named IsStill is read kept =
     }
 
 -- by the event that it is
-pub leaves_as : {W : Type 0} (old new : Contents W) (event is : Event) (answer : Result Done Refusal)
-    → event ≡ is → Leaves old new is answer → Leaves old new event answer
-leaves_as old new event is answer same left = rw same left
+pub rest_as : {W : Type 0} (old new : Contents W) (event is : Event) (answer : Result Done Refusal)
+    → event ≡ is → KeepsRest old new is answer → KeepsRest old new event answer
+rest_as old new event is answer same left = rw same left
 
 -- an open event that is one of the game, and bytes that came
-pub own_leaves : {W : Type 0} (old new : Contents W) (event : OpenEvent) (own : Event) (done : Done)
-    → event ≡ Own own → Leaves old new own (Ok done) → LeavesOpen old new event (Ok (OpenDone.Own done))
-own_leaves old new event own done same left =
+pub own_rest : {W : Type 0} (old new : Contents W) (event : OpenEvent) (own : Event) (done : Done)
+    → event ≡ Own own → KeepsRest old new own (Ok done) → KeepsRestOpen old new event (Ok (OpenDone.Own done))
+own_rest old new event own done same left =
     rw same (record { others = left.others; worlds = left.worlds; more = left.more })
 
 pub arrival_leaves : {W : Type 0} (old new : Contents W) (event : OpenEvent) (node : ℕ) (bytes : Bor (List ℕ))
     (arrived : Arrived) → event ≡ Arrive node bytes → KeepsOthers (Some node) old new
     → (◌≢◌ {A = Result Arrived Refusal} (Ok arrived) (Ok (Arrived.Heard Heard.Started)) → KeepsWorlds old new)
-    → new.flights ≡ old.flights → LeavesOpen old new event (Ok (OpenDone.Arrived arrived))
+    → new.flights ≡ old.flights → KeepsRestOpen old new event (Ok (OpenDone.Arrived arrived))
 arrival_leaves old new event node bytes arrived same others worlds flights =
     rw same (record {
       others = others;

@@ -108,4 +108,4 @@ pub given_more : {W S : Type 0} (state : W → S) (physics : Physics S) (played 
     → KeepsGiven worlds (events ++ event ∷ []) (answers ++ answer ∷ []) (contents next.game)
 given_more state physics played next event answer one =
     keeps_more named_in MovesNoWorld own_stays (contents played.game) (contents next.game) event answer
-    one.leaves.others one.leaves.worlds one.leaves.more.0 one.leaves.more.1
+    one.rest.others one.rest.worlds one.rest.more.0 one.rest.more.1

@@ -9,7 +9,7 @@ use Rattle.dn_machine.specs.Worlds.{Rules}
 use Rattle.dn_game.specs.declared.flight.Flight.{Flight}
 use Rattle.dn_game.specs.Applied.{IsApplied}
 use Rattle.dn_game.specs.Contents.{Contents}
-use Rattle.dn_game.specs.Frame.{KeepsFlights, Leaves, MovesNoWorld, named_in}
+use Rattle.dn_game.specs.Frame.{KeepsFlights, KeepsRest, MovesNoWorld, named_in}
 use Rattle.dn_game.specs.Fresh.{worlds_of}
 use Rattle.dn_game.specs.Given.{KeepsGiven}
 use Rattle.dn_game.specs.RoundEvents.{after_all, answers_to}
@@ -64,7 +64,7 @@ module _ {W S : Type 0} (rules : Rules S) where
 
   -- one event
   pub idle_one : (state : W → S) (m : Game) (event : Event) (answer : Result Done Refusal)
-      (old new : Contents W) → Leaves old new event answer → IsApplied state rules old new m event answer
+      (old new : Contents W) → KeepsRest old new event answer → IsApplied state rules old new m event answer
       → KeepsIdleWorlds rules m (event ∷ []) old new
   idle_one state m event answer old new left (inl done) i never =
       stays_at named_in MovesNoWorld own_stays old new event answer left.others left.worlds left.more.0

@@ -49,6 +49,6 @@ IsWithin nodes flights (Run node) = node < nodes
 IsWithin nodes flights (Quit node) = node < nodes
 IsWithin nodes flights (Stop node) = node < nodes
 
--- of those of a game
+-- the nodes and the packet that the event names are there, in this game
 abbrev pub IsAddressed : {W : Type 0} → Contents W → Event → Type 0
 IsAddressed g event = IsWithin (length g.nodes) (length g.flights) event

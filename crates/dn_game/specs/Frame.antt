@@ -59,18 +59,18 @@ MovesNoWorldOpen answer = Unit {0}
 abbrev pub KeepsFlights : {W : Type 0} → Contents W → Contents W → Type 0
 KeepsFlights old new = (more : List Flight) × (new.flights ≡ old.flights ++ more)
 
--- what is left as it is: each node but the one that is named, each world if none moves, and the packets
-pub record Leaving {W : Type 0} (named : Option ℕ) (IsStill : Type 0) (old new : Contents W) : Type 0 where
+-- what stays as it is: each node but the one that is named, each world if none moves, and the packets
+pub record Keeping {W : Type 0} (named : Option ℕ) (IsStill : Type 0) (old new : Contents W) : Type 0 where
   pub others : KeepsOthers named old new
   pub worlds : IsStill → KeepsWorlds old new
   pub more : KeepsFlights old new
 
--- by an event with this answer
-abbrev pub Leaves : {W : Type 0} → Contents W → Contents W → Event → Result Done Refusal → Type 0
-Leaves old new event answer = Leaving (named_by old event) (MovesNoWorld answer) old new
+-- what an event with this answer leaves as it is
+abbrev pub KeepsRest : {W : Type 0} → Contents W → Contents W → Event → Result Done Refusal → Type 0
+KeepsRest old new event answer = Keeping (named_by old event) (MovesNoWorld answer) old new
 
-abbrev pub LeavesOpen : {W : Type 0} → Contents W → Contents W → OpenEvent → Result OpenDone Refusal → Type 0
-LeavesOpen old new event answer = Leaving (named_by_open old event) (MovesNoWorldOpen answer) old new
+abbrev pub KeepsRestOpen : {W : Type 0} → Contents W → Contents W → OpenEvent → Result OpenDone Refusal → Type 0
+KeepsRestOpen old new event answer = Keeping (named_by_open old event) (MovesNoWorldOpen answer) old new
 
 -- each node holds what it held, the same have stopped, and no packet was sent
 pub record HoldsTheSame {W : Type 0} (old new : Contents W) : Type 0 where

@@ -46,7 +46,8 @@ pub record IsStormedObserved {W S L : Type 0} (state : W → S) (rules : Rules S
   pub promised : HasStormed state rules settings seed count played
   pub observed : ObservesAll observes old 0 promised.stormed.events promised.stormed.answers new
 
--- and a node has the world that was given for it, by the answers that the observer was told
+-- and a node has the world that was given for it, unless one of the answers that the observer was told, to an event
+-- that names it, tells that it started or ran a tic
 abbrev pub IsStormedObservedFrom : {W S L : Type 0} → (W → S) → Rules S → Observing L → Settings → List W
     → (seed count : ℕ) → L → L → Played W → Type 0
 IsStormedObservedFrom state rules observes settings worlds seed count old new played =

@@ -18,7 +18,7 @@ use Rattle.dn_game.specs.declared.played.Played.{Played}
 use Rattle.dn_game.specs.Applied.{IsApplied, Tells}
 use Rattle.dn_game.specs.Arrived.{Opening, SparesArrived, after_arrival}
 use Rattle.dn_game.specs.Contents.{Contents, contents}
-use Rattle.dn_game.specs.Frame.{LeavesOpen}
+use Rattle.dn_game.specs.Frame.{KeepsRestOpen}
 use Rattle.dn_game.specs.Played.{Answers, IsPlayedBy, PlaysBy}
 use Rattle.dn_game.specs.Promised.{IsCarriedOn}
 use Rattle.dn_game.specs.Represents.{Represents}
@@ -104,7 +104,7 @@ pub record AppliesOpen {W S : Type 0} (state : W → S) (physics : Physics S) (s
     (event : OpenEvent) (answer : Result OpenDone Refusal) : Type 0 where
   pub applied : Tells state physics (contents old.game)
       (λ rules m. IsAppliedOpen state rules seal m event answer (contents new.game))
-  pub leaves : LeavesOpen (contents old.game) (contents new.game) event answer
+  pub rest : KeepsRestOpen (contents old.game) (contents new.game) event answer
   pub done : new.done ≡ old.done + count_by is_ok (answer ∷ [])
   pub refused : new.refused ≡ old.refused + count_by is_err (answer ∷ [])
 

@@ -12,7 +12,7 @@ use Rattle.dn_machine.specs.Worlds.{Rules}
 use Rattle.dn_game.specs.declared.played.Played.{Played}
 use Rattle.dn_game.specs.Applied.{Tells, IsApplied}
 use Rattle.dn_game.specs.Contents.{Contents, contents}
-use Rattle.dn_game.specs.Frame.{Leaves}
+use Rattle.dn_game.specs.Frame.{KeepsRest}
 use Rattle.dn_game.specs.Represents.{Represents}
 
 -- an event leads from a game to the next with this answer; a send that nothing else refuses may be left out,
@@ -65,6 +65,6 @@ pub record AppliesOne {W S : Type 0} (state : W → S) (physics : Physics S) (ol
     (event : Event) (answer : Result Done Refusal) : Type 0 where
   pub applied : Tells state physics (contents old.game)
       (λ rules m. IsApplied state rules (contents old.game) (contents new.game) m event answer)
-  pub leaves : Leaves (contents old.game) (contents new.game) event answer
+  pub rest : KeepsRest (contents old.game) (contents new.game) event answer
   pub done : new.done ≡ old.done + count_by is_ok (answer ∷ [])
   pub refused : new.refused ≡ old.refused + count_by is_err (answer ∷ [])

@@ -23,7 +23,8 @@ abbrev pub StaysWithin : {W : Type 0} → Game W → Game W → Type 0
 StaysWithin old new = IsWithinTwice (contents old).flights (room_of old)
     → IsWithinTwice (contents new).flights (room_of new)
 
--- what stays so while a game goes on: whose its nodes are, its room, and the packets that were sent
+-- what stays so while a game goes on: whose its nodes are, that its memory is within its bound, and the packets that
+-- were sent
 pub record Continues {W : Type 0} (old new : Game W) : Type 0 where
   pub whose : KeepsWhose (contents old) (contents new)
   pub grown : StaysWithin old new

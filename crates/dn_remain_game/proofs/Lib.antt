@@ -25,7 +25,7 @@ pub mod GoneInside
 pub mod Whose
 pub mod Framing
 pub mod Roomy
-pub mod Leaving
+pub mod Rest
 pub mod Surviving
 pub mod SteadyAnswers
 pub mod Barred

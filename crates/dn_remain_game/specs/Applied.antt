@@ -62,7 +62,7 @@ pub record IsAfter {W S A : Type 0} (state : W → S) (rules : Rules S) (old new
   pub answered : answer ≡ after.1
   pub kept : KeepWorlds old.nodes new.nodes
 
--- an event of the machine does what it does in whatever game it represents
+-- in whatever game it represents, this event of the machine is applied, and this is what it did
 abbrev pub DoesOwn : {W S : Type 0} → (W → S) → Physics S → Contents W → Contents W → Event → Done → Type 0
 DoesOwn state physics old new event done =
     Tells state physics old (λ rules all. IsAfter state rules old new (in_game all (on_own rules all event)) done)

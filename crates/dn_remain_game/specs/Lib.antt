@@ -6,7 +6,7 @@ pub mod Represents
 pub mod Events
 pub mod Applied
 pub mod Room
-pub mod Leaves
+pub mod Rest
 pub mod Told
 pub mod Survivors
 pub mod Fresh

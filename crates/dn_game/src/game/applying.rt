@@ -12,7 +12,7 @@ use dn_world::World;
 
 impl<W: World> Game<W> {
     ghost use Rattle.dn_game.specs.{Contents.contents, Applied.Tells, Applied.IsAfter, Applied.IsLeftOut, Applied.IsAddressed, Frame.KeepsOthers, Frame.KeepsWorlds};
-    ghost use Rattle.dn_game.specs.{Frame.KeepsFlights, Frame.Leaves, Frame.named_by, Room.room_of, Room.IsFull, Room.KeepsWhose};
+    ghost use Rattle.dn_game.specs.{Frame.KeepsFlights, Frame.KeepsRest, Frame.named_by, Room.room_of, Room.IsFull, Room.KeepsWhose};
 
     /// Whether this is the number of a player.
     fn is_player(&self, node: u32) -> bool
@@ -21,7 +21,7 @@ impl<W: World> Game<W> {
         (node as usize) < self.nodes.len()
     }
 
-    /// Why an event of a node that is there is refused, if it is.
+    /// `Stopped`, if the node has stopped.
     fn refused_stopped(&self, node: u32) -> Option<Refusal>
         ensures told { result ≡ (if slice_index_or (contents self.now).stopped node false
             then Some Refusal.Stopped else None) }
@@ -154,7 +154,7 @@ impl<W: World> Game<W> {
         ensures whose { KeepsWhose (contents self.old) (contents self.new) }
         // Each node but the one that the event names is as it was, each has the world that it had, but for a node
         // that starts or runs a tic, and the packets that were sent stay.
-        ensures leaves { Leaves (contents self.old) (contents self.new) event result }
+        ensures rest { KeepsRest (contents self.old) (contents self.new) event result }
     {
         if let Some(refusal) = self.refused(event) {
             return Err(refusal);

@@ -28,7 +28,7 @@ fn are_opened(seal: Seal, node: u32, bytes: &[u8])
 }
 
 impl<W: World> Game<W> {
-    ghost use Rattle.dn_game.specs.{Contents.contents, Applied.Tells, Frame.KeepsOthers, Frame.KeepsWorlds, Frame.LeavesOpen, Room.room_of, Room.IsFull, Room.KeepsWhose};
+    ghost use Rattle.dn_game.specs.{Contents.contents, Applied.Tells, Frame.KeepsOthers, Frame.KeepsWorlds, Frame.KeepsRestOpen, Room.room_of, Room.IsFull, Room.KeepsWhose};
 
     /// The envelope of the packet of this number, in the game with this seal; None where no packet has it.
     pub fn sealed(&self, seal: Seal, which: usize) -> Option<ArrayVec<u8, 141>>
@@ -100,7 +100,7 @@ impl<W: World> Game<W> {
         ensures refused { OnErr result (result ≢ Err Refusal.Memory → room_of self.new ≡ room_of self.old) }
         ensures whose { KeepsWhose (contents self.old) (contents self.new) }
         ensures spared { SparesOpen (contents self.old) (contents self.new) result }
-        ensures leaves { LeavesOpen (contents self.old) (contents self.new) event.now result }
+        ensures rest { KeepsRestOpen (contents self.old) (contents self.new) event.now result }
     {
         Ok(match event {
             OpenEvent::Own(event) => OpenDone::Own(self.apply(*event)?),

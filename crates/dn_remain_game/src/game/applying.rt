@@ -12,7 +12,7 @@ use dn_world::World;
 
 impl<W: World> Game<W> {
     ghost use Rattle.dn_remain_game.specs.{Contents.contents, Applied.IsAddressedOwn, Applied.IsApplied, Applied.IsAppliedOwn, Applied.Tells, Applied.TellsReached, Events.asks_room, Kept.KeepsOthers};
-    ghost use Rattle.dn_remain_game.specs.{Kept.KeepsWhose, Kept.changed_by, Leaves.LeavesRest, Promised.IsCarriedOn, Survivors.AsksSurvivor, Told.HasTold, Room.IsFull, Room.LacksRoom};
+    ghost use Rattle.dn_remain_game.specs.{Kept.KeepsWhose, Kept.changed_by, Rest.KeepsRestOf, Promised.IsCarriedOn, Survivors.AsksSurvivor, Told.HasTold, Room.IsFull, Room.LacksRoom};
     ghost use Rattle.dn_remain_game.specs.{Room.StaysWithin, Room.room_after, Room.room_of};
 
     /// Applies an event of the game of `dn_machine` that is not refused but for want of memory.
@@ -24,7 +24,7 @@ impl<W: World> Game<W> {
         ensures unchanged { OnErr result (contents self.new ≡ contents self.old) }
         ensures memory { OnErr result ((is_send event ≡ true) × IsFull self.new) }
         ensures reports { self.new.reports ≡ self.old.reports }
-        ensures left { LeavesRest self.old self.new (Own event) result }
+        ensures rest { KeepsRestOf self.old self.new (Own event) result }
     {
         Ok(match event {
             Event::Build { node, keys } => Done::Built(self.build(node, keys)),

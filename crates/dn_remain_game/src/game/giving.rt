@@ -21,7 +21,7 @@ fn narrow(player: u32) -> u8
 }
 
 impl<W: World> Game<W> {
-    ghost use Rattle.dn_remain_game.specs.{Contents.contents, Applied.Tells, Applied.TellsReached, Applied.IsAfter, Kept.KeepsOthers, Kept.KeepsWhose, Kept.changed_by, Leaves.Leaves, Survivors.GivesUpAt};
+    ghost use Rattle.dn_remain_game.specs.{Contents.contents, Applied.Tells, Applied.TellsReached, Applied.IsAfter, Kept.KeepsOthers, Kept.KeepsWhose, Kept.changed_by, Rest.KeepsRest, Survivors.GivesUpAt};
     ghost use Rattle.dn_remain_game.specs.{Survivors.HearsAt, Told.TellsReport, Room.IsFullOfReports, Room.StaysWithin, Room.room_after, Room.room_of};
 
     /// A node gives up a player.
@@ -31,7 +31,7 @@ impl<W: World> Game<W> {
             IsAfter W.state rules (contents self.old) (contents self.new) (gave_up rules.limits all node player)
             (Happened.GivenUp result)) }
         ensures survivor { GivesUpAt (contents self.old) (contents self.new) node player result }
-        ensures left { Leaves (Some node) self.old self.new }
+        ensures rest { KeepsRest (Some node) self.old self.new }
     {
         self.nodes[node as usize].give_up(narrow(player))
     }
@@ -74,7 +74,7 @@ impl<W: World> Game<W> {
             IsAfter W.state rules (contents self.old) (contents self.new)
             (heard_at rules.limits all (slice_get all.reports which)) (Happened.Reported result)) }
         ensures survivor { HearsAt (contents self.old) (contents self.new) which result }
-        ensures left { Leaves (changed_by (contents self.old) (Hear which)) self.old self.new }
+        ensures rest { KeepsRest (changed_by (contents self.old) (Hear which)) self.old self.new }
     {
         let telling = &self.reports[which as usize];
         let report = copied(&telling.report);

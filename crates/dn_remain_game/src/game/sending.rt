@@ -12,7 +12,7 @@ use dn_machine::{Done, Heard, Refusal};
 use dn_world::World;
 
 impl<W: World> Game<W> {
-    ghost use Rattle.dn_remain_game.specs.{Contents.contents, Applied.Tells, Applied.IsAfter, Kept.KeepsOthers, Kept.KeepsWhose, Kept.changed_by_own, Leaves.Leaves, Room.IsFull, Room.StaysWithin};
+    ghost use Rattle.dn_remain_game.specs.{Contents.contents, Applied.Tells, Applied.IsAfter, Kept.KeepsOthers, Kept.KeepsWhose, Kept.changed_by_own, Rest.KeepsRest, Room.IsFull, Room.StaysWithin};
     ghost use Rattle.dn_remain_game.specs.{Room.room_after, Room.room_of};
 
     /// Asks a node for a packet, which joins those that were sent. Room for it is made first.
@@ -56,7 +56,7 @@ impl<W: World> Game<W> {
             refused_flight all.game (slice_get all.game.flights which) ≡ None
             → IsAfter W.state rules (contents self.old) (contents self.new)
             (own_unless rules all (Deliver which) (is_barred all (Deliver which))) (Done.Heard result)) }
-        ensures left { Leaves (changed_by_own (contents self.old) (Deliver which)) self.old self.new }
+        ensures rest { KeepsRest (changed_by_own (contents self.old) (Deliver which)) self.old self.new }
     {
         let flight = &self.flights[which as usize];
         self.nodes[usize::from(flight.to)].receive(flight.from, flight.bytes.as_slice())

@@ -9,14 +9,14 @@ use dn_tic::{Command, Keys};
 use dn_world::World;
 
 impl<W: World> Game<W> {
-    ghost use Rattle.dn_remain_game.specs.{Contents.contents, Applied.DoesOwn, Leaves.Leaves};
+    ghost use Rattle.dn_remain_game.specs.{Contents.contents, Applied.DoesOwn, Rest.KeepsRest};
     ghost use Rattle.dn_machine.specs.declared.events.Done.TheVariants as done;
 
     /// A node builds the command of these keys.
     pub(super) fn build(&mut self, node: u32, keys: Keys) -> Made
         requires { node < length (contents self.old).nodes }
         ensures steps { DoesOwn W.state W.physics (contents self.old) (contents self.new) (Build node keys) (done.Built result) }
-        ensures left { Leaves (Some node) self.old self.new }
+        ensures rest { KeepsRest (Some node) self.old self.new }
     {
         self.nodes[node as usize].build(keys)
     }
@@ -25,7 +25,7 @@ impl<W: World> Game<W> {
     pub(super) fn give(&mut self, node: u32, command: Command) -> Made
         requires { node < length (contents self.old).nodes }
         ensures steps { DoesOwn W.state W.physics (contents self.old) (contents self.new) (Give node command) (done.Built result) }
-        ensures left { Leaves (Some node) self.old self.new }
+        ensures rest { KeepsRest (Some node) self.old self.new }
     {
         self.nodes[node as usize].give(command)
     }
@@ -34,7 +34,7 @@ impl<W: World> Game<W> {
     pub(super) fn run(&mut self, node: u32) -> Ran
         requires { node < length (contents self.old).nodes }
         ensures steps { DoesOwn W.state W.physics (contents self.old) (contents self.new) (Run node) (done.Ran result) }
-        ensures left { Leaves (Some node) self.old self.new }
+        ensures rest { KeepsRest (Some node) self.old self.new }
     {
         self.nodes[node as usize].run()
     }
@@ -43,7 +43,7 @@ impl<W: World> Game<W> {
     pub(super) fn quit(&mut self, node: u32) -> bool
         requires { node < length (contents self.old).nodes }
         ensures steps { DoesOwn W.state W.physics (contents self.old) (contents self.new) (Quit node) (done.Quit result) }
-        ensures left { Leaves (Some node) self.old self.new }
+        ensures rest { KeepsRest (Some node) self.old self.new }
     {
         self.nodes[node as usize].quit()
     }
@@ -52,7 +52,7 @@ impl<W: World> Game<W> {
     pub(super) fn stop(&mut self, node: u32)
         requires { node < length (contents self.old).nodes }
         ensures steps { DoesOwn W.state W.physics (contents self.old) (contents self.new) (Stop node) done.Stopped }
-        ensures left { Leaves None self.old self.new }
+        ensures rest { KeepsRest None self.old self.new }
     {
         self.stopped[node as usize] = true;
     }

@@ -41,11 +41,11 @@ loop-event-preserved g c =
         step_played _ _ _ config.settings (take at events) _ _ c.loop-event.played next was is.0 is.1 is.2 one.done
             one.refused,
         keeps_more named_in_open MovesNoWorldOpen named_stays (contents c.loop-event.played.game) (contents next.game)
-            _ _ one.leaves.others one.leaves.worlds one.leaves.more.0
-            one.leaves.more.1 c.args.worlds.items (take at events) was.answers
+            _ _ one.rest.others one.rest.worlds one.rest.more.0
+            one.rest.more.1 c.args.worlds.items (take at events) was.answers
             (as_many _ (take at events) was.answers _ was.last was.plays) before.1.1,
       ),
-      stays _ _ _ _ c.apply_open.ensures.grown one.leaves.more before.2,
+      stays _ _ _ _ c.apply_open.ensures.grown one.rest.more before.2,
       limits_stay _ _ _ c.apply_open.ensures.whose before.3,
     )
 

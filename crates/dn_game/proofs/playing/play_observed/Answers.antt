@@ -44,7 +44,7 @@ loop-event-preserved g c =
             (as_many _ (take at events) before.1.0.answers _ before.1.0.last before.1.0.plays) before.1.2,
       ),
       limits_stay _ _ _ c.apply_observed.ensures.whose before.2,
-      stays _ _ _ _ c.apply_observed.ensures.grown one.leaves.more before.3,
+      stays _ _ _ _ c.apply_observed.ensures.grown one.rest.more before.3,
     )
 
 pub returns-clause-promised : goal.returns-clause-promised

@@ -68,7 +68,7 @@ loop-preserved g c =
             omega (arith, counted, c.loop.invariant.0),
             (more, ap behind_three left ∙ sym c.next.ensures.drawn, heard, given_on),
             limits_stay _ _ _ w.apply_observed.ensures.whose c.loop.invariant.2,
-            stays _ _ _ _ w.apply_observed.ensures.grown one.leaves.more c.loop.invariant.3,
+            stays _ _ _ _ w.apply_observed.ensures.grown one.rest.more c.loop.invariant.3,
           )
       | in_default w ↦
           absurd (storm_goes_on _ game config.settings c.args.seed c.loop.counter c.loop.played s

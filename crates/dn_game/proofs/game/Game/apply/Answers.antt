@@ -6,7 +6,7 @@ use Rattle.dn_game.specs.Contents.{contents}
 use Rattle.dn_game.specs.Applied.{IsAddressed}
 use Rattle.dn_game.specs.Frame.{named_by}
 use Rattle.dn_game.proofs.Applying.{after_refused, after_event, after_send, stops}
-use Rattle.dn_game.proofs.Framing.{leaves_all, leaves_as, leaves_same, leaves_step, run_keeps}
+use Rattle.dn_game.proofs.Framing.{rest_all, rest_as, rest_same, rest_step, run_keeps}
 use Rattle.dn_game.proofs.OpenAnswering.{leads_on, step_leads}
 use Rattle.dn_node.proofs.Whose.{whose_step}
 use Rattle.dn_game.proofs.game.Game.apply.Goals as goal
@@ -85,42 +85,42 @@ returns-in-Quit-clause-whose g c =
 pub returns-in-Stop-clause-whose : goal.returns-in-Stop-clause-whose
 returns-in-Stop-clause-whose g c = refl
 
-pub returns-in-Some-clause-leaves : goal.returns-in-Some-clause-leaves
-returns-in-Some-clause-leaves g c = leaves_same _ _ _ _ refl
+pub returns-in-Some-clause-rest : goal.returns-in-Some-clause-rest
+returns-in-Some-clause-rest g c = rest_same _ _ _ _ refl
 
-pub returns-in-Send-clause-leaves : goal.returns-in-Send-clause-leaves
-returns-in-Send-clause-leaves g c = leaves_as _ _ _ _ _ c.in-Send.is (record {
+pub returns-in-Send-clause-rest : goal.returns-in-Send-clause-rest
+returns-in-Send-clause-rest g c = rest_as _ _ _ _ _ c.in-Send.is (record {
   others = c.send.ensures.others;
   worlds = λ moves. c.send.ensures.worlds;
   more = c.send.ensures.more;
 })
 
-pub returns-in-Build-clause-leaves : goal.returns-in-Build-clause-leaves
-returns-in-Build-clause-leaves g c =
-    leaves_step _ _ _ _ _ _ (ap (named_by (contents c.args.self.now)) c.in-Build.is) c.index_mut.ensures.value
+pub returns-in-Build-clause-rest : goal.returns-in-Build-clause-rest
+returns-in-Build-clause-rest g c =
+    rest_step _ _ _ _ _ _ (ap (named_by (contents c.args.self.now)) c.in-Build.is) c.index_mut.ensures.value
     (λ moves. c.build.ensures.world)
 
-pub returns-in-Give-clause-leaves : goal.returns-in-Give-clause-leaves
-returns-in-Give-clause-leaves g c =
-    leaves_step _ _ _ _ _ _ (ap (named_by (contents c.args.self.now)) c.in-Give.is) c.index_mut-in-Give.ensures.value
+pub returns-in-Give-clause-rest : goal.returns-in-Give-clause-rest
+returns-in-Give-clause-rest g c =
+    rest_step _ _ _ _ _ _ (ap (named_by (contents c.args.self.now)) c.in-Give.is) c.index_mut-in-Give.ensures.value
     (λ moves. c.give.ensures.world)
 
-pub returns-in-Deliver-clause-leaves : goal.returns-in-Deliver-clause-leaves
-returns-in-Deliver-clause-leaves g c = leaves_as _ _ _ _ (Ok (Done.Heard c.deliver.result)) c.in-Deliver.is (record {
+pub returns-in-Deliver-clause-rest : goal.returns-in-Deliver-clause-rest
+returns-in-Deliver-clause-rest g c = rest_as _ _ _ _ (Ok (Done.Heard c.deliver.result)) c.in-Deliver.is (record {
   others = c.deliver.ensures.others;
   worlds = c.deliver.ensures.worlds;
   more = ([], c.deliver.ensures.flights ∙ sym (append-nil _));
 })
 
-pub returns-in-Run-clause-leaves : goal.returns-in-Run-clause-leaves
-returns-in-Run-clause-leaves g c =
-    leaves_step _ _ _ _ _ _ (ap (named_by (contents c.args.self.now)) c.in-Run.is) c.index_mut-in-Run.ensures.value
+pub returns-in-Run-clause-rest : goal.returns-in-Run-clause-rest
+returns-in-Run-clause-rest g c =
+    rest_step _ _ _ _ _ _ (ap (named_by (contents c.args.self.now)) c.in-Run.is) c.index_mut-in-Run.ensures.value
     (λ moves. c.run.ensures.world (run_keeps _ moves))
 
-pub returns-in-Quit-clause-leaves : goal.returns-in-Quit-clause-leaves
-returns-in-Quit-clause-leaves g c =
-    leaves_step _ _ _ _ _ _ (ap (named_by (contents c.args.self.now)) c.in-Quit.is) c.index_mut-in-Quit.ensures.value
+pub returns-in-Quit-clause-rest : goal.returns-in-Quit-clause-rest
+returns-in-Quit-clause-rest g c =
+    rest_step _ _ _ _ _ _ (ap (named_by (contents c.args.self.now)) c.in-Quit.is) c.index_mut-in-Quit.ensures.value
     (λ moves. c.quit.ensures.world)
 
-pub returns-in-Stop-clause-leaves : goal.returns-in-Stop-clause-leaves
-returns-in-Stop-clause-leaves g c = leaves_all _ _ _ _ refl refl
+pub returns-in-Stop-clause-rest : goal.returns-in-Stop-clause-rest
+returns-in-Stop-clause-rest g c = rest_all _ _ _ _ refl refl

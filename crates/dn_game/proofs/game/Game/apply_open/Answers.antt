@@ -1,6 +1,6 @@
 use Rattle.std.proofs.Common.{◌≡◌, Err, rules}
 use Rattle.dn_machine.specs.Worlds.{rules_of}
-use Rattle.dn_game.proofs.Framing.{arrival_leaves, leaves_same, own_leaves}
+use Rattle.dn_game.proofs.Framing.{arrival_leaves, rest_same, own_rest}
 use Rattle.dn_game.proofs.OpenAnswering.{own_applied, own_refused, arrival_applied, arrival_refused, carries_open}
 use Rattle.dn_game.proofs.game.Game.apply_open.Goals as goal
 
@@ -38,19 +38,19 @@ returns-in_ok-arrive-in-Arrive-clause-carried g c = carries_open _ _ _ _ _ _ _ (
 pub returns-in_err-arrive-in-Arrive-clause-carried : goal.returns-in_err-arrive-in-Arrive-clause-carried
 returns-in_err-arrive-in-Arrive-clause-carried g c = carries_open _ _ _ _ _ _ _ (returns-in_err-arrive-in-Arrive-clause-applied g c)
 
-pub returns-in_ok-apply-in-Own-clause-leaves : goal.returns-in_ok-apply-in-Own-clause-leaves
-returns-in_ok-apply-in-Own-clause-leaves g c = own_leaves _ _ _ _ _ c.in-Own.is c.in_ok-apply-in-Own.ensures.leaves
+pub returns-in_ok-apply-in-Own-clause-rest : goal.returns-in_ok-apply-in-Own-clause-rest
+returns-in_ok-apply-in-Own-clause-rest g c = own_rest _ _ _ _ _ c.in-Own.is c.in_ok-apply-in-Own.ensures.rest
 
-pub returns-in_err-apply-in-Own-clause-leaves : goal.returns-in_err-apply-in-Own-clause-leaves
-returns-in_err-apply-in-Own-clause-leaves g c = leaves_same _ _ _ _ c.in_err-apply-in-Own.ensures.unchanged
+pub returns-in_err-apply-in-Own-clause-rest : goal.returns-in_err-apply-in-Own-clause-rest
+returns-in_err-apply-in-Own-clause-rest g c = rest_same _ _ _ _ c.in_err-apply-in-Own.ensures.unchanged
 
-pub returns-in_ok-arrive-in-Arrive-clause-leaves : goal.returns-in_ok-arrive-in-Arrive-clause-leaves
-returns-in_ok-arrive-in-Arrive-clause-leaves g c =
+pub returns-in_ok-arrive-in-Arrive-clause-rest : goal.returns-in_ok-arrive-in-Arrive-clause-rest
+returns-in_ok-arrive-in-Arrive-clause-rest g c =
     let arrived = c.in_ok-arrive-in-Arrive.ensures in
     arrival_leaves _ _ _ _ _ _ c.in-Arrive.is arrived.others arrived.worlds arrived.flights
 
-pub returns-in_err-arrive-in-Arrive-clause-leaves : goal.returns-in_err-arrive-in-Arrive-clause-leaves
-returns-in_err-arrive-in-Arrive-clause-leaves g c = leaves_same _ _ _ _ c.in_err-arrive-in-Arrive.ensures.unchanged
+pub returns-in_err-arrive-in-Arrive-clause-rest : goal.returns-in_err-arrive-in-Arrive-clause-rest
+returns-in_err-arrive-in-Arrive-clause-rest g c = rest_same _ _ _ _ c.in_err-arrive-in-Arrive.ensures.unchanged
 
 pub returns-in_ok-arrive-in-Arrive-clause-spared : goal.returns-in_ok-arrive-in-Arrive-clause-spared
 returns-in_ok-arrive-in-Arrive-clause-spared g c = c.in_ok-arrive-in-Arrive.ensures.spared

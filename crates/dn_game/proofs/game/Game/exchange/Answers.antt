@@ -11,7 +11,7 @@ returns-clause-good g c players extra capacity m r =
     exchanges _ rules _ _ _ m c.args.node c.args.to _ _ _
     (c.in-Ok.ensures.1 ∙ c.flights.ensures ∙ flights_are _ rules _ m r)
     (λ e. true≢false (sym (c.is_left_out.ensures.1 e) ∙ c.if-is_left_out.false))
-    c.apply.ensures.leaves c.apply-2.ensures.leaves (c.apply.ensures.leads.applied players extra capacity m r)
+    c.apply.ensures.rest c.apply-2.ensures.rest (c.apply.ensures.leads.applied players extra capacity m r)
     (c.apply-2.ensures.leads.applied players extra capacity _)
 
 pub returns-then-is_left_out-clause-good : goal.returns-then-is_left_out-clause-good
@@ -31,10 +31,10 @@ returns-in_default-clause-continues g c = continues_same _
 
 pub returns-then-is_left_out-clause-continues : goal.returns-then-is_left_out-clause-continues
 returns-then-is_left_out-clause-continues g c =
-    continues_one _ _ c.apply.ensures.whose c.apply.ensures.grown c.apply.ensures.leaves.more
+    continues_one _ _ c.apply.ensures.whose c.apply.ensures.grown c.apply.ensures.rest.more
 
 pub returns-clause-continues : goal.returns-clause-continues
 returns-clause-continues g c =
     let last = c.apply-2.ensures in
-    continues_on _ c.apply.new.self _ (continues_one _ _ c.apply.ensures.whose c.apply.ensures.grown c.apply.ensures.leaves.more)
-    (continues_one _ _ last.whose last.grown last.leaves.more)
+    continues_on _ c.apply.new.self _ (continues_one _ _ c.apply.ensures.whose c.apply.ensures.grown c.apply.ensures.rest.more)
+    (continues_one _ _ last.whose last.grown last.rest.more)

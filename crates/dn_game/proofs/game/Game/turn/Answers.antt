@@ -50,7 +50,7 @@ returns-in_err-exchange-clause-good g c players extra capacity m r =
     let one = c.exchange.ensures.good players extra capacity _ taken.0 in
     let applied = c.apply.ensures.leads.applied players extra capacity m r in
     let now = built _ rules old begun m node c.args.input _ _ c.build_of.ensures applied in
-    let idle = build_idle _ rules old begun m node c.args.input _ _ c.build_of.ensures c.apply.ensures.leaves applied in
+    let idle = build_idle _ rules old begun m node c.args.input _ _ c.build_of.ensures c.apply.ensures.rest applied in
     let count = c.players-to-end.ensures.value ∙ now.players in
     let below : c.loop-to.to < players = omega (arith, c.loop-to-test.true, c.loop-to.auto.to-end, count) in
     let at = ends _ rules (exchange rules node) (exchange_events node) (after_exchange rules node) mid begun
@@ -72,24 +72,24 @@ returns-clause-good g c players extra capacity m r =
     let asked = contents c.loop-to.self in
     let applied = c.apply.ensures.leads.applied players extra capacity m r in
     let now = built _ rules old begun m node c.args.input _ _ c.build_of.ensures applied in
-    let idle = build_idle _ rules old begun m node c.args.input _ _ c.build_of.ensures c.apply.ensures.leaves applied in
+    let idle = build_idle _ rules old begun m node c.args.input _ _ c.build_of.ensures c.apply.ensures.rest applied in
     let count = c.players-to-end.ensures.value ∙ now.players in
     let all : c.loop-to.to ≡ players = omega (arith, c.loop-to-test.false, c.loop-to.auto.to-end, count) in
     let taken = rw all at (c.loop-to.invariant.0 players extra capacity m r) in
     let last = c.apply-2.ensures.leads.applied players extra capacity _ taken.0 in (
       after_other _ rules _ _ _ _ _ refl last,
       turn_idle _ rules node c.args.input m old begun asked (contents c.apply-2.new.self) idle
-          (flights_on _ _ _ c.loop-to.invariant.1.more c.apply-2.ensures.leaves.more) taken c.apply-2.ensures.leaves.more
-          (idle_one rules _ _ (Run node) _ asked (contents c.apply-2.new.self) c.apply-2.ensures.leaves last),
+          (flights_on _ _ _ c.loop-to.invariant.1.more c.apply-2.ensures.rest.more) taken c.apply-2.ensures.rest.more
+          (idle_one rules _ _ (Run node) _ asked (contents c.apply-2.new.self) c.apply-2.ensures.rest last),
     )
 
 pub returns-in_err-exchange-clause-continues : goal.returns-in_err-exchange-clause-continues
 returns-in_err-exchange-clause-continues g c =
-    continues_on _ c.apply.new.self _ (continues_one _ _ c.apply.ensures.whose c.apply.ensures.grown c.apply.ensures.leaves.more)
+    continues_on _ c.apply.new.self _ (continues_one _ _ c.apply.ensures.whose c.apply.ensures.grown c.apply.ensures.rest.more)
     (continues_on _ c.loop-to.self _ c.loop-to.invariant.1 c.exchange.ensures.continues)
 
 pub returns-clause-continues : goal.returns-clause-continues
 returns-clause-continues g c =
     let last = c.apply-2.ensures in
-    continues_on _ c.apply.new.self _ (continues_one _ _ c.apply.ensures.whose c.apply.ensures.grown c.apply.ensures.leaves.more)
-    (continues_on _ c.loop-to.self _ c.loop-to.invariant.1 (continues_one _ _ last.whose last.grown last.leaves.more))
+    continues_on _ c.apply.new.self _ (continues_one _ _ c.apply.ensures.whose c.apply.ensures.grown c.apply.ensures.rest.more)
+    (continues_on _ c.loop-to.self _ c.loop-to.invariant.1 (continues_one _ _ last.whose last.grown last.rest.more))

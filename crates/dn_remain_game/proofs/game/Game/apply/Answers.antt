@@ -95,14 +95,14 @@ returns-in_err-apply_own-in-Own-clause-reports g c =
 
 pub returns-in-GiveUp-clause-reports : goal.returns-in-GiveUp-clause-reports
 returns-in-GiveUp-clause-reports g c =
-    told_by (contents c.args.self.now) (contents c.give_up.new.self) c.args.event _ _ c.in-GiveUp.is (ap (λ (v : Vec Telling). v.items) c.give_up.ensures.left.posts.reports)
+    told_by (contents c.args.self.now) (contents c.give_up.new.self) c.args.event _ _ c.in-GiveUp.is (ap (λ (v : Vec Telling). v.items) c.give_up.ensures.rest.posts.reports)
 
 pub returns-in-Tell-clause-reports : goal.returns-in-Tell-clause-reports
 returns-in-Tell-clause-reports g c = told_by (contents c.args.self.now) (contents c.tell.new.self) c.args.event _ _ c.in-Tell.is c.tell.ensures.reports
 
 pub returns-in-Hear-clause-reports : goal.returns-in-Hear-clause-reports
 returns-in-Hear-clause-reports g c =
-    told_by (contents c.args.self.now) (contents c.hear.new.self) c.args.event _ _ c.in-Hear.is (ap (λ (v : Vec Telling). v.items) c.hear.ensures.left.posts.reports)
+    told_by (contents c.args.self.now) (contents c.hear.new.self) c.args.event _ _ c.in-Hear.is (ap (λ (v : Vec Telling). v.items) c.hear.ensures.rest.posts.reports)
 
 pub returns-in-Some-clause-survivor : goal.returns-in-Some-clause-survivor
 returns-in-Some-clause-survivor g c = refused_asks (contents c.args.self.now) (contents c.args.self.now) c.args.event _
@@ -132,19 +132,19 @@ pub returns-in-Some-clause-whose : goal.returns-in-Some-clause-whose
 returns-in-Some-clause-whose g c = refl
 
 pub returns-in_ok-apply_own-in-Own-clause-whose : goal.returns-in_ok-apply_own-in-Own-clause-whose
-returns-in_ok-apply_own-in-Own-clause-whose g c = c.in_ok-apply_own-in-Own.ensures.left.whose
+returns-in_ok-apply_own-in-Own-clause-whose g c = c.in_ok-apply_own-in-Own.ensures.rest.whose
 
 pub returns-in_err-apply_own-in-Own-clause-whose : goal.returns-in_err-apply_own-in-Own-clause-whose
-returns-in_err-apply_own-in-Own-clause-whose g c = c.in_err-apply_own-in-Own.ensures.left.whose
+returns-in_err-apply_own-in-Own-clause-whose g c = c.in_err-apply_own-in-Own.ensures.rest.whose
 
 pub returns-in-GiveUp-clause-whose : goal.returns-in-GiveUp-clause-whose
-returns-in-GiveUp-clause-whose g c = c.give_up.ensures.left.whose
+returns-in-GiveUp-clause-whose g c = c.give_up.ensures.rest.whose
 
 pub returns-in-Tell-clause-whose : goal.returns-in-Tell-clause-whose
 returns-in-Tell-clause-whose g c = c.tell.ensures.whose
 
 pub returns-in-Hear-clause-whose : goal.returns-in-Hear-clause-whose
-returns-in-Hear-clause-whose g c = c.hear.ensures.left.whose
+returns-in-Hear-clause-whose g c = c.hear.ensures.rest.whose
 
 pub returns-in-Some-clause-others : goal.returns-in-Some-clause-others
 returns-in-Some-clause-others g c i apart = refl
@@ -152,17 +152,17 @@ returns-in-Some-clause-others g c i apart = refl
 pub returns-in_ok-apply_own-in-Own-clause-others : goal.returns-in_ok-apply_own-in-Own-clause-others
 returns-in_ok-apply_own-in-Own-clause-others g c =
     others_by (contents c.args.self.now) (contents c.apply_own.new.self) c.args.event _ c.in-Own.is
-    c.in_ok-apply_own-in-Own.ensures.left.others
+    c.in_ok-apply_own-in-Own.ensures.rest.others
 
 pub returns-in_err-apply_own-in-Own-clause-others : goal.returns-in_err-apply_own-in-Own-clause-others
 returns-in_err-apply_own-in-Own-clause-others g c =
     others_by (contents c.args.self.now) (contents c.apply_own.new.self) c.args.event _ c.in-Own.is
-    c.in_err-apply_own-in-Own.ensures.left.others
+    c.in_err-apply_own-in-Own.ensures.rest.others
 
 pub returns-in-GiveUp-clause-others : goal.returns-in-GiveUp-clause-others
 returns-in-GiveUp-clause-others g c =
     others_by (contents c.args.self.now) (contents c.give_up.new.self) c.args.event _ c.in-GiveUp.is
-    c.give_up.ensures.left.others
+    c.give_up.ensures.rest.others
 
 pub returns-in-Tell-clause-others : goal.returns-in-Tell-clause-others
 returns-in-Tell-clause-others g c =
@@ -172,22 +172,22 @@ returns-in-Tell-clause-others g c =
 pub returns-in-Hear-clause-others : goal.returns-in-Hear-clause-others
 returns-in-Hear-clause-others g c =
     others_by (contents c.args.self.now) (contents c.hear.new.self) c.args.event _ c.in-Hear.is
-    c.hear.ensures.left.others
+    c.hear.ensures.rest.others
 
 pub returns-in_ok-apply_own-in-Own-clause-taken : goal.returns-in_ok-apply_own-in-Own-clause-taken
 returns-in_ok-apply_own-in-Own-clause-taken g c =
-    done_takes c.args.self.now c.apply_own.new.self c.args.event _ c.in-Own.is c.in_ok-apply_own-in-Own.ensures.left.taken
+    done_takes c.args.self.now c.apply_own.new.self c.args.event _ c.in-Own.is c.in_ok-apply_own-in-Own.ensures.rest.taken
 
 pub returns-in_err-apply_own-in-Own-clause-taken : goal.returns-in_err-apply_own-in-Own-clause-taken
 returns-in_err-apply_own-in-Own-clause-taken g c =
     let told : c.from_residual.result ≡ Err c.in_err-apply_own-in-Own.field-0.0 = search rules in
     refused_takes c.args.self.now c.apply_own.new.self c.args.event c.from_residual.result _ told
-    c.in_err-apply_own-in-Own.ensures.left.taken
+    c.in_err-apply_own-in-Own.ensures.rest.taken
 
 pub returns-in-GiveUp-clause-taken : goal.returns-in-GiveUp-clause-taken
 returns-in-GiveUp-clause-taken g c =
     done_takes c.args.self.now c.give_up.new.self c.args.event _ c.in-GiveUp.is
-    (kept_room c.args.self.now c.give_up.new.self c.give_up.ensures.left.posts)
+    (kept_room c.args.self.now c.give_up.new.self c.give_up.ensures.rest.posts)
 
 pub returns-in-Tell-clause-taken : goal.returns-in-Tell-clause-taken
 returns-in-Tell-clause-taken g c =
@@ -196,4 +196,4 @@ returns-in-Tell-clause-taken g c =
 pub returns-in-Hear-clause-taken : goal.returns-in-Hear-clause-taken
 returns-in-Hear-clause-taken g c =
     done_takes c.args.self.now c.hear.new.self c.args.event _ c.in-Hear.is
-    (kept_room c.args.self.now c.hear.new.self c.hear.ensures.left.posts)
+    (kept_room c.args.self.now c.hear.new.self c.hear.ensures.rest.posts)

@@ -4,7 +4,7 @@ use Rattle.dn_machine.specs.Runs.{is_send}
 use Rattle.dn_remain.specs.declared.events.RemainEvent.TheVariants.{Own}
 use Rattle.dn_remain_game.proofs.Applying.{also, own_applied, own_barred, own_sent}
 use Rattle.dn_remain_game.proofs.Framing.{others_by}
-use Rattle.dn_remain_game.proofs.Leaving.{rest_of}
+use Rattle.dn_remain_game.proofs.Rest.{rest_of}
 use Rattle.dn_remain_game.proofs.Roomy.{taken_by}
 use Rattle.dn_remain_game.specs.Contents.{contents}
 use Rattle.dn_remain_game.proofs.game.Game.apply_own.Goals as goal
@@ -37,14 +37,14 @@ pub returns-in-Send-clause-memory : goal.returns-in-Send-clause-memory
 returns-in-Send-clause-memory g c =
     also _ c.send.result (ap is_send c.in-Send.is) c.send.ensures.memory
 
-pub returns-in-Build-clause-left : goal.returns-in-Build-clause-left
-returns-in-Build-clause-left g c = rest_of (ap Own c.in-Build.is) refl c.build.ensures.left
+pub returns-in-Build-clause-rest : goal.returns-in-Build-clause-rest
+returns-in-Build-clause-rest g c = rest_of (ap Own c.in-Build.is) refl c.build.ensures.rest
 
-pub returns-in-Give-clause-left : goal.returns-in-Give-clause-left
-returns-in-Give-clause-left g c = rest_of (ap Own c.in-Give.is) refl c.give.ensures.left
+pub returns-in-Give-clause-rest : goal.returns-in-Give-clause-rest
+returns-in-Give-clause-rest g c = rest_of (ap Own c.in-Give.is) refl c.give.ensures.rest
 
-pub returns-in-Send-clause-left : goal.returns-in-Send-clause-left
-returns-in-Send-clause-left g c =
+pub returns-in-Send-clause-rest : goal.returns-in-Send-clause-rest
+returns-in-Send-clause-rest g c =
     let same = ap Own c.in-Send.is in
     record {
       room = c.send.ensures.room;
@@ -54,14 +54,14 @@ returns-in-Send-clause-left g c =
           c.send.ensures.others;
     }
 
-pub returns-in-Deliver-clause-left : goal.returns-in-Deliver-clause-left
-returns-in-Deliver-clause-left g c = rest_of (ap Own c.in-Deliver.is) refl c.deliver.ensures.left
+pub returns-in-Deliver-clause-rest : goal.returns-in-Deliver-clause-rest
+returns-in-Deliver-clause-rest g c = rest_of (ap Own c.in-Deliver.is) refl c.deliver.ensures.rest
 
-pub returns-in-Run-clause-left : goal.returns-in-Run-clause-left
-returns-in-Run-clause-left g c = rest_of (ap Own c.in-Run.is) refl c.run.ensures.left
+pub returns-in-Run-clause-rest : goal.returns-in-Run-clause-rest
+returns-in-Run-clause-rest g c = rest_of (ap Own c.in-Run.is) refl c.run.ensures.rest
 
-pub returns-in-Quit-clause-left : goal.returns-in-Quit-clause-left
-returns-in-Quit-clause-left g c = rest_of (ap Own c.in-Quit.is) refl c.quit.ensures.left
+pub returns-in-Quit-clause-rest : goal.returns-in-Quit-clause-rest
+returns-in-Quit-clause-rest g c = rest_of (ap Own c.in-Quit.is) refl c.quit.ensures.rest
 
-pub returns-in-Stop-clause-left : goal.returns-in-Stop-clause-left
-returns-in-Stop-clause-left g c = rest_of (ap Own c.in-Stop.is) refl c.stop.ensures.left
+pub returns-in-Stop-clause-rest : goal.returns-in-Stop-clause-rest
+returns-in-Stop-clause-rest g c = rest_of (ap Own c.in-Stop.is) refl c.stop.ensures.rest

@@ -2,7 +2,7 @@ use Rattle.std.proofs.Common.{refl}
 use Rattle.dn_machine.specs.declared.events.Done.{Done}
 use Rattle.dn_tic.specs.declared.input.Input.TheVariants.{Pressed}
 use Rattle.dn_machine.specs.Building.{on_build}
-use Rattle.dn_remain_game.proofs.Leaving.{left_by}
+use Rattle.dn_remain_game.proofs.Rest.{rest_by}
 use Rattle.dn_remain_game.proofs.NodeSteps.{goes_on}
 use Rattle.dn_remain_game.proofs.game.Game.build.Goals as goal
 
@@ -10,5 +10,5 @@ pub returns-clause-steps : goal.returns-clause-steps
 returns-clause-steps g c limits all r =
     goes_on g.W.World.physics limits r c.build.new.self (λ rules me wary. on_build rules.limits me wary.node (Pressed c.args.keys)) Done.Built c.requires c.index_mut.ensures.value c.build.ensures.step
 
-pub returns-clause-left : goal.returns-clause-left
-returns-clause-left g c = left_by c.build.new.self (record { flights = refl; reports = refl }) refl refl c.index_mut.ensures.value c.build.ensures.whose
+pub returns-clause-rest : goal.returns-clause-rest
+returns-clause-rest g c = rest_by c.build.new.self (record { flights = refl; reports = refl }) refl refl c.index_mut.ensures.value c.build.ensures.whose

@@ -2,7 +2,7 @@ use Rattle.std.proofs.Common.{refl, arith}
 use Rattle.dn_game.specs.declared.flight.Flight.{Flight}
 use Rattle.dn_remain_game.specs.Contents.{contents}
 use Rattle.dn_remain_game.proofs.Framing.{receiver_of}
-use Rattle.dn_remain_game.proofs.Leaving.{left_by}
+use Rattle.dn_remain_game.proofs.Rest.{rest_by}
 use Rattle.dn_remain_game.proofs.Sending.{delivers}
 use Rattle.dn_remain_game.proofs.Standing.{receiver_below}
 use Rattle.dn_remain_game.proofs.game.Game.deliver.Goals as goal
@@ -18,8 +18,8 @@ returns-clause-steps g c limits all r free =
     c.receive.new.self c.receive.result c.requires free c.index-flight.ensures c.as_slice.result.now
     c.as_slice.ensures.value c.from.ensures c.index_mut.ensures.value c.receive.ensures.near c.receive.ensures.barred
 
-pub returns-clause-left : goal.returns-clause-left
-returns-clause-left g c =
-    left_by c.receive.new.self (record { flights = refl; reports = refl }) refl
+pub returns-clause-rest : goal.returns-clause-rest
+returns-clause-rest g c =
+    rest_by c.receive.new.self (record { flights = refl; reports = refl }) refl
     (receiver_of (λ (f : Flight). f.to) c.args.self.now.flights.items c.args.which c.from.result _ c.requires
     c.index-flight.ensures c.from.ensures) c.index_mut.ensures.value c.receive.ensures.whose

@@ -1,7 +1,7 @@
 use Rattle.std.proofs.Common.{refl}
 use Rattle.dn_remain_game.specs.Contents.{contents}
 use Rattle.dn_remain_game.proofs.GivingUp.{gives_up}
-use Rattle.dn_remain_game.proofs.Leaving.{left_by_giving}
+use Rattle.dn_remain_game.proofs.Rest.{rest_by_giving}
 use Rattle.dn_remain_game.proofs.Surviving.{gives_up_at}
 use Rattle.dn_remain_game.proofs.game.Game.give_up.Goals as goal
 
@@ -17,7 +17,7 @@ returns-clause-survivor g c =
     c.give_up.result c.requires c.index_mut.ensures.value c.narrow.ensures.small c.narrow.ensures.large
     c.give_up.ensures.survivor
 
-pub returns-clause-left : goal.returns-clause-left
-returns-clause-left g c =
-    left_by_giving c.give_up.new.self c.narrow.result c.give_up.result (record { flights = refl; reports = refl }) refl
+pub returns-clause-rest : goal.returns-clause-rest
+returns-clause-rest g c =
+    rest_by_giving c.give_up.new.self c.narrow.result c.give_up.result (record { flights = refl; reports = refl }) refl
     refl c.index_mut.ensures.value c.give_up.ensures.survivor

@@ -3,7 +3,7 @@ use Rattle.dn_remain_game.specs.declared.under_way.Telling.{Telling}
 use Rattle.dn_remain_game.specs.Contents.{contents}
 use Rattle.dn_remain_game.specs.Living.{living}
 use Rattle.dn_remain_game.proofs.Framing.{receiver_of}
-use Rattle.dn_remain_game.proofs.Leaving.{left_by}
+use Rattle.dn_remain_game.proofs.Rest.{rest_by}
 use Rattle.dn_remain_game.proofs.Reporting.{hears_report}
 use Rattle.dn_remain_game.proofs.Standing.{receiver_below}
 use Rattle.dn_remain_game.proofs.Surviving.{hears_at}
@@ -32,9 +32,9 @@ returns-clause-survivor g c =
     (receiver_below (λ (t : Telling). t.to) _ _ _ n.hearers c.requires c.index-telling.ensures c.from.ensures)
     c.index_mut.ensures.value c.hear.ensures.survivor
 
-pub returns-clause-left : goal.returns-clause-left
-returns-clause-left g c =
-    left_by c.hear.new.self (record { flights = refl; reports = refl }) refl
+pub returns-clause-rest : goal.returns-clause-rest
+returns-clause-rest g c =
+    rest_by c.hear.new.self (record { flights = refl; reports = refl }) refl
     (receiver_of (λ (t : Telling). t.to) c.args.self.now.reports.items c.args.which c.from.result _ c.requires
     c.index-telling.ensures c.from.ensures) c.index_mut.ensures.value
     (whose_heard _ (living c.hear.new.self).survivor _ c.copied-report.result c.hear.result c.hear.ensures.survivor)

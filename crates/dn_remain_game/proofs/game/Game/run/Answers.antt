@@ -2,7 +2,7 @@ use Rattle.std.proofs.Common.{refl}
 use Rattle.dn_machine.specs.declared.events.Done.{Done}
 use Rattle.dn_machine.specs.Game.{own_marks}
 use Rattle.dn_machine.specs.Running.{on_run_but}
-use Rattle.dn_remain_game.proofs.Leaving.{left_by}
+use Rattle.dn_remain_game.proofs.Rest.{rest_by}
 use Rattle.dn_remain_game.proofs.NodeSteps.{goes_on}
 use Rattle.dn_remain_game.proofs.game.Game.run.Goals as goal
 
@@ -10,5 +10,5 @@ pub returns-clause-steps : goal.returns-clause-steps
 returns-clause-steps g c limits all r =
     goes_on g.W.World.physics limits r c.run.new.self (λ rules me wary. on_run_but rules.limits wary.gone wary.node (own_marks rules wary.node)) Done.Ran c.requires c.index_mut.ensures.value c.run.ensures.step
 
-pub returns-clause-left : goal.returns-clause-left
-returns-clause-left g c = left_by c.run.new.self (record { flights = refl; reports = refl }) refl refl c.index_mut.ensures.value c.run.ensures.whose
+pub returns-clause-rest : goal.returns-clause-rest
+returns-clause-rest g c = rest_by c.run.new.self (record { flights = refl; reports = refl }) refl refl c.index_mut.ensures.value c.run.ensures.whose

@@ -10,8 +10,8 @@ returns-clause-steps g c limits all r =
     let inside : c.args.node < length n.stopped = omega (arith, n.few, c.requires) in
     stops g.W.World.state (rules_within g.W.World.physics limits) (contents n) all c.args.node r inside
 
-pub returns-clause-left : goal.returns-clause-left
-returns-clause-left g c = record {
+pub returns-clause-rest : goal.returns-clause-rest
+returns-clause-rest g c = record {
   posts = record { flights = refl; reports = refl };
   whose = refl;
   others = λ i apart. refl;

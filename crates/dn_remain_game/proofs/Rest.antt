@@ -12,7 +12,7 @@ use Rattle.dn_game.specs.declared.flight.Flight.{Flight}
 use Rattle.dn_remain_game.specs.declared.under_way.Telling.{Telling}
 use Rattle.dn_remain_game.specs.Contents.{contents}
 use Rattle.dn_remain_game.specs.Kept.{changed_by, whose_of}
-use Rattle.dn_remain_game.specs.Leaves.{Leaves, LeavesRest}
+use Rattle.dn_remain_game.specs.Rest.{KeepsRest, KeepsRestOf}
 use Rattle.dn_remain_game.specs.Living.{StaysWhose, living}
 use Rattle.dn_remain_game.specs.Room.{KeepsPosts, StaysWithin, room_for, room_of}
 use Rattle.dn_remain_game.proofs.Framing.{others_by, others_step}
@@ -20,11 +20,11 @@ use Rattle.dn_remain_game.proofs.Roomy.{done_takes, kept_room}
 use Rattle.dn_remain_game.proofs.Whose.{whose_given, whose_step}
 
 -- one node took a step, and stays whose it is
-pub left_by : {W : Type 0} {old new : Game W} {changed : Option ℕ} {place : ℕ} {node : Lived W}
+pub rest_by : {W : Type 0} {old new : Game W} {changed : Option ℕ} {place : ℕ} {node : Lived W}
     (next : Lived W) → KeepsPosts old new → new.nodes.items ≡ set old.nodes.items place next → changed ≡ Some place
     → node ≡ slice_index_or old.nodes.items place node → StaysWhose (living node) (living next)
-    → Leaves changed old new
-left_by {W} {old} {new} {changed} {place} {node} next posts nodes is read kept = record {
+    → KeepsRest changed old new
+rest_by {W} {old} {new} {changed} {place} {node} next posts nodes is read kept = record {
   posts = posts;
   whose = ap (λ (xs : List (Lived W)). whose_of xs) nodes ∙ whose_step old.nodes.items place node next read kept;
   others = λ i apart. ap (λ (xs : List (Lived W)). slice_get xs i) nodes
@@ -32,12 +32,12 @@ left_by {W} {old} {new} {changed} {place} {node} next posts nodes is read kept =
 }
 
 -- one node gave up a player
-pub left_by_giving : {W : Type 0} {old new : Game W} {changed : Option ℕ} {place : ℕ} {node : Lived W} (next : Lived W)
+pub rest_by_giving : {W : Type 0} {old new : Game W} {changed : Option ℕ} {place : ℕ} {node : Lived W} (next : Lived W)
     (player : ℕ) (answer : GivenUp) → KeepsPosts old new → new.nodes.items ≡ set old.nodes.items place next
     → changed ≡ Some place → node ≡ slice_index_or old.nodes.items place node
-    → GivesUp player (living node).survivor (living next).survivor answer → Leaves changed old new
-left_by_giving {W} {old} {new} {changed} {place} {node} next player answer posts nodes is read gives =
-    left_by {node = node} next posts nodes is read
+    → GivesUp player (living node).survivor (living next).survivor answer → KeepsRest changed old new
+rest_by_giving {W} {old} {new} {changed} {place} {node} next player answer posts nodes is read gives =
+    rest_by {node = node} next posts nodes is read
     (whose_given (living node).survivor (living next).survivor player answer gives)
 
 -- what was sent and told stays, so the memory stays within its bound
@@ -49,8 +49,8 @@ within {W} {old} {new} posts bound = record {
 
 -- what an event leaves that takes no memory, by the event that it is
 pub rest_of : {W A : Type 0} {old new : Game W} {event named : RemainEvent} {done : A} → event ≡ named
-    → room_for old named ≡ room_of old → Leaves (changed_by (contents old) named) old new
-    → LeavesRest old new event (Ok done)
+    → room_for old named ≡ room_of old → KeepsRest (changed_by (contents old) named) old new
+    → KeepsRestOf old new event (Ok done)
 rest_of {W} {A} {old} {new} {event} {named} {done} same free left = record {
   room = within left.posts;
   taken = done_takes old new event named same (kept_room old new left.posts ∙ sym free);
