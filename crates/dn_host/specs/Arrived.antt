@@ -8,14 +8,8 @@ use Rattle.dn_host.specs.Coming.{figures_by_link}
 
 -- by the figures of a line, of whose datagrams so many came late
 abbrev pub arrivals_in : ℕ → Figures → Arrivals
-arrivals_in late figures =
-    record {
-      came = figures.came;
-      lost = figures.lost;
-      late = late;
-      twice = figures.repeated;
-      old = figures.too_old;
-    }
+arrivals_in late f =
+    record { came = f.came; lost = f.lost; late = late; twice = f.repeated; old = f.too_old }
 
 abbrev pub came_from : Linked → PaceState → (player late : ℕ) → Option Arrivals
 came_from link pace player late = option_map (arrivals_in late) (figures_by_link link pace player)

@@ -34,14 +34,8 @@ config_under terms me settings =
 
 -- as what its link greets: every program of this kind adds the same
 abbrev pub identity_in : Config → ℕ → Identity
-identity_in config ahead =
-    record {
-      players = config.players;
-      extra = config.extra;
-      ahead = ahead;
-      limit = config.limit;
-      host = codes "zirmegat netgame";
-    }
+identity_in c ahead =
+    record { players = c.players; extra = c.extra; ahead = ahead; limit = c.limit; host = codes "zirmegat netgame" }
 
 -- a link of that player in a window of this width, under this seal, which has no history: nothing is kept of the
 -- others, nothing is known of a peer, and nothing came
