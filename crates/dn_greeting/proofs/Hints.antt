@@ -18,11 +18,14 @@ not_both : (bytes : List ℕ) (h : Hinted) (f : GreetingFault) → IsHintedIn by
 not_both bytes h f ok (inl first) = none-some f (sym (ap hint_fault ok.1 ∙ clean_hint h ok.0) ∙ first)
 not_both bytes h f ok (inr (form, none, never)) = never h ok.0 ok.1
 
+one_fault : (bytes : List ℕ) (f g : GreetingFault) → IsHintedIn bytes (Err f) → IsHintedIn bytes (Err g) → f ≡ g
+one_fault bytes f g (inl x) (inl y) = same_Some f g (sym x ∙ y)
+one_fault bytes f g (inl x) (inr y) = absurd (none-some f (sym y.1 ∙ x))
+one_fault bytes f g (inr x) (inl y) = absurd (none-some g (sym x.1 ∙ y))
+one_fault bytes f g (inr x) (inr y) = x.0 ∙ sym y.0
+
 pub one_hint : (bytes : List ℕ) (a b : Result Hinted GreetingFault) → IsHintedIn bytes a → IsHintedIn bytes b → a ≡ b
 one_hint bytes (Ok s) (Ok t) x y = ap Ok (same_hinted s t x.0 y.0 (sym x.1 ∙ y.1))
 one_hint bytes (Ok s) (Err f) x y = absurd (not_both bytes s f x y)
 one_hint bytes (Err f) (Ok t) x y = absurd (not_both bytes t f y x)
-one_hint bytes (Err f) (Err g) (inl x) (inl y) = ap Err (same_Some f g (sym x ∙ y))
-one_hint bytes (Err f) (Err g) (inl x) (inr y) = absurd (none-some f (sym y.1 ∙ x))
-one_hint bytes (Err f) (Err g) (inr x) (inl y) = absurd (none-some g (sym x.1 ∙ y))
-one_hint bytes (Err f) (Err g) (inr x) (inr y) = ap Err (x.0 ∙ sym y.0)
+one_hint bytes (Err f) (Err g) x y = ap Err (one_fault bytes f g x y)

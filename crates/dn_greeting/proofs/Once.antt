@@ -1,5 +1,7 @@
 -- Bytes are read as one greeting of a sort, and what a reader returns is that one.
-use Rattle.std.proofs.Common.{◌≡◌, ◌≢◌, ◌≤◌, ◌+◌, ℕ, List, length, take, drop, ap, sym, ◌∙◌, arith, inl, Option, Some, None, Result, Ok, Err}
+use Rattle.std.proofs.Common.{◌≡◌, ◌≢◌, ◌≤◌, ◌+◌, ℕ, List, length, take, drop, ap, sym, subst, ◌∙◌, arith, inl, Option, Some, None, Result, Ok, Err}
+use Rattle.std.specs.Prelude.{MatchOption}
+use Rattle.std.specs.Option.{ok_or}
 use Rattle.dn_seal.specs.declared.seal.Seal.{Seal}
 use Rattle.dn_greeting.specs.declared.greeting.GreetingFault.{GreetingFault}
 use Rattle.dn_greeting.specs.declared.greeting.GreetingFault.TheVariants.{Form}
@@ -48,14 +50,19 @@ module _ {T : Type 0} {n : ℕ} {Is : T → Type 0} {rest : T → List ℕ} (sor
     the_only : (found : Result T GreetingFault) → Reads found → IsOnly found
     the_only found reads = (reads, λ read. only found read reads)
 
-    module _ (fault : Option GreetingFault) (first : fault ≡ first_fault seal what size bytes) where
-      pub refused : (f : GreetingFault) → fault ≡ Some f → IsOnly (Err f)
-      refused f is = the_only (Err f) (inl (sym first ∙ is))
+    pub refused : (f : GreetingFault) → first_fault seal what size bytes ≡ Some f → IsOnly (Err f)
+    refused f first = the_only (Err f) (inl first)
 
-      pub opened : fault ≡ None → (t : T) → Is t × (take n (drop 12 bytes) ≡ rest t) → IsOnly (Ok t)
-      opened none t (is, there) =
-          the_only (Ok t) (reads_ok seal what size Is rest enough long sort.same bytes n t sized (sym first ∙ none) is there)
-
-      pub unread : fault ≡ None → ((t : T) → Is t → take n (drop 12 bytes) ≢ rest t) → IsOnly (Err Form)
-      unread none never =
-          the_only (Err Form) (reads_form seal what size Is rest enough long sort.same bytes n sized (sym first ∙ none) never)
+    -- what stands between the head and the tag is read, or nothing is
+    pub opened : (there : List ℕ) → (first_fault seal what size bytes ≡ None) × (there ≡ take n (drop 12 bytes))
+        × (length there + 28 ≡ size) → (found : Option T)
+        → MatchOption found ((t : T) → Is t → there ≢ rest t) (λ t. Is t × (there ≡ rest t))
+        → (result : Result T GreetingFault) → result ≡ ok_or found Form → IsOnly result
+    opened there (none, place, whole) found means result is = subst IsOnly (sym is) (go found means)
+      where
+        go : (found : Option T) → MatchOption found ((t : T) → Is t → there ≢ rest t)
+            (λ t. Is t × (there ≡ rest t)) → IsOnly (ok_or found Form)
+        go (Some t) (fits, same) = the_only (Ok t)
+            (reads_ok seal what size Is rest enough long sort.same bytes n t sized none fits (sym place ∙ same))
+        go None never = the_only (Err Form) (reads_form seal what size Is rest enough long sort.same bytes n sized
+            none (λ t is e. never t is (place ∙ e)))

@@ -26,14 +26,13 @@ told_name n = if n == 0 then None else Some n
 
 -- the call behind the head
 abbrev pub told_call : List ℕ → Call
-told_call rest =
-    record {
-      mark = told_sixteen 0 rest;
-      number = told_number 16 rest;
-      seat = told_name (slice_index rest 20);
-      players = told_name (slice_index rest 21);
-      cookie = told_sixteen 22 rest;
-    }
+told_call rest = record {
+  mark = told_sixteen 0 rest;
+  number = told_number 16 rest;
+  seat = told_name (slice_index rest 20);
+  players = told_name (slice_index rest 21);
+  cookie = told_sixteen 22 rest;
+}
 
 -- the address that these bytes begin with
 abbrev pub told_address : List ℕ → Option Address
@@ -43,26 +42,24 @@ told_address bytes =
     else None
 
 abbrev pub told_terms : List ℕ → Terms
-told_terms rest =
-    record {
-      players = slice_index rest 21;
-      extra = slice_index rest 22 == 1;
-      ahead = slice_index rest 23;
-      rate = slice_index rest 24;
-      limit = told_number 25 rest;
-    }
+told_terms rest = record {
+  players = slice_index rest 21;
+  extra = slice_index rest 22 == 1;
+  ahead = slice_index rest 23;
+  rate = slice_index rest 24;
+  limit = told_number 25 rest;
+}
 
 -- the answer behind the head
 abbrev pub told_answer : List ℕ → Answer
-told_answer rest =
-    record {
-      mark = told_sixteen 0 rest;
-      number = told_number 16 rest;
-      seat = slice_index rest 20;
-      terms = told_terms rest;
-      game = told_sixteen 29 rest;
-      seats = told_address (drop 45 rest) ∷ told_address (drop 64 rest) ∷ told_address (drop 83 rest) ∷ [];
-    }
+told_answer rest = record {
+  mark = told_sixteen 0 rest;
+  number = told_number 16 rest;
+  seat = slice_index rest 20;
+  terms = told_terms rest;
+  game = told_sixteen 29 rest;
+  seats = told_address (drop 45 rest) ∷ told_address (drop 64 rest) ∷ told_address (drop 83 rest) ∷ [];
+}
 
 abbrev pub told_reason : ℕ → ℕ → Refusal
 told_reason reason players =
@@ -71,11 +68,10 @@ told_reason reason players =
     if reason == 3 then refusal.Players players else refusal.Begun))
 
 abbrev pub told_refused : List ℕ → Refused
-told_refused rest =
-    record {
-      mark = told_sixteen 0 rest;
-      refusal = told_reason (slice_index rest 16) (slice_index rest 17);
-    }
+told_refused rest = record {
+  mark = told_sixteen 0 rest;
+  refusal = told_reason (slice_index rest 16) (slice_index rest 17);
+}
 
 -- the retry behind the head
 abbrev pub told_retry : List ℕ → Retry
@@ -86,8 +82,7 @@ abbrev pub told_hint : ℕ → ℕ → Hint
 told_hint byte version = if byte == 1 then hint.Key else hint.Version version
 
 abbrev pub told_hinted : List ℕ → Hinted
-told_hinted bytes =
-    record {
-      mark = told_mark bytes;
-      hint = told_hint (slice_index bytes 28) (slice_index bytes 10);
-    }
+told_hinted bytes = record {
+  mark = told_mark bytes;
+  hint = told_hint (slice_index bytes 28) (slice_index bytes 10);
+}

@@ -1,6 +1,6 @@
 //! Reading any bytes as a greeting.
 
-ghost use Rattle.std.specs.{Prelude.◌≡◌, Prelude.◌≤◌, Prelude.length, Prelude.take, Prelude.drop, Prelude.None, Prelude.Result, Str.bytes_eq};
+ghost use Rattle.std.specs.{Prelude.◌≡◌, Prelude.◌≤◌, Prelude.◌+◌, Prelude.◌-◌, Prelude.length, Prelude.take, Prelude.drop, Prelude.IfErr, Prelude.IfOk, Prelude.None, Prelude.Some, Prelude.Result, Str.bytes_eq};
 ghost use Rattle.dn_seal.specs.Sealing.{sealing};
 ghost use Rattle.dn_greeting.specs.{declared.greeting.Answer.Answer, declared.greeting.Call.Call, declared.greeting.GreetingFault.GreetingFault, declared.greeting.Hinted.Hinted};
 ghost use Rattle.dn_greeting.specs.{declared.greeting.Refused.Refused, declared.greeting.Retry.Retry, Text.kind_bytes, Reading.first_fault, Reading.hint_fault, Reading.IsAnswerIn, Reading.IsCallIn};
@@ -50,19 +50,33 @@ fn fault_in(sealer: &Sealer, what: u8, size: usize, bytes: &[u8]) -> Option<Gree
     None
 }
 
+/// What stands between the head and the tag of a greeting of this kind and size, or the first fault that bytes have
+/// where one is expected.
+fn rest_of<'a>(
+    sealer: &Sealer,
+    what: u8,
+    size: usize,
+    bytes: &'a [u8],
+) -> Result<&'a [u8], GreetingFault>
+    requires { 29 ≤ size }
+    ensures rest { IfOk result (λ rest. (first_fault (sealing sealer.now).seal what size bytes.now ≡ None)
+        × (rest.now ≡ take (size - 28) (drop 12 bytes.now)) × (length rest.now + 28 ≡ size)) }
+    ensures fault { IfErr result (λ fault. first_fault (sealing sealer.now).seal what size bytes.now ≡ Some fault) }
+{
+    match fault_in(sealer, what, size, bytes) {
+        Some(fault) => Err(fault),
+        None => Ok(&bytes[12..size - 16]),
+    }
+}
+
 /// Reads bytes as a call, or returns the first fault that they have.
 pub fn open_call(sealer: &Sealer, bytes: &[u8]) -> Result<Call, GreetingFault>
     ensures opens { IsCallIn (sealing sealer.now).seal bytes.now result }
     ensures only { (read : Result Call GreetingFault)
         → IsCallIn (sealing sealer.now).seal bytes.now read → result ≡ read }
 {
-    match fault_in(sealer, CALL, 130, bytes) {
-        Some(fault) => Err(fault),
-        None => match call_in(&bytes[12..114]) {
-            Some(call) => Ok(call),
-            None => Err(GreetingFault::Form),
-        },
-    }
+    let rest = rest_of(sealer, CALL, 130, bytes)?;
+    call_in(rest).ok_or(GreetingFault::Form)
 }
 
 /// Reads bytes as an answer, or returns the first fault that they have.
@@ -71,13 +85,8 @@ pub fn open_answer(sealer: &Sealer, bytes: &[u8]) -> Result<Answer, GreetingFaul
     ensures only { (read : Result Answer GreetingFault)
         → IsAnswerIn (sealing sealer.now).seal bytes.now read → result ≡ read }
 {
-    match fault_in(sealer, ANSWER, 130, bytes) {
-        Some(fault) => Err(fault),
-        None => match answer_in(&bytes[12..114]) {
-            Some(answer) => Ok(answer),
-            None => Err(GreetingFault::Form),
-        },
-    }
+    let rest = rest_of(sealer, ANSWER, 130, bytes)?;
+    answer_in(rest).ok_or(GreetingFault::Form)
 }
 
 /// Reads bytes as a refusal, or returns the first fault that they have.
@@ -86,13 +95,8 @@ pub fn open_refused(sealer: &Sealer, bytes: &[u8]) -> Result<Refused, GreetingFa
     ensures only { (read : Result Refused GreetingFault)
         → IsRefusedIn (sealing sealer.now).seal bytes.now read → result ≡ read }
 {
-    match fault_in(sealer, REFUSED, 46, bytes) {
-        Some(fault) => Err(fault),
-        None => match refused_in(&bytes[12..30]) {
-            Some(refused) => Ok(refused),
-            None => Err(GreetingFault::Form),
-        },
-    }
+    let rest = rest_of(sealer, REFUSED, 46, bytes)?;
+    refused_in(rest).ok_or(GreetingFault::Form)
 }
 
 /// Reads bytes as a retry, or returns the first fault that they have.
@@ -101,13 +105,8 @@ pub fn open_retry(sealer: &Sealer, bytes: &[u8]) -> Result<Retry, GreetingFault>
     ensures only { (read : Result Retry GreetingFault)
         → IsRetryIn (sealing sealer.now).seal bytes.now read → result ≡ read }
 {
-    match fault_in(sealer, RETRY, 64, bytes) {
-        Some(fault) => Err(fault),
-        None => match retry_in(&bytes[12..48]) {
-            Some(retry) => Ok(retry),
-            None => Err(GreetingFault::Form),
-        },
-    }
+    let rest = rest_of(sealer, RETRY, 64, bytes)?;
+    retry_in(rest).ok_or(GreetingFault::Form)
 }
 
 /// The first fault that bytes have where a hint is expected.
@@ -138,9 +137,6 @@ pub fn read_hinted(bytes: &[u8]) -> Result<Hinted, GreetingFault>
 {
     match hint_fault(bytes) {
         Some(fault) => Err(fault),
-        None => match hinted_in(bytes) {
-            Some(hinted) => Ok(hinted),
-            None => Err(GreetingFault::Form),
-        },
+        None => hinted_in(bytes).ok_or(GreetingFault::Form),
     }
 }

@@ -30,21 +30,15 @@ at_on now [] other all more = more
 at_on now (told ∷ one) other all more = (all.0, at_on now one other all.1 more)
 
 -- what is told of one step
-ran_runs : (now times : ℕ) → length (runs_of (replicate times (Ran now))) ≡ times
-ran_runs now zero = refl
-ran_runs now (suc times) = ap suc (ran_runs now times)
+ran_told : (now times : ℕ) → (length (runs_of (replicate times (Ran now))) ≡ times)
+    × (length (builds_of (replicate times (Ran now))) ≡ 0)
+ran_told now zero = (refl, refl)
+ran_told now (suc times) = let rest = ran_told now times in (ap suc rest.0, rest.1)
 
-built_runs : (now times : ℕ) → length (runs_of (replicate times (Built now))) ≡ 0
-built_runs now zero = refl
-built_runs now (suc times) = built_runs now times
-
-built_builds : (now times : ℕ) → length (builds_of (replicate times (Built now))) ≡ times
-built_builds now zero = refl
-built_builds now (suc times) = ap suc (built_builds now times)
-
-ran_builds : (now times : ℕ) → length (builds_of (replicate times (Ran now))) ≡ 0
-ran_builds now zero = refl
-ran_builds now (suc times) = ran_builds now times
+built_told : (now times : ℕ) → (length (runs_of (replicate times (Built now))) ≡ 0)
+    × (length (builds_of (replicate times (Built now))) ≡ times)
+built_told now zero = (refl, refl)
+built_told now (suc times) = let rest = built_told now times in (rest.0, ap suc rest.1)
 
 ran_at : (now times : ℕ) → AllByRecursion (IsAt now) (replicate times (Ran now))
 ran_at now zero = tt
@@ -86,12 +80,12 @@ last_of_none now built ran before none =
 pub runs_in : (done : Done) (now : ℕ) → length (runs_of (told_of done now)) ≡ done.ran
 runs_in done now =
     let both = runs_on (replicate done.built (Built now)) (replicate done.ran (Ran now)) in
-    omega (arith, both, built_runs now done.built, ran_runs now done.ran)
+    omega (arith, both, (built_told now done.built).0, (ran_told now done.ran).0)
 
 builds_in : (done : Done) (now : ℕ) → length (builds_of (told_of done now)) ≡ done.built
 builds_in done now =
     let both = builds_on (replicate done.built (Built now)) (replicate done.ran (Ran now)) in
-    omega (arith, both, built_builds now done.built, ran_builds now done.ran)
+    omega (arith, both, (built_told now done.built).1, (ran_told now done.ran).1)
 
 more_tics : (a b c one other all : ℕ) → b ≡ as_count (a + one) → (b < 2 ^ 64 → c ≡ as_count (b + other))
     → all ≡ one + other → c ≡ as_count (a + all)

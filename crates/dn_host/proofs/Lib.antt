@@ -6,3 +6,5 @@ pub mod Parting
 pub mod Playing
 pub mod Greeted
 pub mod Counted
+pub mod Following
+pub mod Taken

@@ -26,3 +26,5 @@ pub mod Waiting
 pub mod Arrived
 pub mod Standing
 pub mod Telling
+pub mod Callers
+pub mod Keepers

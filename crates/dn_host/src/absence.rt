@@ -27,7 +27,8 @@ fn says_hello(presence: Presence) -> bool
 impl Game {
     ghost use Rattle.std.specs.Prelude.{◌<◌, IfSome};
     ghost use Rattle.dn_link.specs.{Linked.forgotten, Linked.is_peer, Linking.linked, Linking.seal_of};
-    ghost use Rattle.dn_host.specs.Absence.{cause_of, has_left, is_absent, is_alone, is_gone, is_lost, is_whole, lost_in};
+    ghost use Rattle.dn_host.specs.{Absence.cause_of, Absence.has_left, Absence.is_absent, Absence.is_alone, Absence.is_gone, Absence.is_lost, Absence.is_whole, Absence.lost_in};
+    ghost use Rattle.dn_host.specs.Keepers.{ForgetsAbsent, without_absent};
 
     /// Whether a number is another player's.
     fn is_other(&self, player: u8) -> bool
@@ -74,19 +75,31 @@ impl Game {
     pub(crate) fn forget(&mut self, player: u8)
         ensures link { linked self.new.play.link ≡ forgotten player (linked self.old.play.link) }
         ensures seal { seal_of self.new.play.link ≡ seal_of self.old.play.link }
+        ensures rest { self.new ≡ record self.old { play = self.new.play } }
     {
         self.play.link.forget(player);
     }
 
+    /// Forgets a player, before the game, if it is no longer there.
+    fn forget_if_absent(&mut self, player: u8, now: u64)
+        ensures link { linked self.new.play.link ≡ without_absent self.old now (linked self.old.play.link) player }
+        ensures seal { seal_of self.new.play.link ≡ seal_of self.old.play.link }
+        ensures rest { self.new ≡ record self.old { play = self.new.play } }
+    {
+        if !self.has_begun() && self.is_absent(player, now) {
+            self.forget(player);
+        }
+    }
+
     /// Forgets who is no longer there, before the game.
     pub(crate) fn forget_absent(&mut self, now: u64)
-        ensures { seal_of self.new.play.link ≡ seal_of self.old.play.link }
+        ensures absent { ForgetsAbsent now self.old self.new }
+        ensures seal { seal_of self.new.play.link ≡ seal_of self.old.play.link }
     {
-        for player in 0..4 {
-            if !self.has_begun() && self.is_absent(player, now) {
-                self.play.link.forget(player);
-            }
-        }
+        self.forget_if_absent(0, now);
+        self.forget_if_absent(1, now);
+        self.forget_if_absent(2, now);
+        self.forget_if_absent(3, now);
     }
 
     /// Whether a player is another, its last command has not come, and it was not heard for too long.

@@ -1,14 +1,16 @@
 //! A joiner in the lobby and in its game.
 
-ghost use Rattle.std.specs.Prelude.{◌≡◌, ℕ, List, Option, Bool, ⊤, true, false, IfOk};
-ghost use Rattle.dn_host.specs.{Begun.has_run, Begun.silence, Calling.is_calling, Parts.IsPart};
+ghost use Rattle.std.specs.Prelude.{◌≡◌, ◌||◌, ℕ, List, Option, Bool, ⊤, true, false, IfOk, IfSome};
+ghost use Rattle.dn_greeting.specs.Joining.{joining, one_more};
+ghost use Rattle.dn_host.specs.{Begun.has_begun, Begun.has_run, Begun.silence, Callers.FollowsAnswer, Callers.FollowsIn, Callers.IsStarted, Callers.TakesNews, Callers.called, Callers.closed, Calling.is_calling, Parts.IsPart, Stages.is_refusal};
 
 use crate::begun::{has_begun, has_run, silence};
 use crate::calling::{is_calling, may_pass};
 use crate::ends::{Ending, HostFault};
 use crate::game::Game;
 use crate::guest::Guest;
-use crate::lobby::Lobby;
+use crate::letter::Letter;
+use crate::lobby::{GoesOn, Greeted, Lobby};
 use crate::parts::part_of;
 use crate::plan::Plan;
 use crate::random::draw;
@@ -34,20 +36,20 @@ pub(crate) struct Caller {
     waiting: Waiting,
 }
 
-impl Caller {
-    /// Once it has run a tic it keeps to its game.
-    fn close(&mut self, game: &Option<Game>)
-        ensures { self.new.plan ≡ self.old.plan }
-    {
-        if has_run(game) {
-            self.joiner.begin();
-        }
+/// Who has run a tic keeps to its game.
+fn close(joiner: &mut Joiner, game: &Option<Game>)
+    ensures { joining joiner.new ≡ closed (has_run game.now) (joining joiner.old) }
+{
+    if has_run(game) {
+        joiner.begin();
     }
+}
 
+impl Caller {
     /// Calls the host.
     fn call<W: Wire>(&mut self, wire: &mut W)
-        ensures plan { self.new.plan ≡ self.old.plan }
-        ensures repeat { self.new.may_repeat ≡ self.old.may_repeat }
+        ensures joiner { joining self.new.joiner ≡ one_more (joining self.old.joiner) }
+        ensures rest { self.new ≡ record self.old { joiner = self.new.joiner } }
     {
         let call = self.joiner.call();
         wire.send(&self.host, call.as_slice());
@@ -55,8 +57,8 @@ impl Caller {
 
     /// Calls again at once, as the host asks, but once a second: a host that always asks is not called more often.
     fn repeat<W: Wire>(&mut self, wire: &mut W)
-        ensures plan { self.new.plan ≡ self.old.plan }
-        ensures once { self.new.may_repeat ≡ false }
+        ensures joiner { joining self.new.joiner ≡ called self.old.may_repeat (joining self.old.joiner) }
+        ensures rest { self.new ≡ record self.old { joiner = self.new.joiner; may_repeat = false } }
         ensures still { self.old.may_repeat ≡ false → wire.new ≡ wire.old }
     {
         if self.may_repeat {
@@ -67,7 +69,12 @@ impl Caller {
 
     /// Calls once more, while its game does not go on without the host, and may then repeat that call.
     fn call_again<W: Wire>(&mut self, game: &Option<Game>, wire: &mut W, now: u64)
-        ensures plan { self.new.plan ≡ self.old.plan }
+        ensures joiner { joining self.new.joiner
+            ≡ called (is_calling (has_run game.now) (silence game.now 0 now)) (joining self.old.joiner) }
+        ensures rest { self.new ≡ record self.old {
+          joiner = self.new.joiner;
+          may_repeat = is_calling (has_run game.now) (silence game.now 0 now) || self.old.may_repeat;
+        } }
         ensures still { is_calling (has_run game.now) (silence game.now 0 now) ≡ false → wire.new ≡ wire.old }
     {
         if is_calling(has_run(game), silence(game, HOST, now)) {
@@ -78,7 +85,9 @@ impl Caller {
 
     /// Begins anew, by the newest answer.
     fn start(&self, game: &mut Option<Game>, now: u64) -> Result<(), HostFault>
-        ensures { IsPart false self.now.plan.secret game.old → IsPart false self.now.plan.secret game.new }
+        ensures part { IsPart false self.now.plan.secret game.old → IsPart false self.now.plan.secret game.new }
+        ensures started { IsStarted self.now.plan.secret self.now.host (joining self.now.joiner).answer game.old
+            game.new result }
     {
         if let Some(answer) = self.joiner.answer() {
             *game = Some(part_of(self.alloc, &self.plan, self.host, &answer, now)?);
@@ -88,48 +97,30 @@ impl Caller {
 
     /// Another player is elsewhere than the answer before said.
     fn follow(&self, game: &mut Option<Game>, before: Option<Answer>)
-        ensures { IsPart false self.now.plan.secret game.old → IsPart false self.now.plan.secret game.new }
+        ensures part { IsPart false self.now.plan.secret game.old → IsPart false self.now.plan.secret game.new }
+        ensures followed { FollowsAnswer before (joining self.now.joiner).answer game.old game.new }
     {
         if let (Some(before), Some(after)) = (before, self.joiner.answer()) {
             follow_in(game, before.seats, after.seats);
         }
     }
-}
 
-/// The host says in an answer that who has a seat is elsewhere than it said before.
-fn follow_in(game: &mut Option<Game>, before: [Option<Address>; 3], after: [Option<Address>; 3])
-    ensures { (hosts : Bool) (secret : Option (List ℕ)) → IsPart hosts secret game.old → IsPart hosts secret game.new }
-{
-    if let Some(game) = game {
-        game.follow(before, after);
-    }
-}
-
-impl Lobby for Caller {
-    ghost use Rattle.dn_host.specs.Stages.{is_refusal};
-
-    ghost Refuses = { λ ending. is_refusal ending ≡ true };
-
-    ghost Faults = { λ f. ⊤ };
-
-    ghost Greets = { λ old new. ⊤ };
-
-    ghost hosts = { false };
-
-    ghost secret = { λ caller. caller.plan.secret };
-
-    fn greet<W: Wire>(
+    /// Takes the news that its joiner has, which had this answer before, and returns how the session ends if it does.
+    fn take<W: Wire>(
         &mut self,
+        told: News,
+        before: Option<Answer>,
         game: &mut Option<Game>,
         wire: &mut W,
-        from: Address,
-        bytes: &[u8],
         now: u64,
-    ) -> Result<Option<Ending>, HostFault> {
-        self.close(game);
-        let before = self.joiner.answer();
+    ) -> Greeted
+        ensures news { TakesNews told (joining self.old.joiner) before now self.old self.new game.old game.new result }
+        ensures ends { IfOk result (λ found. IfSome found (λ ending.
+            (is_refusal ending ≡ true) × (has_begun game.new ≡ false))) }
+        ensures part { IsPart false self.old.plan.secret game.old → IsPart false self.old.plan.secret game.new }
+    {
         let begun = has_begun(game);
-        match self.joiner.hear(from, bytes) {
+        match told {
             News::Nothing => return Ok(None),
             News::Retry => {
                 self.repeat(wire);
@@ -150,20 +141,53 @@ impl Lobby for Caller {
         self.waiting.hear(None, now);
         Ok(None)
     }
+}
 
-    fn second<W: Wire, S: Screen>(
-        &mut self,
-        game: &mut Option<Game>,
-        wire: &mut W,
-        screen: &mut S,
-        now: u64,
-    ) -> Result<(), HostFault> {
-        self.close(game);
+/// The host says in an answer that who has a seat is elsewhere than it said before.
+fn follow_in(game: &mut Option<Game>, before: [Option<Address>; 3], after: [Option<Address>; 3])
+    ensures part { (hosts : Bool) (secret : Option (List ℕ)) → IsPart hosts secret game.old
+        → IsPart hosts secret game.new }
+    ensures followed { FollowsIn before after game.old game.new }
+{
+    if let Some(game) = game {
+        game.follow(before, after);
+    }
+}
+
+impl Lobby for Caller {
+    ghost use Rattle.dn_host.specs.Callers.{CallerGreets, CallerSecond, CallerTells};
+
+    ghost Refuses = { λ ending. is_refusal ending ≡ true };
+
+    ghost Faults = { λ f. ⊤ };
+
+    ghost Greets = { λ letter old new game after result. CallerGreets letter old new game after result };
+
+    ghost IsSecond = { λ now old new game after result. CallerSecond now old new game after result };
+
+    ghost Tells = { λ now game old new. CallerTells now game old new };
+
+    ghost hosts = { false };
+
+    ghost secret = { λ caller. caller.plan.secret };
+
+    fn greet<W: Wire>(&mut self, game: &mut Option<Game>, wire: &mut W, letter: Letter) -> Greeted {
+        let before = self.joiner.answer();
+        close(&mut self.joiner, game);
+        let told = self.joiner.hear(letter.from, letter.bytes);
+        self.take(told, before, game, wire, letter.now)
+    }
+
+    fn second<W: Wire>(&mut self, game: &mut Option<Game>, wire: &mut W, now: u64) -> GoesOn {
+        close(&mut self.joiner, game);
         self.call_again(game, wire, now);
+        Ok(())
+    }
+
+    fn tell<S: Screen>(&mut self, game: &Option<Game>, screen: &mut S, now: u64) {
         if !has_run(game) {
             self.waiting.tell(screen, now);
         }
-        Ok(())
     }
 }
 

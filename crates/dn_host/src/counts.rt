@@ -40,7 +40,7 @@ fn tell(measure: &mut Measure, told: Told, times: u32)
 }
 
 impl Counts {
-    ghost use Rattle.dn_host.specs.{Coming.late_by, Coming.one_more, Counted.TellsMore, Counted.told_of, Taking.IsFresh, Telling.AreTold, Telling.status_at};
+    ghost use Rattle.dn_host.specs.{Coming.late_by, Coming.one_more, Counted.TellsMore, Counted.last_run, Counted.told_of, Taking.IsFresh, Telling.AreTold, Telling.status_at};
 
     /// Nothing, of a game that begins now.
     pub(crate) fn new(link: &Link, now: u64) -> Counts
@@ -57,6 +57,13 @@ impl Counts {
         }
     }
 
+    /// When the last tic was run, if that was done now, and it was at this time before.
+    fn last_run(done: Done, now: u64, before: u64) -> u64
+        ensures { result ≡ last_run (told_of done now) before }
+    {
+        if done.ran > 0 { now } else { before }
+    }
+
     /// Counts what was done.
     pub(crate) fn add(&mut self, done: Done, now: u64)
         ensures { TellsMore (told_of done now) self.old self.new }
@@ -64,9 +71,7 @@ impl Counts {
         tell(&mut self.measure, Told::Built(now), done.built);
         tell(&mut self.measure, Told::Ran(now), done.ran);
         self.tics = self.tics.saturating_add(u64::from(done.ran));
-        if done.ran > 0 {
-            self.ran = now;
-        }
+        self.ran = Counts::last_run(done, now, self.ran);
     }
 
     /// Counts a datagram of a player that came late.

@@ -84,6 +84,7 @@ impl Game {
     /// Notes what the host says of the seats 1 to 3, as `Peers::follow` does.
     pub(crate) fn follow(&mut self, before: [Option<Address>; 3], after: [Option<Address>; 3])
         ensures places { AreFollowed before after self.old.peers.places self.new.peers.places }
+        ensures rest { self.new ≡ record self.old { peers = self.new.peers } }
         ensures seal { seal_of self.new.play.link ≡ seal_of self.old.play.link }
     {
         self.peers.follow(before, after);

@@ -1,15 +1,15 @@
 //! Taking the datagrams that are there.
 
 ghost use Rattle.std.specs.Prelude.{◌≡◌, ◌≤◌, ◌&&◌, ℕ, List, Option, Bool, length, false, IfOk, IfErr, IfSome};
-ghost use Rattle.dn_host.specs.{Begun.has_begun, Greetings.GreetsFew, Greetings.Opens, Greetings.is_greeting, Greetings.is_hint, Greetings.is_named, Greetings.is_opened, Parts.IsPart};
+ghost use Rattle.dn_host.specs.{Begun.has_begun, Greetings.GreetsFew, Greetings.Opens, Greetings.TakesSome, Greetings.is_greeting, Greetings.is_hint, Greetings.is_named, Greetings.is_opened, Parts.IsPart};
 ghost use Rattle.dn_host.specs.{Stages.IfEnding};
 
 use crate::begun::has_begun;
 use crate::ends::{Ending, HostFault};
 use crate::game::Game;
-use crate::lobby::Lobby;
+use crate::letter::Letter;
+use crate::lobby::{Greeted, Lobby};
 use crate::wire::{MOST, Wire};
-use dn_greeting::Address;
 
 /// The most datagrams that are read between two looks at the clock.
 const POLLS: u32 = 64;
@@ -62,43 +62,12 @@ pub(crate) enum Heard {
     Ending(Ending),
 }
 
-/// Takes a greeting, if it is opened.
-fn greet_one<W: Wire, L: Lobby>(
-    lobby: &mut L,
-    game: &mut Option<Game>,
-    wire: &mut W,
-    from: Address,
-    bytes: &[u8],
-    left: &mut u32,
-    now: u64,
-) -> Result<Option<Ending>, HostFault>
-    ensures ends { IfOk result (λ found. IfSome found (λ ending.
-        L.Refuses ending × (has_begun game.new ≡ false))) }
-    ensures opens { Opens L.Greets (is_opened left.old (has_begun game.old) bytes.now) left.old left.new lobby.old
-        lobby.new }
-    ensures faults { IfErr result L.Faults }
-    ensures secret { L.secret lobby.new ≡ L.secret lobby.old }
-    ensures part { IsPart L.hosts (L.secret lobby.old) game.old → IsPart L.hosts (L.secret lobby.old) game.new }
-{
-    if !is_opened(*left, has_begun(game), bytes) {
-        return Ok(None);
-    }
-    *left -= 1;
-    lobby.greet(game, wire, from, bytes, now)
-}
-
 /// Takes bytes that are no greeting, if there is a game.
-fn hear_datagram<W: Wire>(
-    game: &mut Option<Game>,
-    wire: &mut W,
-    from: Address,
-    bytes: &[u8],
-    now: u64,
-)
+fn hear_datagram<W: Wire>(game: &mut Option<Game>, wire: &mut W, letter: Letter)
     ensures { (hosts : Bool) (secret : Option (List ℕ)) → IsPart hosts secret game.old → IsPart hosts secret game.new }
 {
     if let Some(game) = game {
-        game.hear(wire, from, bytes, now);
+        game.hear(wire, letter.from, letter.bytes, letter.now);
     }
 }
 
@@ -107,24 +76,27 @@ fn hear_one<W: Wire, L: Lobby>(
     lobby: &mut L,
     game: &mut Option<Game>,
     wire: &mut W,
-    from: Address,
-    bytes: &[u8],
+    letter: Letter,
     left: &mut u32,
-    now: u64,
-) -> Result<Option<Ending>, HostFault>
+) -> Greeted
     ensures ends { IfOk result (λ found. IfSome found (λ ending.
         L.Refuses ending × (has_begun game.new ≡ false))) }
-    ensures opens { Opens L.Greets (is_greeting bytes.now && is_opened left.old (has_begun game.old) bytes.now) left.old
-        left.new lobby.old lobby.new }
+    ensures opens { Opens (TakesSome L.Greets letter.entry.now)
+        (is_greeting letter.entry.bytes.now && is_opened left.old (has_begun game.old) letter.entry.bytes.now) left.old left.new lobby.old
+        lobby.new }
     ensures faults { IfErr result L.Faults }
     ensures secret { L.secret lobby.new ≡ L.secret lobby.old }
     ensures part { IsPart L.hosts (L.secret lobby.old) game.old → IsPart L.hosts (L.secret lobby.old) game.new }
 {
-    if is_greeting(bytes) {
-        return greet_one(lobby, game, wire, from, bytes, left, now);
+    if !is_greeting(letter.bytes) {
+        hear_datagram(game, wire, letter);
+        return Ok(None);
     }
-    hear_datagram(game, wire, from, bytes, now);
-    Ok(None)
+    if !is_opened(*left, has_begun(game), letter.bytes) {
+        return Ok(None);
+    }
+    *left -= 1;
+    lobby.greet(game, wire, letter)
 }
 
 /// Takes the datagrams that are there, up to some number. Of more than two greetings the rest is dropped.
@@ -137,7 +109,7 @@ pub(crate) fn hear_all<W: Wire, L: Lobby>(
 ) -> Result<Heard, HostFault>
     ensures ends { IfOk result (λ heard. IfEnding heard (λ ending.
         L.Refuses ending × (has_begun game.new ≡ false))) }
-    ensures few { GreetsFew L.Greets lobby.old lobby.new }
+    ensures few { GreetsFew (TakesSome L.Greets now) lobby.old lobby.new }
     ensures faults { IfErr result L.Faults }
     ensures secret { L.secret lobby.new ≡ L.secret lobby.old }
     ensures part { IsPart L.hosts (L.secret lobby.old) game.old → IsPart L.hosts (L.secret lobby.old) game.new }
@@ -149,7 +121,8 @@ pub(crate) fn hear_all<W: Wire, L: Lobby>(
             return Ok(Heard::Calm);
         };
         let bytes = &room[..count];
-        if let Some(ending) = hear_one(lobby, game, wire, from, bytes, &mut left, now)? {
+        let letter = Letter { from, bytes, now };
+        if let Some(ending) = hear_one(lobby, game, wire, letter, &mut left)? {
             return Ok(Heard::Ending(ending));
         }
     }

@@ -21,6 +21,7 @@ mod host;
 mod keeper;
 mod laws;
 mod leave;
+mod letter;
 mod lobby;
 mod parts;
 mod peers;

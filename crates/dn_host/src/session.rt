@@ -1,8 +1,8 @@
 //! A session, turn by turn.
 
-ghost use Rattle.std.specs.Prelude.{◌≡◌, ◌⊎◌, false, true, None, IfOk, IfErr, IfSome, is_some, unwrap_or};
+ghost use Rattle.std.specs.Prelude.{◌≡◌, ◌⊎◌, false, true, None, IfOk, IfErr, IfSome, is_some, nat_le, unwrap_or};
 ghost use Rattle.dn_host.specs.{Begun.has_begun, Leaving.has_ended, Leaving.left_at, Parts.IsPart, Parts.link_of, Summaries.IsSummaryBy, Summed.Measures, Stages.EndsBy, Stages.IfEnded};
-ghost use Rattle.dn_host.specs.{Stages.is_over, Stages.is_refusal, Ticks.second_after, Ticks.session_next, declared.leave.Stage.TheVariants.Going};
+ghost use Rattle.dn_host.specs.{Stages.is_over, Stages.is_refusal, Ticks.PassesSecond, Ticks.second_after, Ticks.session_next, declared.leave.Stage.TheVariants.Going};
 ghost use Rattle.dn_link.specs.{Linking.linked, Pacing.pace_of};
 
 use crate::ends::{Ending, HostFault, Outcome};
@@ -83,6 +83,8 @@ impl<L: Lobby + Drop> Session<L> {
         screen: &mut S,
         now: u64,
     ) -> Result<(), HostFault>
+        ensures lobby { PassesSecond L.IsSecond L.Tells (nat_le self.old.second now) now self.old.lobby self.new.lobby
+            self.old.game result }
         ensures second { IfOk result (λ _. self.new.second ≡ second_after self.old.second now) }
         ensures stage { self.new.stage ≡ self.old.stage }
         ensures left { self.new.left ≡ self.old.left }
@@ -92,7 +94,8 @@ impl<L: Lobby + Drop> Session<L> {
             → IsPart L.hosts (L.secret self.old.lobby) self.new.game }
     {
         if self.second <= now {
-            self.lobby.second(&mut self.game, wire, screen, now)?;
+            self.lobby.second(&mut self.game, wire, now)?;
+            self.lobby.tell(&self.game, screen, now);
             show(&mut self.game, screen, now);
             self.second = now.saturating_add(SECOND);
         }

@@ -2,10 +2,11 @@
 
 use super::air::{Air, Port, at, lose};
 use super::players::{Dice, STEP, new_guest, new_host, tics_of, turn};
-use crate::ends::{Ending, HostFault};
+use crate::ends::Ending;
 use crate::game::Game;
 use crate::hearing::{Heard, hear_all};
-use crate::lobby::Lobby;
+use crate::letter::Letter;
+use crate::lobby::{GoesOn, Greeted, Lobby};
 use crate::screen::Screen;
 use crate::wire::Wire;
 use arrayvec::ArrayVec;
@@ -71,7 +72,11 @@ impl Lobby for Counter {
 
     ghost Faults = { λ fault. ⊤ };
 
-    ghost Greets = { λ old new. ⊤ };
+    ghost Greets = { λ letter old new game after result. ⊤ };
+
+    ghost IsSecond = { λ now old new game after result. ⊤ };
+
+    ghost Tells = { λ now game old new. ⊤ };
 
     ghost hosts = { false };
 
@@ -81,23 +86,17 @@ impl Lobby for Counter {
         &mut self,
         _game: &mut Option<Game>,
         _wire: &mut W,
-        _from: Address,
-        _bytes: &[u8],
-        _now: u64,
-    ) -> Result<Option<Ending>, HostFault> {
+        _letter: Letter,
+    ) -> Greeted {
         self.greeted = self.greeted.saturating_add(1);
         Ok(None)
     }
 
-    fn second<W: Wire, S: Screen>(
-        &mut self,
-        _game: &mut Option<Game>,
-        _wire: &mut W,
-        _screen: &mut S,
-        _now: u64,
-    ) -> Result<(), HostFault> {
+    fn second<W: Wire>(&mut self, _game: &mut Option<Game>, _wire: &mut W, _now: u64) -> GoesOn {
         Ok(())
     }
+
+    fn tell<S: Screen>(&mut self, _game: &Option<Game>, _screen: &mut S, _now: u64) {}
 }
 
 /// How many greetings a lobby is given in a turn of the player at an address, if nothing is left to read.

@@ -1,18 +1,11 @@
-use Rattle.std.proofs.Common.{refl}
-use Rattle.dn_greeting.proofs.Once.{answers, opened, refused, unread}
+use Rattle.std.proofs.Common.{rules, ◌≡◌, ◌∙◌, Err, refl}
+use Rattle.dn_greeting.proofs.Once.{answers, opened, refused}
 use Rattle.dn_greeting.proofs.reading.open_answer.Goals as goal
 
-pub returns-in-Some : goal.returns-in-Some
-returns-in-Some c =
-    let o = refused answers 130 refl 2 _ _ _ c.fault_in.ensures.first _ c.in-Some.is in
-    record { opens = o.0; only = o.1 }
+pub returns-in_err-rest-clause-only : goal.returns-in_err-rest-clause-only
+returns-in_err-rest-clause-only c = let same : c.from_residual.result ≡ Err c.in_err-rest.field-0.0 = search rules in
+    λ read is. same ∙ (refused answers 130 refl 2 _ _ _ c.in_err-rest.ensures.fault).1 read is
 
-pub returns-in-Some-answer_in : goal.returns-in-Some-answer_in
-returns-in-Some-answer_in c =
-    let o = opened answers 130 refl 2 _ _ _ c.fault_in.ensures.first c.in-None.is _ c.in-Some-answer_in.ensures in
-    record { opens = o.0; only = o.1 }
-
-pub returns-in-None-answer_in : goal.returns-in-None-answer_in
-returns-in-None-answer_in c =
-    let o = unread answers 130 refl 2 _ _ _ c.fault_in.ensures.first c.in-None.is c.in-None-answer_in.ensures in
+pub returns : goal.returns
+returns c = let o = opened answers 130 refl 2 _ _ _ c.in_ok-rest.ensures.rest _ c.answer_in.ensures _ c.ok_or.ensures.value in
     record { opens = o.0; only = o.1 }

@@ -1,18 +1,11 @@
-use Rattle.std.proofs.Common.{refl}
-use Rattle.dn_greeting.proofs.Once.{calls, opened, refused, unread}
+use Rattle.std.proofs.Common.{rules, ◌≡◌, ◌∙◌, Err, refl}
+use Rattle.dn_greeting.proofs.Once.{calls, opened, refused}
 use Rattle.dn_greeting.proofs.reading.open_call.Goals as goal
 
-pub returns-in-Some : goal.returns-in-Some
-returns-in-Some c =
-    let o = refused calls 130 refl 1 _ _ _ c.fault_in.ensures.first _ c.in-Some.is in
-    record { opens = o.0; only = o.1 }
+pub returns-in_err-rest-clause-only : goal.returns-in_err-rest-clause-only
+returns-in_err-rest-clause-only c = let same : c.from_residual.result ≡ Err c.in_err-rest.field-0.0 = search rules in
+    λ read is. same ∙ (refused calls 130 refl 1 _ _ _ c.in_err-rest.ensures.fault).1 read is
 
-pub returns-in-Some-call_in : goal.returns-in-Some-call_in
-returns-in-Some-call_in c =
-    let o = opened calls 130 refl 1 _ _ _ c.fault_in.ensures.first c.in-None.is _ c.in-Some-call_in.ensures in
-    record { opens = o.0; only = o.1 }
-
-pub returns-in-None-call_in : goal.returns-in-None-call_in
-returns-in-None-call_in c =
-    let o = unread calls 130 refl 1 _ _ _ c.fault_in.ensures.first c.in-None.is c.in-None-call_in.ensures in
+pub returns : goal.returns
+returns c = let o = opened calls 130 refl 1 _ _ _ c.in_ok-rest.ensures.rest _ c.call_in.ensures _ c.ok_or.ensures.value in
     record { opens = o.0; only = o.1 }

@@ -1,18 +1,11 @@
-use Rattle.std.proofs.Common.{refl}
-use Rattle.dn_greeting.proofs.Once.{refusals, opened, refused, unread}
+use Rattle.std.proofs.Common.{rules, ◌≡◌, ◌∙◌, Err, refl}
+use Rattle.dn_greeting.proofs.Once.{refusals, opened, refused}
 use Rattle.dn_greeting.proofs.reading.open_refused.Goals as goal
 
-pub returns-in-Some : goal.returns-in-Some
-returns-in-Some c =
-    let o = refused refusals 46 refl 3 _ _ _ c.fault_in.ensures.first _ c.in-Some.is in
-    record { opens = o.0; only = o.1 }
+pub returns-in_err-rest-clause-only : goal.returns-in_err-rest-clause-only
+returns-in_err-rest-clause-only c = let same : c.from_residual.result ≡ Err c.in_err-rest.field-0.0 = search rules in
+    λ read is. same ∙ (refused refusals 46 refl 3 _ _ _ c.in_err-rest.ensures.fault).1 read is
 
-pub returns-in-Some-refused_in : goal.returns-in-Some-refused_in
-returns-in-Some-refused_in c =
-    let o = opened refusals 46 refl 3 _ _ _ c.fault_in.ensures.first c.in-None.is _ c.in-Some-refused_in.ensures in
-    record { opens = o.0; only = o.1 }
-
-pub returns-in-None-refused_in : goal.returns-in-None-refused_in
-returns-in-None-refused_in c =
-    let o = unread refusals 46 refl 3 _ _ _ c.fault_in.ensures.first c.in-None.is c.in-None-refused_in.ensures in
+pub returns : goal.returns
+returns c = let o = opened refusals 46 refl 3 _ _ _ c.in_ok-rest.ensures.rest _ c.refused_in.ensures _ c.ok_or.ensures.value in
     record { opens = o.0; only = o.1 }

@@ -1,9 +1,9 @@
-use Rattle.std.proofs.Common.{◌++◌, List, replicate, subst, append_assoc, refl, sym, arith}
+use Rattle.std.proofs.Common.{◌++◌, List, replicate, subst, append_assoc, refl, arith}
 use Rattle.std.proofs.Math.Logic.{∥∥₁_map}
 use Rattle.dn_measure.specs.declared.told.Told.{Told}
 use Rattle.dn_measure.specs.declared.told.Told.TheVariants.{Built, Ran}
 use Rattle.dn_measure.specs.Measure.{IsMeasureOf}
-use Rattle.dn_host.proofs.Counted.{last_of_none, last_of_some, runs_in}
+use Rattle.dn_host.proofs.Counted.{runs_in}
 use Rattle.dn_host.proofs.counts.Counts.add.Goals as goal
 
 pub invariant_of-self : goal.invariant_of-self
@@ -15,37 +15,14 @@ invariant_of-self c = record {
   ));
 }
 
-pub invariant_of-self-else-done-gt0 : goal.invariant_of-self-else-done-gt0
-invariant_of-self-else-done-gt0 c = record {
-  measured = ∥∥₁_map c.args.self.now.measured (λ m. (
-    m.0,
-    (m.1 ++ replicate c.args.done.built (Built c.args.now)) ++ replicate c.args.done.ran (Ran c.args.now),
-    c.tell-2.ensures m.0 (m.1 ++ replicate c.args.done.built (Built c.args.now)) (c.tell.ensures m.0 m.1 m.2),
-  ));
-}
-
-pub returns-then-done-gt0 : goal.returns-then-done-gt0
-returns-then-done-gt0 c = record {
+pub returns : goal.returns
+returns c = record {
   measure = λ start before h.
       subst (λ (told : List Told). IsMeasureOf c.tell-2.new.measure start told)
       (append_assoc before (replicate c.args.done.built (Built c.args.now)) (replicate c.args.done.ran (Ran c.args.now)))
       (c.tell-2.ensures start (before ++ replicate c.args.done.built (Built c.args.now)) (c.tell.ensures start before h));
   tics = λ few. let all = runs_in c.args.done c.args.now in let sum = c.saturating_add-self.ensures in let same = c.from.ensures in omega (arith, all, sum, same);
-  ran = sym (last_of_some c.args.now c.args.done.built c.args.done.ran c.args.self.now.ran (let some = c.if-done-gt0.true in omega (arith, some)));
-  shown = refl;
-  since = refl;
-  before = refl;
-  late = refl;
-}
-
-pub returns-else-done-gt0 : goal.returns-else-done-gt0
-returns-else-done-gt0 c = record {
-  measure = λ start before h.
-      subst (λ (told : List Told). IsMeasureOf c.tell-2.new.measure start told)
-      (append_assoc before (replicate c.args.done.built (Built c.args.now)) (replicate c.args.done.ran (Ran c.args.now)))
-      (c.tell-2.ensures start (before ++ replicate c.args.done.built (Built c.args.now)) (c.tell.ensures start before h));
-  tics = λ few. let all = runs_in c.args.done c.args.now in let sum = c.saturating_add-self.ensures in let same = c.from.ensures in omega (arith, all, sum, same);
-  ran = sym (last_of_none c.args.now c.args.done.built c.args.done.ran c.args.self.now.ran (let none = c.if-done-gt0.false in omega (arith, none)));
+  ran = c.last_run-self.ensures;
   shown = refl;
   since = refl;
   before = refl;
