@@ -22,10 +22,10 @@ type Answer = Result<Happened, Refusal>;
 enum Step {
     /// An event has this answer.
     Does(RemainEvent, Answer),
-    /// A node sends a packet to another, which hears it at once.
-    Passes(u32, u32, Heard),
-    /// A node tells another of those it gave up, which hears it at once.
-    Reports(u32, u32, Reported),
+    /// A node sends a packet of this number to another, which hears it at once.
+    Passes(u32, u32, u32, Heard),
+    /// A node tells another of those it gave up, in the report of this number, which is heard at once.
+    Reports(u32, u32, u32, Reported),
 }
 
 fn walks(alloc: Global, count: usize) -> Result<Vec<Walk>, AllocError> {
@@ -80,29 +80,22 @@ fn applies(rt: &impl Abort, game: &mut Game<Walk>, rows: &[(RemainEvent, Answer)
     }
 }
 
-/// The number of an event's packet or report.
-fn number(which: usize) -> u32 {
-    u32::try_from(which).unwrap_or(u32::MAX)
-}
-
 /// Takes the steps, one after another.
 fn takes(rt: &impl Abort, game: &mut Game<Walk>, steps: &[Step]) {
     for step in steps {
         match step {
             Step::Does(event, answer) => assert_eq!(rt; game.apply(*event), *answer),
-            Step::Passes(from, to, answer) => {
-                let which = number(game.flights().len());
+            Step::Passes(from, to, which, answer) => {
                 let rows = [
-                    (send(*from, *to), sent(which)),
-                    (deliver(which), heard(*answer)),
+                    (send(*from, *to), sent(*which)),
+                    (deliver(*which), heard(*answer)),
                 ];
                 applies(rt, game, &rows);
             }
-            Step::Reports(from, to, answer) => {
-                let which = game.reports().len();
+            Step::Reports(from, to, which, answer) => {
                 let rows = [
-                    (tell(*from, *to), told(which)),
-                    (hear(number(which)), reported(*answer)),
+                    (tell(*from, *to), told(*which)),
+                    (hear(*which), reported(*answer)),
                 ];
                 applies(rt, game, &rows);
             }
@@ -110,19 +103,23 @@ fn takes(rt: &impl Abort, game: &mut Game<Walk>, steps: &[Step]) {
     }
 }
 
-/// A game that has started, with one command of player 0, which player 1 alone has heard.
-fn one_ahead(rt: &impl Abort, alloc: Global, players: u8) -> Result<Game<Walk>, Fail> {
+/// A game that has started, with one command of player 0, which player 1 alone has heard, in the packet of this
+/// number.
+fn one_ahead(rt: &impl Abort, alloc: Global, players: u8, which: u32) -> Result<Game<Walk>, Fail> {
     let mut game = started(rt, alloc, players)?;
     takes(
         rt,
         &mut game,
-        &[does(build(0), made(0)), passes(0, 1, Heard::Taken(1))],
+        &[
+            does(build(0), made(0)),
+            passes(0, 1, which, Heard::Taken(1)),
+        ],
     );
     Ok(game)
 }
 
-/// Takes the steps, and compares where nodes then take players to end: the node, the player and the tic, up to
-/// which the node has the player's commands.
+/// Takes the steps. Then each of these nodes has so many commands of this player, and takes the player to end
+/// there.
 fn ends(
     rt: &impl Abort,
     mut game: Game<Walk>,
@@ -136,14 +133,23 @@ fn ends(
     Ok(())
 }
 
-/// Two nodes build their commands of a tic, and each hears those of the other up to it.
-fn trade(rt: &impl Abort, game: &mut Game<Walk>, one: u32, other: u32, tic: u32) {
+/// Two nodes build their commands of a tic, and each hears those of the other up to it, in packets of these two
+/// numbers that cross.
+fn trade(
+    rt: &impl Abort,
+    game: &mut Game<Walk>,
+    [one, other]: [u32; 2],
+    tic: u32,
+    which: [u32; 2],
+) {
     let taken = Heard::Taken(tic.wrapping_add(1));
     let steps = [
         does(build(one), made(tic)),
         does(build(other), made(tic)),
-        passes(one, other, taken),
-        passes(other, one, taken),
+        does(send(one, other), sent(which[0])),
+        does(send(other, one), sent(which[1])),
+        does(deliver(which[0]), heard(taken)),
+        does(deliver(which[1]), heard(taken)),
     ];
     takes(rt, game, &steps);
 }
@@ -164,12 +170,12 @@ fn does(event: RemainEvent, answer: Answer) -> Step {
     Step::Does(event, answer)
 }
 
-fn passes(from: u32, to: u32, answer: Heard) -> Step {
-    Step::Passes(from, to, answer)
+fn passes(from: u32, to: u32, which: u32, answer: Heard) -> Step {
+    Step::Passes(from, to, which, answer)
 }
 
-fn reports(from: u32, to: u32, answer: Reported) -> Step {
-    Step::Reports(from, to, answer)
+fn reports(from: u32, to: u32, which: u32, answer: Reported) -> Step {
+    Step::Reports(from, to, which, answer)
 }
 
 fn build(node: u32) -> RemainEvent {
@@ -241,8 +247,8 @@ fn given(answer: GivenUp) -> Answer {
     Ok(Happened::GivenUp(answer))
 }
 
-fn told(which: usize) -> Answer {
-    Ok(Happened::Told(which))
+fn told(which: u32) -> Answer {
+    Ok(Happened::Told(which as usize))
 }
 
 fn reported(answer: Reported) -> Answer {

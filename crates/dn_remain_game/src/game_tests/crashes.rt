@@ -13,7 +13,7 @@ use std::test::Fail;
 #[test]
 fn two_remain_where_one_vanishes(rt: HostRuntime) -> Result<(), Fail> {
     // the second takes the one command of the first, and the third hears nothing of it
-    let mut game = one_ahead(&rt, rt.alloc(), 3)?;
+    let mut game = one_ahead(&rt, rt.alloc(), 3, 4)?;
     let steps = [
         does(send(0, 2), sent(5)),
         does(stop(0), stopped()),
@@ -26,11 +26,11 @@ fn two_remain_where_one_vanishes(rt: HostRuntime) -> Result<(), Fail> {
         // what comes late does not count
         does(deliver(5), heard(Heard::Dropped(15))),
         does(tell(1, 2), told(0)),
-        reports(2, 1, Reported::Decided),
+        reports(2, 1, 1, Reported::Decided),
         does(hear(0), reported(Reported::Decided)),
     ];
     takes(&rt, &mut game, &steps);
-    trade(&rt, &mut game, 1, 2, 1);
+    trade(&rt, &mut game, [1, 2], 1, [6, 7]);
     let steps = [
         does(run(1), ran(Ran::Ran(0))),
         does(run(1), ran(Ran::Ran(1))),
@@ -55,13 +55,13 @@ fn two_remain_where_one_vanishes(rt: HostRuntime) -> Result<(), Fail> {
 fn two_of_four_vanish_at_once(rt: HostRuntime) -> Result<(), Fail> {
     let steps = [
         does(build(0), made(0)),
-        passes(0, 3, Heard::Taken(1)),
+        passes(0, 3, 6, Heard::Taken(1)),
         does(build(0), made(1)),
-        passes(0, 2, Heard::Taken(2)),
+        passes(0, 2, 7, Heard::Taken(2)),
         does(build(1), made(0)),
         does(build(1), made(1)),
         does(build(1), made(2)),
-        passes(1, 3, Heard::Taken(3)),
+        passes(1, 3, 8, Heard::Taken(3)),
         does(stop(0), stopped()),
         does(stop(1), stopped()),
         does(give_up(2, 1), given(GivenUp::Waiting)),
@@ -71,8 +71,10 @@ fn two_of_four_vanish_at_once(rt: HostRuntime) -> Result<(), Fail> {
         does(hear(0), reported(Reported::Kept)),
         does(give_up(2, 0), given(GivenUp::Waiting)),
         does(give_up(3, 1), given(GivenUp::Waiting)),
-        reports(2, 3, Reported::Decided),
-        reports(3, 2, Reported::Decided),
+        does(tell(2, 3), told(1)),
+        does(tell(3, 2), told(2)),
+        does(hear(1), reported(Reported::Decided)),
+        does(hear(2), reported(Reported::Decided)),
     ];
     let mut game = started(&rt, rt.alloc(), 4)?;
     takes(&rt, &mut game, &steps);
@@ -81,7 +83,7 @@ fn two_of_four_vanish_at_once(rt: HostRuntime) -> Result<(), Fail> {
         assert_eq!(&rt; known(&game, node, 1), (Some(3), Some(3)));
     }
     takes(&rt, &mut game, &[does(hear(0), reported(Reported::Stale))]);
-    trade(&rt, &mut game, 2, 3, 0);
+    trade(&rt, &mut game, [2, 3], 0, [9, 10]);
     for node in 2..4 {
         takes(&rt, &mut game, &[does(run(node), ran(Ran::Ran(0)))]);
     }
@@ -100,18 +102,18 @@ fn a_farewell_is_lost(rt: HostRuntime) -> Result<(), Fail> {
         does(send(0, 2), sent(6)),
         does(give_up(1, 0), given(GivenUp::Waiting)),
         does(give_up(2, 0), given(GivenUp::Waiting)),
-        reports(1, 2, Reported::Decided),
-        reports(2, 1, Reported::Decided),
+        reports(1, 2, 0, Reported::Decided),
+        reports(2, 1, 1, Reported::Decided),
         // and are not heard once they come
         does(deliver(6), heard(Heard::Dropped(15))),
     ];
-    let game = one_ahead(&rt, rt.alloc(), 3)?;
+    let game = one_ahead(&rt, rt.alloc(), 3, 4)?;
     ends(&rt, game, &steps, &[(1, 0, 1), (2, 0, 1)])
 }
 
 #[test]
 fn a_split_goes_on_in_two(rt: HostRuntime) -> Result<(), Fail> {
-    let mut game = one_ahead(&rt, rt.alloc(), 2)?;
+    let mut game = one_ahead(&rt, rt.alloc(), 2, 2)?;
     let steps = [
         does(build(1), made(0)),
         does(give_up(0, 1), given(GivenUp::Decided)),
