@@ -50,8 +50,9 @@ module _ {T : Type 0} {n : ℕ} {Is : T → Type 0} {rest : T → List ℕ} (sor
     the_only : (found : Result T GreetingFault) → Reads found → IsOnly found
     the_only found reads = (reads, λ read. only found read reads)
 
-    pub refused : (f : GreetingFault) → first_fault seal what size bytes ≡ Some f → IsOnly (Err f)
-    refused f first = the_only (Err f) (inl first)
+    pub refused : (f : GreetingFault) → first_fault seal what size bytes ≡ Some f → (result : Result T GreetingFault)
+        → result ≡ Err f → IsOnly result
+    refused f first result is = subst IsOnly (sym is) (the_only (Err f) (inl first))
 
     -- what stands between the head and the tag is read, or nothing is
     pub opened : (there : List ℕ) → (first_fault seal what size bytes ≡ None) × (there ≡ take n (drop 12 bytes))

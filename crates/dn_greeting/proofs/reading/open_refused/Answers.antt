@@ -1,10 +1,9 @@
-use Rattle.std.proofs.Common.{rules, ◌≡◌, ◌∙◌, Err, refl}
+use Rattle.std.proofs.Common.{rules, refl}
 use Rattle.dn_greeting.proofs.Once.{refusals, opened, refused}
 use Rattle.dn_greeting.proofs.reading.open_refused.Goals as goal
 
 pub returns-in_err-rest-clause-only : goal.returns-in_err-rest-clause-only
-returns-in_err-rest-clause-only c = let same : c.from_residual.result ≡ Err c.in_err-rest.field-0.0 = search rules in
-    λ read is. same ∙ (refused refusals 46 refl 3 _ _ _ c.in_err-rest.ensures.fault).1 read is
+returns-in_err-rest-clause-only c = (refused refusals 46 refl 3 _ _ _ c.in_err-rest.ensures.fault c.from_residual.result (search rules)).1
 
 pub returns : goal.returns
 returns c = let o = opened refusals 46 refl 3 _ _ _ c.in_ok-rest.ensures.rest _ c.refused_in.ensures _ c.ok_or.ensures.value in
