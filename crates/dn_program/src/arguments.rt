@@ -7,6 +7,9 @@ ghost use Rattle.dn_program.specs.Arguments.{HasMore, file_rule, flag_rule, numb
 use clap::{Arg, ArgAction, Command, value_parser};
 use std::alloc::{AllocError, Global};
 
+/// A command with more arguments. Err where memory is refused.
+pub(crate) type Added<'a> = Result<Command<'a>, AllocError>;
+
 /// An option with a number as its value.
 fn number<'a>(alloc: Global, name: &'a str, least: i64, greatest: i64, about: &'a str) -> Arg<'a>
     ensures rule { rule_of result ≡ number_rule name.entry.now least greatest }
@@ -30,7 +33,7 @@ pub(crate) fn switch<'a>(alloc: Global, name: &'a str, about: &'a str) -> Arg<'a
 }
 
 /// Adds an argument.
-pub(crate) fn with<'a>(command: Command<'a>, argument: Arg<'a>) -> Result<Command<'a>, AllocError>
+pub(crate) fn with<'a>(command: Command<'a>, argument: Arg<'a>) -> Added<'a>
     requires { argument.global ≡ false }
     ensures { IfOk result (HasMore command.entry (rule_of argument.entry ∷ [])) }
 {
@@ -46,7 +49,7 @@ pub(crate) fn with_number<'a>(
     greatest: i64,
     default: &'a str,
     about: &'a str,
-) -> Result<Command<'a>, AllocError>
+) -> Added<'a>
     ensures { IfOk result (HasMore command.entry
         (with_default default.entry.now (number_rule name.entry.now least greatest) ∷ [])) }
 {
@@ -62,7 +65,7 @@ pub(crate) fn with_choice<'a>(
     least: i64,
     greatest: i64,
     about: &'a str,
-) -> Result<Command<'a>, AllocError>
+) -> Added<'a>
     ensures { IfOk result (HasMore command.entry (number_rule name.entry.now least greatest ∷ [])) }
 {
     with(command, number(alloc, name, least, greatest, about))
@@ -75,7 +78,7 @@ pub(crate) fn with_word<'a>(
     name: &'a str,
     value: &'a str,
     about: &'a str,
-) -> Result<Command<'a>, AllocError>
+) -> Added<'a>
     ensures { IfOk result (HasMore command.entry (word_rule name.entry.now ∷ [])) }
 {
     let word = Arg::new(alloc, name)
@@ -91,7 +94,7 @@ pub(crate) fn with_flag<'a>(
     command: Command<'a>,
     name: &'a str,
     about: &'a str,
-) -> Result<Command<'a>, AllocError>
+) -> Added<'a>
     ensures { IfOk result (HasMore command.entry (flag_rule name.entry.now ∷ [])) }
 {
     with(command, switch(alloc, name, about))

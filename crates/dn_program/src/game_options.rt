@@ -4,27 +4,19 @@ ghost use Rattle.std.specs.Prelude.{IfOk, [], ◌∷◌};
 ghost use Rattle.dn_program.specs.{Arguments.HasMore, Commands.choice_rules, Commands.flag_rules, Commands.game_rules, Commands.limit_rule, Commands.script_rule, Commands.seed_rule};
 ghost use Rattle.dn_program.specs.{Commands.short_limit, Commands.sim_rules, Commands.storm_rules, Commands.trace_rule, Commands.upgrade_rules};
 
-use crate::arguments::{switch, with, with_flag, with_number};
+use crate::arguments::{Added, switch, with, with_flag, with_number};
 use clap::Command;
-use std::alloc::{AllocError, Global};
+use std::alloc::Global;
 
 /// Adds the option that seeds a generator.
-pub(crate) fn with_seed<'a>(
-    alloc: Global,
-    command: Command<'a>,
-    about: &'a str,
-) -> Result<Command<'a>, AllocError>
+pub(crate) fn with_seed<'a>(alloc: Global, command: Command<'a>, about: &'a str) -> Added<'a>
     ensures { IfOk result (HasMore command.entry (seed_rule ∷ [])) }
 {
     with_number(alloc, command, "seed", 0, 4_294_967_295, "1", about)
 }
 
 /// Adds the option that limits a demo.
-fn with_limit<'a>(
-    alloc: Global,
-    command: Command<'a>,
-    default: &'a str,
-) -> Result<Command<'a>, AllocError>
+fn with_limit<'a>(alloc: Global, command: Command<'a>, default: &'a str) -> Added<'a>
     ensures { IfOk result (HasMore command.entry (limit_rule default.entry.now ∷ [])) }
 {
     let about = "Most bytes of a demo";
@@ -32,17 +24,14 @@ fn with_limit<'a>(
 }
 
 /// Adds the options of an upgrade.
-pub(crate) fn with_upgrade<'a>(
-    alloc: Global,
-    command: Command<'a>,
-) -> Result<Command<'a>, AllocError>
+pub(crate) fn with_upgrade<'a>(alloc: Global, command: Command<'a>) -> Added<'a>
     ensures { IfOk result (HasMore command.entry upgrade_rules) }
 {
     with_limit(alloc, command, "16777216")
 }
 
 /// Adds the options of a game that are numbers, but for the limit.
-fn with_choice<'a>(alloc: Global, command: Command<'a>) -> Result<Command<'a>, AllocError>
+fn with_choice<'a>(alloc: Global, command: Command<'a>) -> Added<'a>
     ensures { IfOk result (HasMore command.entry choice_rules) }
 {
     let about = "How many players there are";
@@ -57,7 +46,7 @@ fn with_choice<'a>(alloc: Global, command: Command<'a>) -> Result<Command<'a>, A
 }
 
 /// Adds the options of a game that are flags.
-fn with_flags<'a>(alloc: Global, command: Command<'a>) -> Result<Command<'a>, AllocError>
+fn with_flags<'a>(alloc: Global, command: Command<'a>) -> Added<'a>
     ensures { IfOk result (HasMore command.entry flag_rules) }
 {
     let respawn = with_flag(alloc, command, "respawn", "Monsters come back")?;
@@ -68,11 +57,7 @@ fn with_flags<'a>(alloc: Global, command: Command<'a>) -> Result<Command<'a>, Al
 }
 
 /// Adds the options of a game whose demo has at most so many bytes by default.
-pub(crate) fn with_long_game<'a>(
-    alloc: Global,
-    command: Command<'a>,
-    limit: &'a str,
-) -> Result<Command<'a>, AllocError>
+pub(crate) fn with_long_game<'a>(alloc: Global, command: Command<'a>, limit: &'a str) -> Added<'a>
     ensures { IfOk result (HasMore command.entry (game_rules limit.entry.now)) }
 {
     let choice = with_choice(alloc, command)?;
@@ -81,14 +66,14 @@ pub(crate) fn with_long_game<'a>(
 }
 
 /// Adds the options of a game.
-pub(crate) fn with_game<'a>(alloc: Global, command: Command<'a>) -> Result<Command<'a>, AllocError>
+pub(crate) fn with_game<'a>(alloc: Global, command: Command<'a>) -> Added<'a>
     ensures { IfOk result (HasMore command.entry (game_rules short_limit)) }
 {
     with_long_game(alloc, command, "131072")
 }
 
 /// Adds the flag that tells each event.
-fn with_trace<'a>(alloc: Global, command: Command<'a>) -> Result<Command<'a>, AllocError>
+fn with_trace<'a>(alloc: Global, command: Command<'a>) -> Added<'a>
     ensures { IfOk result (HasMore command.entry (trace_rule ∷ [])) }
 {
     let about = "Prints a line for each event first";
@@ -97,7 +82,7 @@ fn with_trace<'a>(alloc: Global, command: Command<'a>) -> Result<Command<'a>, Al
 
 /// Adds the flag that asks for the script of a storm. It excludes `--trace` and `--calm`: a script has no place
 /// for the lines of a trace, and rounds are no events.
-fn with_script<'a>(alloc: Global, command: Command<'a>) -> Result<Command<'a>, AllocError>
+fn with_script<'a>(alloc: Global, command: Command<'a>) -> Added<'a>
     ensures { IfOk result (HasMore command.entry (script_rule ∷ [])) }
 {
     let about = "Prints the events as a script and nothing else";
@@ -109,7 +94,7 @@ fn with_script<'a>(alloc: Global, command: Command<'a>) -> Result<Command<'a>, A
 }
 
 /// Adds the options of a script's game.
-pub(crate) fn with_sim<'a>(alloc: Global, command: Command<'a>) -> Result<Command<'a>, AllocError>
+pub(crate) fn with_sim<'a>(alloc: Global, command: Command<'a>) -> Added<'a>
     ensures { IfOk result (HasMore command.entry sim_rules) }
 {
     let game = with_game(alloc, command)?;
@@ -117,7 +102,7 @@ pub(crate) fn with_sim<'a>(alloc: Global, command: Command<'a>) -> Result<Comman
 }
 
 /// Adds the options of a storm, a game's among them.
-pub(crate) fn with_storm<'a>(alloc: Global, command: Command<'a>) -> Result<Command<'a>, AllocError>
+pub(crate) fn with_storm<'a>(alloc: Global, command: Command<'a>) -> Added<'a>
     ensures { IfOk result (HasMore command.entry storm_rules) }
 {
     let game = with_game(alloc, command)?;

@@ -1,23 +1,27 @@
 //! The options of what is played over sockets.
 
 ghost use Rattle.std.specs.Prelude.{IfOk, codes, [], ◌∷◌};
-ghost use Rattle.dn_program.specs.{Arguments.HasMore, Arguments.file_rule, Commands.host_rules, Commands.join_rules, Commands.key_rules, Commands.loop_rules, Commands.play_rules, Commands.raw_rule};
+ghost use Rattle.dn_program.specs.{Arguments.HasMore, Arguments.file_rule, Commands.host_rules, Commands.join_rules, Commands.key_rules, Commands.loop_rules, Commands.play_rules, Commands.raw_rule, Commands.seed_rule};
 ghost use Rattle.dn_program.specs.{Commands.session_rules};
 
-use crate::arguments::{with, with_choice, with_flag, with_number, with_word};
+use crate::arguments::{Added, with, with_choice, with_flag, with_number, with_word};
 use crate::game_options::{with_game, with_long_game, with_seed};
 use clap::{Arg, Command};
-use std::alloc::{AllocError, Global};
+use std::alloc::Global;
+
+/// Adds the option that seeds the keys.
+fn with_key_seed<'a>(alloc: Global, command: Command<'a>) -> Added<'a>
+    ensures { IfOk result (HasMore command.entry (seed_rule ∷ [])) }
+{
+    with_seed(alloc, command, "What the key presses are drawn from")
+}
 
 /// Adds the options of rounds over sockets, a game's among them.
-pub(crate) fn with_rounds<'a>(
-    alloc: Global,
-    command: Command<'a>,
-) -> Result<Command<'a>, AllocError>
+pub(crate) fn with_rounds<'a>(alloc: Global, command: Command<'a>) -> Added<'a>
     ensures { IfOk result (HasMore command.entry loop_rules) }
 {
     let game = with_game(alloc, command)?;
-    let seed = with_seed(alloc, game, "What the key presses are drawn from")?;
+    let seed = with_key_seed(alloc, game)?;
     let about = "How many rounds there are";
     let rounds = with_number(alloc, seed, "rounds", 1, 1_000_000, "100", about)?;
     let about = "The port of player 0, before those of the others";
@@ -25,21 +29,14 @@ pub(crate) fn with_rounds<'a>(
 }
 
 /// Adds the flag that prints the demo.
-fn with_raw<'a>(
-    alloc: Global,
-    command: Command<'a>,
-    about: &'a str,
-) -> Result<Command<'a>, AllocError>
+fn with_raw<'a>(alloc: Global, command: Command<'a>, about: &'a str) -> Added<'a>
     ensures { IfOk result (HasMore command.entry (raw_rule ∷ [])) }
 {
     with_flag(alloc, command, "raw", about)
 }
 
 /// Adds the options of one player's rounds.
-pub(crate) fn with_player<'a>(
-    alloc: Global,
-    command: Command<'a>,
-) -> Result<Command<'a>, AllocError>
+pub(crate) fn with_player<'a>(alloc: Global, command: Command<'a>) -> Added<'a>
     ensures { IfOk result (HasMore command.entry play_rules) }
 {
     let rounds = with_rounds(alloc, command)?;
@@ -48,7 +45,7 @@ pub(crate) fn with_player<'a>(
 }
 
 /// Adds the option that names the file of the key.
-fn with_key_file<'a>(alloc: Global, command: Command<'a>) -> Result<Command<'a>, AllocError>
+fn with_key_file<'a>(alloc: Global, command: Command<'a>) -> Added<'a>
     ensures { IfOk result (HasMore command.entry (file_rule (codes "key") ∷ [])) }
 {
     let key = Arg::new(alloc, "key").long("key").value_name("FILE");
@@ -57,11 +54,10 @@ fn with_key_file<'a>(alloc: Global, command: Command<'a>) -> Result<Command<'a>,
 }
 
 /// Adds the options that a session over a network has at the host and at those who join.
-fn with_session<'a>(alloc: Global, command: Command<'a>) -> Result<Command<'a>, AllocError>
+fn with_session<'a>(alloc: Global, command: Command<'a>) -> Added<'a>
     ensures { IfOk result (HasMore command.entry session_rules) }
 {
-    let key = with_key_file(alloc, command)?;
-    let seed = with_seed(alloc, key, "What the key presses are drawn from")?;
+    let seed = with_key_seed(alloc, with_key_file(alloc, command)?)?;
     let about = "How many seconds are played, or 0 until the program is interrupted";
     let seconds = with_number(alloc, seed, "seconds", 0, 86_400, "0", about)?;
     let about = "Prints the bytes of the demo, and its lines on standard error";
@@ -69,7 +65,7 @@ fn with_session<'a>(alloc: Global, command: Command<'a>) -> Result<Command<'a>, 
 }
 
 /// Adds the options of a host, a game's among them.
-pub(crate) fn with_host<'a>(alloc: Global, command: Command<'a>) -> Result<Command<'a>, AllocError>
+pub(crate) fn with_host<'a>(alloc: Global, command: Command<'a>) -> Added<'a>
     ensures { IfOk result (HasMore command.entry host_rules) }
 {
     let game = with_long_game(alloc, command, "16777216")?;
@@ -81,7 +77,7 @@ pub(crate) fn with_host<'a>(alloc: Global, command: Command<'a>) -> Result<Comma
 }
 
 /// Adds the address and the options of one who joins.
-pub(crate) fn with_join<'a>(alloc: Global, command: Command<'a>) -> Result<Command<'a>, AllocError>
+pub(crate) fn with_join<'a>(alloc: Global, command: Command<'a>) -> Added<'a>
     ensures { IfOk result (HasMore command.entry join_rules) }
 {
     let about = "The address of the host, and its port";
@@ -96,7 +92,7 @@ pub(crate) fn with_join<'a>(alloc: Global, command: Command<'a>) -> Result<Comma
 }
 
 /// Adds the file of a key.
-pub(crate) fn with_key<'a>(alloc: Global, command: Command<'a>) -> Result<Command<'a>, AllocError>
+pub(crate) fn with_key<'a>(alloc: Global, command: Command<'a>) -> Added<'a>
     ensures { IfOk result (HasMore command.entry key_rules) }
 {
     with_word(alloc, command, "file", "FILE", "The file that is made")

@@ -15,8 +15,11 @@ use std::random::RandomSource;
 use std::rt::Files;
 use std::time::Clock;
 
+/// The exit status of a run, or why it ended early.
+type Status = Result<u8, RunFault>;
+
 /// Runs `show`, and answers the exit status.
-fn run_show_of(rt: &(impl Input + Print + AllocGlobal)) -> Result<u8, RunFault> {
+fn run_show_of(rt: &(impl Input + Print + AllocGlobal)) -> Status {
     run_show(rt.alloc(), &mut rt.reader(), &mut io::writer(rt))
 }
 
@@ -24,7 +27,7 @@ fn run_show_of(rt: &(impl Input + Print + AllocGlobal)) -> Result<u8, RunFault> 
 const BUFFER: usize = 65_536;
 
 /// Runs `demo`, and answers the exit status.
-fn run_demo_of(rt: &(impl Input + Print + AllocGlobal)) -> Result<u8, RunFault> {
+fn run_demo_of(rt: &(impl Input + Print + AllocGlobal)) -> Status {
     let Ok(mut input) = BufReader::with_capacity(rt.alloc(), BUFFER, rt.reader()) else {
         return Err(RunFault::Memory);
     };
@@ -32,15 +35,12 @@ fn run_demo_of(rt: &(impl Input + Print + AllocGlobal)) -> Result<u8, RunFault> 
 }
 
 /// Runs `rows`, and answers the exit status.
-fn run_rows_of(rt: &(impl Input + Print + AllocGlobal)) -> Result<u8, RunFault> {
+fn run_rows_of(rt: &(impl Input + Print + AllocGlobal)) -> Status {
     run_rows(rt.alloc(), &mut rt.reader(), &mut io::writer(rt))
 }
 
 /// Runs `upgrade`, and answers the exit status.
-fn run_upgrading(
-    rt: &(impl Input + Print + AllocGlobal),
-    matches: &ArgMatches<'_>,
-) -> Result<u8, RunFault> {
+fn run_upgrading(rt: &(impl Input + Print + AllocGlobal), matches: &ArgMatches<'_>) -> Status {
     let Some(limit) = dn_options::limit(matches) else {
         return Ok(MISUSED);
     };
@@ -48,10 +48,7 @@ fn run_upgrading(
 }
 
 /// Runs `sim`, and answers the exit status.
-fn run_script(
-    rt: &(impl Input + Print + AllocGlobal),
-    matches: &ArgMatches<'_>,
-) -> Result<u8, RunFault> {
+fn run_script(rt: &(impl Input + Print + AllocGlobal), matches: &ArgMatches<'_>) -> Status {
     let Some((config, players)) = dn_options::game(matches) else {
         return Ok(MISUSED);
     };
@@ -64,11 +61,11 @@ fn run_script(
 }
 
 /// Runs `storm`, and answers the exit status.
-fn run_schedule(rt: &(impl Print + AllocGlobal), matches: &ArgMatches<'_>) -> Result<u8, RunFault> {
-    let (Some((config, players)), Some((seed, count, calm))) = (
-        dn_options::game(matches),
-        dn_options::storm(matches),
-    ) else {
+fn run_schedule(rt: &(impl Print + AllocGlobal), matches: &ArgMatches<'_>) -> Status {
+    let Some((config, players)) = dn_options::game(matches) else {
+        return Ok(MISUSED);
+    };
+    let Some((seed, count, calm)) = dn_options::storm(matches) else {
         return Ok(MISUSED);
     };
     let mut output = io::writer(rt);
@@ -82,14 +79,11 @@ fn run_schedule(rt: &(impl Print + AllocGlobal), matches: &ArgMatches<'_>) -> Re
 }
 
 /// Runs `loop`, and answers the exit status.
-fn run_all(
-    rt: &(impl Net + Print + AllocGlobal),
-    matches: &ArgMatches<'_>,
-) -> Result<u8, RunFault> {
-    let (Some((config, players)), Some((seed, count, base))) = (
-        dn_options::game(matches),
-        dn_options::rounds(matches),
-    ) else {
+fn run_all(rt: &(impl Net + Print + AllocGlobal), matches: &ArgMatches<'_>) -> Status {
+    let Some((config, players)) = dn_options::game(matches) else {
+        return Ok(MISUSED);
+    };
+    let Some((seed, count, base)) = dn_options::rounds(matches) else {
         return Ok(MISUSED);
     };
     let mut output = io::writer(rt);
@@ -106,10 +100,7 @@ fn run_all(
 }
 
 /// Runs `play`, and answers the exit status. The choice of game is player 0's.
-fn run_one(
-    rt: &(impl Net + Print + AllocGlobal),
-    matches: &ArgMatches<'_>,
-) -> Result<u8, RunFault> {
+fn run_one(rt: &(impl Net + Print + AllocGlobal), matches: &ArgMatches<'_>) -> Status {
     let (Some((game, players)), Some((seed, count, base)), Some(me)) = (
         dn_options::game(matches),
         dn_options::rounds(matches),
@@ -138,7 +129,7 @@ fn run_one(
 /// Runs the subcommand, and answers the exit status.
 pub(crate) fn run<
     R: Input + Print + Eprint + AllocGlobal + Net + Files + RandomSource + Clock + Drop,
->(rt: &R, each_second: bool, matches: &ArgMatches<'_>) -> Result<u8, RunFault> {
+>(rt: &R, each_second: bool, matches: &ArgMatches<'_>) -> Status {
     match matches.subcommand() {
         Some(("show", _)) => run_show_of(rt),
         Some(("demo", _)) => run_demo_of(rt),

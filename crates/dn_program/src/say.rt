@@ -12,10 +12,9 @@ pub(crate) fn say(rt: &(impl Print + Eprint), raw: bool, text: &str) -> Result<(
 {
     if raw {
         let _ = rt.eprint(text);
-    } else if rt.print(text).is_err() {
-        return Err(RunFault::Write);
+        return Ok(());
     }
-    Ok(())
+    rt.print(text).map_err(|_| RunFault::Write)
 }
 
 /// Prints a line.
@@ -28,8 +27,7 @@ pub(crate) fn say_line<D: Display + Drop>(
 {
     if raw {
         let _ = rt.eprintln(line);
-    } else if rt.println(line).is_err() {
-        return Err(RunFault::Write);
+        return Ok(());
     }
-    Ok(())
+    rt.println(line).map_err(|_| RunFault::Write)
 }

@@ -122,15 +122,25 @@ fn run(survivor: &mut Survivor) -> (Ran, [bool; 4]) {
     (ran, [a.is_some(), b.is_some(), c.is_some(), d.is_some()])
 }
 
+/// Each of two hears the other.
+fn greet(one: &mut Survivor, other: &mut Survivor) {
+    let _ = pass(one, other);
+    let _ = pass(other, one);
+}
+
+/// Each of two takes so many commands of the other.
+fn share(rt: &impl Abort, one: &mut Survivor, other: &mut Survivor, count: u32) {
+    same!(rt; pass(one, other), Some(Heard::Taken(count)));
+    same!(rt; pass(other, one), Some(Heard::Taken(count)));
+}
+
 /// The three of a game that has started.
 fn start(rt: &impl Abort, alloc: Global) -> (Survivor, Survivor, Survivor) {
     let mut first = open(rt, alloc, 3, 0);
     let mut second = open(rt, alloc, 3, 1);
     let mut third = open(rt, alloc, 3, 2);
-    let _ = pass(&mut first, &mut second);
-    let _ = pass(&mut first, &mut third);
-    let _ = pass(&mut second, &mut first);
-    let _ = pass(&mut third, &mut first);
+    greet(&mut first, &mut second);
+    greet(&mut first, &mut third);
     (first, second, third)
 }
 
@@ -155,8 +165,7 @@ fn report_both(second: &mut Survivor, third: &mut Survivor) -> Option<(Reported,
 }
 
 #[test]
-fn a_player_is_given_up_once(rt: HostRuntime) {
-    let rt = &rt;
+fn a_player_is_given_up_once(ref rt: HostRuntime) {
     let (mut second, mut third, _) = vanish(rt, rt.alloc());
     for (player, answer) in [
         (1, GivenUp::NotAPlayer),
@@ -175,8 +184,7 @@ fn a_player_is_given_up_once(rt: HostRuntime) {
 }
 
 #[test]
-fn nothing_passes_between_a_player_and_one_who_gave_it_up(rt: HostRuntime) {
-    let rt = &rt;
+fn nothing_passes_between_a_player_and_one_who_gave_it_up(ref rt: HostRuntime) {
     let (_, mut third, late) = vanish(rt, rt.alloc());
     same!(rt; give_up(&mut third, 0), GivenUp::Waiting);
     holds!(rt; late.is_some());
@@ -188,8 +196,7 @@ fn nothing_passes_between_a_player_and_one_who_gave_it_up(rt: HostRuntime) {
 }
 
 #[test]
-fn two_agree_on_the_end_of_the_third(rt: HostRuntime) {
-    let rt = &rt;
+fn two_agree_on_the_end_of_the_third(ref rt: HostRuntime) {
     let (mut second, mut third, _) = vanish(rt, rt.alloc());
     let _ = give_up(&mut second, 0);
     let _ = give_up(&mut third, 0);
@@ -204,8 +211,7 @@ fn two_agree_on_the_end_of_the_third(rt: HostRuntime) {
         let _ = build(&mut second);
         let _ = build(&mut third);
     }
-    same!(rt; pass(&mut second, &mut third), Some(Heard::Taken(4)));
-    same!(rt; pass(&mut third, &mut second), Some(Heard::Taken(4)));
+    share(rt, &mut second, &mut third, 4);
     for tic in 0..4 {
         let row = [tic < 3, true, true, false];
         same!(rt; run(&mut second), (Ran::Ran(tic), row));
@@ -214,8 +220,7 @@ fn two_agree_on_the_end_of_the_third(rt: HostRuntime) {
 }
 
 #[test]
-fn reports_are_refused(rt: HostRuntime) {
-    let rt = &rt;
+fn reports_are_refused(ref rt: HostRuntime) {
     let (_, mut second, mut third) = start(rt, rt.alloc());
     let third_gone = [false, false, true, false];
     for (from, gone, told, answer) in [
@@ -244,8 +249,7 @@ fn reports_are_refused(rt: HostRuntime) {
 }
 
 #[test]
-fn a_lie_is_undone_with_the_liar(rt: HostRuntime) {
-    let rt = &rt;
+fn a_lie_is_undone_with_the_liar(ref rt: HostRuntime) {
     let mut first = open(rt, rt.alloc(), 4, 0);
     let mut fourth = open(rt, rt.alloc(), 4, 3);
     same!(rt; pass(&mut first, &mut fourth), Some(Heard::Started));
@@ -269,8 +273,7 @@ fn a_lie_is_undone_with_the_liar(rt: HostRuntime) {
 }
 
 #[test]
-fn a_game_starts_without_one(rt: HostRuntime) {
-    let rt = &rt;
+fn a_game_starts_without_one(ref rt: HostRuntime) {
     let mut first = open(rt, rt.alloc(), 3, 0);
     let mut second = open(rt, rt.alloc(), 3, 1);
     same!(rt; pass(&mut first, &mut second), Some(Heard::Started));

@@ -44,7 +44,13 @@ pub(super) fn meets(rt: &impl Abort, from: &mut Link, at: &mut Link) {
     passes(rt, from, at, false);
 }
 
-/// The same, and with it the other's game starts.
+/// A datagram of each to the other.
+pub(super) fn meet(rt: &impl Abort, one: &mut Link, other: &mut Link) {
+    meets(rt, one, other);
+    meets(rt, other, one);
+}
+
+/// The datagram of one to the other, and with it the other's game starts.
 pub(super) fn starts(rt: &impl Abort, from: &mut Link, at: &mut Link) {
     passes(rt, from, at, true);
 }
@@ -119,8 +125,7 @@ pub(super) fn build(rt: &impl Abort, one: &mut Link, other: &mut Link, tic: u32)
 
 /// Four datagrams are lost, and the fifth has all that they carried.
 #[test]
-fn what_was_lost_comes_with_the_next(rt: HostRuntime) {
-    let rt = &rt;
+fn what_was_lost_comes_with_the_next(ref rt: HostRuntime) {
     let (mut key, mut other) = playing(rt, rt.alloc());
     for tic in 0..4 {
         build(rt, &mut key, &mut other, tic);
@@ -139,8 +144,7 @@ fn what_was_lost_comes_with_the_next(rt: HostRuntime) {
 
 /// A player who has left may go once the other has told that it has all commands and the end.
 #[test]
-fn who_has_left_waits_until_the_other_knows(rt: HostRuntime) {
-    let rt = &rt;
+fn who_has_left_waits_until_the_other_knows(ref rt: HostRuntime) {
     let (mut key, mut other) = playing(rt, rt.alloc());
     build(rt, &mut key, &mut other, 0);
     holds!(rt; quit(&mut key));
@@ -158,8 +162,7 @@ fn who_has_left_waits_until_the_other_knows(rt: HostRuntime) {
 /// Two players who quit in one tick learn of each other's end by the counts of the datagrams, though neither
 /// hears the other's EXIT packet.
 #[test]
-fn two_who_quit_at_once_may_leave(rt: HostRuntime) {
-    let rt = &rt;
+fn two_who_quit_at_once_may_leave(ref rt: HostRuntime) {
     let (mut key, mut other) = playing(rt, rt.alloc());
     build(rt, &mut key, &mut other, 0);
     holds!(rt; quit(&mut key));
@@ -177,8 +180,7 @@ fn two_who_quit_at_once_may_leave(rt: HostRuntime) {
 /// Between two who play a datagram without news has 60 bytes, and no parts; before, it tells that its sender
 /// has started. A run of one command takes 13 bytes. Who has left gets no packets.
 #[test]
-fn what_tells_nothing_is_left_out(rt: HostRuntime) {
-    let rt = &rt;
+fn what_tells_nothing_is_left_out(ref rt: HostRuntime) {
     let (mut key, mut other) = playing(rt, rt.alloc());
     same!(rt; datagram(rt, &mut other, 0).len(), 79);
     let idle = datagram(rt, &mut key, 1);
@@ -195,8 +197,7 @@ fn what_tells_nothing_is_left_out(rt: HostRuntime) {
 
 /// The datagram of a player who is none, and of another game's.
 #[test]
-fn strangers_change_nothing(rt: HostRuntime) {
-    let rt = &rt;
+fn strangers_change_nothing(ref rt: HostRuntime) {
     let (mut key, mut other) = playing(rt, rt.alloc());
     let one = datagram(rt, &mut other, 0);
     let to_itself = Received::Unopened(BundleFault::Receiver);

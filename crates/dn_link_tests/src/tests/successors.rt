@@ -1,26 +1,22 @@
 //! Links before their game: who goes, and in whose place another may come.
 
 use super::calls::{forget, may_leave, presence, quit};
-use super::links::{datagram, link_of, meets, pair, starts};
-use super::lobby::three;
+use super::links::{datagram, link_of, meet, meets, pair, starts};
+use super::lobby::{all_there, one_there};
 use dn_link::Presence;
 use dn_shared_tests::{holds, same};
 
 /// Player 1 is given the settings, starts, and is given up before player 0 has heard it: its commands may have
 /// reached player 2, so that no other takes its place.
 #[test]
-fn who_was_given_the_settings_has_no_successor(rt: HostRuntime) {
-    let rt = &rt;
-    let (mut key, mut one, mut two) = three(rt, rt.alloc());
-    meets(rt, &mut one, &mut key);
-    meets(rt, &mut two, &mut key);
+fn who_was_given_the_settings_has_no_successor(ref rt: HostRuntime) {
+    let (mut key, mut one, _) = all_there(rt, rt.alloc());
     starts(rt, &mut key, &mut one);
     forget(&mut key, 1);
     same!(rt; presence(&key, 1), Presence::Forgotten);
     let mut new = link_of(rt, rt.alloc(), 3, 1, 1);
     for _ in 0..3 {
-        meets(rt, &mut new, &mut key);
-        meets(rt, &mut key, &mut new);
+        meet(rt, &mut new, &mut key);
     }
     same!(rt; presence(&key, 1), Presence::Forgotten);
     holds!(rt; quit(&mut new));
@@ -33,10 +29,8 @@ fn who_was_given_the_settings_has_no_successor(rt: HostRuntime) {
 /// One that is known to play is not made away, though player 0 still gathers; one that was given no settings
 /// is, and another takes its place.
 #[test]
-fn who_was_given_nothing_has_a_successor(rt: HostRuntime) {
-    let rt = &rt;
-    let (mut key, mut one, mut two) = three(rt, rt.alloc());
-    meets(rt, &mut one, &mut key);
+fn who_was_given_nothing_has_a_successor(ref rt: HostRuntime) {
+    let (mut key, _, mut two) = one_there(rt, rt.alloc());
     forget(&mut key, 1);
     same!(rt; presence(&key, 1), Presence::Away(0));
     let mut new = link_of(rt, rt.alloc(), 3, 1, 1);
@@ -56,11 +50,8 @@ fn who_was_given_nothing_has_a_successor(rt: HostRuntime) {
 /// Player 1 is given the settings, and quits before it has them: it has not played, so that another takes its
 /// place.
 #[test]
-fn who_goes_before_its_game_has_a_successor(rt: HostRuntime) {
-    let rt = &rt;
-    let (mut key, mut one, mut two) = three(rt, rt.alloc());
-    meets(rt, &mut one, &mut key);
-    meets(rt, &mut two, &mut key);
+fn who_goes_before_its_game_has_a_successor(ref rt: HostRuntime) {
+    let (mut key, mut one, _) = all_there(rt, rt.alloc());
     let lost = datagram(rt, &mut key, 1);
     holds!(rt; lost.len() > 60);
     holds!(rt; quit(&mut one));
@@ -78,8 +69,7 @@ fn who_goes_before_its_game_has_a_successor(rt: HostRuntime) {
 
 /// A player 0 that was given up may come back, so that nobody may go for that; one that says goodbye does not.
 #[test]
-fn player_0_may_come_back(rt: HostRuntime) {
-    let rt = &rt;
+fn player_0_may_come_back(ref rt: HostRuntime) {
     let (mut key, mut other) = pair(rt, rt.alloc());
     meets(rt, &mut key, &mut other);
     forget(&mut other, 0);

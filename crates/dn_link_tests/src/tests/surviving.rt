@@ -4,8 +4,8 @@ use super::calls::{
     end, give_up, gives, got, has_given_up, may_leave, phase, presence, quit, receive, run,
     unacknowledged, undecided,
 };
-use super::links::{Bytes, build, datagram, link_of, make, meets, starts};
-use super::lobby::three;
+use super::links::{Bytes, build, datagram, link_of, make, meet, meets, starts};
+use super::lobby::{all_there, one_there};
 use super::reports::reports;
 use dn_link::{Link, Presence, Received};
 use dn_machine::{Phase, Ran};
@@ -16,9 +16,7 @@ use std::process::Abort;
 
 /// Three links whose game has started.
 pub(super) fn playing(rt: &impl Abort, alloc: Global) -> (Link, Link, Link) {
-    let (mut key, mut one, mut two) = three(rt, alloc);
-    meets(rt, &mut one, &mut key);
-    meets(rt, &mut two, &mut key);
+    let (mut key, mut one, mut two) = all_there(rt, alloc);
     starts(rt, &mut key, &mut one);
     starts(rt, &mut key, &mut two);
     meets(rt, &mut one, &mut key);
@@ -75,8 +73,7 @@ fn has_none(rt: &impl Abort, link: &mut Link) {
 
 /// Player 0 vanishes: each of the others gives it up, once, and hears it no more.
 #[test]
-fn who_vanishes_is_given_up(rt: HostRuntime) {
-    let rt = &rt;
+fn who_vanishes_is_given_up(ref rt: HostRuntime) {
     let (_, mut one, mut two, late) = vanishes(rt, rt.alloc());
     same!(rt; give_up(&mut one, 1), GivenUp::NotAPlayer);
     same!(rt; presence(&one, 0), Presence::Playing);
@@ -93,8 +90,7 @@ fn who_vanishes_is_given_up(rt: HostRuntime) {
 
 /// Player 0 makes three commands, of which player 1 alone has heard, and vanishes.
 #[test]
-fn the_others_play_on(rt: HostRuntime) {
-    let rt = &rt;
+fn the_others_play_on(ref rt: HostRuntime) {
     let (_, mut one, mut two, _) = vanishes(rt, rt.alloc());
     both_give_up(rt, &mut one, &mut two);
     both_report(rt, &mut one, &mut two);
@@ -102,8 +98,7 @@ fn the_others_play_on(rt: HostRuntime) {
         build(rt, &mut one, &mut two, tic);
     }
     same!(rt; unacknowledged(&one), 4);
-    meets(rt, &mut one, &mut two);
-    meets(rt, &mut two, &mut one);
+    meet(rt, &mut one, &mut two);
     same!(rt; unacknowledged(&one), 0);
     for tic in 0..4 {
         let row = [tic < 3, true, true];
@@ -113,17 +108,14 @@ fn the_others_play_on(rt: HostRuntime) {
     // nothing waits for player 0
     holds!(rt; quit(&mut one));
     holds!(rt; !may_leave(&one));
-    meets(rt, &mut one, &mut two);
-    meets(rt, &mut two, &mut one);
+    meet(rt, &mut one, &mut two);
     holds!(rt; may_leave(&one));
 }
 
 /// Player 2 greets, and vanishes before the game: the game of the others starts without it.
 #[test]
-fn a_game_starts_without_one(rt: HostRuntime) {
-    let rt = &rt;
-    let (mut key, mut one, mut two) = three(rt, rt.alloc());
-    meets(rt, &mut one, &mut key);
+fn a_game_starts_without_one(ref rt: HostRuntime) {
+    let (mut key, mut one, mut two) = one_there(rt, rt.alloc());
     same!(rt; give_up(&mut one, 2), GivenUp::NotPlaying);
     meets(rt, &mut key, &mut one);
     same!(rt; give_up(&mut key, 2), GivenUp::Waiting);
@@ -140,8 +132,7 @@ fn a_game_starts_without_one(rt: HostRuntime) {
 
 /// The other player vanishes before the game: it starts with one alone.
 #[test]
-fn a_game_starts_with_one_alone(rt: HostRuntime) {
-    let rt = &rt;
+fn a_game_starts_with_one_alone(ref rt: HostRuntime) {
     let mut alone = link_of(rt, rt.alloc(), 2, 0, 1);
     same!(rt; give_up(&mut alone, 1), GivenUp::Decided);
     same!(rt; phase(&alone), Phase::Playing);
@@ -164,8 +155,7 @@ fn make_all(rt: &impl Abort, key: &mut Link, one: &mut Link, two: &mut Link, tic
 
 /// Marks of a player who is given up are not compared, and those of the others are, from tic 13 on.
 #[test]
-fn other_marks_are_compared(rt: HostRuntime) {
-    let rt = &rt;
+fn other_marks_are_compared(ref rt: HostRuntime) {
     let off = Ran::Inconsistent {
         player: 2,
         was: 7,

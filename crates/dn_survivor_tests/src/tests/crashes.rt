@@ -1,7 +1,8 @@
 //! Games in which players leave or vanish one after another, or at once, and wide windows.
 
 use super::{
-    build, end, give_up, got, open, open_ahead, pass, quit, run, start, undecided, unsettled,
+    build, end, give_up, got, greet, open, open_ahead, pass, quit, run, share, start, undecided,
+    unsettled,
 };
 use dn_machine::{Heard, Made, Ran};
 use dn_shared_tests::{holds, same};
@@ -15,12 +16,9 @@ fn start_four(rt: &impl Abort, alloc: Global) -> (Survivor, Survivor, Survivor, 
     let mut second = open(rt, alloc, 4, 1);
     let mut third = open(rt, alloc, 4, 2);
     let mut fourth = open(rt, alloc, 4, 3);
-    let _ = pass(&mut first, &mut second);
-    let _ = pass(&mut first, &mut third);
-    let _ = pass(&mut first, &mut fourth);
-    let _ = pass(&mut second, &mut first);
-    let _ = pass(&mut third, &mut first);
-    let _ = pass(&mut fourth, &mut first);
+    greet(&mut first, &mut second);
+    greet(&mut first, &mut third);
+    greet(&mut first, &mut fourth);
     (first, second, third, fourth)
 }
 
@@ -42,12 +40,16 @@ fn build_all(survivor: &mut Survivor, count: u32) -> u32 {
     made
 }
 
+/// One builds so many commands more, and another takes all that it has not heard of.
+fn tells(rt: &impl Abort, one: &mut Survivor, other: &mut Survivor, more: u32, taken: u32) {
+    let _ = build_all(one, more);
+    same!(rt; pass(one, other), Some(Heard::Taken(taken)));
+}
+
 #[test]
-fn who_has_left_tells_of_one_who_vanished(rt: HostRuntime) {
-    let rt = &rt;
+fn who_has_left_tells_of_one_who_vanished(ref rt: HostRuntime) {
     let (mut first, mut second, mut third) = start(rt, rt.alloc());
-    let _ = build_all(&mut first, 3);
-    same!(rt; pass(&mut first, &mut second), Some(Heard::Taken(3)));
+    tells(rt, &mut first, &mut second, 3, 3);
     holds!(rt; quit(&mut second));
     // nobody is given up yet, and the report of the first is missing
     same!(rt; tell(&second, &mut third), Some(Reported::Kept));
@@ -67,13 +69,10 @@ fn who_has_left_tells_of_one_who_vanished(rt: HostRuntime) {
 }
 
 #[test]
-fn a_second_is_given_up_while_one_is_undecided(rt: HostRuntime) {
-    let rt = &rt;
+fn a_second_is_given_up_while_one_is_undecided(ref rt: HostRuntime) {
     let (mut first, mut second, mut third, mut fourth) = start_four(rt, rt.alloc());
-    let _ = build_all(&mut first, 1);
-    same!(rt; pass(&mut first, &mut third), Some(Heard::Taken(1)));
-    let _ = build_all(&mut first, 1);
-    same!(rt; pass(&mut first, &mut second), Some(Heard::Taken(2)));
+    tells(rt, &mut first, &mut third, 1, 1);
+    tells(rt, &mut first, &mut second, 1, 2);
     same!(rt; give_up(&mut second, 0), GivenUp::Waiting);
     same!(rt; give_up(&mut third, 0), GivenUp::Waiting);
     same!(rt; give_up(&mut fourth, 0), GivenUp::Waiting);
@@ -100,15 +99,11 @@ fn a_second_is_given_up_while_one_is_undecided(rt: HostRuntime) {
 }
 
 #[test]
-fn two_of_four_vanish_at_once(rt: HostRuntime) {
-    let rt = &rt;
+fn two_of_four_vanish_at_once(ref rt: HostRuntime) {
     let (mut first, mut second, mut third, mut fourth) = start_four(rt, rt.alloc());
-    let _ = build_all(&mut first, 1);
-    same!(rt; pass(&mut first, &mut fourth), Some(Heard::Taken(1)));
-    let _ = build_all(&mut first, 1);
-    same!(rt; pass(&mut first, &mut third), Some(Heard::Taken(2)));
-    let _ = build_all(&mut second, 3);
-    same!(rt; pass(&mut second, &mut fourth), Some(Heard::Taken(3)));
+    tells(rt, &mut first, &mut fourth, 1, 1);
+    tells(rt, &mut first, &mut third, 1, 2);
+    tells(rt, &mut second, &mut fourth, 3, 3);
     same!(rt; give_up(&mut third, 1), GivenUp::Waiting);
     same!(rt; give_up(&mut fourth, 0), GivenUp::Waiting);
     same!(rt; give_up(&mut third, 0), GivenUp::Waiting);
@@ -117,8 +112,7 @@ fn two_of_four_vanish_at_once(rt: HostRuntime) {
     same!(rt; tell(&fourth, &mut third), Some(Reported::Decided));
     let _ = build_all(&mut third, 4);
     let _ = build_all(&mut fourth, 4);
-    same!(rt; pass(&mut third, &mut fourth), Some(Heard::Taken(4)));
-    same!(rt; pass(&mut fourth, &mut third), Some(Heard::Taken(4)));
+    share(rt, &mut third, &mut fourth, 4);
     for tic in 0..4 {
         let row = [tic < 2, tic < 3, true, true];
         same!(rt; run(&mut third), (Ran::Ran(tic), row));
@@ -127,8 +121,7 @@ fn two_of_four_vanish_at_once(rt: HostRuntime) {
 }
 
 #[test]
-fn twice_a_window_of_twelve_is_told(rt: HostRuntime) {
-    let rt = &rt;
+fn twice_a_window_of_twelve_is_told(ref rt: HostRuntime) {
     let mut first = open_ahead(rt, rt.alloc(), 3, 0, 12);
     let mut second = open_ahead(rt, rt.alloc(), 3, 1, 12);
     let mut third = open_ahead(rt, rt.alloc(), 3, 2, 12);
@@ -140,8 +133,7 @@ fn twice_a_window_of_twelve_is_told(rt: HostRuntime) {
     same!(rt; build_all(&mut second, 12), 11);
     same!(rt; build_all(&mut third, 12), 11);
     same!(rt; build(&mut first), Made::Full);
-    same!(rt; pass(&mut first, &mut second), Some(Heard::Taken(12)));
-    same!(rt; pass(&mut second, &mut first), Some(Heard::Taken(12)));
+    share(rt, &mut first, &mut second, 12);
     same!(rt; pass(&mut third, &mut first), Some(Heard::Taken(12)));
     for tic in 0..12 {
         same!(rt; run(&mut first), (Ran::Ran(tic), [true, true, true, false]));
@@ -156,15 +148,13 @@ fn twice_a_window_of_twelve_is_told(rt: HostRuntime) {
     same!(rt; tell(&second, &mut third), Some(Reported::Decided));
     same!(rt; tell(&third, &mut second), Some(Reported::Decided));
     same!(rt; got(&third, 0), Some(24));
-    same!(rt; pass(&mut second, &mut third), Some(Heard::Taken(12)));
-    same!(rt; pass(&mut third, &mut second), Some(Heard::Taken(12)));
+    share(rt, &mut second, &mut third, 12);
     for tic in 0..26 {
         let row = [tic < 24, true, true, false];
         same!(rt; run(&mut second), (Ran::Ran(tic), row));
         same!(rt; run(&mut third), (Ran::Ran(tic), row));
         let _ = build_all(&mut second, 1);
         let _ = build_all(&mut third, 1);
-        same!(rt; pass(&mut second, &mut third), Some(Heard::Taken(1)));
-        same!(rt; pass(&mut third, &mut second), Some(Heard::Taken(1)));
+        share(rt, &mut second, &mut third, 1);
     }
 }

@@ -39,24 +39,20 @@ returns-in_err-put-clause-fails g c =
 
 pub returns-then-count-room-clause-shown : goal.returns-then-count-room-clause-shown
 returns-then-count-room-clause-shown g c =
-    let n = length (take c.min-room.result c.loop-alloc.piece) in
-    let size : n ≡ c.min-room.result = search rules in
-    let told = c.in_ok-text.ensures in
+    let size : length (take c.min-room.result c.loop-alloc.piece) ≡ c.min-room.result = search rules in
     let put : Appends (g.W.Write.contents c.loop-alloc.output) (g.W.Write.contents c.put.new.output)
     (string_bytes c.in_ok-text.text) = search rules in
-    lists_all _ _ _ _ _ c.loop-alloc.invariant n (omega (arith, size)) c.fill.new.buffer _
-    c.in_ok-count.count _ c.in_ok-count.ensures.count c.in_ok-count.ensures.bytes told.1 told.2 _ put
+    lists_all _ _ _ _ _ c.loop-alloc.invariant _ (omega (arith, size)) c.fill.new.buffer _ c.in_ok-count.count _
+    c.in_ok-count.ensures.count c.in_ok-count.ensures.bytes c.in_ok-text.ensures.1 c.in_ok-text.ensures.2 _ put
     (omega (arith, size, c.if-count-room.true))
 
 pub loop-alloc-preserved : goal.loop-alloc-preserved
 loop-alloc-preserved g c =
-    let n = length (take c.min-room.result c.loop-alloc.piece) in
-    let size : n ≡ c.min-room.result = search rules in
-    let told = c.in_ok-text.ensures in
+    let size : length (take c.min-room.result c.loop-alloc.piece) ≡ c.min-room.result = search rules in
     let put : Appends (g.W.Write.contents c.loop-alloc.output) (g.W.Write.contents c.put.new.output)
     (string_bytes c.in_ok-text.text) = search rules in
-    lists_more _ _ _ _ _ c.loop-alloc.invariant n (omega (arith, size)) c.fill.new.buffer _
-    c.in_ok-count.count _ c.in_ok-count.ensures.count c.in_ok-count.ensures.bytes told.1 told.2 _ put
+    lists_more _ _ _ _ _ c.loop-alloc.invariant _ (omega (arith, size)) c.fill.new.buffer _ c.in_ok-count.count _
+    c.in_ok-count.ensures.count c.in_ok-count.ensures.bytes c.in_ok-text.ensures.1 c.in_ok-text.ensures.2 _ put
     (omega (arith, c.loop-alloc-test.true)) (omega (arith, size, c.if-count-room.false))
     (grind (arith, size, c.min-room.ensures))
 

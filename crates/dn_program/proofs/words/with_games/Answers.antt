@@ -1,11 +1,15 @@
 use Rattle.std.proofs.Common.{[], ◌∷◌, codes}
 use Rattle.std.proofs.lemmas.Result.{IfOk-weaker}
 use Rattle.dn_program.specs.Commands.{sim_rules, subcommand}
-use Rattle.dn_program.proofs.Subcommands.{one_more}
+use Rattle.dn_program.proofs.Subcommands.{added, one_more}
 use Rattle.dn_program.proofs.words.with_games.Goals as goal
 
 pub returns : goal.returns
 returns c =
-    IfOk-weaker c.add_play.result _ _
-    (λ new end. one_more _ _ new _ _ (one_more _ _ _ _ _ (one_more _ _ _ (subcommand (codes "sim") sim_rules ∷ []) _ c.in_ok-sim.ensures c.in_ok-storm.ensures) c.in_ok-all.ensures) end)
-    c.add_play.ensures
+    IfOk-weaker c.subcommand-4.result _ _
+    (λ new adds. one_more _ _ new _ _ (one_more _ _ _ _ _ (one_more _ _ _ (subcommand (codes "sim") sim_rules ∷ []) _
+    (added _ _ _ _ _ _ c.sub.ensures.app c.sub.ensures.local c.in_ok-with_sim.ensures c.in_ok-sim.ensures)
+    (added _ _ _ _ _ _ c.sub-2.ensures.app c.sub-2.ensures.local c.in_ok-with_storm.ensures c.in_ok-storm.ensures))
+    (added _ _ _ _ _ _ c.sub-3.ensures.app c.sub-3.ensures.local c.in_ok-with_rounds.ensures c.in_ok-all.ensures))
+    (added _ _ _ new _ _ c.sub-4.ensures.app c.sub-4.ensures.local c.in_ok-with_player.ensures adds))
+    c.subcommand-4.ensures

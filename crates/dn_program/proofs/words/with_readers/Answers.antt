@@ -1,11 +1,12 @@
 use Rattle.std.proofs.Common.{[], ◌∷◌, codes}
 use Rattle.std.proofs.lemmas.Result.{IfOk-weaker}
 use Rattle.dn_program.specs.Commands.{subcommand}
-use Rattle.dn_program.proofs.Subcommands.{one_more}
+use Rattle.dn_program.proofs.Subcommands.{added, one_more}
 use Rattle.dn_program.proofs.words.with_readers.Goals as goal
 
 pub returns : goal.returns
 returns c =
-    IfOk-weaker c.add_upgrade.result _ _
-    (λ new end. one_more _ _ new _ _ (one_more _ _ _ _ _ (one_more _ _ _ (subcommand (codes "show") [] ∷ []) _ c.in_ok-show.ensures c.in_ok-demo.ensures) c.in_ok-rows.ensures) end)
-    c.add_upgrade.ensures
+    IfOk-weaker c.subcommand.result _ _
+    (λ new adds. one_more _ _ new _ _ (one_more _ _ _ _ _ (one_more _ _ _ (subcommand (codes "show") [] ∷ []) _ c.in_ok-show.ensures c.in_ok-demo.ensures) c.in_ok-rows.ensures)
+    (added _ _ _ new _ _ c.sub.ensures.app c.sub.ensures.local c.in_ok-with_upgrade.ensures adds))
+    c.subcommand.ensures

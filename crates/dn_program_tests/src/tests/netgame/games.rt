@@ -48,8 +48,7 @@ fn forward_by_fifty(tic: u8) -> ArrayVec<u8, 104> {
 
 /// No command of player 0 carries its mark, so that its thirteenth is found out.
 #[test]
-fn inconsistent_nodes_are_shown(rt: HostRuntime) {
-    let rt = &rt;
+fn inconsistent_nodes_are_shown(ref rt: HostRuntime) {
     let config = Config {
         players: 2,
         me: 1,

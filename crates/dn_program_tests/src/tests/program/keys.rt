@@ -39,8 +39,7 @@ fn a_key_is_made_and_never_written_over(rt: HostRuntime) -> Result<(), Fail> {
 }
 
 #[test]
-fn a_key_that_cannot_be_made_is_told(rt: HostRuntime) {
-    let rt = &rt;
+fn a_key_that_cannot_be_made_is_told(ref rt: HostRuntime) {
     let called = call(rt, "netgame key /nowhere/netgame.key");
     answers(rt, &called, 3, "key: cannot make the file\n");
     let mut host = Host::new(rt, b"netgame key /nowhere/netgame.key", b"");
@@ -52,8 +51,7 @@ fn a_key_that_cannot_be_made_is_told(rt: HostRuntime) {
 }
 
 #[test]
-fn a_session_that_cannot_begin_is_told(rt: HostRuntime) {
-    let rt = &rt;
+fn a_session_that_cannot_begin_is_told(ref rt: HostRuntime) {
     for (line, status, printed) in list! {
         ("netgame host", 3, "socket fault\n"),
         ("netgame join 127.0.0.1:5029", 3, "socket fault\n"),
@@ -67,8 +65,7 @@ fn a_session_that_cannot_begin_is_told(rt: HostRuntime) {
 }
 
 #[test]
-fn with_raw_all_texts_go_to_standard_error(rt: HostRuntime) {
-    let rt = &rt;
+fn with_raw_all_texts_go_to_standard_error(ref rt: HostRuntime) {
     for (line, status, told) in list! {
         ("netgame host --raw", 3, "socket fault\n"),
         ("netgame join 127.0.0.1 --raw", 1, "address: not found\n"),

@@ -22,8 +22,7 @@ fn complains(
 }
 
 #[test]
-fn words_that_are_unknown_are_told(rt: HostRuntime) {
-    let rt = &rt;
+fn words_and_values_that_are_none_are_told(ref rt: HostRuntime) {
     for (line, text) in list! {
         ("netgame shew", "error: unrecognized subcommand 'shew'"),
         ("netgame --seed 1", "error: unexpected argument '--seed' found"),
@@ -53,16 +52,7 @@ fn words_that_are_unknown_are_told(rt: HostRuntime) {
         ("netgame loop --raw", "error: unexpected argument '--raw' found"),
         ("netgame play --count 1", "error: unexpected argument '--count' found"),
         ("netgame play --calm 1", "error: unexpected argument '--calm' found"),
-        ("netgame storm --fast", "error: unexpected argument '--fast' found")
-    } {
-        complains(rt, line.as_bytes(), text);
-    }
-}
-
-#[test]
-fn values_that_are_none_are_told(rt: HostRuntime) {
-    let rt = &rt;
-    for (line, text) in list! {
+        ("netgame storm --fast", "error: unexpected argument '--fast' found"),
         ("netgame storm --players two",
          "error: invalid value 'two' for '--players <players>': invalid digit found in string"),
         ("netgame storm --seed 4294967296", "error: invalid value '4294967296' for '--seed <seed>'"),
@@ -77,8 +67,7 @@ fn values_that_are_none_are_told(rt: HostRuntime) {
 }
 
 #[test]
-fn words_that_are_missing_or_no_text_are_told(rt: HostRuntime) {
-    let rt = &rt;
+fn words_that_are_missing_or_no_text_are_told(ref rt: HostRuntime) {
     complains(
         rt,
         b"netgame",
