@@ -56,8 +56,16 @@ IsReadOut old new code = ReadsBy old.demo old new code
 
 -- a start of these bytes, in the order of a demo's header
 abbrev pub start_fields : ℕ → ℕ → ℕ → ℕ → ℕ → ℕ → ℕ → StartFields
-start_fields s e m d r f n =
-    record { skill = s; episode = e; map = m; deathmatch = d; respawn = r; fast = f; no_monsters = n }
+start_fields skill episode map deathmatch respawn fast no_monsters =
+    record {
+      skill = skill;
+      episode = episode;
+      map = map;
+      deathmatch = deathmatch;
+      respawn = respawn;
+      fast = fast;
+      no_monsters = no_monsters;
+    }
 
 abbrev pub start_told : Start → StartFields
 start_told s = start_fields s.skill s.episode s.map s.deathmatch s.respawn s.fast s.no_monsters
