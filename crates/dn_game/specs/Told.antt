@@ -2,9 +2,9 @@
 use Rattle.std.specs.Prelude.{◌≡◌, ℕ, [], false, slice_get, Option, Some, None}
 use Rattle.dn_demo.specs.declared.recorder.Stage.TheVariants.{Blank}
 use Rattle.dn_machine.specs.declared.answers.Phase.TheVariants.{Listening}
+use Rattle.dn_machine.specs.Node.{no_peer}
 use Rattle.dn_lockstep.specs.Contents as lockstep
 use Rattle.dn_lockstep.specs.Marks.{slot}
-use Rattle.dn_lockstep.specs.Peers.{peer_at}
 use Rattle.dn_lockstep.specs.Rings.{ring_at}
 use Rattle.dn_node.specs.declared.node.Node.{Node}
 use Rattle.dn_node.specs.Contents as node
@@ -32,7 +32,7 @@ no_lockstep =
       hold = 0;
       ran = 0;
       rings = ring_at [];
-      peers = peer_at [];
+      peers = λ player. no_peer;
       marks = slot [];
       demo = record { limit = 0; stage = Blank; bytes = [] };
     }
