@@ -8,9 +8,6 @@ use crate::layout::{HEADER, Layout, MARKER};
 use dn_setup::Start;
 use dn_tic::Move;
 
-/// The moves of one tic, by player.
-pub(crate) type Row = [Option<Move>; 4];
-
 /// What the game starts from.
 pub(crate) fn start(bytes: &[u8]) -> Start
     requires { header_size ≤ length bytes.now }
@@ -108,7 +105,12 @@ fn seated(bytes: &[u8], layout: Layout, present: bool, at: usize) -> (Option<Mov
 /// The moves of the players who are present, whose commands stand at this index of the bytes, whatever
 /// stands in front of them.
 #[inline(always)]
-pub(crate) fn row_at(bytes: &[u8], layout: Layout, present: [bool; 4], at: usize) -> Row
+pub(crate) fn row_at(
+    bytes: &[u8],
+    layout: Layout,
+    present: [bool; 4],
+    at: usize,
+) -> [Option<Move>; 4]
     requires { at + command_size (layout_of layout) * player_count present ≤ length bytes.now }
     ensures { (front : List ℕ) (command : ℕ) → length front + at ≡ place (layout_of layout) command
         → result ≡ moves_from (layout_of layout) (front ++ bytes.now) present command }
@@ -122,7 +124,12 @@ pub(crate) fn row_at(bytes: &[u8], layout: Layout, present: [bool; 4], at: usize
 }
 
 /// The moves of the players who are present, the first by this command.
-pub(crate) fn row(bytes: &[u8], layout: Layout, present: [bool; 4], command: usize) -> Row
+pub(crate) fn row(
+    bytes: &[u8],
+    layout: Layout,
+    present: [bool; 4],
+    command: usize,
+) -> [Option<Move>; 4]
     requires { place (layout_of layout) (command + player_count present) ≤ length bytes.now }
     ensures { result ≡ moves_from (layout_of layout) bytes.now present command }
 {

@@ -18,15 +18,18 @@ pub record LineState : Type 0 where
   pub own_lead : ℤ
   pub tally : TallyState
 
--- a line of these, in the order of the fields
-abbrev pub line_with : Option ℕ → ℕ → ℕ → ℕ → ℤ → ℤ → TallyState → LineState
-line_with n h b r l o t =
-    record { newest = n; holes = h; before = b; reported_holes = r; lead = l; own_lead = o; tally = t }
-
 -- a line from which nothing came
 abbrev pub new_line : LineState
 new_line =
-    line_with None 0 0 0 (pos 0) (pos 0) (record { came = 0; lost = 0; repeated = 0; too_old = 0; seen = 0 })
+    record {
+      newest = None;
+      holes = 0;
+      before = 0;
+      reported_holes = 0;
+      lead = pos 0;
+      own_lead = pos 0;
+      tally = record { came = 0; lost = 0; repeated = 0; too_old = 0; seen = 0 };
+    }
 
 -- a number that has one byte at most
 abbrev pub byte_of : ℕ → ℕ

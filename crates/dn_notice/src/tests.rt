@@ -11,8 +11,15 @@ use dn_tic::TicCmd;
 /// The number of the game.
 const GAME: [u8; 16] = [1, 2, 3, 4, 5, 6, 7, 8, 9, 10, 11, 12, 13, 14, 15, 16];
 
-/// The bytes of a command each of whose numbers tells itself from the others.
-const ODD: [u8; 8] = [25, 232, 2, 1, 254, 255, 7, 3];
+/// A command each of whose numbers tells itself from the others.
+const ODD: TicCmd = TicCmd {
+    forward: 25,
+    side: -24,
+    turn: 258,
+    mark: -2,
+    chat: 7,
+    buttons: 3,
+};
 
 /// A sealed report of player 1 to player 0, which tells that nobody is given up, and nothing else.
 const LEAST: [u8; 29] = [
@@ -39,7 +46,7 @@ fn in_the_open(me: u8) -> Sealer {
 /// What is told of a player: so many commands, the last of which are so many odd ones, 24 at most.
 fn tail(player: u8, count: u32, many: usize) -> Tail {
     let mut commands = ArrayVec::new();
-    let _ = commands.try_extend_from_slice(&[TicCmd::from_bytes(&ODD); 24][24 - many.min(24)..]);
+    let _ = commands.try_extend_from_slice(&[ODD; 24][24 - many.min(24)..]);
     Tail {
         player,
         count,

@@ -32,7 +32,8 @@ NextRemain rules all (Hear which) next = next ≡ after_hearing rules.limits all
 -- a list of events leads from a game to another
 abbrev pub LeadsRemain : {S : Type 0} → Rules S → Remaining → List RemainEvent → Remaining → Type 0
 LeadsRemain rules all [] last = last ≡ all
-LeadsRemain rules all (e ∷ es) last = (mid : Remaining) × NextRemain rules all e mid × LeadsRemain rules mid es last
+LeadsRemain rules all (event ∷ events) last = (next : Remaining) × NextRemain rules all event next
+    × LeadsRemain rules next events last
 
 -- a game that the list of events may lead to, from the opening on
 abbrev pub RunsRemain : {S : Type 0} → Rules S → Settings → List RemainEvent → Remaining → Type 0

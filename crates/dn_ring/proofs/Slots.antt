@@ -18,8 +18,10 @@ module _ {X : Type 0} where
   map_same : (f g : ℕ → X) (a n : ℕ) → ((t : ℕ) → a ≤ t → t < a + n → f t ≡ g t)
       → map f (range_with_len a n) ≡ map g (range_with_len a n)
   map_same f g a zero same = refl
-  map_same f g a (suc n) same = λ i. same a (omega arith) (omega arith) i
-      ∷ map_same f g (a + 1) n (λ t low high. same t (omega arith) (omega arith)) i
+  map_same f g a (suc n) same =
+      let first : f a ≡ g a = same a (omega arith) (omega arith) in
+      let rest = map_same f g (a + 1) n (λ t low high. same t (omega arith) (omega arith)) in
+      λ i. first i ∷ rest i
 
   drop_range : (f : ℕ → X) (j a n : ℕ) → drop j (map f (range_with_len a n))
       ≡ map f (range_with_len (a + j) (n - j))

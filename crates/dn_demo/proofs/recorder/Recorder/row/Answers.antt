@@ -13,3 +13,12 @@ add_row-requires-clause-room c =
     let fits : length c.args.self.now.bytes + length (row_bytes long_tics c.args.moves.now) + 1
     ≤ c.args.self.now.limit = search rules in
     omega (arith, fits, length-row_bytes long_tics _ _ long_tics_sound c.requires.row.seats)
+
+pub returns-then-len-row_size-clause-fits : goal.returns-then-len-row_size-clause-fits
+returns-then-len-row_size-clause-fits c = search rules
+
+pub returns-then-len-row_size-clause-written : goal.returns-then-len-row_size-clause-written
+returns-then-len-row_size-clause-written c = search rules
+
+pub returns-then-len-row_size-clause-text : goal.returns-then-len-row_size-clause-text
+returns-then-len-row_size-clause-text c = search rules
