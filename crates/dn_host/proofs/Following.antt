@@ -2,8 +2,7 @@
 use Rattle.std.proofs.Common.{◌≡◌, ℕ, List, Bool, true, false, Option, Some, Result, refl, ap, sym, subst, ◌∙◌}
 use Rattle.std.specs.Prelude.{IfErr, IfOk, is_ok, map}
 use Rattle.dn_link.specs.Linked.{Linked}
-use Rattle.dn_link.specs.Linking.{identity_of, linked, seal_of}
-use Rattle.dn_link.specs.Pacing.{pace_of}
+use Rattle.dn_link.specs.Linking.{linked}
 use Rattle.dn_greeting.specs.declared.greeting.Address.{Address}
 use Rattle.dn_greeting.specs.declared.seats.Place.{Place}
 use Rattle.dn_greeting.specs.Lobby.{HearsCall, Lobby}
@@ -11,8 +10,7 @@ use Rattle.dn_host.specs.declared.ends.Ending.{Ending}
 use Rattle.dn_host.specs.declared.game.Game.{Game}
 use Rattle.dn_host.specs.declared.letter.Letter.{Letter}
 use Rattle.dn_host.specs.declared.ends.HostFault.{HostFault}
-use Rattle.dn_host.specs.declared.play.Play.{Play}
-use Rattle.dn_host.specs.Keepers.{FollowsAll, FollowsSeats, Holding, IsAnother, IsNoEnding, IsRenewed, IsSamePlay, KeeperGreets, closed_by, is_any_spoiled, mark_at, seconds_of, without_absent, without_left}
+use Rattle.dn_host.specs.Keepers.{FollowsAll, FollowsSeats, Holding, IsAnother, IsNoEnding, IsRenewed, KeeperGreets, closed_by, is_any_spoiled, mark_at, seconds_of, without_absent, without_left}
 use Rattle.dn_host.specs.Peers.{AreFollowed, holder_address}
 
 -- nothing but its link has changed
@@ -21,27 +19,6 @@ IsLinkAlone old new = new ≡ record old { play = new.play }
 
 pub link_alone : (old mid new : Game) → IsLinkAlone old mid → IsLinkAlone mid new → IsLinkAlone old new
 link_alone old mid new one two = two ∙ ap (λ (game : Game). record game { play = new.play }) one
-
-pub same_play : (old mid new : Play) → IsSamePlay old mid → IsSamePlay mid new → IsSamePlay old new
-same_play old mid new one two = record {
-  seal = two.seal ∙ one.seal;
-  pace = two.pace ∙ one.pace;
-  identity = two.identity ∙ one.identity;
-  world = two.world ∙ one.world;
-  keys = two.keys ∙ one.keys;
-  waiting = two.waiting ∙ one.waiting;
-}
-
--- nothing but the places of its players has changed
-pub same_play_in : (old new : Game) → new ≡ record old { peers = new.peers } → IsSamePlay old.play new.play
-same_play_in old new is = record {
-  seal = ap (λ (game : Game). seal_of game.play.link) is;
-  pace = ap (λ (game : Game). pace_of game.play.link) is;
-  identity = ap (λ (game : Game). identity_of game.play.link) is;
-  world = ap (λ (game : Game). game.play.world) is;
-  keys = ap (λ (game : Game). game.play.keys) is;
-  waiting = ap (λ (game : Game). game.play.waiting) is;
-}
 
 -- one player more is forgotten, if it is absent
 pub one_more : (now player : ℕ) (old mid new : Game) (link : Linked) → IsLinkAlone old mid → linked mid.play.link ≡ link
@@ -56,13 +33,12 @@ pub follows_seats : (before after : List Place) (was is : List (Option Address))
     → was ≡ map holder_address before → is ≡ map holder_address after
     → AreFollowed was is old.peers.places one.peers.places → one ≡ record old { peers = one.peers }
     → linked two.play.link ≡ without_left 1 (mark_at before 0) (mark_at after 0) (linked one.play.link)
-    → IsSamePlay one.play two.play → IsLinkAlone one two
+    → IsLinkAlone one two
     → linked three.play.link ≡ without_left 2 (mark_at before 1) (mark_at after 1) (linked two.play.link)
-    → IsSamePlay two.play three.play → IsLinkAlone two three
+    → IsLinkAlone two three
     → linked new.play.link ≡ without_left 3 (mark_at before 2) (mark_at after 2) (linked three.play.link)
-    → IsSamePlay three.play new.play → IsLinkAlone three new → FollowsSeats before after old new
-follows_seats before after was is old one two three new was_so is_so places peers a two_plays two_is b three_plays three_is c
-    new_plays new_is =
+    → IsLinkAlone three new → FollowsSeats before after old new
+follows_seats before after was is old one two three new was_so is_so places peers a two_is b three_is c new_is =
     let all : IsLinkAlone one new = link_alone one three new (link_alone one two three two_is three_is) new_is in
     record {
       places = subst (λ (known : List (Option Address)). AreFollowed (map holder_address before)
@@ -73,42 +49,39 @@ follows_seats before after was is old one two three new was_so is_so places peer
       link = c ∙ ap (without_left 3 (mark_at before 2) (mark_at after 2)) (b
           ∙ ap (without_left 2 (mark_at before 1) (mark_at after 1)) (a
           ∙ ap (λ (game : Game). without_left 1 (mark_at before 0) (mark_at after 0) (linked game.play.link)) peers));
-      play = same_play old.play one.play new.play (same_play_in old one peers)
-          (same_play one.play three.play new.play (same_play one.play two.play three.play two_plays three_plays)
-          new_plays);
       rest = all ∙ ap (λ (game : Game). record game { play = new.play }) peers
           ∙ ap (λ (game : Game). record old { play = new.play; peers = game.peers }) (sym all);
     }
 
 -- what is made of the seats that were these before, once the game has followed them
-module _ (now : ℕ) (before places : List Place) (old new : Holding) (game mid after : Game) (result : Result (Unit {0}) HostFault)
+module _ (before places : List Place) (old new : Holding) (game mid after : Game) (result : Result (Unit {0}) HostFault)
     (same : places ≡ old.table.places) (follows : FollowsSeats before places game mid)
   where
     seats : FollowsSeats before old.table.places game mid
     seats = subst (λ (now : List Place). FollowsSeats before now game mid) same follows
 
-    pub another : is_any_spoiled mid ≡ true → IfOk result (λ done. IsAnother now old new after)
-        → IfErr result (λ fault. after ≡ mid) → FollowsAll now before old new game after result
+    pub another : is_any_spoiled mid ≡ true → IfOk result (λ done. IsAnother old new after)
+        → IfErr result (λ fault. after ≡ mid) → FollowsAll before old new game after result
     another spoiled ok err =
-        (mid, seats, subst (λ (b : Bool). IsRenewed b now old new mid after result) (sym spoiled) (ok, err))
+        (mid, seats, subst (λ (b : Bool). IsRenewed b old new mid after result) (sym spoiled) (ok, err))
 
     pub goes_on : is_any_spoiled mid ≡ false → is_ok result ≡ true → new ≡ old → after ≡ mid
-        → FollowsAll now before old new game after result
+        → FollowsAll before old new game after result
     goes_on whole ok same_host same_game = (
       mid,
       seats,
-      subst (λ (b : Bool). IsRenewed b now old new mid after result) (sym whole) (ok, same_host, same_game),
+      subst (λ (b : Bool). IsRenewed b old new mid after result) (sym whole) (ok, same_host, same_game),
     )
 
 -- the table that it has then is this one, and the seats were those
-pub follows_by : (now : ℕ) (before places : List Place) (old new : Holding) (table : Lobby) (game after : Game)
+pub follows_by : (before places : List Place) (old new : Holding) (table : Lobby) (game after : Game)
     (done result : Result (Unit {0}) HostFault) → before ≡ places → old.table ≡ table → done ≡ result
-    → FollowsAll now before old new game after done → FollowsAll now places (record old { table = table }) new game after result
-follows_by now before places old new table game after done result seats is same all =
-    subst (λ (result : Result (Unit {0}) HostFault). FollowsAll now places (record old { table = table }) new game after
+    → FollowsAll before old new game after done → FollowsAll places (record old { table = table }) new game after result
+follows_by before places old new table game after done result seats is same all =
+    subst (λ (result : Result (Unit {0}) HostFault). FollowsAll places (record old { table = table }) new game after
     result) same
-    (subst (λ (table : Lobby). FollowsAll now places (record old { table = table }) new game after done) is
-    (subst (λ (places : List Place). FollowsAll now places old new game after done) seats all))
+    (subst (λ (table : Lobby). FollowsAll places (record old { table = table }) new game after done) is
+    (subst (λ (places : List Place). FollowsAll places old new game after done) seats all))
 
 -- what came at this time to a table that was so is heard like this
 pub heard_by : (from : Address) (bytes : List ℕ) (at now : ℕ) (closed table heard : Lobby)
@@ -123,7 +96,7 @@ pub greets_by : (letter : Letter) (old new : Holding) (maybe : Option Game) (gam
     (result : Result (Option Ending) HostFault) (at : ℕ) (table heard : Lobby) (reply : Option (List ℕ))
     (before : List Place) (found done : Result (Unit {0}) HostFault) → maybe ≡ Some game → at ≡ seconds_of letter.now
     → table ≡ closed_by game old.table → HearsCall letter.from letter.bytes.now at table heard reply
-    → before ≡ old.table.places → FollowsAll letter.now before (record old { table = heard }) new game after found
+    → before ≡ old.table.places → FollowsAll before (record old { table = heard }) new game after found
     → found ≡ done → IsNoEnding result done → KeeperGreets letter old new maybe (Some after) result
 greets_by letter old new maybe game after result at table heard reply before found done is same closed hears seats
     follows found_is none =
@@ -132,6 +105,6 @@ greets_by letter old new maybe game after result at table heard reply before fou
       reply,
       done,
       heard_by letter.from letter.bytes.now at _ table _ heard reply same closed hears,
-      follows_by letter.now before _ (record old { table = heard }) new heard game after found done seats refl found_is follows,
+      follows_by before _ (record old { table = heard }) new heard game after found done seats refl found_is follows,
       none,
     )

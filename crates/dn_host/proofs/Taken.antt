@@ -21,7 +21,7 @@ taken told heard was before now old new joiner game after result same takes = re
   may_repeat = takes.may_repeat;
   waiting = takes.waiting;
   ends = takes.ends;
-  plays = subst (λ (answer : Option Answer). PlaysAfter told old.plan.secret old.host now answer heard.answer
-      game after result) same takes.plays;
+  plays = subst (λ (answer : Option Answer). PlaysAfter told old.plan.secret old.host answer heard.answer game after
+      result) same takes.plays;
   fails = takes.fails;
 }

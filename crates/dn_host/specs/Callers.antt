@@ -34,12 +34,12 @@ HearsFrom from bytes old new told =
 abbrev pub called : (is_calling : Bool) → Joining → Joining
 called is_calling joiner = if is_calling then one_more joiner else joiner
 
--- the host asks for a call again, and the last call of a second may still be made again
+-- the host asks for a call again, which may still be made in this second
 abbrev pub repeats : News → (may_repeat : Bool) → Bool
 repeats news.Retry may_repeat = may_repeat
 repeats told may_repeat = false
 
--- once the host has asked, the last call of a second may not be made again
+-- once the host has asked, none may be made again in this second
 abbrev pub may_repeat_after : News → (may_repeat : Bool) → Bool
 may_repeat_after news.Retry may_repeat = false
 may_repeat_after told may_repeat = may_repeat
@@ -71,16 +71,15 @@ is_start news.Anew = true
 is_start told = false
 
 -- there is a part in the game of this answer, or none can be made of it, and then the game stays as it was
-abbrev pub IsStarted : {A : Type 0} → Option (List ℕ) → Address → (now : ℕ) → Option Answer
-    → (old new : Option Game) → Result A HostFault → Type 0
-IsStarted secret host now None old new result = new ≡ old
-IsStarted secret host now (Some answer) old None (Ok done) = ⊥
-IsStarted secret host now (Some answer) old (Some game) (Ok done) = IsPartAs secret host answer now (Ok game)
-IsStarted secret host now (Some answer) old new (Err fault) =
-    (new ≡ old) × IsPartAs secret host answer now (Err fault)
+abbrev pub IsStarted : {A : Type 0} → Option (List ℕ) → Address → Option Answer → (old new : Option Game)
+    → Result A HostFault → Type 0
+IsStarted secret host None old new result = new ≡ old
+IsStarted secret host (Some answer) old None (Ok done) = ⊥
+IsStarted secret host (Some answer) old (Some game) (Ok done) = IsPartAs secret host answer (Ok game)
+IsStarted secret host (Some answer) old new (Err fault) =
+    (new ≡ old) × IsPartAs secret host answer (Err fault)
 
--- a player of whom the host says something else than before is there from now on; everyone else stays where it was,
--- and nothing else of the game changes
+-- where the host says that others are, there they are in the game from now on, and nothing else of it changes
 abbrev pub FollowsIn : (before after : List (Option Address)) → (old new : Option Game) → Type 0
 FollowsIn before after None new = new ≡ None
 FollowsIn before after (Some old) None = ⊥
@@ -93,14 +92,14 @@ FollowsAnswer (Some before) (Some after) old new = FollowsIn before.seats after.
 FollowsAnswer before after old new = new ≡ old
 
 -- what becomes of the game by news, and by the answers before and after it
-abbrev pub PlaysAfter : {A : Type 0} → News → Option (List ℕ) → Address → (now : ℕ) → (before after : Option Answer)
+abbrev pub PlaysAfter : {A : Type 0} → News → Option (List ℕ) → Address → (before after : Option Answer)
     → (old new : Option Game) → Result A HostFault → Type 0
-PlaysAfter news.Seated secret host now before after old new result = IsStarted secret host now after old new result
-PlaysAfter news.Anew secret host now before after old new result = IsStarted secret host now after old new result
-PlaysAfter news.Moved secret host now before after old new result = FollowsAnswer before after old new
-PlaysAfter told secret host now before after old new result = new ≡ old
+PlaysAfter news.Seated secret host before after old new result = IsStarted secret host after old new result
+PlaysAfter news.Anew secret host before after old new result = IsStarted secret host after old new result
+PlaysAfter news.Moved secret host before after old new result = FollowsAnswer before after old new
+PlaysAfter told secret host before after old new result = new ≡ old
 
--- what it makes of this news, once its joiner has heard it
+-- what is made of news that its joiner has by now
 pub record TakesNews (told : News) (heard : Joining) (before : Option Answer) (now : ℕ) (old new : Caller)
     (game after : Option Game) (result : Result (Option Ending) HostFault) : Type 0 where
   pub host : new.host ≡ old.host
@@ -109,7 +108,7 @@ pub record TakesNews (told : News) (heard : Joining) (before : Option Answer) (n
   pub may_repeat : new.may_repeat ≡ may_repeat_after told old.may_repeat
   pub waiting : IfOk result (λ found. new.waiting ≡ waits_after told (has_begun game) now old.waiting)
   pub ends : IfOk result (λ found. found ≡ ending_after told (has_begun game))
-  pub plays : PlaysAfter told old.plan.secret old.host now before heard.answer game after result
+  pub plays : PlaysAfter told old.plan.secret old.host before heard.answer game after result
   pub fails : IfErr result (λ fault. is_start told ≡ true)
 
 -- any bytes are heard by its joiner, who keeps to its game once that has run a tic; its news are taken
@@ -120,7 +119,7 @@ CallerGreets letter old new game after result =
     × HearsFrom letter.from letter.bytes.now (closed (has_run game) (joining old.joiner)) heard told
     × TakesNews told heard (joining old.joiner).answer letter.now old new game after result
 
--- how it waits once the screen was told: of the refusal, and of a silence of ten seconds, which then counts anew
+-- what the screen was told
 abbrev pub told_at : (now : ℕ) → Waiting → Waiting
 told_at now waiting =
     record { quiet = silent_since waiting.quiet now; refusal = waiting.refusal; told = waiting.refusal }

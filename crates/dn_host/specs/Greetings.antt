@@ -1,5 +1,5 @@
 -- Which bytes are taken for a greeting, and how many greetings a turn opens.
-use Rattle.std.specs.Prelude.{◌≡◌, ◌≤◌, ℕ, zero, suc, ◌+◌, ◌==◌, ◌&&◌, nat_le, nat_lt, Bool, true, false, not, List, length, take, drop, slice_index, codes, Option, None, is_some, Result, Ok}
+use Rattle.std.specs.Prelude.{◌≡◌, ◌≤◌, ℕ, zero, suc, ◌+◌, ◌==◌, ◌&&◌, nat_le, nat_lt, Bool, true, false, not, List, length, take, drop, slice_index, codes, Option, Result}
 use Rattle.std.specs.Str.{bytes_eq}
 use Rattle.dn_host.specs.declared.letter.Letter.{Letter}
 use Rattle.dn_host.specs.declared.ends.Ending.{Ending}
@@ -25,15 +25,6 @@ is_opened left begun bytes = nat_lt 0 left && (is_named bytes && not (is_hint by
 -- how a lobby takes what came: how it is then, what becomes of the game, and how the session ends if it does
 abbrev pub Greeting : (A : Type 0) → Type 1
 Greeting A = Letter → (old new : A) → (game after : Option Game) → Result (Option Ending) HostFault → Type 0
-
--- what becomes of any bytes: a lobby takes a greeting that is opened; by any other nothing changes; and what is none is
--- for the game, if there is one
-abbrev pub TakesBytes : {A : Type 0} → Greeting A → (greeting opened : Bool) → Letter → (old new : A)
-    → (game after : Option Game) → Result (Option Ending) HostFault → Type 0
-TakesBytes Greets true true letter old new game after result = Greets letter old new game after result
-TakesBytes Greets true false letter old new game after result = (new ≡ old) × (after ≡ game) × (result ≡ Ok None)
-TakesBytes Greets false opened letter old new game after result =
-    (new ≡ old) × (is_some after ≡ is_some game) × (result ≡ Ok None)
 
 -- it took some greeting at this time
 abbrev pub TakesSome : {A : Type 0} → Greeting A → (now : ℕ) → (old new : A) → Type 0

@@ -4,8 +4,7 @@ use Rattle.std.specs.Str.{bytes_eq}
 use Rattle.dn_link.specs.declared.presence.Presence.{Presence}
 use Rattle.dn_link.specs.declared.presence.Presence.TheVariants.{Forgotten}
 use Rattle.dn_link.specs.Linked.{Linked, forgotten}
-use Rattle.dn_link.specs.Linking.{identity_of, linked, seal_of}
-use Rattle.dn_link.specs.Pacing.{pace_of}
+use Rattle.dn_link.specs.Linking.{linked}
 use Rattle.dn_greeting.specs.declared.seats.Place.{Place}
 use Rattle.dn_greeting.specs.declared.seats.Place.TheVariants.{Closed, Held}
 use Rattle.dn_greeting.specs.Lobby.{HearsCall, Lobby, lobby, swept}
@@ -15,7 +14,6 @@ use Rattle.dn_host.specs.declared.ends.HostFault.{HostFault}
 use Rattle.dn_host.specs.declared.game.Game.{Game}
 use Rattle.dn_host.specs.declared.host.Hosting.{Hosting}
 use Rattle.dn_host.specs.declared.keeper.Keeper.{Keeper}
-use Rattle.dn_host.specs.declared.play.Play.{Play}
 use Rattle.dn_host.specs.Absence.{is_absent, presence_of}
 use Rattle.dn_host.specs.Made.{IsPartOf}
 use Rattle.dn_host.specs.Peers.{AreFollowed, holder_address}
@@ -47,23 +45,13 @@ has_left_seat (Some mark) (Some other) = not (bytes_eq mark other)
 abbrev pub without_left : (player : ℕ) → (before after : Option (List ℕ)) → Linked → Linked
 without_left player before after link = if has_left_seat before after then forgotten player link else link
 
--- a player's walk and keys are as they were, and so is all of its link but what `linked` says of it
-pub record IsSamePlay (old new : Play) : Type 0 where
-  pub seal : seal_of new.link ≡ seal_of old.link
-  pub pace : pace_of new.link ≡ pace_of old.link
-  pub identity : identity_of new.link ≡ identity_of old.link
-  pub world : new.world ≡ old.world
-  pub keys : new.keys ≡ old.keys
-  pub waiting : new.waiting ≡ old.waiting
-
--- a game follows its seats: a player of whom the table says something else than before is there from now on, everyone
--- else stays where it was, and who has left its seat is forgotten; nothing else of the game changes
+-- a game follows its seats: their holders are where the table says that they are, and who has left its seat is
+-- forgotten; nothing else of it changes
 pub record FollowsSeats (before after : List Place) (old new : Game) : Type 0 where
   pub places : AreFollowed (map holder_address before) (map holder_address after) old.peers.places new.peers.places
   pub link : linked new.play.link
       ≡ without_left 3 (mark_at before 2) (mark_at after 2) (without_left 2 (mark_at before 1) (mark_at after 1)
       (without_left 1 (mark_at before 0) (mark_at after 0) (linked old.play.link)))
-  pub play : IsSamePlay old.play new.play
   pub rest : new ≡ record old { play = new.play; peers = new.peers }
 
 abbrev pub is_forgotten : Presence → Bool
@@ -88,27 +76,27 @@ holding keeper =
     record { secret = keeper.plan.secret; hosting = keeper.offer.hosting; table = lobby keeper.table }
 
 -- there is another game for the same seats
-abbrev pub IsAnother : (now : ℕ) → (old new : Holding) → Game → Type 0
-IsAnother now old new game =
+abbrev pub IsAnother : (old new : Holding) → Game → Type 0
+IsAnother old new game =
     (number : List ℕ) × (new ≡ record old { table = record old.table { game = number } })
     × IsPartOf old.hosting.terms (game_seal old.secret number) 0 (Some old.hosting.settings)
-    (None ∷ map holder_address old.table.places) now game
+    (None ∷ map holder_address old.table.places) game
 
 -- so it is after a spoiled one, unless it breaks off; any other goes on
-abbrev pub IsRenewed : (spoiled : Bool) → (now : ℕ) → (old new : Holding) → (game after : Game)
+abbrev pub IsRenewed : (spoiled : Bool) → (old new : Holding) → (game after : Game)
     → Result (Unit {0}) HostFault → Type 0
-IsRenewed false now old new game after result = (is_ok result ≡ true) × (new ≡ old) × (after ≡ game)
-IsRenewed true now old new game after result =
-    IfOk result (λ done. IsAnother now old new after) × IfErr result (λ fault. after ≡ game)
+IsRenewed false old new game after result = (is_ok result ≡ true) × (new ≡ old) × (after ≡ game)
+IsRenewed true old new game after result =
+    IfOk result (λ done. IsAnother old new after) × IfErr result (λ fault. after ≡ game)
 
 -- the seats were these before: the game follows them, and may then be another
-abbrev pub FollowsAll : (now : ℕ) → (before : List Place) → (old new : Holding) → (game after : Game)
+abbrev pub FollowsAll : (before : List Place) → (old new : Holding) → (game after : Game)
     → Result (Unit {0}) HostFault → Type 0
-FollowsAll now before old new game after result =
+FollowsAll before old new game after result =
     (mid : Game) × FollowsSeats before old.table.places game mid
-    × IsRenewed (is_any_spoiled mid) now old new mid after result
+    × IsRenewed (is_any_spoiled mid) old new mid after result
 
--- its result is that of following, with no ending
+-- it goes on like this, unless it breaks off
 abbrev pub IsNoEnding : Result (Option Ending) HostFault → Result (Unit {0}) HostFault → Type 0
 IsNoEnding (Ok ending) (Ok done) = ending ≡ None
 IsNoEnding (Err fault) (Err other) = fault ≡ other
@@ -122,7 +110,7 @@ KeeperGreets letter old new (Some game) None result = ⊥
 KeeperGreets letter old new (Some game) (Some after) result =
     (heard : Lobby) × (reply : Option (List ℕ)) × (done : Result (Unit {0}) HostFault)
     × HearsCall letter.from letter.bytes.now (seconds_of letter.now) (closed_by game old.table) heard reply
-    × FollowsAll letter.now old.table.places (record old { table = heard }) new game after done × IsNoEnding result done
+    × FollowsAll old.table.places (record old { table = heard }) new game after done × IsNoEnding result done
 
 -- before the game a link forgets a player who is absent
 abbrev pub without_absent : Game → (now : ℕ) → Linked → (player : ℕ) → Linked
@@ -136,7 +124,6 @@ pub record ForgetsAbsent (now : ℕ) (old new : Game) : Type 0 where
   pub link : linked new.play.link
       ≡ without_absent old now (without_absent old now (without_absent old now (without_absent old now
       (linked old.play.link) 0) 1) 2) 3
-  pub play : IsSamePlay old.play new.play
   pub rest : new ≡ record old { play = new.play }
 
 -- each second who is absent is forgotten, silent holders lose their seats before the game, and the game follows the
@@ -147,5 +134,5 @@ KeeperSecond now old new None after result = (new ≡ old) × (after ≡ None) �
 KeeperSecond now old new (Some game) None result = ⊥
 KeeperSecond now old new (Some game) (Some after) result =
     (mid : Game) × ForgetsAbsent now game mid
-    × FollowsAll now old.table.places
+    × FollowsAll old.table.places
     (record old { table = swept (seconds_of now) (closed_by game old.table) }) new mid after result

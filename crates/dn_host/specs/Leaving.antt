@@ -14,11 +14,11 @@ use Rattle.dn_host.specs.declared.leave.Stage.TheVariants.{Going, Leaving, Ended
 use Rattle.dn_host.specs.Absence.{causes_of, is_alone, lost_in}
 use Rattle.dn_host.specs.Endings.{others_end}
 
--- the seconds of play are over, of which each has a million microseconds; 0 seconds are never over
+-- the seconds of play are over, of which each has a million microseconds; 0 are never
 abbrev pub is_over : (since now seconds : ℕ) → Bool
 is_over since now seconds = nat_lt 0 seconds && nat_le (seconds * 1000000) (now - since)
 
--- since when it was first seen that nobody needs it, if it was
+-- since when nobody needs it, if nobody does
 abbrev pub free_since : (may_leave : Bool) → Option ℕ → ℕ → Option ℕ
 free_since may_leave (Some free) now = Some free
 free_since may_leave None now = if may_leave then Some now else None

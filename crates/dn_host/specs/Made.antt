@@ -1,5 +1,5 @@
 -- What a part in a game is made of.
-use Rattle.std.specs.Prelude.{◌≡◌, ℕ, List, ◌∷◌, Option, Some, None, Result, Ok, Err, codes, replicate}
+use Rattle.std.specs.Prelude.{◌≡◌, ℕ, List, ◌∷◌, Option, Some, None, Result, Ok, Err, codes}
 use Rattle.dn_setup.specs.Settings.{Settings}
 use Rattle.dn_machine.specs.Game.{fresh}
 use Rattle.dn_lockstep.specs.Contents.{whose}
@@ -49,25 +49,19 @@ pub record IsLinkOf (config : Config) (ahead : ℕ) (seal : Seal) (link : Link) 
   pub peers : (player : ℕ) → (linked link).peers player ≡ new_peer
   pub pace : pace_of link ≡ new_pace
 
--- a player's part in a game that has not begun, with these terms and under this seal, with the others at these places,
--- as it is made now: its first tick is due
+-- a player's part in a game that has not begun, with these terms and under this seal, with the others at these places
 pub record IsPartOf (terms : Terms) (seal : Seal) (me : ℕ) (settings : Option Settings)
-    (places : List (Option Address)) (now : ℕ) (game : Game) : Type 0 where
+    (places : List (Option Address)) (game : Game) : Type 0 where
   pub link : IsLinkOf (config_under terms me settings) terms.ahead seal game.play.link
   pub places_are : game.peers.places ≡ places
   pub rate : game.rate ≡ terms.rate
   pub counts : game.counts ≡ None
-  pub began : game.began ≡ now
-  pub heard : game.heard.at ≡ replicate 4 now
-  pub due : game.due ≡ now
-  pub rest : game.rest ≡ 0
-  pub half : game.half ≡ None
 
 -- the result is a part in the answer's game, with the host at this address; or Memory; or Terms if the answer gives no
 -- guest's seat
-abbrev pub IsPartAs : Option (List ℕ) → Address → Answer → (now : ℕ) → Result Game HostFault → Type 0
-IsPartAs secret host answer now (Ok game) = IsSeat answer.terms answer.seat
-    × IsPartOf answer.terms (game_seal secret answer.game) answer.seat None (Some host ∷ answer.seats) now game
-IsPartAs secret host answer now (Err fault.Memory) = IsSeat answer.terms answer.seat
-IsPartAs secret host answer now (Err fault.Terms) = ¬ IsSeat answer.terms answer.seat
-IsPartAs secret host answer now (Err fault) = ⊥
+abbrev pub IsPartAs : Option (List ℕ) → Address → Answer → Result Game HostFault → Type 0
+IsPartAs secret host answer (Ok game) = IsSeat answer.terms answer.seat
+    × IsPartOf answer.terms (game_seal secret answer.game) answer.seat None (Some host ∷ answer.seats) game
+IsPartAs secret host answer (Err fault.Memory) = IsSeat answer.terms answer.seat
+IsPartAs secret host answer (Err fault.Terms) = ¬ IsSeat answer.terms answer.seat
+IsPartAs secret host answer (Err fault) = ⊥

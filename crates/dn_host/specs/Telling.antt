@@ -5,7 +5,6 @@ use Rattle.dn_link.specs.Paced.{PaceState}
 use Rattle.dn_measure.specs.Runs.{is_gap}
 use Rattle.dn_measure.specs.declared.status.Status.{Status}
 use Rattle.dn_host.specs.declared.counts.Counts.{Counts}
-use Rattle.dn_host.specs.declared.game.Game.{Game}
 use Rattle.dn_host.specs.Arrived.{arrivals_by}
 use Rattle.dn_host.specs.Standing.{standings_by}
 
@@ -38,13 +37,3 @@ IsStatus None new link pace waiting now status = (new ≡ None) × (status ≡ N
 IsStatus (Some old) (Some new) link pace waiting now status =
     AreTold now old new × (status ≡ Some (status_at old link pace waiting now))
 IsStatus (Some old) None link pace waiting now status = ⊥
-
--- nothing of a game changes but what is counted of it
-abbrev pub CountsAlone : (old new : Game) → Type 0
-CountsAlone old new = new ≡ record old { counts = new.counts }
-
--- if there is one
-abbrev pub CountsAloneIn : (old new : Option Game) → Type 0
-CountsAloneIn None new = new ≡ None
-CountsAloneIn (Some old) (Some new) = CountsAlone old new
-CountsAloneIn (Some old) None = ⊥

@@ -1,4 +1,4 @@
--- How long a tick is, when there is something to do next, and what is done in a turn in which a second is due.
+-- How long a tick is, and when there is something to do next.
 use Rattle.std.specs.Prelude.{◌≡◌, ℕ, ◌+◌, ◌-◌, ◌/◌, ◌^◌, max, min, nat_le, if◌then◌else◌, Bool, true, false, Option, Some, None, Result, Ok, Err}
 use Rattle.dn_host.specs.declared.ends.HostFault.{HostFault}
 use Rattle.dn_host.specs.declared.game.Game.{Game}
@@ -25,7 +25,7 @@ session_next (Some game) second = min (game_next game) second
 abbrev pub second_after : (second now : ℕ) → ℕ
 second_after second now = if nat_le second now then min (now + 1000000) (2 ^ 64 - 1) else second
 
--- what a lobby makes of a second that is due, and how it tells the screen then how it waits
+-- what a lobby makes of a second that is over, and how it tells the screen then how it waits
 module _ {L : Type 0} (IsSecond : ℕ → L → L → Option Game → Option Game → Result (Unit {0}) HostFault → Type 0)
     (Tells : ℕ → Option Game → L → L → Type 0)
   where

@@ -28,7 +28,7 @@ impl Game {
     ghost use Rattle.std.specs.Prelude.{◌<◌, IfSome};
     ghost use Rattle.dn_link.specs.{Linked.forgotten, Linked.is_peer, Linking.linked, Linking.seal_of};
     ghost use Rattle.dn_host.specs.{Absence.cause_of, Absence.has_left, Absence.is_absent, Absence.is_alone, Absence.is_gone, Absence.is_lost, Absence.is_whole, Absence.lost_in};
-    ghost use Rattle.dn_host.specs.Keepers.{ForgetsAbsent, IsSamePlay, without_absent};
+    ghost use Rattle.dn_host.specs.Keepers.{ForgetsAbsent, without_absent};
 
     /// Whether a number is another player's.
     fn is_other(&self, player: u8) -> bool
@@ -75,7 +75,6 @@ impl Game {
     pub(crate) fn forget(&mut self, player: u8)
         ensures link { linked self.new.play.link ≡ forgotten player (linked self.old.play.link) }
         ensures seal { seal_of self.new.play.link ≡ seal_of self.old.play.link }
-        ensures play { IsSamePlay self.old.play self.new.play }
         ensures rest { self.new ≡ record self.old { play = self.new.play } }
     {
         self.play.link.forget(player);
@@ -85,7 +84,6 @@ impl Game {
     fn forget_if_absent(&mut self, player: u8, now: u64)
         ensures link { linked self.new.play.link ≡ without_absent self.old now (linked self.old.play.link) player }
         ensures seal { seal_of self.new.play.link ≡ seal_of self.old.play.link }
-        ensures play { IsSamePlay self.old.play self.new.play }
         ensures rest { self.new ≡ record self.old { play = self.new.play } }
     {
         if !self.has_begun() && self.is_absent(player, now) {

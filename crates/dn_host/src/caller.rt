@@ -31,7 +31,7 @@ pub(crate) struct Caller {
     plan: Plan,
     host: Address,
     joiner: Joiner,
-    /// The last call of a second may still be made again.
+    /// The call of this second may still be made again.
     may_repeat: bool,
     waiting: Waiting,
 }
@@ -86,7 +86,7 @@ impl Caller {
     /// Begins anew, by the newest answer.
     fn start(&self, game: &mut Option<Game>, now: u64) -> Result<(), HostFault>
         ensures part { IsPart false self.now.plan.secret game.old → IsPart false self.now.plan.secret game.new }
-        ensures started { IsStarted self.now.plan.secret self.now.host now (joining self.now.joiner).answer game.old
+        ensures started { IsStarted self.now.plan.secret self.now.host (joining self.now.joiner).answer game.old
             game.new result }
     {
         if let Some(answer) = self.joiner.answer() {
@@ -95,7 +95,7 @@ impl Caller {
         Ok(())
     }
 
-    /// Follows another player to where the new answer says.
+    /// Another player is elsewhere than the answer before said.
     fn follow(&self, game: &mut Option<Game>, before: Option<Answer>)
         ensures part { IsPart false self.now.plan.secret game.old → IsPart false self.now.plan.secret game.new }
         ensures followed { FollowsAnswer before (joining self.now.joiner).answer game.old game.new }
@@ -143,7 +143,7 @@ impl Caller {
     }
 }
 
-/// Follows another player to where the new answer says.
+/// The host says in an answer that who has a seat is elsewhere than it said before.
 fn follow_in(game: &mut Option<Game>, before: [Option<Address>; 3], after: [Option<Address>; 3])
     ensures part { (hosts : Bool) (secret : Option (List ℕ)) → IsPart hosts secret game.old
         → IsPart hosts secret game.new }
@@ -199,10 +199,7 @@ pub(crate) fn new_caller(
     guest: &Guest,
     now: u64,
 ) -> Result<Caller, HostFault>
-    ensures plan { IfOk result (λ caller. caller.plan ≡ plan.now) }
-    ensures host { IfOk result (λ caller. caller.host ≡ guest.now.host) }
-    ensures may_repeat { IfOk result (λ caller. caller.may_repeat ≡ false) }
-    ensures quiet { IfOk result (λ caller. caller.waiting.quiet ≡ now) }
+    ensures { IfOk result (λ caller. caller.plan ≡ plan.now) }
 {
     let mark = draw(random)?;
     Ok(Caller {

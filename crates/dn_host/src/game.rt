@@ -40,11 +40,6 @@ impl Game {
         ensures peers { result.peers ≡ peers }
         ensures rate { result.rate ≡ rate }
         ensures counts { result.counts ≡ None }
-        ensures began { result.began ≡ now }
-        ensures heard { result.heard.at ≡ replicate 4 now }
-        ensures due { result.due ≡ now }
-        ensures rest { result.rest ≡ 0 }
-        ensures half { result.half ≡ None }
     {
         Game {
             play,

@@ -1,7 +1,7 @@
 //! Taking the datagrams that are there.
 
-ghost use Rattle.std.specs.Prelude.{◌≡◌, ◌≤◌, ◌&&◌, ℕ, List, Option, Bool, length, false, IfOk, IfErr, IfSome, is_some};
-ghost use Rattle.dn_host.specs.{Begun.has_begun, Greetings.GreetsFew, Greetings.Opens, Greetings.TakesBytes, Greetings.TakesSome, Greetings.is_greeting, Greetings.is_hint, Greetings.is_named, Greetings.is_opened, Parts.IsPart};
+ghost use Rattle.std.specs.Prelude.{◌≡◌, ◌≤◌, ◌&&◌, ℕ, List, Option, Bool, length, false, IfOk, IfErr, IfSome};
+ghost use Rattle.dn_host.specs.{Begun.has_begun, Greetings.GreetsFew, Greetings.Opens, Greetings.TakesSome, Greetings.is_greeting, Greetings.is_hint, Greetings.is_named, Greetings.is_opened, Parts.IsPart};
 ghost use Rattle.dn_host.specs.{Stages.IfEnding};
 
 use crate::begun::has_begun;
@@ -64,9 +64,7 @@ pub(crate) enum Heard {
 
 /// Takes bytes that are no greeting, if there is a game.
 fn hear_datagram<W: Wire>(game: &mut Option<Game>, wire: &mut W, letter: Letter)
-    ensures part { (hosts : Bool) (secret : Option (List ℕ)) → IsPart hosts secret game.old
-        → IsPart hosts secret game.new }
-    ensures there { is_some game.new ≡ is_some game.old }
+    ensures { (hosts : Bool) (secret : Option (List ℕ)) → IsPart hosts secret game.old → IsPart hosts secret game.new }
 {
     if let Some(game) = game {
         game.hear(wire, letter.from, letter.bytes, letter.now);
@@ -86,9 +84,6 @@ fn hear_one<W: Wire, L: Lobby>(
     ensures opens { Opens (TakesSome L.Greets letter.entry.now)
         (is_greeting letter.entry.bytes.now && is_opened left.old (has_begun game.old) letter.entry.bytes.now) left.old left.new lobby.old
         lobby.new }
-    ensures takes { TakesBytes L.Greets (is_greeting letter.entry.bytes.now)
-        (is_opened left.old (has_begun game.old) letter.entry.bytes.now) letter.entry lobby.old lobby.new game.old
-        game.new result }
     ensures faults { IfErr result L.Faults }
     ensures secret { L.secret lobby.new ≡ L.secret lobby.old }
     ensures part { IsPart L.hosts (L.secret lobby.old) game.old → IsPart L.hosts (L.secret lobby.old) game.new }

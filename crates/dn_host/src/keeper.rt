@@ -1,10 +1,10 @@
 //! A host in its lobby and in its game.
 
-ghost use Rattle.std.specs.Prelude.{◌≡◌, ◌≢◌, ◌∷◌, ℕ, List, Some, None, ⊤, true, map, IfErr, IfOk};
+ghost use Rattle.std.specs.Prelude.{◌≡◌, ◌≢◌, ⊤, true, map, IfErr, IfOk};
 ghost use Rattle.dn_link.specs.Linking.{linked, seal_of};
-ghost use Rattle.dn_greeting.specs.{Greeter.greeting_seal, Lobby.lobby, Lobby.new_lobby};
-ghost use Rattle.dn_host.specs.{Keepers.FollowsAll, Keepers.FollowsSeats, Keepers.KeeperGreets, Keepers.KeeperSecond, Keepers.IsSamePlay, Keepers.closed_by, Keepers.has_left_seat, Keepers.holding};
-ghost use Rattle.dn_host.specs.{Keepers.is_any_spoiled, Keepers.is_spoiled, Keepers.mark_in, Keepers.without_left, Made.IsPartOf, Peers.holder_address, Seals.IsSealedUnder, Seals.game_seal};
+ghost use Rattle.dn_greeting.specs.Lobby.{lobby};
+ghost use Rattle.dn_host.specs.{Keepers.FollowsAll, Keepers.FollowsSeats, Keepers.KeeperGreets, Keepers.KeeperSecond, Keepers.closed_by, Keepers.has_left_seat, Keepers.holding};
+ghost use Rattle.dn_host.specs.{Keepers.is_any_spoiled, Keepers.is_spoiled, Keepers.mark_in, Keepers.without_left, Peers.holder_address, Seals.IsSealedUnder};
 ghost use Rattle.dn_host.specs.declared.ends.HostFault.TheVariants as fault;
 
 use crate::clock::seconds;
@@ -43,7 +43,7 @@ fn mark_of(place: Place) -> Option<[u8; 16]>
     }
 }
 
-/// Whether whoever had a seat has lost it.
+/// Whether who had a seat has it no more.
 fn has_left_seat(before: Place, after: Place) -> bool
     ensures { result ≡ has_left_seat (mark_in before) (mark_in after) }
 {
@@ -53,12 +53,11 @@ fn has_left_seat(before: Place, after: Place) -> bool
     }
 }
 
-/// Forgets who had a seat and has it no more.
+/// A seat has changed hands, or has not: who had it is forgotten.
 fn leave_seat(game: &mut Game, player: u8, before: Place, after: Place)
     ensures seal { seal_of game.new.play.link ≡ seal_of game.old.play.link }
     ensures link { linked game.new.play.link
         ≡ without_left player (mark_in before) (mark_in after) (linked game.old.play.link) }
-    ensures play { IsSamePlay game.old.play game.new.play }
     ensures rest { game.new ≡ record game.old { play = game.new.play } }
 {
     if has_left_seat(before, after) {
@@ -118,7 +117,7 @@ impl<R: RandomSource + Drop> Keeper<'_, R> {
         ensures plan { self.new.plan ≡ self.old.plan }
         ensures sealed { IsSealedUnder self.old.plan.secret game.old.play.link
             → IsSealedUnder self.old.plan.secret game.new.play.link }
-        ensures follows { FollowsAll now before (holding self.old) (holding self.new) game.old game.new result }
+        ensures follows { FollowsAll before (holding self.old) (holding self.new) game.old game.new result }
     {
         follow_seats(game, before, self.table.places());
         if is_any_spoiled(game) {
@@ -188,12 +187,6 @@ pub(crate) fn new_keeper<'a, R: RandomSource>(
 ) -> Result<(Keeper<'a, R>, Game), HostFault>
     ensures faults { IfErr result (λ f. f ≢ fault.Terms) }
     ensures plan { IfOk result (λ made. made.0.plan ≡ plan.now) }
-    ensures offer { IfOk result (λ made. made.0.offer ≡ offer) }
-    ensures table { IfOk result (λ made. (cookies game : List ℕ) × (lobby made.0.table
-        ≡ new_lobby (greeting_seal plan.now.secret) cookies offer.hosting.terms game)) }
-    ensures part { IfOk result (λ made. IsPartOf offer.hosting.terms
-        (game_seal plan.now.secret (lobby made.0.table).game) 0 (Some offer.hosting.settings)
-        (None ∷ map holder_address (lobby made.0.table).places) now made.1) }
     ensures sealed { IfOk result (λ made. IsSealedUnder plan.now.secret made.1.play.link) }
 {
     let cookies = draw(random)?;

@@ -42,7 +42,7 @@ fn leaving(end: End, now: u64) -> Stage
     }
 }
 
-/// Whether the seconds of play are over; 0 seconds are never over.
+/// Whether the seconds of play are over; 0 are never.
 fn is_over(since: u64, now: u64, seconds: u32) -> bool
     ensures { result ≡ is_over since now seconds }
 {
@@ -105,7 +105,7 @@ fn after_play(game: &mut Game, now: u64, seconds: u32) -> Stage
     leaving(end, now)
 }
 
-/// Since when it was first seen that nobody needs it, if it was.
+/// Since when nobody needs it, if nobody does.
 fn free_since(may_leave: bool, free: Option<u64>, now: u64) -> Option<u64>
     ensures { result ≡ free_since may_leave free now }
 {

@@ -26,7 +26,7 @@ pub(crate) trait Lobby {
     // what it makes of what came, of itself and of the game, and how the session ends by that if it does
     ghost Greets: { Letter → Self → Self → Option Game → Option Game → Result (Option Ending) HostFault → Type 0 };
 
-    // what it makes of itself and of the game when a second is due at this time
+    // what it makes of itself and of the game when a second is over at this time
     ghost IsSecond: { ℕ → Self → Self → Option Game → Option Game → Result (Unit {0}) HostFault → Type 0 };
 
     // what it makes of itself when it tells the screen at this time how it waits
@@ -46,7 +46,7 @@ pub(crate) trait Lobby {
         ensures secret { secret self.new ≡ secret self.old }
         ensures part { IsPart hosts (secret self.old) game.old → IsPart hosts (secret self.old) game.new };
 
-    /// A second is due.
+    /// A second is over.
     fn second<W: Wire>(&mut self, game: &mut Option<Game>, wire: &mut W, now: u64) -> GoesOn
         ensures second { IsSecond now self.old self.new game.old game.new result }
         ensures faults { IfErr result Faults }

@@ -79,7 +79,7 @@ impl Offer {
     ) -> Result<Game, HostFault>
         ensures part { IfOk result (IsPartOf self.now.hosting.terms
             (game_seal plan.now.secret (lobby table.now).game) 0 (Some self.now.hosting.settings)
-            (None ∷ map holder_address (lobby table.now).places) now) }
+            (None ∷ map holder_address (lobby table.now).places)) }
         ensures fault { IfErr result (λ f. f ≡ fault.Memory) }
         ensures sealed { IfOk result (λ game. IsSealedUnder plan.now.secret game.play.link) }
     {
@@ -100,7 +100,7 @@ pub(crate) fn part_of(
     answer: &Answer,
     now: u64,
 ) -> Result<Game, HostFault>
-    ensures part { IsPartAs plan.now.secret host answer.now now result }
+    ensures part { IsPartAs plan.now.secret host answer.now result }
     ensures sealed { IfOk result (λ game. IsSealedUnder plan.now.secret game.play.link) }
 {
     let terms = answer.terms;

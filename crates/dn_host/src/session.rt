@@ -48,8 +48,6 @@ impl<L: Lobby + Drop> Session<L> {
         ensures game { result.game ≡ game }
         ensures going { result.stage ≡ Going }
         ensures left { result.left ≡ None }
-        ensures second { result.second ≡ now }
-        ensures seconds { result.seconds ≡ seconds }
     {
         Session {
             lobby,
@@ -67,9 +65,6 @@ impl<L: Lobby + Drop> Session<L> {
         ensures left { self.new.left ≡ left_at self.old.stage self.new.stage now self.old.left }
         ensures ended { has_ended self.old.stage ≡ false → has_ended self.new.stage ≡ true
             → is_some self.new.game ≡ true }
-        ensures alone { self.old.game ≡ None → (self.new.stage ≡ self.old.stage) × (self.new.game ≡ None) }
-        ensures second { self.new.second ≡ self.old.second }
-        ensures seconds { self.new.seconds ≡ self.old.seconds }
         ensures part { IsPart L.hosts (L.secret self.old.lobby) self.old.game
             → IsPart L.hosts (L.secret self.old.lobby) self.new.game }
     {

@@ -1,7 +1,7 @@
 //! What a game shows of itself.
 
 ghost use Rattle.std.specs.Prelude.{◌≡◌, ℕ, List, Option, Bool};
-ghost use Rattle.dn_host.specs.{Parts.IsPart, Telling.CountsAloneIn};
+ghost use Rattle.dn_host.specs.Parts.{IsPart};
 
 use crate::game::Game;
 use crate::screen::Screen;
@@ -12,7 +12,6 @@ use dn_measure::{Status, Summary};
 /// Tells how the game stands, if there is one that has begun.
 pub(crate) fn show<S: Screen>(game: &mut Option<Game>, screen: &mut S, now: u64)
     ensures part { (hosts : Bool) (secret : Option (List ℕ)) → IsPart hosts secret game.old → IsPart hosts secret game.new }
-    ensures rest { CountsAloneIn game.old game.new }
 {
     if let Some(game) = game {
         if let Some(status) = game.status(now) {
@@ -24,7 +23,7 @@ pub(crate) fn show<S: Screen>(game: &mut Option<Game>, screen: &mut S, now: u64)
 impl Game {
     ghost use Rattle.std.specs.Prelude.{IfSome, is_some};
     ghost use Rattle.dn_link.specs.{Linking.linked, Pacing.pace_of};
-    ghost use Rattle.dn_host.specs.{Begun.has_counted, Telling.CountsAlone, Telling.IsStatus, Summaries.IsSummaryBy, Ticks.game_next, Summed.MeasuresBy};
+    ghost use Rattle.dn_host.specs.{Begun.has_counted, Telling.IsStatus, Summaries.IsSummaryBy, Ticks.game_next, Summed.MeasuresBy};
 
     /// Whether it has begun.
     pub(crate) fn has_begun(&self) -> bool
@@ -79,7 +78,6 @@ impl Game {
         ensures link { self.new.play.link ≡ self.old.play.link }
         ensures status { IsStatus self.old.counts self.new.counts (linked self.old.play.link)
             (pace_of self.old.play.link) self.old.play.waiting now result }
-        ensures rest { CountsAlone self.old self.new }
     {
         let waiting = self.play.waiting();
         match &mut self.counts {

@@ -1,4 +1,4 @@
-use Rattle.dn_host.proofs.Following.{IsLinkAlone, link_alone, one_more, same_play}
+use Rattle.dn_host.proofs.Following.{IsLinkAlone, link_alone, one_more}
 use Rattle.dn_host.proofs.game.Game.forget_absent.Goals as goal
 
 pub returns-clause-absent : goal.returns-clause-absent
@@ -16,8 +16,5 @@ returns-clause-absent c =
       link = one_more now 3 old three new _ third (one_more now 2 old two three _ second
           (one_more now 1 old one two _ first c.forget_if_absent.ensures.link c.forget_if_absent-2.ensures.link)
           c.forget_if_absent-3.ensures.link) c.forget_if_absent-4.ensures.link;
-      play = same_play old.play three.play new.play (same_play old.play two.play three.play (same_play old.play one.play
-          two.play c.forget_if_absent.ensures.play c.forget_if_absent-2.ensures.play)
-          c.forget_if_absent-3.ensures.play) c.forget_if_absent-4.ensures.play;
       rest = link_alone old three new third c.forget_if_absent-4.ensures.rest;
     }

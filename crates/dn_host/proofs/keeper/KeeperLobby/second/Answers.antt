@@ -13,7 +13,7 @@ returns-clause-second g c =
     (Some c.follow_all.new.game) c.follow_all.result) (sym is) (
       c.forget_absent.new.self,
       c.forget_absent.ensures.absent,
-      follows_by c.args.now c.places-before.result _
+      follows_by c.places-before.result _
           (record (holding c.args.self.now) { table = lobby c.sweep.new.self }) _
           (swept (seconds_of c.args.now) (closed_by c.in-Some.game (lobby c.args.self.now.table))) _ _ _ _
           c.places-before.ensures
