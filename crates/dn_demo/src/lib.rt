@@ -23,5 +23,5 @@ pub use laws::{
 };
 pub use limits::{capacity, is_limit};
 pub use playing::play;
-pub use recorder::{Recorder, RecorderFault};
+pub use recorder::{Recorder, RecorderFault, append};
 pub use upgrading::{UpgradeFault, upgrade};

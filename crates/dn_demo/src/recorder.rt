@@ -45,7 +45,7 @@ pub struct Recorder {
 }
 
 /// Appends bytes for which there is room, and takes no memory.
-fn append(bytes: &mut Vec<u8>, more: &[u8])
+pub fn append(bytes: &mut Vec<u8>, more: &[u8])
     requires { vec_len bytes.old + length more.now ≤ vec_capacity bytes.old }
     ensures items { bytes.new.items ≡ bytes.old.items ++ more.now }
     ensures room { vec_capacity bytes.new ≡ vec_capacity bytes.old }

@@ -6,6 +6,7 @@ ghost use Rattle.dn_game.specs.{declared.flight.Flight.Flight, Pool.HasGrown, Po
 
 use crate::flight::Flight;
 use arrayvec::ArrayVec;
+use dn_demo::append;
 use dn_node::Aim;
 use dn_packet::MAX_DATAGRAM;
 use std::alloc::{AllocError, Global};
@@ -50,17 +51,6 @@ fn grow<T>(list: &mut Vec<T>, more: usize) -> Result<(), AllocError>
         return Ok(());
     }
     list.reserve_exact(count.max(more))
-}
-
-/// Appends bytes for which there is room, and takes no memory.
-fn append(bytes: &mut Vec<u8>, more: &[u8])
-    requires { vec_len bytes.old + length more.now ≤ vec_capacity bytes.old }
-    ensures items { bytes.new.items ≡ bytes.old.items ++ more.now }
-    ensures room { vec_capacity bytes.new ≡ vec_capacity bytes.old }
-{
-    for byte in more {
-        bytes.push_reserved(*byte);
-    }
 }
 
 impl Model for Pool {

@@ -3,11 +3,10 @@
 ghost use Rattle.std.specs.Prelude.{◌≡◌};
 ghost use Rattle.dn_greeting.specs.Greeter.{cookie_of};
 
-use crate::append::append;
 use crate::greeting::Address;
 use crate::telling::sixteen_at;
 use arrayvec::ArrayVec;
-use dn_seal::hmac;
+use dn_seal::{append, hmac};
 
 /// The cookie of an address after so many changes, under a host's own secret.
 pub(crate) fn cookie_of(secret: &[u8; 32], address: &Address, changes: u32) -> [u8; 16]

@@ -1,7 +1,6 @@
 //! Greetings: what a host and those who join tell each other before their links exist. No clock and no socket.
 #![tactic(auto)]
 
-mod append;
 mod calls;
 mod choosing;
 mod cookies;

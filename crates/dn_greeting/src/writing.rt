@@ -4,10 +4,9 @@ ghost use Rattle.std.specs.{Prelude.◌≡◌, Prelude.◌≤◌, Prelude.length
 ghost use Rattle.dn_seal.specs.Sealing.{sealing};
 ghost use Rattle.dn_greeting.specs.Text.{address_bytes, answer_rest, bit, call_rest, greeting_bytes, hint_byte, hinted_bytes, named, padding, reason_bytes, refused_rest, retry_rest, terms_bytes, version_of};
 
-use crate::append::append;
 use crate::greeting::{Address, Answer, Call, Hint, Hinted, Refusal, Refused, Retry, Terms};
 use arrayvec::ArrayVec;
-use dn_seal::Sealer;
+use dn_seal::{Sealer, append};
 
 /// The kind of what follows, which is no envelope's and no link's datagram's.
 pub(crate) const KIND: u8 = 4;

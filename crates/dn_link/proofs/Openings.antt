@@ -8,7 +8,7 @@ use Rattle.std.proofs.Math.Seq.{take-append_seam, drop-append_seam}
 use Rattle.dn_seal.specs.declared.seal.Seal.{Seal}
 use Rattle.dn_seal.specs.Hmac.{tag_of}
 use Rattle.dn_seal.specs.Keys.{suite_byte}
-use Rattle.dn_seal.specs.Opening.{Sealing, told_game, told_body, told_tag}
+use Rattle.dn_seal.specs.Opening.{Sealing, IsOfGame, IsFor, IsTagged, told_game, told_body, told_tag}
 use Rattle.dn_seal.proofs.Envelopes.{length-tag}
 use Rattle.dn_link.specs.declared.bundle.Bundle.{Bundle}
 use Rattle.dn_link.specs.declared.bundle.BundleFault.{BundleFault}
@@ -17,7 +17,7 @@ use Rattle.dn_link.specs.declared.bundle.Message.{Message}
 use Rattle.dn_link.specs.declared.bundle.Message.TheVariants as message
 use Rattle.dn_link.specs.Text.{counts_bytes, message_bytes, parts_bytes, bundle_bytes, IsBundle}
 use Rattle.dn_link.specs.Told.{told_bundle}
-use Rattle.dn_link.specs.Reading.{IsDatagramOf, IsBundledAs, IsOfGame, IsFor, IsTagged}
+use Rattle.dn_link.specs.Reading.{IsDatagramOf, IsBundledAs, bundles}
 use Rattle.dn_link.proofs.Parts.{Fit, length-counts}
 use Rattle.dn_link.proofs.Wholes.{parted, head_bytes, rest_bytes, by_head, length-head, bundle_back, bundle_is}
 
@@ -62,7 +62,7 @@ module _ (s : Sealing) (bytes : List ℕ) (b : Bundle) (is : IsDatagramOf s byte
   in_front : {A : Type 0} (f : List ℕ → A) (a : A) → f (bundle_bytes s.seal b ++ tag) ≡ a → f bytes ≡ a
   in_front f a e = ap f is.is ∙ e
 
-  pub tagged : IsTagged s bytes
+  pub tagged : IsTagged bundles s bytes
   tagged =
       let long = body_long s.seal b is.game is.fits in
       let short = is.short in (
@@ -140,7 +140,7 @@ module _ (s : Sealing) (bytes : List ℕ) where
   only_long many (Err Tag) h = absurd (let t = h.0.0.0.0.0.1 in omega arith)
   only_long many (Err Form) h = absurd (let t = h.0.0.0.0.0.0.1 in omega arith)
 
-  pub only_receiver : IsOfGame s bytes → slice_index bytes 11 ≢ s.me → (read : Result Bundle BundleFault)
+  pub only_receiver : IsOfGame bundles s bytes → slice_index bytes 11 ≢ s.me → (read : Result Bundle BundleFault)
       → IsBundledAs s bytes read → Err Receiver ≡ read
   only_receiver of wrong (Ok b) h = absurd (wrong (tagged s bytes b h).0.1)
   only_receiver of wrong (Err Short) h = absurd (let t = of.0.0.0.0 in omega arith)
@@ -152,7 +152,7 @@ module _ (s : Sealing) (bytes : List ℕ) where
   only_receiver of wrong (Err Tag) h = absurd (wrong h.0.1)
   only_receiver of wrong (Err Form) h = absurd (wrong h.0.0.1)
 
-  pub only_tag : IsFor s bytes → told_tag bytes ≢ tag_of s.seal.key (told_body bytes)
+  pub only_tag : IsFor bundles s bytes → told_tag bytes ≢ tag_of s.seal.key (told_body bytes)
       → (read : Result Bundle BundleFault) → IsBundledAs s bytes read → Err Tag ≡ read
   only_tag for wrong (Ok b) h = absurd (wrong (tagged s bytes b h).1)
   only_tag for wrong (Err Short) h = absurd (let t = for.0.0.0.0.0 in omega arith)
@@ -164,7 +164,7 @@ module _ (s : Sealing) (bytes : List ℕ) where
   only_tag for wrong (Err Tag) h = refl
   only_tag for wrong (Err Form) h = absurd (wrong h.0.1)
 
-  pub only_form : IsTagged s bytes → told_bundle (told_body bytes) ≡ None
+  pub only_form : IsTagged bundles s bytes → told_bundle (told_body bytes) ≡ None
       → (read : Result Bundle BundleFault) → IsBundledAs s bytes read → Err Form ≡ read
   only_form tests none (Ok b) h = absurd (none-some b (sym none ∙ its_bundle s bytes b h))
   only_form tests none (Err Short) h = absurd (let t = tests.0.0.0.0.0.0 in omega arith)
@@ -190,11 +190,11 @@ module _ (s : Sealing) (bytes : List ℕ) where
   only_bundle b is (Err Form) h = absurd (h.1 b is)
 
   -- what no bundle tells is none's datagram
-  pub formless : IsTagged s bytes → told_bundle (told_body bytes) ≡ None → IsBundledAs s bytes (Err Form)
+  pub formless : IsTagged bundles s bytes → told_bundle (told_body bytes) ≡ None → IsBundledAs s bytes (Err Form)
   formless tests none = (tests, λ b is. none-some b (sym none ∙ its_bundle s bytes b is))
 
   -- what passes all tests and tells a bundle is its datagram
-  pub datagram_is : 8 ≤ length s.seal.game → Fit bytes → IsTagged s bytes → (b : Bundle)
+  pub datagram_is : 8 ≤ length s.seal.game → Fit bytes → IsTagged bundles s bytes → (b : Bundle)
       → told_bundle (told_body bytes) ≡ Some b → IsDatagramOf s bytes b
   datagram_is game fits tests b e =
       let long = tests.0.0.0.0.0.0 in

@@ -2,7 +2,7 @@
 use Rattle.std.specs.Prelude.{◌≡◌, ◌≢◌, ◌<◌, ◌≤◌, ℕ, List, length, slice_index, take, Result, Ok, Err}
 use Rattle.dn_seal.specs.Hmac.{tag_of}
 use Rattle.dn_seal.specs.Keys.{suite_byte}
-use Rattle.dn_seal.specs.Opening.{Sealing, told_game, told_body, told_tag}
+use Rattle.dn_seal.specs.Opening.{Sealing, Format, IsSized, IsOfSuite, IsOfKind, IsOfGame, IsFor, IsTagged, told_game, told_body, told_tag}
 use Rattle.dn_link.specs.declared.bundle.Bundle.{Bundle}
 use Rattle.dn_link.specs.declared.bundle.BundleFault.{BundleFault}
 use Rattle.dn_link.specs.declared.bundle.BundleFault.TheVariants.{Short, Long, Suite, Kind, Game, Receiver, Tag, Form}
@@ -16,35 +16,20 @@ pub record IsDatagramOf (sealing : Sealing) (bytes : List ℕ) (bundle : Bundle)
   pub to : bundle.to ≡ sealing.me
   pub is : bytes ≡ sealed_bytes sealing.seal bundle
 
--- the tests that bytes pass, one after the other
-abbrev pub IsSized : List ℕ → Type 0
-IsSized bytes = (60 ≤ length bytes) × (length bytes ≤ 1200)
-
-abbrev pub IsOfSuite : Sealing → List ℕ → Type 0
-IsOfSuite sealing bytes = IsSized bytes × (slice_index bytes 0 ≡ suite_byte sealing.seal.suite)
-
-abbrev pub IsOfKind : Sealing → List ℕ → Type 0
-IsOfKind sealing bytes = IsOfSuite sealing bytes × (slice_index bytes 1 ≡ 2)
-
-abbrev pub IsOfGame : Sealing → List ℕ → Type 0
-IsOfGame sealing bytes = IsOfKind sealing bytes × (told_game bytes ≡ take 8 sealing.seal.game)
-
-abbrev pub IsFor : Sealing → List ℕ → Type 0
-IsFor sealing bytes = IsOfGame sealing bytes × (slice_index bytes 11 ≡ sealing.me)
-
-abbrev pub IsTagged : Sealing → List ℕ → Type 0
-IsTagged sealing bytes = IsFor sealing bytes × (told_tag bytes ≡ tag_of sealing.seal.key (told_body bytes))
+-- the datagrams of bundles
+abbrev pub bundles : Format
+bundles = record { kind = 2; least = 60; most = 1200 }
 
 -- the bundle, or the first fault that the bytes have; a holder of the key alone can cause the last
 abbrev pub IsBundledAs : Sealing → List ℕ → Result Bundle BundleFault → Type 0
 IsBundledAs sealing bytes (Ok bundle) = IsDatagramOf sealing bytes bundle
-IsBundledAs sealing bytes (Err Short) = length bytes < 60
-IsBundledAs sealing bytes (Err Long) = 1200 < length bytes
-IsBundledAs sealing bytes (Err Suite) = IsSized bytes × (slice_index bytes 0 ≢ suite_byte sealing.seal.suite)
-IsBundledAs sealing bytes (Err Kind) = IsOfSuite sealing bytes × (slice_index bytes 1 ≢ 2)
-IsBundledAs sealing bytes (Err Game) = IsOfKind sealing bytes × (told_game bytes ≢ take 8 sealing.seal.game)
-IsBundledAs sealing bytes (Err Receiver) = IsOfGame sealing bytes × (slice_index bytes 11 ≢ sealing.me)
+IsBundledAs sealing bytes (Err Short) = length bytes < bundles.least
+IsBundledAs sealing bytes (Err Long) = bundles.most < length bytes
+IsBundledAs sealing bytes (Err Suite) = IsSized bundles bytes × (slice_index bytes 0 ≢ suite_byte sealing.seal.suite)
+IsBundledAs sealing bytes (Err Kind) = IsOfSuite bundles sealing bytes × (slice_index bytes 1 ≢ bundles.kind)
+IsBundledAs sealing bytes (Err Game) = IsOfKind bundles sealing bytes × (told_game bytes ≢ take 8 sealing.seal.game)
+IsBundledAs sealing bytes (Err Receiver) = IsOfGame bundles sealing bytes × (slice_index bytes 11 ≢ sealing.me)
 IsBundledAs sealing bytes (Err Tag) =
-    IsFor sealing bytes × (told_tag bytes ≢ tag_of sealing.seal.key (told_body bytes))
+    IsFor bundles sealing bytes × (told_tag bytes ≢ tag_of sealing.seal.key (told_body bytes))
 IsBundledAs sealing bytes (Err Form) =
-    IsTagged sealing bytes × ((bundle : Bundle) → ¬ IsDatagramOf sealing bytes bundle)
+    IsTagged bundles sealing bytes × ((bundle : Bundle) → ¬ IsDatagramOf sealing bytes bundle)

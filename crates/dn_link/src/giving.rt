@@ -4,11 +4,11 @@ ghost use Rattle.std.specs.Prelude.{◌≡◌, ◌&&◌, None, false, IfSome, is
 ghost use Rattle.dn_lockstep.specs.{Contents.contents, Near.IsFair, Sent.sent_to, Steps.Tells};
 ghost use Rattle.dn_link.specs.{Giving.SendsCarried, Hearing.ByTest};
 
-use crate::append::append;
 use crate::bundle::Carried;
 use arrayvec::ArrayVec;
 use dn_lockstep::Lockstep;
 use dn_packet::MAX_DATAGRAM;
+use dn_seal::append;
 
 /// The next packet to a peer, with its exact numbers; None where there is none.
 fn next_packet(lockstep: &mut Lockstep, to: u8) -> Option<Carried>

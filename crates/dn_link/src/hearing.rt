@@ -5,14 +5,13 @@ ghost use Rattle.dn_lockstep.specs.Contents.{contents};
 ghost use Rattle.dn_open.specs.{Arrivals.HearsOpened, Arrivals.SparesSealed, declared.arrived.Arrived.Arrived};
 ghost use Rattle.dn_link.specs.{Hearing.HearsUntil, Hearing.HearsAll, Hearing.is_start, Packets.opened_from, Packets.packets_of, Packets.packets_in, declared.bundle.Part.TheVariants.Run as of_run};
 
-use crate::append::append;
 use crate::bundle::{Bundle, Carried, Part, Run};
 use crate::short::short_packet;
 use arrayvec::ArrayVec;
 use dn_lockstep::Lockstep;
 use dn_machine::Heard;
 use dn_open::{Arrived, hear};
-use dn_seal::Opened;
+use dn_seal::{Opened, append};
 
 /// Whether the game starts with what was heard.
 fn is_start(answer: Arrived) -> bool

@@ -1,7 +1,6 @@
 //! The link of a lockstep: what goes to each peer in one sealed datagram, and what comes in one.
 #![tactic(auto)]
 
-mod append;
 mod bundle;
 mod counting;
 mod covering;

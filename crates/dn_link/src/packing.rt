@@ -5,10 +5,10 @@ ghost use Rattle.std.specs.{Prelude.false, Prelude.true, List.flat_map};
 ghost use Rattle.dn_link.specs.{Packets.opened_from, Packets.packets_of, Packets.short_packet, declared.bundle.Part.TheVariants.Whole, OpenPacking.HasRoom, OpenPacking.IsOpen, OpenPacking.IsPacking};
 ghost use Rattle.dn_link.specs.{OpenPacking.IsTight, OpenPacking.MayFollow, OpenPacking.packed, OpenPacking.part_of, Packing.ArePacked, Packing.IsNeeded, Text.IsPart, Text.parts_bytes};
 
-use crate::append::append;
 use crate::bundle::{Carried, Part, Run};
 use crate::short::short_command;
 use arrayvec::ArrayVec;
+use dn_seal::append;
 use std::mem;
 
 /// How many bytes of a datagram are left for its parts.

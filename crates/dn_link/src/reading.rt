@@ -1,7 +1,7 @@
 //! Reading any bytes as the datagram of a bundle.
 
-ghost use Rattle.std.specs.Prelude.{◌≤◌, ◌≡◌, length, take, drop, IsTrue, ◌↔◌, Result};
-ghost use Rattle.dn_seal.specs.{Opening.told_game, Sealing.sealing};
+ghost use Rattle.std.specs.Prelude.{◌≤◌, ◌≡◌, length, Result};
+ghost use Rattle.dn_seal.specs.Sealing.{sealing};
 ghost use Rattle.dn_link.specs.{declared.bundle.Bundle.Bundle, declared.bundle.BundleFault.BundleFault, Told.told_bundle, Reading.IsBundledAs};
 
 mod fields;
@@ -36,14 +36,6 @@ fn bundle_in(body: &[u8]) -> Option<Bundle>
     })
 }
 
-/// Whether bytes have this game's number.
-fn is_of_game(bytes: &[u8], front: &[u8; 10]) -> bool
-    requires { 10 ≤ length bytes.now }
-    ensures { IsTrue result ↔ (told_game bytes.now ≡ take 8 (drop 2 front.now)) }
-{
-    bytes[2..10] == front[2..]
-}
-
 /// Opens a datagram to this player, or returns the first fault that the bytes have.
 pub fn open_bundle(sealer: &Sealer, bytes: &[u8]) -> Result<Bundle, BundleFault>
     ensures opens { IsBundledAs (sealing sealer.now) bytes.now result }
@@ -56,14 +48,13 @@ pub fn open_bundle(sealer: &Sealer, bytes: &[u8]) -> Result<Bundle, BundleFault>
     if bytes.len() > 1200 {
         return Err(BundleFault::Long);
     }
-    let front = sealer.front(KIND);
-    if bytes[0] != front[0] {
+    if bytes[0] != sealer.front(KIND)[0] {
         return Err(BundleFault::Suite);
     }
     if bytes[1] != KIND {
         return Err(BundleFault::Kind);
     }
-    if !is_of_game(bytes, &front) {
+    if !sealer.is_of_game(bytes) {
         return Err(BundleFault::Game);
     }
     if bytes[11] != sealer.me() {

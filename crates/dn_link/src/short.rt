@@ -3,10 +3,10 @@
 ghost use Rattle.std.specs.Prelude.{◌≡◌, IfSome, None};
 ghost use Rattle.dn_link.specs.{declared.bundle.Part.TheVariants.Whole, Packets.short_packet, Packing.IsNeeded};
 
-use crate::append::append;
 use crate::bundle::Carried;
 use arrayvec::ArrayVec;
 use dn_packet::{Head, encode_parts};
+use dn_seal::append;
 use dn_tic::TicCmd;
 
 /// How many bytes such a packet has.

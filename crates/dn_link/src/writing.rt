@@ -4,10 +4,9 @@ ghost use Rattle.std.specs.Prelude.{◌≤◌, ◌≡◌, ◌+◌, ◌++◌, All
 ghost use Rattle.dn_seal.specs.Sealing.{sealing};
 ghost use Rattle.dn_link.specs.Text.{AreCounts, IsBundle, IsIdentity, IsMessage, IsPart, carried_bytes, counts_bytes, identity_bytes, message_bytes, part_bytes, parts_bytes, sealed_bytes};
 
-use crate::append::append;
 use crate::bundle::{Bundle, Carried, Counts, Identity, Message, Part};
 use arrayvec::ArrayVec;
-use dn_seal::{Sealer, ask_bytes};
+use dn_seal::{Sealer, append, ask_bytes};
 
 /// The kind of a link's datagrams among envelopes.
 pub(crate) const KIND: u8 = 2;

@@ -89,12 +89,13 @@ pub(crate) fn first_off(
         (ring_at rings.now) (peer_at peers.now) (slot marks.now) tic)
         else None) }
 {
-    if tic <= LAST_UNCHECKED {
-        return None;
-    }
     for player in 0..players {
         if !given_up[usize::from(player)] && is_differing(rings, peers, marks, player, tic) {
-            return Some(player);
+            return if tic > LAST_UNCHECKED {
+                Some(player)
+            } else {
+                None
+            };
         }
     }
     None

@@ -6,10 +6,10 @@ use Rattle.std.proofs.lemmas.Bool.{cases_Bool, cases_lt, eq-eqb, ne_eqb, le-ltb,
 use Rattle.std.proofs.lemmas.Slice.Eq.{bytes_eq-Decides}
 use Rattle.dn_seal.specs.Hmac.{tag_of}
 use Rattle.dn_seal.specs.Keys.{suite_byte}
-use Rattle.dn_seal.specs.Opening.{Sealing, told_body, told_game, told_tag}
+use Rattle.dn_seal.specs.Opening.{Sealing, IsSized, IsOfSuite, IsOfKind, IsOfGame, IsFor, IsTagged, told_body, told_game, told_tag}
 use Rattle.dn_notice.specs.declared.fault.ReportDatagramFault.{ReportDatagramFault}
 use Rattle.dn_notice.specs.declared.fault.ReportDatagramFault.TheVariants.{Short, Long, Suite, Kind, Game, Receiver, Tag, Sender}
-use Rattle.dn_notice.specs.Opening.{IsSized, IsOfSuite, IsOfKind, IsOfGame, IsFor, IsTagged, IsOfPlayer}
+use Rattle.dn_notice.specs.Opening.{sealed_reports, IsOfPlayer}
 
 other_lists : (xs ys : List ℕ) → xs ≢ ys → bytes_eq xs ys ≡ false
 other_lists xs ys other = elim (cases_Bool (bytes_eq xs ys)) [
@@ -52,58 +52,58 @@ module _ (s : Sealing) (bytes : List ℕ) where
       let on = lt-ltb 425 (length bytes) many in
       rw (off, on) refl
 
-  sized : IsSized bytes → found ≡ from_suite
+  sized : IsSized sealed_reports bytes → found ≡ from_suite
   sized t =
       let a = le-ltb (length bytes) 29 t.0 in
       let b = le-ltb 425 (length bytes) t.1 in
       rw (a, b) refl
 
-  pub suite : IsSized bytes → slice_index bytes 0 ≢ suite_byte s.seal.suite → found ≡ Some Suite
+  pub suite : IsSized sealed_reports bytes → slice_index bytes 0 ≢ suite_byte s.seal.suite → found ≡ Some Suite
   suite t wrong =
       let off = ne_eqb (slice_index bytes 0) (suite_byte s.seal.suite) wrong in
       sized t ∙ rw off refl
 
-  of_suite : IsOfSuite s bytes → found ≡ from_kind
+  of_suite : IsOfSuite sealed_reports s bytes → found ≡ from_kind
   of_suite t =
       let on = eq-eqb (slice_index bytes 0) (suite_byte s.seal.suite) t.1 in
       sized t.0 ∙ rw on refl
 
-  pub kind : IsOfSuite s bytes → slice_index bytes 1 ≢ 3 → found ≡ Some Kind
+  pub kind : IsOfSuite sealed_reports s bytes → slice_index bytes 1 ≢ 3 → found ≡ Some Kind
   kind t wrong = let off = ne_eqb (slice_index bytes 1) 3 wrong in of_suite t ∙ rw off refl
 
-  of_kind : IsOfKind s bytes → found ≡ from_game
+  of_kind : IsOfKind sealed_reports s bytes → found ≡ from_game
   of_kind t = let on = eq-eqb (slice_index bytes 1) 3 t.1 in of_suite t.0 ∙ rw on refl
 
-  pub game : IsOfKind s bytes → told_game bytes ≢ take 8 s.seal.game → found ≡ Some Game
+  pub game : IsOfKind sealed_reports s bytes → told_game bytes ≢ take 8 s.seal.game → found ≡ Some Game
   game t wrong =
       let off = other_lists (told_game bytes) (take 8 s.seal.game) wrong in
       of_kind t ∙ rw off refl
 
-  of_game : IsOfGame s bytes → found ≡ from_receiver
+  of_game : IsOfGame sealed_reports s bytes → found ≡ from_receiver
   of_game t =
       let on = (bytes_eq-Decides (told_game bytes) (take 8 s.seal.game)).1 t.1 in
       of_kind t.0 ∙ rw on refl
 
-  pub receiver : IsOfGame s bytes → slice_index bytes 11 ≢ s.me → found ≡ Some Receiver
+  pub receiver : IsOfGame sealed_reports s bytes → slice_index bytes 11 ≢ s.me → found ≡ Some Receiver
   receiver t wrong = let off = ne_eqb (slice_index bytes 11) s.me wrong in of_game t ∙ rw off refl
 
-  for_me : IsFor s bytes → found ≡ from_tag
+  for_me : IsFor sealed_reports s bytes → found ≡ from_tag
   for_me t = let on = eq-eqb (slice_index bytes 11) s.me t.1 in of_game t.0 ∙ rw on refl
 
-  pub tag : IsFor s bytes → told_tag bytes ≢ tag_of s.seal.key (told_body bytes) → found ≡ Some Tag
+  pub tag : IsFor sealed_reports s bytes → told_tag bytes ≢ tag_of s.seal.key (told_body bytes) → found ≡ Some Tag
   tag t wrong =
       let off = other_lists (told_tag bytes) (tag_of s.seal.key (told_body bytes)) wrong in
       for_me t ∙ rw off refl
 
-  tagged : IsTagged s bytes → found ≡ from_sender
+  tagged : IsTagged sealed_reports s bytes → found ≡ from_sender
   tagged t =
       let on = (bytes_eq-Decides (told_tag bytes) (tag_of s.seal.key (told_body bytes))).1 t.1 in
       for_me t.0 ∙ rw on refl
 
-  pub strange : IsTagged s bytes → 3 < slice_index bytes 10 → found ≡ Some Sender
+  pub strange : IsTagged sealed_reports s bytes → 3 < slice_index bytes 10 → found ≡ Some Sender
   strange t above = let on = lt-ltb 3 (slice_index bytes 10) above in tagged t ∙ rw on refl
 
-  pub own : IsTagged s bytes → slice_index bytes 10 ≡ s.me → found ≡ Some Sender
+  pub own : IsTagged sealed_reports s bytes → slice_index bytes 10 ≡ s.me → found ≡ Some Sender
   own t same = elim (cases_lt 3 (slice_index bytes 10)) [
     | inl above ↦ strange t above
     | inr below ↦

@@ -10,10 +10,10 @@ use Rattle.dn_report.proofs.Lengths.{longest, report_length}
 use Rattle.dn_seal.specs.declared.seal.Seal.{Seal}
 use Rattle.dn_seal.specs.Hmac.{tag_of}
 use Rattle.dn_seal.specs.Keys.{suite_byte}
-use Rattle.dn_seal.specs.Opening.{Sealing, told_body, told_game, told_tag}
+use Rattle.dn_seal.specs.Opening.{Sealing, IsOfGame, told_body, told_game, told_tag}
 use Rattle.dn_seal.proofs.Envelopes.{eight, length-tag}
 use Rattle.dn_notice.specs.Text.{body_bytes, sealed_report_bytes}
-use Rattle.dn_notice.specs.Opening.{told_report, IsOfGame, IsOfPlayer}
+use Rattle.dn_notice.specs.Opening.{sealed_reports, told_report, IsOfPlayer}
 
 -- a body with these bytes of the game's number
 abbrev numbered : Seal → List ℕ → ℕ → ℕ → Report → List ℕ
@@ -96,7 +96,7 @@ in_window seal from to report ahead is few =
 
 -- a sealed report passes the tests up to that of the receiver, whoever opens it
 pub of_game : (s : Sealing) (from to : ℕ) (report : Report) → 8 ≤ length s.seal.game → IsReport report
-    → IsOfGame s (sealed_report_bytes s.seal from to report)
+    → IsOfGame sealed_reports s (sealed_report_bytes s.seal from to report)
 of_game s from to report long is = (
   (((least s.seal from to report long, at_most s.seal from to report is), refl), refl),
   its_game s.seal from to report long,

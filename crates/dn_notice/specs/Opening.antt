@@ -5,7 +5,7 @@ use Rattle.dn_report.specs.Read.{IsReadAs}
 use Rattle.dn_report.specs.Text.{IsReport}
 use Rattle.dn_seal.specs.Hmac.{tag_of}
 use Rattle.dn_seal.specs.Keys.{suite_byte}
-use Rattle.dn_seal.specs.Opening.{Sealing, told_game, told_body, told_tag}
+use Rattle.dn_seal.specs.Opening.{Sealing, Format, IsSized, IsOfSuite, IsOfKind, IsOfGame, IsFor, IsTagged, told_game, told_body, told_tag}
 use Rattle.dn_notice.specs.declared.fault.ReportDatagramFault.{ReportDatagramFault}
 use Rattle.dn_notice.specs.declared.fault.ReportDatagramFault.TheVariants.{Short, Long, Suite, Kind, Game, Receiver, Tag, Sender, Form}
 use Rattle.dn_notice.specs.Text.{sealed_report_bytes}
@@ -18,28 +18,14 @@ pub record IsReportFrom (sealing : Sealing) (bytes : List ℕ) (from : ℕ) (rep
   pub fits : IsReport report
   pub is : bytes ≡ sealed_report_bytes sealing.seal from sealing.me report
 
--- the tests that bytes pass, one after the other
-abbrev pub IsSized : List ℕ → Type 0
-IsSized bytes = (29 ≤ length bytes) × (length bytes ≤ 425)
+-- sealed reports
+abbrev pub sealed_reports : Format
+sealed_reports = record { kind = 3; least = 29; most = 425 }
 
-abbrev pub IsOfSuite : Sealing → List ℕ → Type 0
-IsOfSuite sealing bytes = IsSized bytes × (slice_index bytes 0 ≡ suite_byte sealing.seal.suite)
-
-abbrev pub IsOfKind : Sealing → List ℕ → Type 0
-IsOfKind sealing bytes = IsOfSuite sealing bytes × (slice_index bytes 1 ≡ 3)
-
-abbrev pub IsOfGame : Sealing → List ℕ → Type 0
-IsOfGame sealing bytes = IsOfKind sealing bytes × (told_game bytes ≡ take 8 sealing.seal.game)
-
-abbrev pub IsFor : Sealing → List ℕ → Type 0
-IsFor sealing bytes = IsOfGame sealing bytes × (slice_index bytes 11 ≡ sealing.me)
-
-abbrev pub IsTagged : Sealing → List ℕ → Type 0
-IsTagged sealing bytes = IsFor sealing bytes × (told_tag bytes ≡ tag_of sealing.seal.key (told_body bytes))
-
+-- the test that a sealed report passes beside those of all sealed bytes
 abbrev pub IsOfPlayer : Sealing → List ℕ → Type 0
 IsOfPlayer sealing bytes =
-    IsTagged sealing bytes × (slice_index bytes 10 < 4) × (slice_index bytes 10 ≢ sealing.me)
+    IsTagged sealed_reports sealing bytes × (slice_index bytes 10 < 4) × (slice_index bytes 10 ≢ sealing.me)
 
 -- what stands between the head and the tag
 abbrev pub told_report : List ℕ → List ℕ
@@ -49,15 +35,15 @@ told_report bytes = drop 12 (told_body bytes)
 -- last two
 abbrev pub IsOpenedAs : Sealing → List ℕ → Result (ℕ × Report) ReportDatagramFault → Type 0
 IsOpenedAs sealing bytes (Ok (from, report)) = IsReportFrom sealing bytes from report
-IsOpenedAs sealing bytes (Err Short) = length bytes < 29
-IsOpenedAs sealing bytes (Err Long) = 425 < length bytes
-IsOpenedAs sealing bytes (Err Suite) = IsSized bytes × (slice_index bytes 0 ≢ suite_byte sealing.seal.suite)
-IsOpenedAs sealing bytes (Err Kind) = IsOfSuite sealing bytes × (slice_index bytes 1 ≢ 3)
-IsOpenedAs sealing bytes (Err Game) = IsOfKind sealing bytes × (told_game bytes ≢ take 8 sealing.seal.game)
-IsOpenedAs sealing bytes (Err Receiver) = IsOfGame sealing bytes × (slice_index bytes 11 ≢ sealing.me)
+IsOpenedAs sealing bytes (Err Short) = length bytes < sealed_reports.least
+IsOpenedAs sealing bytes (Err Long) = sealed_reports.most < length bytes
+IsOpenedAs sealing bytes (Err Suite) = IsSized sealed_reports bytes × (slice_index bytes 0 ≢ suite_byte sealing.seal.suite)
+IsOpenedAs sealing bytes (Err Kind) = IsOfSuite sealed_reports sealing bytes × (slice_index bytes 1 ≢ sealed_reports.kind)
+IsOpenedAs sealing bytes (Err Game) = IsOfKind sealed_reports sealing bytes × (told_game bytes ≢ take 8 sealing.seal.game)
+IsOpenedAs sealing bytes (Err Receiver) = IsOfGame sealed_reports sealing bytes × (slice_index bytes 11 ≢ sealing.me)
 IsOpenedAs sealing bytes (Err Tag) =
-    IsFor sealing bytes × (told_tag bytes ≢ tag_of sealing.seal.key (told_body bytes))
+    IsFor sealed_reports sealing bytes × (told_tag bytes ≢ tag_of sealing.seal.key (told_body bytes))
 IsOpenedAs sealing bytes (Err Sender) =
-    IsTagged sealing bytes × ((3 < slice_index bytes 10) ⊎ (slice_index bytes 10 ≡ sealing.me))
+    IsTagged sealed_reports sealing bytes × ((3 < slice_index bytes 10) ⊎ (slice_index bytes 10 ≡ sealing.me))
 IsOpenedAs sealing bytes (Err (Form fault)) =
     IsOfPlayer sealing bytes × IsReadAs (told_report bytes) (Err fault)

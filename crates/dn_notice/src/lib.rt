@@ -1,7 +1,6 @@
 //! Reports as they are sent: each under a tag, in a datagram of its own, from one player of a game to another.
 #![tactic(auto)]
 
-mod append;
 mod fault;
 mod laws;
 mod reading;

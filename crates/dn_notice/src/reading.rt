@@ -1,9 +1,9 @@
 //! Opening any bytes as a report.
 
-ghost use Rattle.std.specs.Prelude.{◌≡◌, ◌≤◌, ℕ, length, take, drop, IsTrue, ◌↔◌, Result, Err, None, IfSome};
+ghost use Rattle.std.specs.Prelude.{◌≡◌, ◌≤◌, ℕ, length, Result, Err, None, IfSome};
 ghost use Rattle.dn_report.specs.{declared.report.Report.Report, declared.report.ReportFault.ReportFault, Read.IsReadAs};
-ghost use Rattle.dn_seal.specs.{Opening.told_game, Sealing.sealing};
-ghost use Rattle.dn_notice.specs.{declared.fault.ReportDatagramFault.ReportDatagramFault, Opening.IsFor, Opening.IsOpenedAs, Opening.told_report};
+ghost use Rattle.dn_seal.specs.{Opening.IsFor, Sealing.sealing};
+ghost use Rattle.dn_notice.specs.{declared.fault.ReportDatagramFault.ReportDatagramFault, Opening.sealed_reports, Opening.IsOpenedAs, Opening.told_report};
 
 use crate::fault::ReportDatagramFault;
 use crate::writing::{HEAD, KIND, MAX_SEALED_REPORT, TAG};
@@ -13,18 +13,10 @@ use dn_seal::Sealer;
 /// The fewest bytes of a sealed report: one has at least one byte of its own.
 const LEAST: usize = HEAD + 1 + TAG;
 
-/// Whether bytes have the game's number that these first bytes have.
-fn is_of_game(bytes: &[u8], front: &[u8; 10]) -> bool
-    requires { 10 ≤ length bytes.now }
-    ensures { IsTrue result ↔ (told_game bytes.now ≡ take 8 (drop 2 front.now)) }
-{
-    bytes[2..10] == front[2..]
-}
-
 /// The first fault that bytes have in front of the tag. None, where the tag may be right.
 fn fault_in_front(sealer: &Sealer, bytes: &[u8]) -> Option<ReportDatagramFault>
     ensures some { IfSome result (λ fault. IsOpenedAs (sealing sealer.now) bytes.now (Err fault)) }
-    ensures none { result ≡ None → IsFor (sealing sealer.now) bytes.now }
+    ensures none { result ≡ None → IsFor sealed_reports (sealing sealer.now) bytes.now }
 {
     if bytes.len() < LEAST {
         return Some(ReportDatagramFault::Short);
@@ -32,14 +24,13 @@ fn fault_in_front(sealer: &Sealer, bytes: &[u8]) -> Option<ReportDatagramFault>
     if bytes.len() > MAX_SEALED_REPORT {
         return Some(ReportDatagramFault::Long);
     }
-    let front = sealer.front(KIND);
-    if bytes[0] != front[0] {
+    if bytes[0] != sealer.front(KIND)[0] {
         return Some(ReportDatagramFault::Suite);
     }
     if bytes[1] != KIND {
         return Some(ReportDatagramFault::Kind);
     }
-    if !is_of_game(bytes, &front) {
+    if !sealer.is_of_game(bytes) {
         return Some(ReportDatagramFault::Game);
     }
     if bytes[11] != sealer.me() {

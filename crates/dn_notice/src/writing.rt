@@ -4,10 +4,9 @@ ghost use Rattle.std.specs.Prelude.{◌≡◌};
 ghost use Rattle.dn_seal.specs.Sealing.{sealing};
 ghost use Rattle.dn_notice.specs.Text.{sealed_report_bytes};
 
-use crate::append::append;
 use arrayvec::ArrayVec;
 use dn_report::{MAX_REPORT, Report};
-use dn_seal::Sealer;
+use dn_seal::{Sealer, append};
 
 /// The kind of sealed reports among all that is sealed.
 pub const KIND: u8 = 3;

@@ -5,7 +5,7 @@ use Rattle.std.specs.Prelude.{ℕ, true, false, IsTrue, List, [], ◌∷◌, ◌
 use Rattle.dn_setup.specs.Settings.{Settings}
 use Rattle.dn_machine.specs.declared.events.Event.{Event}
 use Rattle.dn_machine.specs.Game.{Game}
-use Rattle.dn_machine.specs.Runs.{is_send}
+use Rattle.dn_machine.specs.Runs.{is_send, Path}
 use Rattle.dn_machine.specs.Worlds.{Rules}
 use Rattle.dn_remain.specs.Remaining.{Remaining, opening_remaining, after_give_up, after_telling, after_hearing, is_barred, after_event}
 use Rattle.dn_remain.specs.declared.events.RemainEvent.{RemainEvent}
@@ -31,9 +31,7 @@ NextRemain rules all (Hear which) next = next ≡ after_hearing rules.limits all
 
 -- a list of events leads from a game to another
 abbrev pub LeadsRemain : {S : Type 0} → Rules S → Remaining → List RemainEvent → Remaining → Type 0
-LeadsRemain rules all [] last = last ≡ all
-LeadsRemain rules all (event ∷ events) last = (next : Remaining) × NextRemain rules all event next
-    × LeadsRemain rules next events last
+LeadsRemain rules all events last = Path (NextRemain rules) all events last
 
 -- a game that the list of events may lead to, from the opening on
 abbrev pub RunsRemain : {S : Type 0} → Rules S → Settings → List RemainEvent → Remaining → Type 0

@@ -12,7 +12,7 @@ use Rattle.dn_seal.specs.declared.opened.SealFault.{SealFault}
 use Rattle.dn_seal.specs.declared.opened.SealFault.TheVariants.{Short, Long, Suite, Kind, Game, Receiver, Tag, Request}
 use Rattle.dn_seal.specs.Hmac.{tag_of}
 use Rattle.dn_seal.specs.Keys.{suite_byte}
-use Rattle.dn_seal.specs.Opening.{Sealing, IsOpenedAs, IsSized, IsOfSuite, IsOfKind, IsOfGame, IsFor, IsTagged, told_game, told_body, told_tag, told_tic, ask_in}
+use Rattle.dn_seal.specs.Opening.{Sealing, envelopes, IsOpenedAs, IsSized, IsOfSuite, IsOfKind, IsOfGame, IsFor, IsTagged, told_game, told_body, told_tag, told_tic, ask_in}
 use Rattle.dn_seal.proofs.Openings.{assembled, asked-small, datagram-short}
 
 -- two lists of numbers are the same, or not
@@ -51,7 +51,7 @@ module _ (s : Sealing) (bytes : List ℕ) (all : All (λ byte. byte < 256) bytes
   abbrev IsSomething : Type 0
   IsSomething = (opened : Result Opened SealFault) × IsOpenedAs s bytes opened
 
-  tagged : IsTagged s bytes → (ask : Option (Option ℕ)) → ask_in (slice_index bytes 16) (told_tic bytes) ≡ ask
+  tagged : IsTagged envelopes s bytes → (ask : Option (Option ℕ)) → ask_in (slice_index bytes 16) (told_tic bytes) ≡ ask
       → IsSomething
   tagged tests None asked = (Err Request, (tests, asked))
   tagged tests (Some ask) asked =
@@ -83,31 +83,31 @@ module _ (s : Sealing) (bytes : List ℕ) (all : All (λ byte. byte < 256) bytes
         ),
       )
 
-  for_me : IsFor s bytes → IsSomething
+  for_me : IsFor envelopes s bytes → IsSomething
   for_me tests = elim (same_lists (told_tag bytes) (tag_of s.seal.key (told_body bytes))) [
     | inl same ↦ tagged (tests, same) (ask_in (slice_index bytes 16) (told_tic bytes)) refl
     | inr other ↦ (Err Tag, (tests, other))
   ]
 
-  of_game : IsOfGame s bytes → IsSomething
+  of_game : IsOfGame envelopes s bytes → IsSomething
   of_game tests = elim (cases_eq (slice_index bytes 11) s.me) [
     | inl same ↦ for_me (tests, same)
     | inr other ↦ (Err Receiver, (tests, other))
   ]
 
-  of_kind : IsOfKind s bytes → IsSomething
+  of_kind : IsOfKind envelopes s bytes → IsSomething
   of_kind tests = elim (same_lists (told_game bytes) (take 8 s.seal.game)) [
     | inl same ↦ of_game (tests, same)
     | inr other ↦ (Err Game, (tests, other))
   ]
 
-  of_suite : IsOfSuite s bytes → IsSomething
+  of_suite : IsOfSuite envelopes s bytes → IsSomething
   of_suite tests = elim (cases_eq (slice_index bytes 1) 1) [
     | inl same ↦ of_kind (tests, same)
     | inr other ↦ (Err Kind, (tests, other))
   ]
 
-  sized : IsSized bytes → IsSomething
+  sized : IsSized envelopes bytes → IsSomething
   sized tests = elim (cases_eq (slice_index bytes 0) (suite_byte s.seal.suite)) [
     | inl same ↦ of_suite (tests, same)
     | inr other ↦ (Err Suite, (tests, other))

@@ -12,7 +12,7 @@ use Rattle.dn_seal.specs.declared.opened.SealFault.TheVariants.{Short, Long, Sui
 use Rattle.dn_seal.specs.Hmac.{tag_of}
 use Rattle.dn_seal.specs.Keys.{suite_byte}
 use Rattle.dn_seal.specs.Envelope.{ask_bytes, head_bytes, body_bytes, envelope}
-use Rattle.dn_seal.specs.Opening.{Sealing, letter_to, IsOpenedAs, IsSized, IsFor, IsTagged, told_game, told_body, told_tag, told_tic, ask_in}
+use Rattle.dn_seal.specs.Opening.{Sealing, envelopes, letter_to, IsOpenedAs, IsSized, IsFor, IsTagged, told_game, told_body, told_tag, told_tic, ask_in}
 use Rattle.dn_seal.proofs.Envelopes.{length-envelope, body-envelope, tag-envelope, datagram-envelope, game-envelope, from-envelope, to-envelope, start-envelope, ask-envelope}
 
 module _ (s : Sealing) (bytes : List ℕ) (o : Opened) (is : IsOpenedAs s bytes (Ok o)) where
@@ -23,7 +23,7 @@ module _ (s : Sealing) (bytes : List ℕ) (o : Opened) (is : IsOpenedAs s bytes 
   len : length bytes ≡ 37 + length o.datagram.items
   len = off length _ (length-envelope s.seal.key (letter_to s o) is.0.game)
 
-  pub opened-tagged : IsTagged s bytes
+  pub opened-tagged : IsTagged envelopes s bytes
   opened-tagged =
       let short = is.0.datagram in
       let body = off told_body _ (body-envelope s.seal.key (letter_to s o) is.0.game) in
@@ -60,7 +60,7 @@ module _ (s : Sealing) (bytes : List ℕ) where
   -- bytes are too short, or too long, and have that fault alone, or pass the test of their number
   abbrev IsByLength : Result Opened SealFault → Type 0
   IsByLength read =
-      ((length bytes < 37) × (Err Short ≡ read)) ⊎ (((141 < length bytes) × (Err Long ≡ read)) ⊎ IsSized bytes)
+      ((length bytes < 37) × (Err Short ≡ read)) ⊎ (((141 < length bytes) × (Err Long ≡ read)) ⊎ IsSized envelopes bytes)
 
   by_length : (read : Result Opened SealFault) → IsOpenedAs s bytes read → IsByLength read
   by_length (Ok o) h = inr (inr (opened-tagged s bytes o h).0.0.0.0.0)
@@ -92,7 +92,7 @@ module _ (s : Sealing) (bytes : List ℕ) where
       go (inr (inr sized)) = absurd (omega (arith, many, sized.1))
 
   -- nor have those whose tag is wrong
-  pub only_tag : IsFor s bytes → told_tag bytes ≢ tag_of s.seal.key (told_body bytes)
+  pub only_tag : IsFor envelopes s bytes → told_tag bytes ≢ tag_of s.seal.key (told_body bytes)
       → (read : Result Opened SealFault) → IsOpenedAs s bytes read → Err Tag ≡ read
   only_tag for wrong (Ok o) h = absurd (wrong (opened-tagged s bytes o h).1)
   only_tag for wrong (Err Short) h = absurd (let t = for.0.0.0.0.0 in omega arith)
@@ -191,7 +191,7 @@ head_is _ s o fits long suite kind game from to start ask = absurd (omega arith)
 
 -- what passes all tests is an envelope
 pub assembled : (bytes : List ℕ) (s : Sealing) (o : Opened) → ((i : ℕ) → get_or bytes i 0 < 256)
-    → IsTagged s bytes → slice_index bytes 10 ≡ o.from → o.start ≡ from_le_bytes w32 (take 4 (drop 12 bytes))
+    → IsTagged envelopes s bytes → slice_index bytes 10 ≡ o.from → o.start ≡ from_le_bytes w32 (take 4 (drop 12 bytes))
     → ask_in (slice_index bytes 16) (told_tic bytes) ≡ Some o.ask
     → o.datagram.items ≡ drop 21 (told_body bytes) → bytes ≡ envelope s.seal.key (letter_to s o)
 assembled bytes s o fits tests from start ask datagram =

@@ -27,25 +27,31 @@ letter_to sealing opened =
       datagram = opened.datagram.items;
     }
 
--- the tests that bytes pass, one after the other
-abbrev pub IsSized : List ℕ → Type 0
-IsSized bytes = (37 ≤ length bytes) × (length bytes ≤ 141)
+-- a kind of sealed bytes: its number, and how many bytes it has at least and at most
+pub record Format : Type 0 where
+  pub kind : ℕ
+  pub least : ℕ
+  pub most : ℕ
 
-abbrev pub IsOfSuite : Sealing → List ℕ → Type 0
-IsOfSuite sealing bytes = IsSized bytes × (slice_index bytes 0 ≡ suite_byte sealing.seal.suite)
+-- the tests that bytes of a format pass, one after the other
+abbrev pub IsSized : Format → List ℕ → Type 0
+IsSized format bytes = (format.least ≤ length bytes) × (length bytes ≤ format.most)
 
-abbrev pub IsOfKind : Sealing → List ℕ → Type 0
-IsOfKind sealing bytes = IsOfSuite sealing bytes × (slice_index bytes 1 ≡ 1)
+abbrev pub IsOfSuite : Format → Sealing → List ℕ → Type 0
+IsOfSuite format sealing bytes = IsSized format bytes × (slice_index bytes 0 ≡ suite_byte sealing.seal.suite)
+
+abbrev pub IsOfKind : Format → Sealing → List ℕ → Type 0
+IsOfKind format sealing bytes = IsOfSuite format sealing bytes × (slice_index bytes 1 ≡ format.kind)
 
 -- the eight bytes of the game's number
 abbrev pub told_game : List ℕ → List ℕ
 told_game bytes = take 8 (drop 2 bytes)
 
-abbrev pub IsOfGame : Sealing → List ℕ → Type 0
-IsOfGame sealing bytes = IsOfKind sealing bytes × (told_game bytes ≡ take 8 sealing.seal.game)
+abbrev pub IsOfGame : Format → Sealing → List ℕ → Type 0
+IsOfGame format sealing bytes = IsOfKind format sealing bytes × (told_game bytes ≡ take 8 sealing.seal.game)
 
-abbrev pub IsFor : Sealing → List ℕ → Type 0
-IsFor sealing bytes = IsOfGame sealing bytes × (slice_index bytes 11 ≡ sealing.me)
+abbrev pub IsFor : Format → Sealing → List ℕ → Type 0
+IsFor format sealing bytes = IsOfGame format sealing bytes × (slice_index bytes 11 ≡ sealing.me)
 
 -- all but the last 16 bytes, and those
 abbrev pub told_body : List ℕ → List ℕ
@@ -54,8 +60,13 @@ told_body bytes = take (length bytes - 16) bytes
 abbrev pub told_tag : List ℕ → List ℕ
 told_tag bytes = drop (length bytes - 16) bytes
 
-abbrev pub IsTagged : Sealing → List ℕ → Type 0
-IsTagged sealing bytes = IsFor sealing bytes × (told_tag bytes ≡ tag_of sealing.seal.key (told_body bytes))
+abbrev pub IsTagged : Format → Sealing → List ℕ → Type 0
+IsTagged format sealing bytes =
+    IsFor format sealing bytes × (told_tag bytes ≡ tag_of sealing.seal.key (told_body bytes))
+
+-- an envelope of one datagram
+abbrev pub envelopes : Format
+envelopes = record { kind = 1; least = 37; most = 141 }
 
 -- the byte that tells whether there is a request, and its tic
 abbrev pub told_tic : List ℕ → ℕ
@@ -69,13 +80,13 @@ ask_in flag tic = if flag == 1 then Some (Some tic) else (if flag == 0 && tic ==
 abbrev pub IsOpenedAs : Sealing → List ℕ → Result Opened SealFault → Type 0
 IsOpenedAs sealing bytes (Ok opened) =
     IsLetter (letter_to sealing opened) × (bytes ≡ envelope sealing.seal.key (letter_to sealing opened))
-IsOpenedAs sealing bytes (Err Short) = length bytes < 37
-IsOpenedAs sealing bytes (Err Long) = 141 < length bytes
-IsOpenedAs sealing bytes (Err Suite) = IsSized bytes × (slice_index bytes 0 ≢ suite_byte sealing.seal.suite)
-IsOpenedAs sealing bytes (Err Kind) = IsOfSuite sealing bytes × (slice_index bytes 1 ≢ 1)
-IsOpenedAs sealing bytes (Err Game) = IsOfKind sealing bytes × (told_game bytes ≢ take 8 sealing.seal.game)
-IsOpenedAs sealing bytes (Err Receiver) = IsOfGame sealing bytes × (slice_index bytes 11 ≢ sealing.me)
+IsOpenedAs sealing bytes (Err Short) = length bytes < envelopes.least
+IsOpenedAs sealing bytes (Err Long) = envelopes.most < length bytes
+IsOpenedAs sealing bytes (Err Suite) = IsSized envelopes bytes × (slice_index bytes 0 ≢ suite_byte sealing.seal.suite)
+IsOpenedAs sealing bytes (Err Kind) = IsOfSuite envelopes sealing bytes × (slice_index bytes 1 ≢ envelopes.kind)
+IsOpenedAs sealing bytes (Err Game) = IsOfKind envelopes sealing bytes × (told_game bytes ≢ take 8 sealing.seal.game)
+IsOpenedAs sealing bytes (Err Receiver) = IsOfGame envelopes sealing bytes × (slice_index bytes 11 ≢ sealing.me)
 IsOpenedAs sealing bytes (Err Tag) =
-    IsFor sealing bytes × (told_tag bytes ≢ tag_of sealing.seal.key (told_body bytes))
+    IsFor envelopes sealing bytes × (told_tag bytes ≢ tag_of sealing.seal.key (told_body bytes))
 IsOpenedAs sealing bytes (Err Request) =
-    IsTagged sealing bytes × (ask_in (slice_index bytes 16) (told_tic bytes) ≡ None)
+    IsTagged envelopes sealing bytes × (ask_in (slice_index bytes 16) (told_tic bytes) ≡ None)

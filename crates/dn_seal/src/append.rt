@@ -5,7 +5,7 @@ ghost use Rattle.std.specs.Prelude.{◌≡◌, ◌≤◌, ◌+◌, ◌++◌, len
 use arrayvec::ArrayVec;
 
 /// Appends bytes for which there is room.
-pub(crate) fn append<const N: usize>(bytes: &mut ArrayVec<u8, N>, more: &[u8])
+pub fn append<const N: usize>(bytes: &mut ArrayVec<u8, N>, more: &[u8])
     requires { length bytes.old.items + length more.now ≤ N }
     ensures { bytes.new.items ≡ bytes.old.items ++ more.now }
 {

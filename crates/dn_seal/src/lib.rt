@@ -12,6 +12,7 @@ mod tag;
 #[cfg(test)]
 mod tests;
 
+pub use append::append;
 pub use laws::every_list_is_opened;
 pub use mac::hmac;
 pub use opened::{Opened, SealFault};

@@ -94,14 +94,6 @@ pub fn ask_in(flag: u8, tic: u32) -> Option<Option<u32>>
     None
 }
 
-/// Whether bytes have this game's number.
-fn is_of_game(bytes: &[u8], game: &[u8; 16]) -> bool
-    requires { 10 ≤ length bytes.now }
-    ensures { IsTrue result ↔ (told_game bytes.now ≡ take 8 game.now) }
-{
-    bytes[2..2 + TOLD] == game[..TOLD]
-}
-
 /// The datagram in an envelope.
 fn datagram_in(bytes: &[u8]) -> ArrayVec<u8, 104>
     requires long { 37 ≤ length bytes.now }
@@ -162,6 +154,14 @@ impl Sealer {
         front[1] = kind;
         front[2..].copy_from_slice(&self.seal.game[..TOLD]);
         front
+    }
+
+    /// Whether bytes have the game's number, as far as every envelope tells it.
+    pub fn is_of_game(&self, bytes: &[u8]) -> bool
+        requires { 10 ≤ length bytes.now }
+        ensures { IsTrue result ↔ (told_game bytes.now ≡ take 8 (sealing self.now).seal.game) }
+    {
+        bytes[2..2 + TOLD] == self.seal.game[..TOLD]
     }
 
     /// A hasher that has taken the key, for a message.
@@ -247,7 +247,7 @@ impl Sealer {
         if bytes[1] != KIND {
             return Err(SealFault::Kind);
         }
-        if !is_of_game(bytes, &self.seal.game) {
+        if !self.is_of_game(bytes) {
             return Err(SealFault::Game);
         }
         if bytes[11] != self.me {

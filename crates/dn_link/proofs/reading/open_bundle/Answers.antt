@@ -1,9 +1,9 @@
 use Rattle.std.proofs.Common.{◌≡◌, ◌≢◌, ◌≤◌, rules, sym, ◌∙◌, arith, length}
 use Rattle.std.specs.Prelude.{slice_index}
 use Rattle.dn_seal.specs.Hmac.{tag_of}
-use Rattle.dn_seal.specs.Opening.{told_body, told_tag}
+use Rattle.dn_seal.specs.Opening.{IsOfGame, IsFor, IsTagged, told_body, told_tag}
 use Rattle.dn_seal.specs.Sealing.{sealing}
-use Rattle.dn_link.specs.Reading.{IsOfGame, IsFor, IsTagged}
+use Rattle.dn_link.specs.Reading.{bundles}
 use Rattle.dn_link.proofs.Openings.{only_short, only_long, only_receiver, only_tag, only_form, only_bundle, formless, datagram_is, eight_long}
 use Rattle.dn_link.proofs.reading.open_bundle.Goals as goal
 
@@ -16,14 +16,14 @@ returns-then-bytes-gt1200-clause-only c = only_long _ _ (omega arith)
 pub returns-then-bytes-me-clause-only : goal.returns-then-bytes-me-clause-only
 returns-then-bytes-me-clause-only c =
     let s = sealing c.args.sealer.now in
-    let of : IsOfGame s c.args.bytes.now = search rules in
+    let of : IsOfGame bundles s c.args.bytes.now = search rules in
     let other : slice_index c.args.bytes.now 11 ≢ s.me = search rules in
     only_receiver s c.args.bytes.now of other
 
 pub returns-then-not-is_tagged-clause-only : goal.returns-then-not-is_tagged-clause-only
 returns-then-not-is_tagged-clause-only c =
     let s = sealing c.args.sealer.now in
-    let for : IsFor s c.args.bytes.now = search rules in
+    let for : IsFor bundles s c.args.bytes.now = search rules in
     let wrong : told_tag c.args.bytes.now ≢ tag_of s.seal.key (told_body c.args.bytes.now) = search rules in
     only_tag s c.args.bytes.now for wrong
 
@@ -31,7 +31,7 @@ opens : goal.returns-in-Some-clause-opens
 opens c =
     let s = sealing c.args.sealer.now in
     let bytes = c.args.bytes.now in
-    let tests : IsTagged s bytes = search rules in
+    let tests : IsTagged bundles s bytes = search rules in
     let ten : length c.front-front.result ≡ 10 = search rules in
     let game : 8 ≤ length s.seal.game = eight_long _ _ s.seal.game c.front-front.result c.front-front.ensures ten in
     datagram_is s bytes game (λ i. omega (arith, c.type_inv.bytes i)) tests c.in-Some.bundle
@@ -45,10 +45,10 @@ returns-in-Some-clause-only c = only_bundle _ _ _ (opens c)
 
 pub returns-in-None-clause-opens : goal.returns-in-None-clause-opens
 returns-in-None-clause-opens c =
-    let tests : IsTagged (sealing c.args.sealer.now) c.args.bytes.now = search rules in
+    let tests : IsTagged bundles (sealing c.args.sealer.now) c.args.bytes.now = search rules in
     formless (sealing c.args.sealer.now) c.args.bytes.now tests (sym c.bundle_in.ensures ∙ c.in-None.is)
 
 pub returns-in-None-clause-only : goal.returns-in-None-clause-only
 returns-in-None-clause-only c =
-    let tests : IsTagged (sealing c.args.sealer.now) c.args.bytes.now = search rules in
+    let tests : IsTagged bundles (sealing c.args.sealer.now) c.args.bytes.now = search rules in
     only_form (sealing c.args.sealer.now) c.args.bytes.now tests (sym c.bundle_in.ensures ∙ c.in-None.is)

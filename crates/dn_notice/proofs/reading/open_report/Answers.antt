@@ -1,10 +1,10 @@
 use Rattle.std.proofs.Common.{rules, ◌≢◌, Ok, Err}
 use Rattle.std.specs.Prelude.{slice_index}
 use Rattle.dn_seal.specs.Hmac.{tag_of}
-use Rattle.dn_seal.specs.Opening.{told_body, told_tag}
+use Rattle.dn_seal.specs.Opening.{IsFor, told_body, told_tag}
 use Rattle.dn_seal.specs.Sealing.{sealing}
 use Rattle.dn_notice.specs.declared.fault.ReportDatagramFault.TheVariants.{Tag, Form}
-use Rattle.dn_notice.specs.Opening.{IsFor, IsOfPlayer}
+use Rattle.dn_notice.specs.Opening.{sealed_reports, IsOfPlayer}
 use Rattle.dn_notice.proofs.Openings.{one_opening, report_is}
 use Rattle.dn_notice.proofs.reading.open_report.Goals as goal
 
@@ -16,7 +16,7 @@ pub returns-then-not-is_tagged-clause-only : goal.returns-then-not-is_tagged-cla
 returns-then-not-is_tagged-clause-only c = λ read.
     let s = sealing c.args.sealer.now in
     let bytes = c.args.bytes.now in
-    let for : IsFor s bytes = search rules in
+    let for : IsFor sealed_reports s bytes = search rules in
     let wrong : told_tag bytes ≢ tag_of s.seal.key (told_body bytes) = search rules in
     one_opening s bytes (Err Tag) read (for, wrong)
 

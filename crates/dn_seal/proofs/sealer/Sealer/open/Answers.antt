@@ -1,7 +1,7 @@
 use Rattle.std.proofs.Common.{rules, ◌≡◌, ◌<◌, ◌^◌, Some, length, arith, sym, ap, ◌∙◌}
 use Rattle.std.specs.Prelude.{slice_index}
 use Rattle.dn_seal.specs.Sealing.{sealing}
-use Rattle.dn_seal.specs.Opening.{IsTagged, ask_in, told_tic}
+use Rattle.dn_seal.specs.Opening.{IsTagged, ask_in, envelopes, told_tic}
 use Rattle.dn_seal.proofs.Openings.{only_short, only_long, only_tag, only_opened, assembled, asked-small, datagram-short}
 use Rattle.dn_seal.proofs.sealer.Sealer.open.Goals as goal
 
@@ -17,7 +17,7 @@ returns-then-not-is_tagged-clause-only c = only_tag _ _ (search rules) (search r
 opens : goal.returns-clause-opens
 opens c =
     let bytes = c.args.bytes.now in
-    let tests : IsTagged (sealing c.args.self.now) bytes = search rules in
+    let tests : IsTagged envelopes (sealing c.args.self.now) bytes = search rules in
     let ask : ask_in (slice_index bytes 16) (told_tic bytes) ≡ Some c.in-Some.ask =
     ap (ask_in (slice_index bytes 16)) (sym c.tic_at.ensures) ∙ sym c.ask_in.ensures ∙ c.in-Some.is in
     let small : c.tic_at.result < 2 ^ 32 = c.tic_at.type_inv in

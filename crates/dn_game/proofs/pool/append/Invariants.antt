@@ -1,8 +1,0 @@
-use Rattle.std.proofs.Common.{◌≡◌, ◌++◌, take}
-use Rattle.std.specs.Vec.{vec_capacity}
-use Rattle.dn_game.proofs.pool.append.Given as goal
-
-abbrev pub invariant-loop-byte : goal.invariant-loop-byte
-invariant-loop-byte l =
-    (l.bytes.items ≡ l.fn.bytes.items ++ take l.byte-index l.more)
-    × (vec_capacity l.bytes ≡ vec_capacity l.fn.bytes)
