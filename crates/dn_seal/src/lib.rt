@@ -1,7 +1,7 @@
 //! Datagrams in envelopes that only the players of a game can make: HMAC-SHA-256, sealing and opening.
 #![tactic(auto)]
 
-mod append;
+mod appending;
 mod laws;
 mod mac;
 mod opened;
@@ -12,7 +12,7 @@ mod tag;
 #[cfg(test)]
 mod tests;
 
-pub use append::append;
+pub use appending::append;
 pub use laws::every_list_is_opened;
 pub use mac::hmac;
 pub use opened::{Opened, SealFault};

@@ -3,7 +3,7 @@
 ghost use Rattle.std.specs.Prelude.{◌≡◌, replicate};
 ghost use Rattle.dn_seal.specs.{Keys.game_key, Keys.no_secret, declared.suite.Suite.TheVariants.Secret, declared.suite.Suite.TheVariants.Open};
 
-use crate::append::append;
+use crate::appending::append;
 use crate::mac::hmac;
 use crate::suite::{Suite, label};
 use arrayvec::ArrayVec;

@@ -6,7 +6,7 @@ ghost use Rattle.dn_seal.specs.{Begun.HasTaken, Begun.HasTaken-prop, Hmac.tag_of
 ghost use Rattle.dn_seal.specs.{Opening.told_game, Opening.told_body, Opening.told_tag, Opening.ask_in, declared.opened.Opened.Opened, declared.opened.SealFault.SealFault};
 ghost use Rattle.dn_seal.specs.{declared.suite.Suite.TheVariants.Secret, declared.suite.Suite.TheVariants.Open};
 
-use crate::append::append;
+use crate::appending::append;
 use crate::mac::{INNER, OUTER, begun, finished};
 use crate::opened::{Opened, SealFault};
 use crate::seal::Seal;
