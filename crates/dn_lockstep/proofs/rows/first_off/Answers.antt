@@ -1,5 +1,5 @@
-use Rattle.std.proofs.Common.{rules, ◌≡◌, ap, sym, ◌∙◌, not, arith}
-use Rattle.std.proofs.lemmas.Bool.{lt-ltb, and_left, and_right, and_from}
+use Rattle.std.proofs.Common.{rules, ◌≡◌, ◌∙◌, not, arith}
+use Rattle.std.proofs.lemmas.Bool.{and_left, and_right, and_from}
 use Rattle.dn_machine.proofs.Marks.{lowest_none_each}
 use Rattle.dn_lockstep.specs.Rings.{ring_at}
 use Rattle.dn_lockstep.specs.Peers.{peer_at}
@@ -19,12 +19,12 @@ loop-player-init c = lowest_zero _
 
 pub returns-then-is_differing-clause-lowest : goal.returns-then-is_differing-clause-lowest
 returns-then-is_differing-clause-lowest c =
-    let late = lt-ltb 12 c.args.tic (omega arith) in
-    rw late (sym (lowest_found c.args.players c.loop-player.player
+    rw (lowest_found c.args.players c.loop-player.player
     (differs_but (has c.args.given_up.now) (ring_at c.args.rings.now) (peer_at c.args.peers.now)
     (slot c.args.marks.now) c.args.tic)
     (omega arith) c.loop-player.invariant
-    (and_from (not (has c.args.given_up.now c.loop-player.player)) _ (search rules) (search rules))))
+    (and_from (not (has c.args.given_up.now c.loop-player.player)) _ (search rules) (search rules)))
+    (search rules)
 
 pub loop-player-preserved : goal.loop-player-preserved
 loop-player-preserved c =
