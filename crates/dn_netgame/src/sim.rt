@@ -4,11 +4,11 @@ ghost use Rattle.std.specs.{Prelude.◌≡◌, Prelude.◌+◌, Prelude.Err, Pre
 ghost use Rattle.dn_demo.specs.Recorded.{IsLimit};
 ghost use Rattle.dn_lockstep.specs.Opening.{IsGame};
 ghost use Rattle.dn_script.specs.Script.{size_limit};
-ghost use Rattle.dn_netgame.specs.{Shown.ShowsOrFails, SimShown.ArePlayed, SimShown.IsFaultShown, SimShown.IsSim, Told.IsQuiet, Told.IsTrace, declared.fault.RunFault.RunFault};
+ghost use Rattle.dn_netgame.specs.{Shown.ShowsOrFails, SimShown.ArePlayed, SimShown.IsFaultShown, SimShown.IsSim, Told.IsQuiet, declared.fault.RunFault.RunFault};
 
 use crate::fault::RunFault;
 use crate::games::new_walks;
-use crate::telling::{Telling, Trace};
+use crate::telling::Telling;
 use crate::transfer::{gather, print};
 use dn_game::{Event, GameConfig, GameFault, Nobody, play_observed};
 use dn_script::{MAX_SCRIPT, ScriptFault, read_script};
@@ -70,8 +70,14 @@ fn text_of<T: Telling>(
     }
 }
 
-/// Reads a script, plays it, and writes what is told of it.
-fn tell_sim<T: Telling, R: Read, W: Write>(
+/// Reads a script of at most 1,048,576 bytes, plays its events in a game of `players` new walks, and writes what
+/// `T` tells of it: [`Nobody`] the lines of the game, and [`Trace`] a line for each event before them. The answer
+/// is the exit status: 0 for a script, 1 for bytes that are none.
+///
+/// A read that fails is the fault `Read`, a write that fails or takes no bytes is `Write`, and
+/// `Memory` is answered where memory for the script, the game or the text was refused. Each ends
+/// the run there. A packet that found no room is no fault for these two: its event counts as refused.
+pub fn tell_sim<T: Telling, R: Read, W: Write>(
     alloc: Global,
     config: GameConfig,
     players: u8,
@@ -89,13 +95,7 @@ fn tell_sim<T: Telling, R: Read, W: Write>(
     print(output, text.as_bytes(), status)
 }
 
-/// Reads a script of at most 1,048,576 bytes, plays its events in a game of `players` new walks, and
-/// writes the lines of the game. The answer is the exit status: 0 for a script, 1 for bytes that are
-/// none.
-///
-/// A read that fails is the fault `Read`, a write that fails or takes no bytes is `Write`, and
-/// `Memory` is answered where memory for the script, the game or the lines was refused. Each ends
-/// the run there. A packet that found no room is no fault: its event counts as refused.
+/// Writes the lines of the game that a script is, as `tell_sim` does.
 pub fn run_sim<R: Read, W: Write>(
     alloc: Global,
     config: GameConfig,
@@ -109,22 +109,4 @@ pub fn run_sim<R: Read, W: Write>(
         (R.remaining input.new) output.old output.new result }
 {
     tell_sim::<Nobody, _, _>(alloc, config, players, input, output)
-}
-
-/// Does what `run_sim` does, and writes a line for each event before the lines of the game: its number,
-/// counted from 0, the event in the words of a script, and its answer in words. Its faults are those of
-/// `run_sim`.
-pub fn trace_sim<R: Read, W: Write>(
-    alloc: Global,
-    config: GameConfig,
-    players: u8,
-    input: &mut R,
-    output: &mut W,
-) -> Result<u8, RunFault>
-    requires players { IsGame players }
-    requires limit { IsLimit config.limit }
-    ensures { ShowsOrFails W.contents (size_limit + 1) (IsSim IsTrace config players) (R.remaining input.old)
-        (R.remaining input.new) output.old output.new result }
-{
-    tell_sim::<Trace, _, _>(alloc, config, players, input, output)
 }

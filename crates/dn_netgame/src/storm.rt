@@ -1,25 +1,29 @@
 //! A storm: a game under events drawn from a seed, and the calm after it.
 
-ghost use Rattle.std.specs.Prelude.{None, Some};
+ghost use Rattle.std.specs.Prelude.{None};
 ghost use Rattle.dn_demo.specs.Recorded.{IsLimit};
 ghost use Rattle.dn_lockstep.specs.Opening.{IsGame};
-ghost use Rattle.dn_netgame.specs.{Shown.PrintsOrFails, StormShown.IsStorm, Told.IsQuiet, Told.IsTrace, Told.IsScript};
+ghost use Rattle.dn_netgame.specs.{Shown.PrintsOrFails, StormShown.IsStorm, Told.IsQuiet};
 
 use crate::calm::calm_after;
 use crate::fault::RunFault;
 use crate::games::storm_walks;
-use crate::telling::{Script, Telling, Trace};
+use crate::telling::Telling;
 use crate::transfer::print;
 use dn_game::{GameConfig, Nobody};
 use std::alloc::Global;
 use std::io::Write;
 
-/// How many events of which seed's schedule, and how many rounds after them if a calm follows.
+/// How many events of which seed's schedule are played, and how many rounds after them, if a calm follows, in
+/// which every packet arrives and nobody presses a key.
 #[derive(Clone, Copy)]
-struct Storm {
-    seed: u64,
-    count: u32,
-    calm: Option<u32>,
+pub struct Storm {
+    /// The schedule's seed.
+    pub seed: u64,
+    /// How many events.
+    pub count: u32,
+    /// How many rounds, if a calm follows.
+    pub calm: Option<u32>,
 }
 
 /// The line of a calm that was cut short.
@@ -28,8 +32,17 @@ const TOO_MANY: &str = "too many packets\n";
 /// The exit status of a calm that was cut short.
 const CUT_SHORT: u8 = 3;
 
-/// Plays the storm, and writes what is told of it.
-fn tell_storm<T: Telling, W: Write>(
+/// Plays the storm, and the calm if there is one, in a game of `players` new walks, and writes what `T` tells of
+/// it: [`Nobody`] the lines of the game; [`Trace`] a line for each event of the schedule before them, with its
+/// number, counted from 0, the event in the words of a script, and its answer in words; and [`Script`] the events
+/// as a script, which `run_sim` reads if it has at most 1,048,576 bytes. The rounds of a calm have no lines, and no
+/// line counts them. The answer is the exit status: 0, and 3 where a round would send a packet after 2^32, which
+/// no event can name; then one line says so.
+///
+/// A write that fails or takes no bytes is the fault `Write`, and `Memory` is answered where memory
+/// for the game, a packet of the rounds or the text was refused. Each ends the run there. A packet of the storm
+/// that found no room is no fault, and its event counts as refused, but where a script is written.
+pub fn tell_storm<T: Telling, W: Write>(
     alloc: Global,
     config: GameConfig,
     players: u8,
@@ -50,12 +63,7 @@ fn tell_storm<T: Telling, W: Write>(
     print(output, text.as_bytes(), 0)
 }
 
-/// Plays `count` events of the seed's schedule in a game of `players` new walks, and writes the lines
-/// of the game. The answer is the exit status, which is always 0.
-///
-/// A write that fails or takes no bytes is the fault `Write`, and `Memory` is answered where memory
-/// for the game or the lines was refused. Each ends the run there. A packet that found no room is no
-/// fault: its event counts as refused.
+/// Writes the lines of a storm that no calm follows, as `tell_storm` does. The exit status is always 0.
 pub fn run_storm<W: Write>(
     alloc: Global,
     config: GameConfig,
@@ -72,76 +80,4 @@ pub fn run_storm<W: Write>(
     let calm = None;
     let storm = Storm { seed, count, calm };
     tell_storm::<Nobody, _>(alloc, config, players, storm, output)
-}
-
-/// Plays `count` events of the seed's schedule in a game of `players` new Walks, then `calm` rounds in
-/// which every packet arrives and nobody presses a key, and writes the lines of the game. The events
-/// that the last line counts are those of the schedule alone. The answer is the exit status: 0, and 3 where
-/// a round would send a packet after 2^32, which no event can name; then one line says so.
-///
-/// A write that fails or takes no bytes is the fault `Write`, and `Memory` is answered where memory
-/// for the game, a packet of the rounds or the lines was refused. Each ends the run there. A packet
-/// of the storm that found no room is no fault: its event counts as refused.
-pub fn run_calm<W: Write>(
-    alloc: Global,
-    config: GameConfig,
-    players: u8,
-    seed: u64,
-    count: u32,
-    calm: u32,
-    output: &mut W,
-) -> Result<u8, RunFault>
-    requires players { IsGame players }
-    requires limit { IsLimit config.limit }
-    ensures { PrintsOrFails W.contents (IsStorm IsQuiet config players seed count (Some calm)) output.old
-        output.new result }
-{
-    let calm = Some(calm);
-    let storm = Storm { seed, count, calm };
-    tell_storm::<Nobody, _>(alloc, config, players, storm, output)
-}
-
-/// Does what `run_calm` does, and writes a line for each event of the schedule before the lines of the game:
-/// its number, counted from 0, the event in the words of a script, and its answer in words. The rounds have
-/// no lines. Its faults are those of `run_calm`.
-pub fn trace_storm<W: Write>(
-    alloc: Global,
-    config: GameConfig,
-    players: u8,
-    seed: u64,
-    count: u32,
-    calm: u32,
-    output: &mut W,
-) -> Result<u8, RunFault>
-    requires players { IsGame players }
-    requires limit { IsLimit config.limit }
-    ensures { PrintsOrFails W.contents (IsStorm IsTrace config players seed count (Some calm)) output.old
-        output.new result }
-{
-    let calm = Some(calm);
-    let storm = Storm { seed, count, calm };
-    tell_storm::<Trace, _>(alloc, config, players, storm, output)
-}
-
-/// Plays `count` events of the seed's schedule in a game of `players` new walks, and writes them as a script,
-/// which `run_sim` reads if it has at most 1,048,576 bytes. The answer is the exit status, which is always 0.
-///
-/// A write that fails or takes no bytes is the fault `Write`, and `Memory` is answered where memory for the
-/// game, a packet or the script was refused. Each ends the run there.
-pub fn storm_script<W: Write>(
-    alloc: Global,
-    config: GameConfig,
-    players: u8,
-    seed: u64,
-    count: u32,
-    output: &mut W,
-) -> Result<u8, RunFault>
-    requires players { IsGame players }
-    requires limit { IsLimit config.limit }
-    ensures { PrintsOrFails W.contents (IsStorm IsScript config players seed count None) output.old output.new
-        result }
-{
-    let calm = None;
-    let storm = Storm { seed, count, calm };
-    tell_storm::<Script, _>(alloc, config, players, storm, output)
 }

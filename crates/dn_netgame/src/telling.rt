@@ -1,4 +1,5 @@
-//! What a run tells of a game: three ways, each with an observer of its own.
+//! What a run tells of a game: three ways, each an observer of its own. What a trace and a script hold is the
+//! text so far.
 
 ghost use Rattle.std.specs.{Prelude.◌≡◌, Prelude.[], Prelude.IfOk, String.string_bytes};
 ghost use Rattle.dn_netgame.specs.Told.{Account, IsQuiet, IsTrace, IsScript, AddsTraced, AddsScripted, HasText};
@@ -10,7 +11,7 @@ use dn_world::Walk;
 use std::alloc::{AllocError, Global};
 
 /// A way to tell of a game: it is told of each event, and has the text in the end.
-pub(crate) trait Telling: Observer + Drop {
+pub trait Telling: Observer + Drop {
     // which text it makes of events, their answers and the game that they led to
     ghost account: { Account };
 
@@ -46,7 +47,7 @@ impl Telling for Nobody {
 
 /// A line for each event with its answer, and then the lines of the game.
 #[derive(Drop)]
-pub(crate) struct Trace(String);
+pub struct Trace(pub String);
 
 impl Observer for Trace {
     ghost observes = { AddsTraced (λ trace. string_bytes trace.0) };
@@ -80,7 +81,7 @@ impl Telling for Trace {
 /// The script of the events alone. It ends a game that leaves out a send for lack of memory, since the script
 /// would not lead there again.
 #[derive(Drop)]
-pub(crate) struct Script(String);
+pub struct Script(pub String);
 
 impl Observer for Script {
     ghost observes = { AddsScripted (λ script. string_bytes script.0) };

@@ -3,9 +3,10 @@
 use crate::network::{run_host, run_join, run_key};
 use crate::status::MISUSED;
 use clap::ArgMatches;
+use dn_game::Nobody;
 use dn_netgame::{
-    RunFault, run_calm, run_demo, run_loop, run_play, run_rows, run_show, run_sim, run_upgrade,
-    storm_script, trace_sim, trace_storm,
+    RunFault, Script, Storm, Trace, run_demo, run_loop, run_play, run_rows, run_show, run_upgrade,
+    tell_sim, tell_storm,
 };
 use dn_node::Config;
 use std::io;
@@ -54,9 +55,9 @@ fn run_script(rt: &(impl Input + Print + AllocGlobal), matches: &ArgMatches<'_>)
     };
     let (mut input, mut output) = (rt.reader(), io::writer(rt));
     if dn_options::trace(matches) {
-        trace_sim(rt.alloc(), config, players, &mut input, &mut output)
+        tell_sim::<Trace, _, _>(rt.alloc(), config, players, &mut input, &mut output)
     } else {
-        run_sim(rt.alloc(), config, players, &mut input, &mut output)
+        tell_sim::<Nobody, _, _>(rt.alloc(), config, players, &mut input, &mut output)
     }
 }
 
@@ -69,12 +70,15 @@ fn run_schedule(rt: &(impl Print + AllocGlobal), matches: &ArgMatches<'_>) -> St
         return Ok(MISUSED);
     };
     let mut output = io::writer(rt);
-    if dn_options::script(matches) {
-        storm_script(rt.alloc(), config, players, seed, count, &mut output)
+    let as_script = dn_options::script(matches);
+    let calm = if as_script { None } else { Some(calm) };
+    let storm = Storm { seed, count, calm };
+    if as_script {
+        tell_storm::<Script, _>(rt.alloc(), config, players, storm, &mut output)
     } else if dn_options::trace(matches) {
-        trace_storm(rt.alloc(), config, players, seed, count, calm, &mut output)
+        tell_storm::<Trace, _>(rt.alloc(), config, players, storm, &mut output)
     } else {
-        run_calm(rt.alloc(), config, players, seed, count, calm, &mut output)
+        tell_storm::<Nobody, _>(rt.alloc(), config, players, storm, &mut output)
     }
 }
 

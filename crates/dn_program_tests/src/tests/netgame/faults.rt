@@ -10,10 +10,10 @@ use super::show::ONE;
 use super::storms::LEFT_OUT_SHOWN;
 use super::streams::{NEVER, Sink, Source, WHOLE};
 use super::upgrades::LEAST;
-use dn_game::GameConfig;
+use dn_game::{GameConfig, Nobody};
 use dn_netgame::{
-    RunFault, run_calm, run_demo, run_rows, run_show, run_sim, run_storm, run_upgrade,
-    storm_script, trace_sim, trace_storm,
+    RunFault, Script, Storm, Trace, run_demo, run_rows, run_show, run_sim, run_storm, run_upgrade,
+    tell_sim, tell_storm,
 };
 use dn_shared_tests::{holds, must, same};
 use std::alloc::Global;
@@ -58,6 +58,15 @@ const READERS: [(Run, u8); 6] = [
     (Run::SimTraced, 6),
 ];
 
+/// A storm of one event, and the calm after it.
+fn storm_with(calm: Option<u32>) -> Storm {
+    Storm {
+        seed: 3,
+        count: 1,
+        calm,
+    }
+}
+
 /// Runs it, a storm for one event, which sends a packet. The reader gives at most `most` bytes a call, and
 /// fails at one call.
 fn ended(
@@ -79,11 +88,11 @@ fn ended(
         Run::Rows => run_rows(alloc, &mut demo, output),
         Run::Upgrade => run_upgrade(alloc, LEAST, &mut demo, output),
         Run::Sim => run_sim(alloc, game, 2, &mut script, output),
-        Run::SimTraced => trace_sim(alloc, game, 2, &mut script, output),
+        Run::SimTraced => tell_sim::<Trace, _, _>(alloc, game, 2, &mut script, output),
         Run::Storm => run_storm(alloc, game, 2, 3, 1, output),
-        Run::StormTraced => trace_storm(alloc, game, 2, 3, 1, 0, output),
-        Run::Calm => run_calm(alloc, game, 2, 3, 1, 4, output),
-        Run::Script => storm_script(alloc, game, 2, 3, 1, output),
+        Run::StormTraced => tell_storm::<Trace, _>(alloc, game, 2, storm_with(Some(0)), output),
+        Run::Calm => tell_storm::<Nobody, _>(alloc, game, 2, storm_with(Some(4)), output),
+        Run::Script => tell_storm::<Script, _>(alloc, game, 2, storm_with(None), output),
     }
 }
 

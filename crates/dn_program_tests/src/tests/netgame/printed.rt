@@ -4,8 +4,10 @@ ghost use Rattle.dn_demo.specs.Recorded.{IsLimit};
 ghost use Rattle.dn_lockstep.specs.Opening.{IsGame};
 
 use super::games::rules;
-use dn_game::GameConfig;
-use dn_netgame::{RunFault, run_calm, run_demo, run_rows, run_sim, run_storm, run_upgrade};
+use dn_game::{GameConfig, Nobody};
+use dn_netgame::{
+    RunFault, Storm, run_demo, run_rows, run_sim, run_storm, run_upgrade, tell_storm,
+};
 use dn_setup::SettingsFault;
 use dn_shared_tests::same;
 use std::alloc::Global;
@@ -81,8 +83,10 @@ pub(crate) fn calm(alloc: Global, game: GameConfig, players: u8, storm: (u64, u3
     requires limit { IsLimit game.limit }
     requires players { IsGame players }
 {
-    let (seed, count, calm) = storm;
+    let (seed, count, rounds) = storm;
+    let calm = Some(rounds);
+    let storm = Storm { seed, count, calm };
     let mut bytes = Vec::new(alloc);
-    let status = run_calm(alloc, game, players, seed, count, calm, &mut bytes);
+    let status = tell_storm::<Nobody, _>(alloc, game, players, storm, &mut bytes);
     Printed { status, bytes }
 }

@@ -4,7 +4,7 @@ use super::games::{DEFAULT_LIMIT, rules};
 use super::printed::{calm, prints, sim, storm};
 use super::scripts::{QUIT, QUIT_SHOWN, STARTED, joined};
 use dn_game::{Done, Event, Refusal};
-use dn_netgame::{storm_script, trace_sim, trace_storm};
+use dn_netgame::{Script, Storm, Trace, tell_sim, tell_storm};
 use dn_node::{Heard, Made, Ran};
 use dn_shared_tests::{holds, must, same};
 use dn_text::{push_answer, push_trace_line};
@@ -179,7 +179,7 @@ fn scripts_are_told_event_by_event(rt: HostRuntime) {
         let mut input = script;
         let mut output = Vec::new(rt.alloc());
         let game = must!(rt; rules(DEFAULT_LIMIT));
-        let answer = trace_sim(rt.alloc(), game, 2, &mut input, &mut output);
+        let answer = tell_sim::<Trace, _, _>(rt.alloc(), game, 2, &mut input, &mut output);
         same!(rt; answer, Ok(status));
         same!(rt; output.as_slice(), text.as_bytes());
     }
@@ -191,7 +191,7 @@ fn packets_that_are_dropped_are_told(rt: HostRuntime) {
     let mut input = b"send 0 1\ndeliver 0\ndeliver 0\nsend 1 2\ndeliver 1\n".as_slice();
     let mut output = Vec::new(rt.alloc());
     let game = must!(rt; rules(DEFAULT_LIMIT));
-    let status = trace_sim(rt.alloc(), game, 3, &mut input, &mut output);
+    let status = tell_sim::<Trace, _, _>(rt.alloc(), game, 3, &mut input, &mut output);
     let text = b"event 0 send 0 1: sent 0\n\
         event 1 deliver 0: started\n\
         event 2 deliver 0: dropped 6 set-up\n\
@@ -212,7 +212,12 @@ fn storms_are_told_event_by_event(rt: HostRuntime) {
         must!(rt; text.extend_from_slice(plain.bytes.as_slice()));
         let mut output = Vec::new(rt.alloc());
         let game = must!(rt; rules(DEFAULT_LIMIT));
-        let status = trace_storm(rt.alloc(), game, 2, 42, 6, rounds, &mut output);
+        let storm = Storm {
+            seed: 42,
+            count: 6,
+            calm: Some(rounds),
+        };
+        let status = tell_storm::<Trace, _>(rt.alloc(), game, 2, storm, &mut output);
         same!(rt; status, Ok(0), rounds);
         same!(rt; output.as_slice(), text.as_slice(), rounds);
     }
@@ -223,7 +228,12 @@ fn a_storm_is_written_as_its_script(rt: HostRuntime) {
     let rt = &rt;
     let mut output = Vec::new(rt.alloc());
     let game = must!(rt; rules(DEFAULT_LIMIT));
-    let status = storm_script(rt.alloc(), game, 2, 42, 6, &mut output);
+    let storm = Storm {
+        seed: 42,
+        count: 6,
+        calm: None,
+    };
+    let status = tell_storm::<Script, _>(rt.alloc(), game, 2, storm, &mut output);
     same!(rt; status, Ok(0));
     same!(rt; output.as_slice(), DRAWN.as_bytes());
 }
@@ -234,13 +244,15 @@ fn a_storm_is_played_again_by_its_script(rt: HostRuntime) {
     let rt = &rt;
     for (players, seed, count) in [(2, 1, 1_000), (3, 7, 3_000), (4, 4_294_967_295, 5_000)] {
         let game = must!(rt; rules(DEFAULT_LIMIT));
-        let storm = storm(rt.alloc(), game, players, seed, count);
-        same!(rt; storm.status, Ok(0), seed);
+        let played = storm(rt.alloc(), game, players, seed, count);
+        same!(rt; played.status, Ok(0), seed);
         let mut script = Vec::new(rt.alloc());
         let game = must!(rt; rules(DEFAULT_LIMIT));
-        let written = storm_script(rt.alloc(), game, players, seed, count, &mut script);
+        let calm = None;
+        let storm = Storm { seed, count, calm };
+        let written = tell_storm::<Script, _>(rt.alloc(), game, players, storm, &mut script);
         same!(rt; written, Ok(0));
         let again = must!(rt; sim(rt.alloc(), DEFAULT_LIMIT, players, &mut script.as_slice()));
-        prints(rt, again, 0, storm.bytes.as_slice(), seed);
+        prints(rt, again, 0, played.bytes.as_slice(), seed);
     }
 }
