@@ -1,11 +1,29 @@
 -- Bytes are read as one hint.
-use Rattle.std.proofs.Common.{◌≡◌, ℕ, List, refl, ap, sym, ◌∙◌, None, Result, Ok, Err, inl, inr}
+use Rattle.std.proofs.Common.{◌≡◌, ℕ, List, [], ◌∷◌, refl, ap, sym, ◌∙◌, None, Result, Ok, Err, inl, inr}
 use Rattle.std.proofs.lemmas.Option.{same_Some, none-some}
 use Rattle.dn_greeting.specs.declared.greeting.GreetingFault.{GreetingFault}
+use Rattle.dn_greeting.specs.declared.greeting.Hint.{Hint}
+use Rattle.dn_greeting.specs.declared.greeting.Hint.TheVariants as hint
 use Rattle.dn_greeting.specs.declared.greeting.Hinted.{Hinted}
-use Rattle.dn_greeting.specs.Text.{hinted_bytes, IsHinted}
+use Rattle.dn_greeting.specs.Text.{hint_byte, hinted_bytes, version_of, IsHinted}
 use Rattle.dn_greeting.specs.Reading.{hint_fault, IsHintedIn}
-use Rattle.dn_greeting.proofs.Rests.{same_hinted, sixteen}
+use Rattle.dn_greeting.specs.Told.{told_hint, told_hinted}
+use Rattle.dn_greeting.specs.Rests.{sixteen}
+
+-- why it was not read is found again in its bytes
+hint_back : (h : Hint) → told_hint (hint_byte h) (version_of h) ≡ h
+hint_back hint.Key = refl
+hint_back (hint.Version v) = refl
+
+pub hinted_back : (hinted : Hinted) → IsHinted hinted → told_hinted (hinted_bytes hinted) ≡ hinted
+hinted_back hinted is =
+    sixteen hinted.mark is.mark
+    (λ m. told_hinted (hinted_bytes (record hinted { mark = m })) ≡ record hinted { mark = m })
+    (λ a b c d e f g h i j k l n o p q.
+    λ x. record { mark = a ∷ b ∷ c ∷ d ∷ e ∷ f ∷ g ∷ h ∷ i ∷ j ∷ k ∷ l ∷ n ∷ o ∷ p ∷ q ∷ []; hint = hint_back hinted.hint x })
+
+pub same_hinted : (a b : Hinted) → IsHinted a → IsHinted b → hinted_bytes a ≡ hinted_bytes b → a ≡ b
+same_hinted a b ha hb e = sym (hinted_back a ha) ∙ ap told_hinted e ∙ hinted_back b hb
 
 -- the bytes of a hint have no fault
 clean_hint : (hinted : Hinted) → IsHinted hinted → hint_fault (hinted_bytes hinted) ≡ None

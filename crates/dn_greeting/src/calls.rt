@@ -8,9 +8,9 @@ use crate::cookies::cookie_of;
 use crate::greeting::{Address, Answer, Call, Refusal, Refused};
 use crate::hinting::{hint_for, hint_to};
 use crate::places::{holding, left_by, number_in, shown_to};
-use crate::reading::open_call;
+use crate::reading::open;
 use crate::table::Table;
-use crate::writing::{seal_answer, seal_refused};
+use crate::writing::seal;
 use arrayvec::ArrayVec;
 
 impl Table {
@@ -100,7 +100,7 @@ impl Table {
         ensures short { length result.items ≤ 130 }
     {
         let answer = self.answer(from, call, n);
-        seal_answer(&self.sealer, &answer)
+        seal(&self.sealer, &answer)
     }
 
     /// What a newcomer's call makes of the table, and the bytes that are sent back.
@@ -116,7 +116,7 @@ impl Table {
                 self.seat(from, call, now, n);
                 self.answered(&from, call, n)
             }
-            Err(refusal) => seal_refused(
+            Err(refusal) => seal(
                 &self.sealer,
                 &Refused {
                     mark: call.mark,
@@ -185,7 +185,7 @@ impl Table {
             (option_map (λ reply. reply.items) result) }
         ensures no_longer { IfSome result (λ reply. length reply.items ≤ length bytes.now) }
     {
-        match open_call(&self.sealer, bytes) {
+        match open::<Call>(&self.sealer, bytes) {
             Ok(call) => self.take_opened(from, &call, now),
             Err(fault) => match hint_for(fault) {
                 Some(hint) => Some(hint_to(bytes, hint)),

@@ -5,9 +5,9 @@ ghost use Rattle.dn_greeting.specs.{Greeter.greeting_seal, Text.call_rest, Text.
 
 use crate::greeting::{Address, Answer, Call};
 use crate::news::News;
-use crate::reading::{open_answer, open_refused, open_retry, read_hinted};
+use crate::reading::{open, read_hinted};
 use crate::sealing::{greeter, same_address};
-use crate::writing::seal_call;
+use crate::writing::seal;
 use arrayvec::ArrayVec;
 use dn_seal::Sealer;
 
@@ -91,7 +91,7 @@ impl Joiner {
             players: self.players,
             cookie: self.cookie,
         };
-        seal_call(&self.sealer, &call)
+        seal(&self.sealer, &call)
     }
 
     /// Takes any bytes that came from an address.
@@ -104,9 +104,9 @@ impl Joiner {
         if !same_address(&from, &self.host) {
             return News::Nothing;
         }
-        let answer = open_answer(&self.sealer, bytes);
-        let refused = open_refused(&self.sealer, bytes);
-        let retry = open_retry(&self.sealer, bytes);
+        let answer = open(&self.sealer, bytes);
+        let refused = open(&self.sealer, bytes);
+        let retry = open(&self.sealer, bytes);
         let hinted = read_hinted(bytes);
         self.reply(answer, refused, retry, hinted)
     }

@@ -15,6 +15,7 @@ mod replies;
 mod retrying;
 mod sealing;
 mod seats;
+mod sorts;
 mod table;
 mod telling;
 mod writing;
@@ -28,8 +29,9 @@ pub use laws::{
     greetings_are_no_envelopes, greetings_are_read_back, one_greeting,
 };
 pub use news::News;
-pub use reading::{open_answer, open_call, open_refused, open_retry, read_hinted};
+pub use reading::{open, read_hinted};
 pub use sealing::greeter;
 pub use seats::{Holder, Place, QUIET, SILENCE};
+pub use sorts::Greeting;
 pub use table::Table;
-pub use writing::{hinted_bytes, seal_answer, seal_call, seal_refused, seal_retry};
+pub use writing::{hinted_bytes, seal};

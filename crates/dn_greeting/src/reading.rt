@@ -1,14 +1,13 @@
 //! Reading any bytes as a greeting.
 
-ghost use Rattle.std.specs.{Prelude.◌≡◌, Prelude.◌≤◌, Prelude.◌+◌, Prelude.◌-◌, Prelude.length, Prelude.take, Prelude.drop, Prelude.IfErr, Prelude.IfOk, Prelude.None, Prelude.Some, Prelude.Result, Str.bytes_eq};
+ghost use Rattle.std.specs.{Prelude.◌≡◌, Prelude.◌≢◌, Prelude.◌≤◌, Prelude.◌+◌, Prelude.◌-◌, Prelude.length, Prelude.take, Prelude.drop, Prelude.IfErr, Prelude.IfOk, Prelude.MatchOption, Prelude.None, Prelude.Some, Prelude.Result, Str.bytes_eq};
 ghost use Rattle.dn_seal.specs.Sealing.{sealing};
-ghost use Rattle.dn_greeting.specs.{declared.greeting.Answer.Answer, declared.greeting.Call.Call, declared.greeting.GreetingFault.GreetingFault, declared.greeting.Hinted.Hinted};
-ghost use Rattle.dn_greeting.specs.{declared.greeting.Refused.Refused, declared.greeting.Retry.Retry, Text.kind_bytes, Reading.first_fault, Reading.hint_fault, Reading.IsAnswerIn, Reading.IsCallIn};
-ghost use Rattle.dn_greeting.specs.{Reading.IsHintedIn, Reading.IsRefusedIn, Reading.IsRetryIn};
+ghost use Rattle.dn_greeting.specs.{declared.greeting.GreetingFault.GreetingFault, declared.greeting.Hinted.Hinted, Text.kind_bytes, Reading.first_fault, Reading.hint_fault, Reading.IsHintedIn, Reading.IsReadAs};
 
-use crate::greeting::{Answer, Call, GreetingFault, Hinted, Refused, Retry};
-use crate::telling::{answer_in, call_in, hinted_in, refused_in, retry_in};
-use crate::writing::{ANSWER, CALL, HINTED, KIND, NAME, REFUSED, RETRY, VERSION};
+use crate::greeting::{GreetingFault, Hinted};
+use crate::sorts::Greeting;
+use crate::telling::hinted_in;
+use crate::writing::{HINTED, KIND, NAME, VERSION};
 use dn_seal::Sealer;
 
 /// Whether these bytes have the kind and the name of greetings.
@@ -50,63 +49,29 @@ fn fault_in(sealer: &Sealer, what: u8, size: usize, bytes: &[u8]) -> Option<Gree
     None
 }
 
-/// What stands between the head and the tag of a greeting of this kind and size, or the first fault that bytes have
-/// where one is expected.
-fn rest_of<'a>(
-    sealer: &Sealer,
-    what: u8,
-    size: usize,
-    bytes: &'a [u8],
-) -> Result<&'a [u8], GreetingFault>
-    requires { 29 ≤ size }
-    ensures rest { IfOk result (λ rest. (first_fault (sealing sealer.now).seal what size bytes.now ≡ None)
-        × (rest.now ≡ take (size - 28) (drop 12 bytes.now)) × (length rest.now + 28 ≡ size)) }
-    ensures fault { IfErr result (λ fault. first_fault (sealing sealer.now).seal what size bytes.now ≡ Some fault) }
+/// What stands behind the head, if it is a greeting of this sort.
+fn greeting_in<G: Greeting>(rest: &[u8]) -> Option<G>
+    requires { length rest.now + 28 ≡ G.SIZE }
+    ensures { MatchOption result ((greeting : G) → G.Is greeting → rest.now ≢ G.rest greeting)
+        (λ greeting. G.Is greeting × (rest.now ≡ G.rest greeting)) }
 {
-    match fault_in(sealer, what, size, bytes) {
-        Some(fault) => Err(fault),
-        None => Ok(&bytes[12..size - 16]),
+    let greeting = G::told(rest)?;
+    if *rest == *greeting.rest().as_slice() {
+        return Some(greeting);
     }
+    None
 }
 
-/// Reads bytes as a call, or returns the first fault that they have.
-pub fn open_call(sealer: &Sealer, bytes: &[u8]) -> Result<Call, GreetingFault>
-    ensures opens { IsCallIn (sealing sealer.now).seal bytes.now result }
-    ensures only { (read : Result Call GreetingFault)
-        → IsCallIn (sealing sealer.now).seal bytes.now read → result ≡ read }
+/// Reads bytes as a greeting of this sort, or returns the first fault that they have.
+pub fn open<G: Greeting>(sealer: &Sealer, bytes: &[u8]) -> Result<G, GreetingFault>
+    ensures opens { IsReadAs (sealing sealer.now).seal G.WHAT G.SIZE G.Is G.rest bytes.now result }
+    ensures only { (read : Result G GreetingFault)
+        → IsReadAs (sealing sealer.now).seal G.WHAT G.SIZE G.Is G.rest bytes.now read → result ≡ read }
 {
-    let rest = rest_of(sealer, CALL, 130, bytes)?;
-    call_in(rest).ok_or(GreetingFault::Form)
-}
-
-/// Reads bytes as an answer, or returns the first fault that they have.
-pub fn open_answer(sealer: &Sealer, bytes: &[u8]) -> Result<Answer, GreetingFault>
-    ensures opens { IsAnswerIn (sealing sealer.now).seal bytes.now result }
-    ensures only { (read : Result Answer GreetingFault)
-        → IsAnswerIn (sealing sealer.now).seal bytes.now read → result ≡ read }
-{
-    let rest = rest_of(sealer, ANSWER, 130, bytes)?;
-    answer_in(rest).ok_or(GreetingFault::Form)
-}
-
-/// Reads bytes as a refusal, or returns the first fault that they have.
-pub fn open_refused(sealer: &Sealer, bytes: &[u8]) -> Result<Refused, GreetingFault>
-    ensures opens { IsRefusedIn (sealing sealer.now).seal bytes.now result }
-    ensures only { (read : Result Refused GreetingFault)
-        → IsRefusedIn (sealing sealer.now).seal bytes.now read → result ≡ read }
-{
-    let rest = rest_of(sealer, REFUSED, 46, bytes)?;
-    refused_in(rest).ok_or(GreetingFault::Form)
-}
-
-/// Reads bytes as a retry, or returns the first fault that they have.
-pub fn open_retry(sealer: &Sealer, bytes: &[u8]) -> Result<Retry, GreetingFault>
-    ensures opens { IsRetryIn (sealing sealer.now).seal bytes.now result }
-    ensures only { (read : Result Retry GreetingFault)
-        → IsRetryIn (sealing sealer.now).seal bytes.now read → result ≡ read }
-{
-    let rest = rest_of(sealer, RETRY, 64, bytes)?;
-    retry_in(rest).ok_or(GreetingFault::Form)
+    match fault_in(sealer, G::WHAT, G::SIZE, bytes) {
+        Some(fault) => Err(fault),
+        None => greeting_in(&bytes[12..bytes.len() - 16]).ok_or(GreetingFault::Form),
+    }
 }
 
 /// The first fault that bytes have where a hint is expected.

@@ -5,7 +5,7 @@ ghost use Rattle.dn_greeting.specs.Lobby.{retry_to};
 
 use crate::greeting::{Call, Retry};
 use crate::table::Table;
-use crate::writing::seal_retry;
+use crate::writing::seal;
 use arrayvec::ArrayVec;
 
 /// What asks for a call again, with this cookie.
@@ -28,6 +28,6 @@ impl Table {
         ensures short { length result.items ≤ 130 }
     {
         let retry = retry_to(cookie, call);
-        seal_retry(&self.sealer, &retry)
+        seal(&self.sealer, &retry)
     }
 }

@@ -1,13 +1,11 @@
 //! Reading the fields of a greeting.
 
 ghost use Rattle.std.specs.Prelude.{◌≡◌, ◌≢◌, ◌≤◌, ◌+◌, ◌&&◌, length, All, IfSome, MatchOption};
-ghost use Rattle.dn_greeting.specs.{declared.greeting.Answer.Answer, declared.greeting.Call.Call, declared.greeting.Hinted.Hinted, declared.greeting.Refused.Refused, declared.greeting.Retry.Retry};
-ghost use Rattle.dn_greeting.specs.{Text.answer_rest, Text.call_rest, Text.hinted_bytes, Text.refused_rest, Text.retry_rest, Text.is_count_or_none, Text.is_count, Text.is_guest, Text.is_rate};
-ghost use Rattle.dn_greeting.specs.{Text.is_terms, Text.is_wish, Text.IsAddress, Text.IsAnswer, Text.IsCall, Text.IsHinted, Text.IsRefused, Text.IsRetry, Told.told_address, Told.told_answer};
-ghost use Rattle.dn_greeting.specs.{Told.told_call, Told.told_hint, Told.told_hinted, Told.told_name, Told.told_reason, Told.told_refused, Told.told_retry, Told.told_sixteen, Told.told_terms};
+ghost use Rattle.dn_greeting.specs.{declared.greeting.Hinted.Hinted, Text.hinted_bytes, Text.is_count_or_none, Text.is_count, Text.is_guest, Text.is_rate, Text.is_terms, Text.is_wish, Text.IsAddress, Text.IsHinted};
+ghost use Rattle.dn_greeting.specs.Told.{told_address, told_answer, told_hint, told_hinted, told_name, told_reason, told_sixteen, told_terms};
 
-use crate::greeting::{Address, Answer, Call, Hint, Hinted, Refusal, Refused, Retry, Terms};
-use crate::writing::{answer_rest, call_rest, hinted_bytes, refused_rest, retry_rest};
+use crate::greeting::{Address, Answer, Call, Hint, Hinted, Refusal, Terms};
+use crate::writing::hinted_bytes;
 use dn_seal::tic_at;
 
 /// The sixteen bytes from a place on.
@@ -21,24 +19,10 @@ pub(crate) fn sixteen_at(bytes: &[u8], place: usize) -> [u8; 16]
 }
 
 /// The number that is named, if one is.
-fn name_in(byte: u8) -> Option<u8>
+pub(crate) fn name_in(byte: u8) -> Option<u8>
     ensures { result ≡ told_name byte }
 {
     if byte == 0 { None } else { Some(byte) }
-}
-
-/// The call that may stand behind the head.
-fn told_call(rest: &[u8]) -> Call
-    requires { 102 ≤ length rest.now }
-    ensures { result ≡ told_call rest.now }
-{
-    Call {
-        mark: sixteen_at(rest, 0),
-        number: tic_at(rest, 16),
-        seat: name_in(rest[20]),
-        players: name_in(rest[21]),
-        cookie: sixteen_at(rest, 22),
-    }
 }
 
 /// Whether there may be so many players.
@@ -49,7 +33,7 @@ fn is_count(players: u8) -> bool
 }
 
 /// Whether the numbers of a call fit.
-fn is_call(call: &Call) -> bool
+pub(crate) fn is_call(call: &Call) -> bool
     ensures { result ≡ (is_wish call.now.seat && is_count_or_none call.now.players) }
 {
     let wish = match call.seat {
@@ -95,7 +79,7 @@ fn terms_in(rest: &[u8]) -> Terms
 }
 
 /// The answer that may stand behind the head.
-fn told_answer(rest: &[u8]) -> Answer
+pub(crate) fn told_answer(rest: &[u8]) -> Answer
     requires { 102 ≤ length rest.now }
     ensures value { result ≡ told_answer rest.now }
     ensures fits { All (λ place. IfSome place IsAddress) result.seats }
@@ -129,14 +113,14 @@ fn is_terms(terms: &Terms) -> bool
 }
 
 /// Whether the numbers of an answer fit.
-fn is_answer(answer: &Answer) -> bool
+pub(crate) fn is_answer(answer: &Answer) -> bool
     ensures { result ≡ (is_guest answer.now.terms.players answer.now.seat && is_terms answer.now.terms) }
 {
     1 <= answer.seat && answer.seat < answer.terms.players && is_terms(&answer.terms)
 }
 
 /// The reason that two bytes tell.
-fn reason_in(reason: u8, players: u8) -> Refusal
+pub(crate) fn reason_in(reason: u8, players: u8) -> Refusal
     ensures { result ≡ told_reason reason players }
 {
     match reason {
@@ -144,29 +128,6 @@ fn reason_in(reason: u8, players: u8) -> Refusal
         2 => Refusal::Taken,
         3 => Refusal::Players(players),
         _ => Refusal::Begun,
-    }
-}
-
-/// The refusal that may stand behind the head.
-fn told_refused(rest: &[u8]) -> Refused
-    requires { 18 ≤ length rest.now }
-    ensures { result ≡ told_refused rest.now }
-{
-    Refused {
-        mark: sixteen_at(rest, 0),
-        refusal: reason_in(rest[16], rest[17]),
-    }
-}
-
-/// The retry that may stand behind the head.
-fn told_retry(rest: &[u8]) -> Retry
-    requires { 36 ≤ length rest.now }
-    ensures { result ≡ told_retry rest.now }
-{
-    Retry {
-        mark: sixteen_at(rest, 0),
-        number: tic_at(rest, 16),
-        cookie: sixteen_at(rest, 20),
     }
 }
 
@@ -190,58 +151,6 @@ fn told_hinted(bytes: &[u8]) -> Hinted
         mark: sixteen_at(bytes, 12),
         hint: hint_in(bytes[28], bytes[10]),
     }
-}
-
-/// What stands behind the head, if it is a call.
-pub(crate) fn call_in(rest: &[u8]) -> Option<Call>
-    requires { 102 ≤ length rest.now }
-    ensures { MatchOption result ((call : Call) → IsCall call → rest.now ≢ call_rest call)
-        (λ call. IsCall call × (rest.now ≡ call_rest call)) }
-{
-    let call = told_call(rest);
-    if is_call(&call) && *rest == *call_rest(&call).as_slice() {
-        return Some(call);
-    }
-    None
-}
-
-/// What stands behind the head, if it is an answer.
-pub(crate) fn answer_in(rest: &[u8]) -> Option<Answer>
-    requires { 102 ≤ length rest.now }
-    ensures { MatchOption result ((answer : Answer) → IsAnswer answer → rest.now ≢ answer_rest answer)
-        (λ answer. IsAnswer answer × (rest.now ≡ answer_rest answer)) }
-{
-    let answer = told_answer(rest);
-    if is_answer(&answer) && *rest == *answer_rest(&answer).as_slice() {
-        return Some(answer);
-    }
-    None
-}
-
-/// What stands behind the head, if it is a refusal.
-pub(crate) fn refused_in(rest: &[u8]) -> Option<Refused>
-    requires { 18 ≤ length rest.now }
-    ensures { MatchOption result ((refused : Refused) → IsRefused refused → rest.now ≢ refused_rest refused)
-        (λ refused. IsRefused refused × (rest.now ≡ refused_rest refused)) }
-{
-    let refused = told_refused(rest);
-    if *rest == *refused_rest(&refused).as_slice() {
-        return Some(refused);
-    }
-    None
-}
-
-/// What stands behind the head, if it is a retry.
-pub(crate) fn retry_in(rest: &[u8]) -> Option<Retry>
-    requires { 36 ≤ length rest.now }
-    ensures { MatchOption result ((retry : Retry) → IsRetry retry → rest.now ≢ retry_rest retry)
-        (λ retry. IsRetry retry × (rest.now ≡ retry_rest retry)) }
-{
-    let retry = told_retry(rest);
-    if *rest == *retry_rest(&retry).as_slice() {
-        return Some(retry);
-    }
-    None
 }
 
 /// The hint that these bytes are, if they are one.

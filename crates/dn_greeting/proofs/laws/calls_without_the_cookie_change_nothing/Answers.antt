@@ -2,7 +2,8 @@ use Rattle.std.proofs.Common.{◌≡◌, ℕ, List, refl, ap, ◌∙◌, Option,
 use Rattle.dn_greeting.specs.declared.greeting.Address.{Address}
 use Rattle.dn_greeting.specs.declared.greeting.Call.{Call}
 use Rattle.dn_greeting.specs.Lobby.{Lobby, cookie_for, has_cookie, on_call, on_opened, retried}
-use Rattle.dn_greeting.proofs.Once.{calls, only}
+use Rattle.dn_greeting.specs.Rests.{calls}
+use Rattle.dn_greeting.proofs.Readings.{only}
 use Rattle.dn_greeting.proofs.laws.calls_without_the_cookie_change_nothing.Goals as goal
 
 -- what is made of such a call
@@ -12,7 +13,7 @@ asked_again from call now old without = rw without refl
 
 pub returns : goal.returns
 returns c = λ from bytes call now old new reply opens without hears.
-    let read : hears.0 ≡ Ok call = only calls 130 refl 1 old.seal bytes hears.0 (Ok call) hears.1 opens in
+    let read : hears.0 ≡ Ok call = only calls 1 old.seal bytes hears.0 (Ok call) hears.1 opens in
     let made = ap (on_call from bytes now old) read ∙ asked_again from call now old without in (
       hears.2 ∙ ap (λ (after : Lobby × Option (List ℕ)). after.0) made,
       hears.3 ∙ ap (λ (after : Lobby × Option (List ℕ)). after.1) made,

@@ -5,5 +5,5 @@ use Rattle.dn_greeting.proofs.table.Table.answered.Goals as goal
 
 pub returns-clause-value : goal.returns-clause-value
 returns-clause-value c =
-    c.seal_answer.ensures.value
+    c.seal.ensures.value
     ∙ ap (λ answer. greeting_bytes (lobby c.args.self.now).seal 2 (answer_rest answer)) c.answer-answer.ensures

@@ -7,7 +7,7 @@ use Rattle.dn_greeting.specs.Lobby.{hint_for}
 use Rattle.dn_greeting.specs.Reading.{IsCallIn}
 use Rattle.dn_greeting.specs.Text.{call_rest}
 use Rattle.dn_greeting.proofs.Readings.{length-text, long_fault}
-use Rattle.dn_greeting.proofs.Rests.{length-call}
+use Rattle.dn_greeting.specs.Rests.{length-call}
 use Rattle.dn_greeting.proofs.table.Table.hear.Goals as goal
 
 -- bytes that get a hint are long enough for it

@@ -5,5 +5,5 @@ use Rattle.dn_greeting.proofs.table.Table.retried.Goals as goal
 
 pub returns-clause-value : goal.returns-clause-value
 returns-clause-value c =
-    c.seal_retry.ensures.value
+    c.seal.ensures.value
     ∙ ap (λ retry. greeting_bytes (lobby c.args.self.now).seal 5 (retry_rest retry)) c.retry_to-retry.ensures

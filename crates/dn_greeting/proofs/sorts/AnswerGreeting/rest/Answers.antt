@@ -2,11 +2,11 @@ use Rattle.std.proofs.Common.{◌≡◌, ◌++◌, ◌∷◌, [], List, ℕ, ap,
 use Rattle.std.specs.List.{flat_map}
 use Rattle.std.specs.Int.{w32, to_le_bytes}
 use Rattle.dn_greeting.specs.Text.{address_bytes, terms_bytes}
-use Rattle.dn_greeting.proofs.writing.answer_rest.Goals as goal
+use Rattle.dn_greeting.proofs.sorts.AnswerGreeting.rest.Goals as goal
 
 pub returns : goal.returns
 returns c =
-    let a = c.args.answer.now in
+    let a = c.args.self.now in
     let one : c.append.new.bytes.items ≡ a.mark =
     c.append.ensures ∙ ap (λ (xs : List ℕ). xs ++ a.mark) c.new-bytes.ensures in
     let two : c.append-2.new.bytes.items ≡ a.mark ++ to_le_bytes w32 a.number =

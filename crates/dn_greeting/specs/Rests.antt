@@ -1,6 +1,6 @@
 -- What stands behind the head of a greeting is found again in its bytes.
-use Rattle.std.proofs.Common.{◌≡◌, ◌≤◌, ℕ, zero, suc, List, [], ◌∷◌, ◌++◌, length, drop, All, refl, ap, sym, ◌∙◌, arith, Option, Some, None, length-append, true, false, Bool}
-use Rattle.std.specs.Prelude.{IfSome, ◌==◌}
+use Rattle.std.proofs.Common.{◌≡◌, ◌≤◌, ◌+◌, ℕ, zero, suc, List, [], ◌∷◌, ◌++◌, length, drop, All, refl, ap, sym, ◌∙◌, arith, Option, Some, None, length-append, true, false, Bool}
+use Rattle.std.specs.Prelude.{IfSome, ◌==◌, slice_index}
 use Rattle.std.specs.List.{flat_map}
 use Rattle.std.specs.Int.{w16, w32, to_le_bytes}
 use Rattle.std.proofs.lemmas.Bool.{ne_eqb}
@@ -10,15 +10,13 @@ use Rattle.std.proofs.lemmas.Nat.{from_le_bytes-to_le_bytes_2, from_le_bytes-to_
 use Rattle.dn_greeting.specs.declared.greeting.Address.{Address}
 use Rattle.dn_greeting.specs.declared.greeting.Answer.{Answer}
 use Rattle.dn_greeting.specs.declared.greeting.Call.{Call}
-use Rattle.dn_greeting.specs.declared.greeting.Hint.{Hint}
-use Rattle.dn_greeting.specs.declared.greeting.Hint.TheVariants as hint
-use Rattle.dn_greeting.specs.declared.greeting.Hinted.{Hinted}
 use Rattle.dn_greeting.specs.declared.greeting.Refusal.{Refusal}
 use Rattle.dn_greeting.specs.declared.greeting.Refusal.TheVariants as refusal
 use Rattle.dn_greeting.specs.declared.greeting.Refused.{Refused}
 use Rattle.dn_greeting.specs.declared.greeting.Retry.{Retry}
-use Rattle.dn_greeting.specs.Text.{address_bytes, answer_rest, bit, call_rest, hinted_bytes, terms_bytes, is_count_or_none, is_wish, named, padding, refused_rest, retry_rest, IsAddress, IsAnswer, IsCall, IsHinted, IsRefused, IsRetry}
-use Rattle.dn_greeting.specs.Told.{told_address, told_answer, told_call, told_hinted, told_name, told_refused, told_retry}
+use Rattle.dn_greeting.specs.Text.{address_bytes, answer_rest, bit, call_rest, terms_bytes, is_count_or_none, is_wish, named, padding, reason_bytes, refused_rest, retry_rest, IsAddress, IsAnswer, IsCall, IsRefused, IsRetry}
+use Rattle.dn_greeting.specs.Reading.{IsSort}
+use Rattle.dn_greeting.specs.Told.{told_address, told_answer, told_call, told_name, told_reason, told_refused, told_retry}
 
 -- sixteen bytes, one by one
 pub sixteen : (m : List ℕ) → length m ≡ 16 → (P : List ℕ → Type 0)
@@ -28,12 +26,22 @@ sixteen (a ∷ b ∷ c ∷ d ∷ e ∷ f ∷ g ∷ h ∷ i ∷ j ∷ k ∷ l ∷
     holds a b c d e f g h i j k l n o p q
 sixteen _ long P holds = absurd (omega (arith, long))
 
+-- twice sixteen bytes, one by one
+sixteens : (x y : List ℕ) → length x ≡ 16 → length y ≡ 16 → (P : List ℕ → List ℕ → Type 0)
+    → ((a b c d e f g h i j k l n o p q a' b' c' d' e' f' g' h' i' j' k' l' n' o' p' q' : ℕ)
+    → P (a ∷ b ∷ c ∷ d ∷ e ∷ f ∷ g ∷ h ∷ i ∷ j ∷ k ∷ l ∷ n ∷ o ∷ p ∷ q ∷ [])
+    (a' ∷ b' ∷ c' ∷ d' ∷ e' ∷ f' ∷ g' ∷ h' ∷ i' ∷ j' ∷ k' ∷ l' ∷ n' ∷ o' ∷ p' ∷ q' ∷ [])) → P x y
+sixteens x y one two P holds =
+    sixteen x one (λ x. P x y) (λ a b c d e f g h i j k l n o p q.
+    sixteen y two (P (a ∷ b ∷ c ∷ d ∷ e ∷ f ∷ g ∷ h ∷ i ∷ j ∷ k ∷ l ∷ n ∷ o ∷ p ∷ q ∷ []))
+    (holds a b c d e f g h i j k l n o p q))
+
 length-padding : length padding ≡ 64
 unfolding padding
 length-padding = refl
 
 -- a call has as many bytes behind its head as an answer
-pub length-call : (call : Call) → IsCall call → length (call_rest call) ≡ 102
+pub length-call : (call : Call) → IsCall call → length (call_rest call) + 28 ≡ 130
 length-call call is = omega (
   arith,
   is.mark,
@@ -61,18 +69,9 @@ count_named (Some (suc n)) is = omega arith
 
 pub call_back : (call : Call) → IsCall call → told_call (call_rest call) ≡ call
 call_back call is =
-    sixteen call.mark is.mark (λ m. told_call (call_rest (record call { mark = m })) ≡ record call { mark = m })
-    (λ a b c d e f g h i j k l n o p q.
-    sixteen call.cookie is.cookie
-    (λ m. told_call (call_rest (record call {
-      mark = a ∷ b ∷ c ∷ d ∷ e ∷ f ∷ g ∷ h ∷ i ∷ j ∷ k ∷ l ∷ n ∷ o ∷ p ∷ q ∷ [];
-      cookie = m;
-    }))
-    ≡ record call {
-      mark = a ∷ b ∷ c ∷ d ∷ e ∷ f ∷ g ∷ h ∷ i ∷ j ∷ k ∷ l ∷ n ∷ o ∷ p ∷ q ∷ [];
-      cookie = m;
-    })
-    (λ a' b' c' d' e' f' g' h' i' j' k' l' n' o' p' q'.
+    sixteens call.mark call.cookie is.mark is.cookie
+    (λ m k. told_call (call_rest (record call { mark = m; cookie = k })) ≡ record call { mark = m; cookie = k })
+    (λ a b c d e f g h i j k l n o p q a' b' c' d' e' f' g' h' i' j' k' l' n' o' p' q'.
     let number = from_le_bytes-to_le_bytes_4 call.number is.number in
     let seat = name_back call.seat (wish_named call.seat is.seat) in
     let players = name_back call.players (count_named call.players is.players) in
@@ -82,11 +81,7 @@ call_back call is =
       seat = seat x;
       players = players x;
       cookie = a' ∷ b' ∷ c' ∷ d' ∷ e' ∷ f' ∷ g' ∷ h' ∷ i' ∷ j' ∷ k' ∷ l' ∷ n' ∷ o' ∷ p' ∷ q' ∷ [];
-    }))
-
--- each call has its own bytes
-pub same_call : (a b : Call) → IsCall a → IsCall b → call_rest a ≡ call_rest b → a ≡ b
-same_call a b ha hb e = sym (call_back a ha) ∙ ap told_call e ∙ call_back b hb
+    })
 
 -- an address takes nineteen bytes
 length-address : (place : Option Address) → IfSome place IsAddress → length (address_bytes place) ≡ 19
@@ -148,11 +143,11 @@ module _ (one two three : Option Address) (i1 : IfSome one IsAddress) (i2 : IfSo
     pub address_3 : told_address (drop 38 all) ≡ three
     address_3 = ap told_address third ∙ address_here three _ i3
 
-pub length-answer : (answer : Answer) → IsAnswer answer → length (answer_rest answer) ≡ 102
+pub length-answer : (answer : Answer) → IsAnswer answer → length (answer_rest answer) + 28 ≡ 130
 length-answer answer is = go answer.seats is.three is.seats
   where
     go : (seats : List (Option Address)) → length seats ≡ 3 → All (λ place. IfSome place IsAddress) seats
-        → length (answer_rest (record answer { seats = seats })) ≡ 102
+        → length (answer_rest (record answer { seats = seats })) + 28 ≡ 130
     go (one ∷ two ∷ three ∷ []) long all =
         let i1 = All-head (λ place. IfSome place IsAddress) one (two ∷ three ∷ []) all in
         let r1 = All-tail (λ place. IfSome place IsAddress) one (two ∷ three ∷ []) all in
@@ -193,19 +188,9 @@ seats_back _ long all = absurd (omega (arith, long))
 
 pub answer_back : (answer : Answer) → IsAnswer answer → told_answer (answer_rest answer) ≡ answer
 answer_back answer is =
-    sixteen answer.mark is.mark
-    (λ m. told_answer (answer_rest (record answer { mark = m })) ≡ record answer { mark = m })
-    (λ a b c d e f g h i j k l n o p q.
-    sixteen answer.game is.game
-    (λ m. told_answer (answer_rest (record answer {
-      mark = a ∷ b ∷ c ∷ d ∷ e ∷ f ∷ g ∷ h ∷ i ∷ j ∷ k ∷ l ∷ n ∷ o ∷ p ∷ q ∷ [];
-      game = m;
-    }))
-    ≡ record answer {
-      mark = a ∷ b ∷ c ∷ d ∷ e ∷ f ∷ g ∷ h ∷ i ∷ j ∷ k ∷ l ∷ n ∷ o ∷ p ∷ q ∷ [];
-      game = m;
-    })
-    (λ a' b' c' d' e' f' g' h' i' j' k' l' n' o' p' q'.
+    sixteens answer.mark answer.game is.mark is.game
+    (λ m k. told_answer (answer_rest (record answer { mark = m; game = k })) ≡ record answer { mark = m; game = k })
+    (λ a b c d e f g h i j k l n o p q a' b' c' d' e' f' g' h' i' j' k' l' n' o' p' q'.
     let number = from_le_bytes-to_le_bytes_4 answer.number is.number in
     let limit = from_le_bytes-to_le_bytes_4 answer.terms.limit is.limit in
     let flag = bit_back answer.terms.extra in
@@ -223,88 +208,55 @@ answer_back answer is =
       };
       game = a' ∷ b' ∷ c' ∷ d' ∷ e' ∷ f' ∷ g' ∷ h' ∷ i' ∷ j' ∷ k' ∷ l' ∷ n' ∷ o' ∷ p' ∷ q' ∷ [];
       seats = seats x;
-    }))
+    })
 
-pub same_answer : (a b : Answer) → IsAnswer a → IsAnswer b → answer_rest a ≡ answer_rest b → a ≡ b
-same_answer a b ha hb e = sym (answer_back a ha) ∙ ap told_answer e ∙ answer_back b hb
-
-pub length-refused : (refused : Refused) → IsRefused refused → length (refused_rest refused) ≡ 18
+pub length-refused : (refused : Refused) → IsRefused refused → length (refused_rest refused) + 28 ≡ 46
 length-refused refused is = go refused.refusal
   where
-    go : (r : Refusal) → length (refused_rest (record refused { refusal = r })) ≡ 18
+    go : (r : Refusal) → length (refused_rest (record refused { refusal = r })) + 28 ≡ 46
     go refusal.Full = omega (arith, is.mark, length-append refused.mark (1 ∷ 0 ∷ []))
     go refusal.Taken = omega (arith, is.mark, length-append refused.mark (2 ∷ 0 ∷ []))
     go (refusal.Players n) = omega (arith, is.mark, length-append refused.mark (3 ∷ n ∷ []))
     go refusal.Begun = omega (arith, is.mark, length-append refused.mark (4 ∷ 0 ∷ []))
 
+-- a reason is found again in its bytes
+reason_back : (r : Refusal) → told_reason (slice_index (reason_bytes r) 0) (slice_index (reason_bytes r) 1) ≡ r
+reason_back refusal.Full = refl
+reason_back refusal.Taken = refl
+reason_back (refusal.Players n) = refl
+reason_back refusal.Begun = refl
+
 pub refused_back : (refused : Refused) → IsRefused refused → told_refused (refused_rest refused) ≡ refused
 refused_back refused is =
     sixteen refused.mark is.mark
     (λ m. told_refused (refused_rest (record refused { mark = m })) ≡ record refused { mark = m })
-    (λ a b c d e f g h i j k l n o p q. go a b c d e f g h i j k l n o p q refused.refusal)
-  where
-    go : (a b c d e f g h i j k l n o p q : ℕ) (r : Refusal)
-        → told_refused (refused_rest (record {
-          mark = a ∷ b ∷ c ∷ d ∷ e ∷ f ∷ g ∷ h ∷ i ∷ j ∷ k ∷ l ∷ n ∷ o ∷ p ∷ q ∷ [];
-          refusal = r;
-        }))
-        ≡ record {
-          mark = a ∷ b ∷ c ∷ d ∷ e ∷ f ∷ g ∷ h ∷ i ∷ j ∷ k ∷ l ∷ n ∷ o ∷ p ∷ q ∷ [];
-          refusal = r;
-        }
-    go a b c d e f g h i j k l n o p q refusal.Full = refl
-    go a b c d e f g h i j k l n o p q refusal.Taken = refl
-    go a b c d e f g h i j k l n o p q (refusal.Players n') = refl
-    go a b c d e f g h i j k l n o p q refusal.Begun = refl
+    (λ a b c d e f g h i j k l n o p q.
+    λ x. record { mark = a ∷ b ∷ c ∷ d ∷ e ∷ f ∷ g ∷ h ∷ i ∷ j ∷ k ∷ l ∷ n ∷ o ∷ p ∷ q ∷ []; refusal = reason_back refused.refusal x })
 
-pub same_refused : (a b : Refused) → IsRefused a → IsRefused b → refused_rest a ≡ refused_rest b → a ≡ b
-same_refused a b ha hb e = sym (refused_back a ha) ∙ ap told_refused e ∙ refused_back b hb
-
-pub length-retry : (retry : Retry) → IsRetry retry → length (retry_rest retry) ≡ 36
+pub length-retry : (retry : Retry) → IsRetry retry → length (retry_rest retry) + 28 ≡ 64
 length-retry retry is =
     omega (arith, is.mark, is.cookie, length-append retry.mark (to_le_bytes w32 retry.number ++ retry.cookie))
 
 pub retry_back : (retry : Retry) → IsRetry retry → told_retry (retry_rest retry) ≡ retry
 retry_back retry is =
-    sixteen retry.mark is.mark (λ m. told_retry (retry_rest (record retry { mark = m })) ≡ record retry { mark = m })
-    (λ a b c d e f g h i j k l n o p q.
-    sixteen retry.cookie is.cookie
-    (λ m. told_retry (retry_rest (record retry {
-      mark = a ∷ b ∷ c ∷ d ∷ e ∷ f ∷ g ∷ h ∷ i ∷ j ∷ k ∷ l ∷ n ∷ o ∷ p ∷ q ∷ [];
-      cookie = m;
-    }))
-    ≡ record retry {
-      mark = a ∷ b ∷ c ∷ d ∷ e ∷ f ∷ g ∷ h ∷ i ∷ j ∷ k ∷ l ∷ n ∷ o ∷ p ∷ q ∷ [];
-      cookie = m;
-    })
-    (λ a' b' c' d' e' f' g' h' i' j' k' l' n' o' p' q'.
+    sixteens retry.mark retry.cookie is.mark is.cookie
+    (λ m k. told_retry (retry_rest (record retry { mark = m; cookie = k })) ≡ record retry { mark = m; cookie = k })
+    (λ a b c d e f g h i j k l n o p q a' b' c' d' e' f' g' h' i' j' k' l' n' o' p' q'.
     let number = from_le_bytes-to_le_bytes_4 retry.number is.number in
     λ x. record {
       mark = a ∷ b ∷ c ∷ d ∷ e ∷ f ∷ g ∷ h ∷ i ∷ j ∷ k ∷ l ∷ n ∷ o ∷ p ∷ q ∷ [];
       number = number x;
       cookie = a' ∷ b' ∷ c' ∷ d' ∷ e' ∷ f' ∷ g' ∷ h' ∷ i' ∷ j' ∷ k' ∷ l' ∷ n' ∷ o' ∷ p' ∷ q' ∷ [];
-    }))
+    })
 
-pub same_retry : (a b : Retry) → IsRetry a → IsRetry b → retry_rest a ≡ retry_rest b → a ≡ b
-same_retry a b ha hb e = sym (retry_back a ha) ∙ ap told_retry e ∙ retry_back b hb
+pub calls : IsSort 130 IsCall call_rest told_call
+calls = record { enough = omega arith; long = length-call; back = call_back }
 
-pub hinted_back : (hinted : Hinted) → IsHinted hinted → told_hinted (hinted_bytes hinted) ≡ hinted
-hinted_back hinted is =
-    sixteen hinted.mark is.mark
-    (λ m. told_hinted (hinted_bytes (record hinted { mark = m })) ≡ record hinted { mark = m })
-    (λ a b c d e f g h i j k l n o p q. go a b c d e f g h i j k l n o p q hinted.hint)
-  where
-    go : (a b c d e f g h i j k l n o p q : ℕ) (r : Hint)
-        → told_hinted (hinted_bytes (record {
-          mark = a ∷ b ∷ c ∷ d ∷ e ∷ f ∷ g ∷ h ∷ i ∷ j ∷ k ∷ l ∷ n ∷ o ∷ p ∷ q ∷ [];
-          hint = r;
-        }))
-        ≡ record {
-          mark = a ∷ b ∷ c ∷ d ∷ e ∷ f ∷ g ∷ h ∷ i ∷ j ∷ k ∷ l ∷ n ∷ o ∷ p ∷ q ∷ [];
-          hint = r;
-        }
-    go a b c d e f g h i j k l n o p q hint.Key = refl
-    go a b c d e f g h i j k l n o p q (hint.Version v) = refl
+pub answers : IsSort 130 IsAnswer answer_rest told_answer
+answers = record { enough = omega arith; long = length-answer; back = answer_back }
 
-pub same_hinted : (a b : Hinted) → IsHinted a → IsHinted b → hinted_bytes a ≡ hinted_bytes b → a ≡ b
-same_hinted a b ha hb e = sym (hinted_back a ha) ∙ ap told_hinted e ∙ hinted_back b hb
+pub refusals : IsSort 46 IsRefused refused_rest told_refused
+refusals = record { enough = omega arith; long = length-refused; back = refused_back }
+
+pub retries : IsSort 64 IsRetry retry_rest told_retry
+retries = record { enough = omega arith; long = length-retry; back = retry_back }
