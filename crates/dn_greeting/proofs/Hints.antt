@@ -20,7 +20,8 @@ hinted_back hinted is =
     sixteen hinted.mark is.mark
     (λ m. told_hinted (hinted_bytes (record hinted { mark = m })) ≡ record hinted { mark = m })
     (λ a b c d e f g h i j k l n o p q.
-    λ x. record { mark = a ∷ b ∷ c ∷ d ∷ e ∷ f ∷ g ∷ h ∷ i ∷ j ∷ k ∷ l ∷ n ∷ o ∷ p ∷ q ∷ []; hint = hint_back hinted.hint x })
+    let why = hint_back hinted.hint in
+    λ x. record { mark = a ∷ b ∷ c ∷ d ∷ e ∷ f ∷ g ∷ h ∷ i ∷ j ∷ k ∷ l ∷ n ∷ o ∷ p ∷ q ∷ []; hint = why x })
 
 pub same_hinted : (a b : Hinted) → IsHinted a → IsHinted b → hinted_bytes a ≡ hinted_bytes b → a ≡ b
 same_hinted a b ha hb e = sym (hinted_back a ha) ∙ ap told_hinted e ∙ hinted_back b hb

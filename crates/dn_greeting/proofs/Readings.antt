@@ -3,7 +3,7 @@ use Rattle.std.proofs.Common.{◌≡◌, ◌≢◌, ◌≤◌, ◌+◌, ◌-◌,
 use Rattle.std.specs.Prelude.{MatchOption, slice_index, ◌==◌, not, nat_lt, if◌then◌else◌}
 use Rattle.std.specs.Option.{ok_or}
 use Rattle.std.specs.Str.{bytes_eq}
-use Rattle.std.proofs.lemmas.Bool.{cases_lt, eq-eqb, eqb-true, le-ltb, lt-ltb, ltb-false}
+use Rattle.std.proofs.lemmas.Bool.{cases_lt, eq-eqb, eqb-true, le-ltb, leb-true, lt-ltb, ltb-false}
 use Rattle.std.proofs.lemmas.List.{take-append-drop, take-take, drop-take, length-append}
 use Rattle.std.proofs.lemmas.Option.{same_Some, none-some}
 use Rattle.std.proofs.lemmas.Slice.Eq.{bytes_eq-Decides}
@@ -16,7 +16,8 @@ use Rattle.dn_seal.proofs.Envelopes.{length-tag}
 use Rattle.dn_greeting.specs.declared.greeting.GreetingFault.{GreetingFault}
 use Rattle.dn_greeting.specs.declared.greeting.GreetingFault.TheVariants.{Short, Kind, What, Version, Length, Suite, Tag, Form}
 use Rattle.dn_greeting.specs.Text.{kind_bytes, head_bytes, body_bytes, greeting_bytes}
-use Rattle.dn_greeting.specs.Reading.{first_fault, IsReadAs, IsSort}
+use Rattle.dn_greeting.specs.Reading.{first_fault, IsReadAs}
+use Rattle.dn_greeting.specs.Sorts.{Sort}
 
 -- what bytes without a fault have
 pub record Passes (seal : Seal) (what size : ℕ) (bytes : List ℕ) : Type 0 where
@@ -130,60 +131,58 @@ module _ (seal : Seal) (what : ℕ) (rest : List ℕ) where
         tag = its_tag ∙ ap (tag_of seal.key) (sym its_body);
       }
 
-module _ {T : Type 0} {size : ℕ} {Is : T → Type 0} {rest : T → List ℕ} {told : List ℕ → T}
-    (sort : IsSort size Is rest told) (what : ℕ) (seal : Seal) (bytes : List ℕ)
-  where
-    abbrev Reads : Result T GreetingFault → Type 0
-    Reads = IsReadAs seal what size Is rest bytes
+module _ {T : Type 0} (sort : Sort T) (seal : Seal) (bytes : List ℕ) where
+  abbrev Reads : Result T GreetingFault → Type 0
+  Reads = IsReadAs seal sort.what sort.size sort.Is sort.rest bytes
 
-    none_ok : (t : T) → Reads (Ok t) → first_fault seal what size bytes ≡ None
-    none_ok t (is, e) = ap (first_fault seal what size) e ∙ clean seal what size (greeting_bytes seal what (rest t))
-        (its_tests seal what (rest t) size (sort.long t is) sort.enough)
+  none_ok : (t : T) → Reads (Ok t) → first_fault seal sort.what sort.size bytes ≡ None
+  none_ok t (is, e) = ap (first_fault seal sort.what sort.size) e ∙ clean seal sort.what sort.size (greeting_bytes seal sort.what (sort.rest t))
+      (its_tests seal sort.what (sort.rest t) sort.size (sort.long t is) (leb-true 29 sort.size sort.enough))
 
-    rest_ok : (t : T) → Reads (Ok t) → drop 12 (told_body bytes) ≡ rest t
-    rest_ok t (is, e) = ap (λ (xs : List ℕ). drop 12 (told_body xs)) e ∙ its_rest seal what (rest t)
+  rest_ok : (t : T) → Reads (Ok t) → drop 12 (told_body bytes) ≡ sort.rest t
+  rest_ok t (is, e) = ap (λ (xs : List ℕ). drop 12 (told_body xs)) e ∙ its_rest seal sort.what (sort.rest t)
 
-    not_both : (t : T) (f : GreetingFault) → Reads (Ok t) → Reads (Err f) → ⊥
-    not_both t f ok (inl first) = none-some f (sym (none_ok t ok) ∙ first)
-    not_both t f ok (inr (form, none, never)) = never t ok.0 (rest_ok t ok)
+  not_both : (t : T) (f : GreetingFault) → Reads (Ok t) → Reads (Err f) → ⊥
+  not_both t f ok (inl first) = none-some f (sym (none_ok t ok) ∙ first)
+  not_both t f ok (inr (form, none, never)) = never t ok.0 (rest_ok t ok)
 
-    told_is : (t : T) → Reads (Ok t) → told (drop 12 (told_body bytes)) ≡ t
-    told_is t ok = ap told (rest_ok t ok) ∙ sort.back t ok.0
+  told_is : (t : T) → Reads (Ok t) → sort.told (drop 12 (told_body bytes)) ≡ t
+  told_is t ok = ap sort.told (rest_ok t ok) ∙ sort.back t ok.0
 
-    pub only : (a b : Result T GreetingFault) → Reads a → Reads b → a ≡ b
-    only (Ok s) (Ok t) x y = ap Ok (sym (told_is s x) ∙ told_is t y)
-    only (Ok s) (Err f) x y = absurd (not_both s f x y)
-    only (Err f) (Ok t) x y = absurd (not_both t f y x)
-    only (Err f) (Err g) (inl x) (inl y) = ap Err (same_Some f g (sym x ∙ y))
-    only (Err f) (Err g) (inl x) (inr y) = absurd (none-some f (sym y.1 ∙ x))
-    only (Err f) (Err g) (inr x) (inl y) = absurd (none-some g (sym x.1 ∙ y))
-    only (Err f) (Err g) (inr x) (inr y) = ap Err (x.0 ∙ sym y.0)
+  pub only : (a b : Result T GreetingFault) → Reads a → Reads b → a ≡ b
+  only (Ok s) (Ok t) x y = ap Ok (sym (told_is s x) ∙ told_is t y)
+  only (Ok s) (Err f) x y = absurd (not_both s f x y)
+  only (Err f) (Ok t) x y = absurd (not_both t f y x)
+  only (Err f) (Err g) (inl x) (inl y) = ap Err (same_Some f g (sym x ∙ y))
+  only (Err f) (Err g) (inl x) (inr y) = absurd (none-some f (sym y.1 ∙ x))
+  only (Err f) (Err g) (inr x) (inl y) = absurd (none-some g (sym x.1 ∙ y))
+  only (Err f) (Err g) (inr x) (inr y) = ap Err (x.0 ∙ sym y.0)
 
-    -- what stands between the head and the tag
-    abbrev there : List ℕ
-    there = take (length bytes - 16 - 12) (drop 12 bytes)
+  -- sort.what stands between the head and the tag
+  abbrev there : List ℕ
+  there = take (length bytes - 16 - 12) (drop 12 bytes)
 
-    between : first_fault seal what size bytes ≡ None → drop 12 (told_body bytes) ≡ there
-    between none =
-        let p = passed seal what size bytes none in
-        let long = p.long in
-        let cut : length bytes - 16 ≡ 12 + (length bytes - 16 - 12) = omega (arith, long) in
-        ap (λ (n : ℕ). drop 12 (take n bytes)) cut ∙ drop-take 12 (length bytes - 16 - 12) bytes
+  between : first_fault seal sort.what sort.size bytes ≡ None → drop 12 (told_body bytes) ≡ there
+  between none =
+      let p = passed seal sort.what sort.size bytes none in
+      let long = p.long in
+      let cut : length bytes - 16 ≡ 12 + (length bytes - 16 - 12) = omega (arith, long) in
+      ap (λ (n : ℕ). drop 12 (take n bytes)) cut ∙ drop-take 12 (length bytes - 16 - 12) bytes
 
-    -- is read, or nothing is
-    pub opened : first_fault seal what size bytes ≡ None → (found : Option T)
-        → MatchOption found ((t : T) → Is t → there ≢ rest t) (λ t. Is t × (there ≡ rest t))
-        → (result : Result T GreetingFault) → result ≡ ok_or found Form → Reads result
-    opened none found means result is = subst Reads (sym is) (go found means)
-      where
-        go : (found : Option T) → MatchOption found ((t : T) → Is t → there ≢ rest t)
-            (λ t. Is t × (there ≡ rest t)) → Reads (ok_or found Form)
-        go (Some t) (fits, same) = (
-          fits,
-          assembled seal what size bytes (passed seal what size bytes none)
-              ∙ ap (greeting_bytes seal what) (between none ∙ same),
-        )
-        go None never = inr (refl, none, λ t is e. never t is (sym (between none) ∙ e))
+  -- is read, or nothing is
+  pub opened : first_fault seal sort.what sort.size bytes ≡ None → (found : Option T)
+      → MatchOption found ((t : T) → sort.Is t → there ≢ sort.rest t) (λ t. sort.Is t × (there ≡ sort.rest t))
+      → (result : Result T GreetingFault) → result ≡ ok_or found Form → Reads result
+  opened none found means result is = subst Reads (sym is) (go found means)
+    where
+      go : (found : Option T) → MatchOption found ((t : T) → sort.Is t → there ≢ sort.rest t)
+          (λ t. sort.Is t × (there ≡ sort.rest t)) → Reads (ok_or found Form)
+      go (Some t) (fits, same) = (
+        fits,
+        assembled seal sort.what sort.size bytes (passed seal sort.what sort.size bytes none)
+            ∙ ap (greeting_bytes seal sort.what) (between none ∙ same),
+      )
+      go None never = inr (refl, none, λ t is e. never t is (sym (between none) ∙ e))
 
 -- bytes with any other fault are not too short
 pub long_fault : (seal : Seal) (what size : ℕ) (bytes : List ℕ) (f : GreetingFault)

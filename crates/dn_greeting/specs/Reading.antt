@@ -1,5 +1,5 @@
 -- What bytes are read as.
-use Rattle.std.specs.Prelude.{◌≡◌, ◌≢◌, ◌≤◌, ◌+◌, ◌⊎◌, ℕ, ◌==◌, not, nat_lt, if◌then◌else◌, List, length, take, drop, slice_index, Option, Some, None, Result, Ok, Err}
+use Rattle.std.specs.Prelude.{◌≡◌, ◌≢◌, ◌⊎◌, ℕ, ◌==◌, not, nat_lt, if◌then◌else◌, List, length, take, drop, slice_index, Option, Some, None, Result, Ok, Err}
 use Rattle.std.specs.Str.{bytes_eq}
 use Rattle.dn_seal.specs.declared.seal.Seal.{Seal}
 use Rattle.dn_seal.specs.Hmac.{tag_of}
@@ -35,12 +35,6 @@ IsReadAs {T} seal what size Is rest bytes (Err fault) =
     (first_fault seal what size bytes ≡ Some fault)
     ⊎ ((fault ≡ Form) × (first_fault seal what size bytes ≡ None)
     × ((read : T) → Is read → drop 12 (told_body bytes) ≢ rest read))
-
--- a sort of greetings: each has so many bytes, and what it is stands behind its head
-pub record IsSort {T : Type 0} (size : ℕ) (Is : T → Type 0) (rest : T → List ℕ) (told : List ℕ → T) : Type 0 where
-  pub enough : 29 ≤ size
-  pub long : (t : T) → Is t → length (rest t) + 28 ≡ size
-  pub back : (t : T) → Is t → told (rest t) ≡ t
 
 abbrev pub IsCallIn : Seal → List ℕ → Result Call GreetingFault → Type 0
 IsCallIn seal bytes read = IsReadAs seal 1 130 IsCall call_rest bytes read

@@ -15,7 +15,7 @@ use Rattle.dn_greeting.specs.declared.greeting.Refusal.TheVariants as refusal
 use Rattle.dn_greeting.specs.declared.greeting.Refused.{Refused}
 use Rattle.dn_greeting.specs.declared.greeting.Retry.{Retry}
 use Rattle.dn_greeting.specs.Text.{address_bytes, answer_rest, bit, call_rest, terms_bytes, is_count_or_none, is_wish, named, padding, reason_bytes, refused_rest, retry_rest, IsAddress, IsAnswer, IsCall, IsRefused, IsRetry}
-use Rattle.dn_greeting.specs.Reading.{IsSort}
+use Rattle.dn_greeting.specs.Sorts.{Sort, sort}
 use Rattle.dn_greeting.specs.Told.{told_address, told_answer, told_call, told_name, told_reason, told_refused, told_retry}
 
 -- sixteen bytes, one by one
@@ -72,12 +72,11 @@ call_back call is =
     sixteens call.mark call.cookie is.mark is.cookie
     (λ m k. told_call (call_rest (record call { mark = m; cookie = k })) ≡ record call { mark = m; cookie = k })
     (λ a b c d e f g h i j k l n o p q a' b' c' d' e' f' g' h' i' j' k' l' n' o' p' q'.
-    let number = from_le_bytes-to_le_bytes_4 call.number is.number in
     let seat = name_back call.seat (wish_named call.seat is.seat) in
     let players = name_back call.players (count_named call.players is.players) in
     λ x. record {
       mark = a ∷ b ∷ c ∷ d ∷ e ∷ f ∷ g ∷ h ∷ i ∷ j ∷ k ∷ l ∷ n ∷ o ∷ p ∷ q ∷ [];
-      number = number x;
+      number = from_le_bytes-to_le_bytes_4 call.number is.number x;
       seat = seat x;
       players = players x;
       cookie = a' ∷ b' ∷ c' ∷ d' ∷ e' ∷ f' ∷ g' ∷ h' ∷ i' ∷ j' ∷ k' ∷ l' ∷ n' ∷ o' ∷ p' ∷ q' ∷ [];
@@ -143,61 +142,53 @@ module _ (one two three : Option Address) (i1 : IfSome one IsAddress) (i2 : IfSo
     pub address_3 : told_address (drop 38 all) ≡ three
     address_3 = ap told_address third ∙ address_here three _ i3
 
+-- they take so many bytes, and are found again in them
+seats_back : (seats : List (Option Address)) → length seats ≡ 3 → All (λ place. IfSome place IsAddress) seats
+    → (length (flat_map address_bytes seats) ≡ 57)
+    × (told_address (flat_map address_bytes seats) ∷ told_address (drop 19 (flat_map address_bytes seats))
+    ∷ told_address (drop 38 (flat_map address_bytes seats)) ∷ [] ≡ seats)
+seats_back (one ∷ two ∷ three ∷ []) long all =
+    let i1 = All-head (λ place. IfSome place IsAddress) one (two ∷ three ∷ []) all in
+    let r1 = All-tail (λ place. IfSome place IsAddress) one (two ∷ three ∷ []) all in
+    let i2 = All-head (λ place. IfSome place IsAddress) two (three ∷ []) r1 in
+    let r2 = All-tail (λ place. IfSome place IsAddress) two (three ∷ []) r1 in
+    let i3 = All-head (λ place. IfSome place IsAddress) three [] r2 in (
+      length-all one two three i1 i2 i3,
+      λ x. address_1 one two three i1 i2 i3 x ∷ address_2 one two three i1 i2 i3 x
+          ∷ address_3 one two three i1 i2 i3 x ∷ [],
+    )
+seats_back _ long all = absurd (omega (arith, long))
+
 pub length-answer : (answer : Answer) → IsAnswer answer → length (answer_rest answer) + 28 ≡ 130
-length-answer answer is = go answer.seats is.three is.seats
-  where
-    go : (seats : List (Option Address)) → length seats ≡ 3 → All (λ place. IfSome place IsAddress) seats
-        → length (answer_rest (record answer { seats = seats })) + 28 ≡ 130
-    go (one ∷ two ∷ three ∷ []) long all =
-        let i1 = All-head (λ place. IfSome place IsAddress) one (two ∷ three ∷ []) all in
-        let r1 = All-tail (λ place. IfSome place IsAddress) one (two ∷ three ∷ []) all in
-        let i2 = All-head (λ place. IfSome place IsAddress) two (three ∷ []) r1 in
-        let r2 = All-tail (λ place. IfSome place IsAddress) two (three ∷ []) r1 in
-        let i3 = All-head (λ place. IfSome place IsAddress) three [] r2 in
-        let places : List ℕ = flat_map address_bytes (one ∷ two ∷ three ∷ []) in
-        let size : length places ≡ 57 = length-all one two three i1 i2 i3 in
-        let whole = length-append answer.game places in
-        omega (
-          arith,
-          is.mark,
-          is.game,
-          size,
-          whole,
-          length-append answer.mark (to_le_bytes w32 answer.number
-              ++ (answer.seat ∷ (terms_bytes answer.terms ++ (answer.game ++ places)))),
-        )
-    go _ long all = absurd (omega (arith, long))
+length-answer answer is =
+    let places : List ℕ = flat_map address_bytes answer.seats in
+    let size : length places ≡ 57 = (seats_back answer.seats is.three is.seats).0 in
+    omega (
+      arith,
+      is.mark,
+      is.game,
+      size,
+      length-append answer.game places,
+      length-append answer.mark (to_le_bytes w32 answer.number
+          ++ (answer.seat ∷ (terms_bytes answer.terms ++ (answer.game ++ places)))),
+    )
 
 -- a flag is found again in its byte
 bit_back : (flag : Bool) → (bit flag == 1) ≡ flag
 bit_back true = refl
 bit_back false = refl
 
-seats_back : (seats : List (Option Address)) → length seats ≡ 3 → All (λ place. IfSome place IsAddress) seats
-    → told_address (flat_map address_bytes seats) ∷ told_address (drop 19 (flat_map address_bytes seats))
-    ∷ told_address (drop 38 (flat_map address_bytes seats)) ∷ [] ≡ seats
-seats_back (one ∷ two ∷ three ∷ []) long all =
-    let i1 = All-head (λ place. IfSome place IsAddress) one (two ∷ three ∷ []) all in
-    let r1 = All-tail (λ place. IfSome place IsAddress) one (two ∷ three ∷ []) all in
-    let i2 = All-head (λ place. IfSome place IsAddress) two (three ∷ []) r1 in
-    let r2 = All-tail (λ place. IfSome place IsAddress) two (three ∷ []) r1 in
-    let i3 = All-head (λ place. IfSome place IsAddress) three [] r2 in
-    λ x. address_1 one two three i1 i2 i3 x ∷ address_2 one two three i1 i2 i3 x
-    ∷ address_3 one two three i1 i2 i3 x ∷ []
-seats_back _ long all = absurd (omega (arith, long))
-
 pub answer_back : (answer : Answer) → IsAnswer answer → told_answer (answer_rest answer) ≡ answer
 answer_back answer is =
     sixteens answer.mark answer.game is.mark is.game
     (λ m k. told_answer (answer_rest (record answer { mark = m; game = k })) ≡ record answer { mark = m; game = k })
     (λ a b c d e f g h i j k l n o p q a' b' c' d' e' f' g' h' i' j' k' l' n' o' p' q'.
-    let number = from_le_bytes-to_le_bytes_4 answer.number is.number in
     let limit = from_le_bytes-to_le_bytes_4 answer.terms.limit is.limit in
     let flag = bit_back answer.terms.extra in
-    let seats = seats_back answer.seats is.three is.seats in
+    let seats = (seats_back answer.seats is.three is.seats).1 in
     λ x. record {
       mark = a ∷ b ∷ c ∷ d ∷ e ∷ f ∷ g ∷ h ∷ i ∷ j ∷ k ∷ l ∷ n ∷ o ∷ p ∷ q ∷ [];
-      number = number x;
+      number = from_le_bytes-to_le_bytes_4 answer.number is.number x;
       seat = answer.seat;
       terms = record {
         players = answer.terms.players;
@@ -242,21 +233,20 @@ retry_back retry is =
     sixteens retry.mark retry.cookie is.mark is.cookie
     (λ m k. told_retry (retry_rest (record retry { mark = m; cookie = k })) ≡ record retry { mark = m; cookie = k })
     (λ a b c d e f g h i j k l n o p q a' b' c' d' e' f' g' h' i' j' k' l' n' o' p' q'.
-    let number = from_le_bytes-to_le_bytes_4 retry.number is.number in
     λ x. record {
       mark = a ∷ b ∷ c ∷ d ∷ e ∷ f ∷ g ∷ h ∷ i ∷ j ∷ k ∷ l ∷ n ∷ o ∷ p ∷ q ∷ [];
-      number = number x;
+      number = from_le_bytes-to_le_bytes_4 retry.number is.number x;
       cookie = a' ∷ b' ∷ c' ∷ d' ∷ e' ∷ f' ∷ g' ∷ h' ∷ i' ∷ j' ∷ k' ∷ l' ∷ n' ∷ o' ∷ p' ∷ q' ∷ [];
     })
 
-pub calls : IsSort 130 IsCall call_rest told_call
-calls = record { enough = omega arith; long = length-call; back = call_back }
+abbrev pub calls : Sort Call
+calls = sort 1 130 IsCall call_rest told_call (refl, length-call, call_back)
 
-pub answers : IsSort 130 IsAnswer answer_rest told_answer
-answers = record { enough = omega arith; long = length-answer; back = answer_back }
+abbrev pub answers : Sort Answer
+answers = sort 2 130 IsAnswer answer_rest told_answer (refl, length-answer, answer_back)
 
-pub refusals : IsSort 46 IsRefused refused_rest told_refused
-refusals = record { enough = omega arith; long = length-refused; back = refused_back }
+abbrev pub refusals : Sort Refused
+refusals = sort 3 46 IsRefused refused_rest told_refused (refl, length-refused, refused_back)
 
-pub retries : IsSort 64 IsRetry retry_rest told_retry
-retries = record { enough = omega arith; long = length-retry; back = retry_back }
+abbrev pub retries : Sort Retry
+retries = sort 5 64 IsRetry retry_rest told_retry (refl, length-retry, retry_back)

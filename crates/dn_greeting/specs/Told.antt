@@ -1,5 +1,5 @@
--- What stands where in a greeting, if it is one: the steps of reading, of which only the contracts of private
--- functions speak. What bytes are read as is said in `Reading`, without them.
+-- What stands where in a greeting, if it is one: the steps of reading. What bytes are read as is said in `Reading`,
+-- without them.
 use Rattle.std.specs.Prelude.{ℕ, ◌==◌, if◌then◌else◌, List, [], ◌∷◌, take, drop, slice_index, Option, Some, None}
 use Rattle.std.specs.Int.{w16, w32, from_le_bytes}
 use Rattle.dn_greeting.specs.declared.greeting.Address.{Address}

@@ -51,9 +51,9 @@ fn fault_in(sealer: &Sealer, what: u8, size: usize, bytes: &[u8]) -> Option<Gree
 
 /// What stands behind the head, if it is a greeting of this sort.
 fn greeting_in<G: Greeting>(rest: &[u8]) -> Option<G>
-    requires { length rest.now + 28 ≡ G.SIZE }
-    ensures { MatchOption result ((greeting : G) → G.Is greeting → rest.now ≢ G.rest greeting)
-        (λ greeting. G.Is greeting × (rest.now ≡ G.rest greeting)) }
+    requires { length rest.now + 28 ≡ G.sort.size }
+    ensures { MatchOption result ((greeting : G) → G.sort.Is greeting → rest.now ≢ G.sort.rest greeting)
+        (λ greeting. G.sort.Is greeting × (rest.now ≡ G.sort.rest greeting)) }
 {
     let greeting = G::told(rest)?;
     if *rest == *greeting.rest().as_slice() {
@@ -64,11 +64,12 @@ fn greeting_in<G: Greeting>(rest: &[u8]) -> Option<G>
 
 /// Reads bytes as a greeting of this sort, or returns the first fault that they have.
 pub fn open<G: Greeting>(sealer: &Sealer, bytes: &[u8]) -> Result<G, GreetingFault>
-    ensures opens { IsReadAs (sealing sealer.now).seal G.WHAT G.SIZE G.Is G.rest bytes.now result }
+    ensures opens { IsReadAs (sealing sealer.now).seal G.sort.what G.sort.size G.sort.Is G.sort.rest bytes.now result }
     ensures only { (read : Result G GreetingFault)
-        → IsReadAs (sealing sealer.now).seal G.WHAT G.SIZE G.Is G.rest bytes.now read → result ≡ read }
+        → IsReadAs (sealing sealer.now).seal G.sort.what G.sort.size G.sort.Is G.sort.rest bytes.now read → result ≡ read }
 {
-    match fault_in(sealer, G::WHAT, G::SIZE, bytes) {
+    let (what, size) = G::kind();
+    match fault_in(sealer, what, size, bytes) {
         Some(fault) => Err(fault),
         None => greeting_in(&bytes[12..bytes.len() - 16]).ok_or(GreetingFault::Form),
     }

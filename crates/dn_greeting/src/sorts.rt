@@ -1,76 +1,48 @@
 //! The sorts of greetings that have a tag.
 
-ghost use Rattle.std.specs.Prelude.{◌≡◌, ◌≢◌, ◌+◌, ℕ, List, length, MatchOption};
-ghost use Rattle.dn_greeting.specs.Reading.{IsSort};
+ghost use Rattle.std.specs.Prelude.{◌≡◌, ◌≢◌, ◌+◌, length, MatchOption};
+ghost use Rattle.dn_greeting.specs.{Rests.answers, Rests.calls, Rests.refusals, Rests.retries, Sorts.Sort};
 
 use crate::greeting::{Answer, Call, Refused, Retry};
 use crate::telling::{is_answer, is_call, name_in, reason_in, sixteen_at, told_answer};
-use crate::writing::{named, padding, reason_bytes, seats_bytes, terms_bytes};
+use crate::writing::{marked, named, padding, reason_bytes, seats_bytes, terms_bytes};
 use arrayvec::ArrayVec;
 use dn_seal::{append, tic_at};
 
-/// A sort of greetings that have a tag.
+/// A greeting that has a tag.
 pub trait Greeting: Copy {
-    // what its head says that it is
-    ghost WHAT: { ℕ };
-
-    // how many bytes it has
-    ghost SIZE: { ℕ };
-
-    // its fields fit
-    ghost Is: { Self → Type 0 };
-
-    // what stands behind its head
-    ghost rest: { Self → List ℕ };
-
-    // what it is whose head these bytes stand behind
-    ghost told: { List ℕ → Self };
-
-    /// What its head says that it is.
-    const WHAT: u8;
-
-    /// How many bytes it has.
-    const SIZE: usize;
+    // its sort
+    ghost sort: { Sort Self };
 
     /// What stands behind its head.
     fn rest(&self) -> ArrayVec<u8, 102>
-        ensures { result.items ≡ rest self.now };
+        ensures { result.items ≡ sort.rest self.now };
 
-    /// What these bytes stand behind the head of, if its fields fit.
+    /// What its head says that it is, and how many bytes it has.
+    fn kind() -> (u8, usize)
+        ensures { result ≡ (sort.what, sort.size) };
+
+    /// What is told behind a head, if its fields fit.
     fn told(bytes: &[u8]) -> Option<Self>
-        requires { length bytes.now + 28 ≡ SIZE }
-        ensures { MatchOption result ((greeting : Self) → Is greeting → told bytes.now ≢ greeting)
-            (λ greeting. Is greeting × (told bytes.now ≡ greeting)) };
-
-    // it has so many bytes, and is found again in them
-    ghost sort: { IsSort SIZE Is rest told };
+        requires { length bytes.now + 28 ≡ sort.size }
+        ensures { MatchOption result ((greeting : Self) → sort.Is greeting → sort.told bytes.now ≢ greeting)
+            (λ greeting. sort.Is greeting × (sort.told bytes.now ≡ greeting)) };
 }
 
 impl Greeting for Call {
-    ghost use Rattle.dn_greeting.specs.{Rests.calls, Text.call_rest, Text.IsCall, Told.told_call};
-
-    ghost WHAT = { 1 };
-
-    ghost SIZE = { 130 };
-
-    ghost Is = { IsCall };
-
-    ghost rest = { call_rest };
-
-    ghost told = { told_call };
-
-    const WHAT: u8 = 1;
-
-    const SIZE: usize = 130;
+    ghost sort = { calls };
 
     fn rest(&self) -> ArrayVec<u8, 102> {
-        let mut bytes = ArrayVec::new();
-        append(&mut bytes, &self.mark);
+        let mut bytes = marked(&self.mark);
         append(&mut bytes, &self.number.to_le_bytes());
         append(&mut bytes, &[named(self.seat), named(self.players)]);
         append(&mut bytes, &self.cookie);
         append(&mut bytes, &padding());
         bytes
+    }
+
+    fn kind() -> (u8, usize) {
+        (1, 130)
     }
 
     fn told(bytes: &[u8]) -> Option<Call> {
@@ -83,36 +55,23 @@ impl Greeting for Call {
         };
         if is_call(&call) { Some(call) } else { None }
     }
-
-    ghost sort = { calls };
 }
 
 impl Greeting for Answer {
-    ghost use Rattle.dn_greeting.specs.{Rests.answers, Text.answer_rest, Text.IsAnswer, Told.told_answer};
-
-    ghost WHAT = { 2 };
-
-    ghost SIZE = { 130 };
-
-    ghost Is = { IsAnswer };
-
-    ghost rest = { answer_rest };
-
-    ghost told = { told_answer };
-
-    const WHAT: u8 = 2;
-
-    const SIZE: usize = 130;
+    ghost sort = { answers };
 
     fn rest(&self) -> ArrayVec<u8, 102> {
-        let mut bytes = ArrayVec::new();
-        append(&mut bytes, &self.mark);
+        let mut bytes = marked(&self.mark);
         append(&mut bytes, &self.number.to_le_bytes());
         append(&mut bytes, &[self.seat]);
         append(&mut bytes, &terms_bytes(self.terms));
         append(&mut bytes, &self.game);
         append(&mut bytes, seats_bytes(self.seats).as_slice());
         bytes
+    }
+
+    fn kind() -> (u8, usize) {
+        (2, 130)
     }
 
     fn told(bytes: &[u8]) -> Option<Answer> {
@@ -123,67 +82,47 @@ impl Greeting for Answer {
             None
         }
     }
-
-    ghost sort = { answers };
 }
 
 impl Greeting for Refused {
-    ghost use Rattle.dn_greeting.specs.{Rests.refusals, Text.refused_rest, Text.IsRefused, Told.told_refused};
-
-    ghost WHAT = { 3 };
-
-    ghost SIZE = { 46 };
-
-    ghost Is = { IsRefused };
-
-    ghost rest = { refused_rest };
-
-    ghost told = { told_refused };
-
-    const WHAT: u8 = 3;
-
-    const SIZE: usize = 46;
+    ghost sort = { refusals };
 
     fn rest(&self) -> ArrayVec<u8, 102> {
-        let mut bytes = ArrayVec::new();
-        append(&mut bytes, &self.mark);
+        let mut bytes = marked(&self.mark);
         append(&mut bytes, &reason_bytes(self.refusal));
         bytes
     }
 
-    fn told(bytes: &[u8]) -> Option<Refused> {
-        Some(Refused {
-            mark: sixteen_at(bytes, 0),
-            refusal: reason_in(bytes[16], bytes[17]),
-        })
+    fn kind() -> (u8, usize) {
+        (3, 46)
     }
 
-    ghost sort = { refusals };
+    fn told(bytes: &[u8]) -> Option<Refused> {
+        let refusal = reason_in(bytes[16], bytes[17]);
+        Some(Refused {
+            mark: sixteen_at(bytes, 0),
+            refusal,
+        })
+    }
 }
 
 impl Greeting for Retry {
-    ghost use Rattle.dn_greeting.specs.{Rests.retries, Text.retry_rest, Text.IsRetry, Told.told_retry};
-
-    ghost WHAT = { 5 };
-
-    ghost SIZE = { 64 };
-
-    ghost Is = { IsRetry };
-
-    ghost rest = { retry_rest };
-
-    ghost told = { told_retry };
-
-    const WHAT: u8 = 5;
-
-    const SIZE: usize = 64;
+    ghost sort = { retries };
 
     fn rest(&self) -> ArrayVec<u8, 102> {
-        let mut bytes = ArrayVec::new();
-        append(&mut bytes, &self.mark);
-        append(&mut bytes, &self.number.to_le_bytes());
-        append(&mut bytes, &self.cookie);
+        let Retry {
+            mark,
+            number,
+            cookie,
+        } = self;
+        let mut bytes = marked(mark);
+        append(&mut bytes, &number.to_le_bytes());
+        append(&mut bytes, cookie);
         bytes
+    }
+
+    fn kind() -> (u8, usize) {
+        (5, 64)
     }
 
     fn told(bytes: &[u8]) -> Option<Retry> {
@@ -193,6 +132,4 @@ impl Greeting for Retry {
             cookie: sixteen_at(bytes, 20),
         })
     }
-
-    ghost sort = { retries };
 }

@@ -23,17 +23,27 @@ pub(crate) const NAME: [u8; 9] = [KIND, 122, 105, 114, 109, 101, 103, 97, 116];
 
 /// The bytes of a greeting, with its tag.
 pub fn seal<G: Greeting>(sealer: &Sealer, greeting: &G) -> ArrayVec<u8, 130>
-    ensures value { result.items ≡ greeting_bytes (sealing sealer.now).seal G.WHAT (G.rest greeting.now) }
+    ensures value { result.items ≡ greeting_bytes (sealing sealer.now).seal G.sort.what (G.sort.rest greeting.now) }
     ensures short { length result.items ≤ 130 }
 {
+    let (what, _) = G::kind();
     let front = sealer.front(KIND);
     let mut bytes = ArrayVec::new();
     append(&mut bytes, &front[..1]);
     append(&mut bytes, &NAME);
-    append(&mut bytes, &[VERSION, G::WHAT]);
+    append(&mut bytes, &[VERSION, what]);
     append(&mut bytes, greeting.rest().as_slice());
     let tag = sealer.tag(bytes.as_slice());
     append(&mut bytes, &tag);
+    bytes
+}
+
+/// The mark, which stands first behind every head.
+pub(crate) fn marked(mark: &[u8; 16]) -> ArrayVec<u8, 102>
+    ensures { result.items ≡ mark.now }
+{
+    let mut bytes = ArrayVec::new();
+    append(&mut bytes, mark);
     bytes
 }
 

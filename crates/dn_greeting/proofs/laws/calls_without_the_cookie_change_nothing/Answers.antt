@@ -13,7 +13,7 @@ asked_again from call now old without = rw without refl
 
 pub returns : goal.returns
 returns c = λ from bytes call now old new reply opens without hears.
-    let read : hears.0 ≡ Ok call = only calls 1 old.seal bytes hears.0 (Ok call) hears.1 opens in
+    let read : hears.0 ≡ Ok call = only calls old.seal bytes hears.0 (Ok call) hears.1 opens in
     let made = ap (on_call from bytes now old) read ∙ asked_again from call now old without in (
       hears.2 ∙ ap (λ (after : Lobby × Option (List ℕ)). after.0) made,
       hears.3 ∙ ap (λ (after : Lobby × Option (List ℕ)). after.1) made,

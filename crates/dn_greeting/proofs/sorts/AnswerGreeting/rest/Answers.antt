@@ -7,16 +7,14 @@ use Rattle.dn_greeting.proofs.sorts.AnswerGreeting.rest.Goals as goal
 pub returns : goal.returns
 returns c =
     let a = c.args.self.now in
-    let one : c.append.new.bytes.items ≡ a.mark =
-    c.append.ensures ∙ ap (λ (xs : List ℕ). xs ++ a.mark) c.new-bytes.ensures in
-    let two : c.append-2.new.bytes.items ≡ a.mark ++ to_le_bytes w32 a.number =
-    c.append-2.ensures ∙ (λ i. one i ++ c.to_le_bytes.ensures i) in
-    let three = c.append-3.ensures ∙ ap (λ (xs : List ℕ). xs ++ a.seat ∷ []) two in
-    let four = c.append-4.ensures ∙ (λ i. three i ++ c.terms_bytes.ensures i) in
-    let five = c.append-5.ensures ∙ ap (λ (xs : List ℕ). xs ++ a.game) four in
+    let two : c.append.new.bytes.items ≡ a.mark ++ to_le_bytes w32 a.number =
+    c.append.ensures ∙ (λ i. c.marked-bytes.ensures i ++ c.to_le_bytes.ensures i) in
+    let three = c.append-2.ensures ∙ ap (λ (xs : List ℕ). xs ++ a.seat ∷ []) two in
+    let four = c.append-3.ensures ∙ (λ i. three i ++ c.terms_bytes.ensures i) in
+    let five = c.append-4.ensures ∙ ap (λ (xs : List ℕ). xs ++ a.game) four in
     let places : c.as_slice.result.now ≡ flat_map address_bytes a.seats =
     c.as_slice.ensures.value ∙ c.seats_bytes.ensures in
-    let six = c.append-6.ensures ∙ (λ i. five i ++ places i) in
+    let six = c.append-5.ensures ∙ (λ i. five i ++ places i) in
     six ∙ regroup a.mark (to_le_bytes w32 a.number) (a.seat ∷ []) (terms_bytes a.terms) a.game
     (flat_map address_bytes a.seats)
   where
