@@ -136,7 +136,8 @@ module _ {T : Type 0} (sort : Sort T) (seal : Seal) (bytes : List ℕ) where
   Reads = IsReadAs seal sort.what sort.size sort.Is sort.rest bytes
 
   none_ok : (t : T) → Reads (Ok t) → first_fault seal sort.what sort.size bytes ≡ None
-  none_ok t (is, e) = ap (first_fault seal sort.what sort.size) e ∙ clean seal sort.what sort.size (greeting_bytes seal sort.what (sort.rest t))
+  none_ok t (is, e) = ap (first_fault seal sort.what sort.size) e
+      ∙ clean seal sort.what sort.size (greeting_bytes seal sort.what (sort.rest t))
       (its_tests seal sort.what (sort.rest t) sort.size (sort.long t is) (leb-true 29 sort.size sort.enough))
 
   rest_ok : (t : T) → Reads (Ok t) → drop 12 (told_body bytes) ≡ sort.rest t
@@ -158,7 +159,7 @@ module _ {T : Type 0} (sort : Sort T) (seal : Seal) (bytes : List ℕ) where
   only (Err f) (Err g) (inr x) (inl y) = absurd (none-some g (sym x.1 ∙ y))
   only (Err f) (Err g) (inr x) (inr y) = ap Err (x.0 ∙ sym y.0)
 
-  -- sort.what stands between the head and the tag
+  -- what stands between the head and the tag
   abbrev there : List ℕ
   there = take (length bytes - 16 - 12) (drop 12 bytes)
 

@@ -222,7 +222,10 @@ refused_back refused is =
     sixteen refused.mark is.mark
     (λ m. told_refused (refused_rest (record refused { mark = m })) ≡ record refused { mark = m })
     (λ a b c d e f g h i j k l n o p q.
-    λ x. record { mark = a ∷ b ∷ c ∷ d ∷ e ∷ f ∷ g ∷ h ∷ i ∷ j ∷ k ∷ l ∷ n ∷ o ∷ p ∷ q ∷ []; refusal = reason_back refused.refusal x })
+    λ x. record {
+      mark = a ∷ b ∷ c ∷ d ∷ e ∷ f ∷ g ∷ h ∷ i ∷ j ∷ k ∷ l ∷ n ∷ o ∷ p ∷ q ∷ [];
+      refusal = reason_back refused.refusal x;
+    })
 
 pub length-retry : (retry : Retry) → IsRetry retry → length (retry_rest retry) + 28 ≡ 64
 length-retry retry is =

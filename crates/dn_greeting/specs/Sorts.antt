@@ -15,7 +15,8 @@ pub record Sort (T : Type 0) : Type 1 where
 
 -- a sort with these laws
 abbrev pub sort : {T : Type 0} (what size : ℕ) (Is : T → Type 0) (rest : T → List ℕ) (told : List ℕ → T)
-    → (nat_le 29 size ≡ true) × ((t : T) → Is t → length (rest t) + 28 ≡ size) × ((t : T) → Is t → told (rest t) ≡ t) → Sort T
+    → (nat_le 29 size ≡ true) × ((t : T) → Is t → length (rest t) + 28 ≡ size)
+    × ((t : T) → Is t → told (rest t) ≡ t) → Sort T
 sort what size Is rest told laws = record {
   what = what;
   size = size;

@@ -1,9 +1,6 @@
 //! Bytes of greetings, with tags that were worked out by another HMAC-SHA-256.
 
-use super::calls::{
-    greeter, hinted_bytes, open_answer, open_call, open_refused, open_retry, read_hinted,
-    seal_answer, seal_call, seal_refused, seal_retry,
-};
+use super::calls::{greeter, hinted_bytes, open, read_hinted, seal};
 use super::{GAME, MARK, SECRET, mapped};
 use arrayvec::ArrayVec;
 use dn_greeting::{
@@ -130,19 +127,19 @@ fn altered(bytes: &[u8], place: usize, byte: u8) -> ArrayVec<u8, 131> {
 fn calls_have_these_bytes(ref rt: HostRuntime) {
     let sealed = greeter(Some(SECRET));
     let unsealed = greeter(None);
-    let open = Call {
+    let plain = Call {
         mark: MARK,
         number: 1,
         seat: None,
         players: None,
         cookie: [0; 16],
     };
-    holds!(rt; seal_call(&sealed, &call()).as_slice() == CALL.as_slice());
-    holds!(rt; seal_call(&unsealed, &open).as_slice() == OPEN_CALL.as_slice());
-    holds!(rt; open_call(&sealed, &CALL) == Ok(call()));
-    holds!(rt; open_call(&unsealed, &OPEN_CALL) == Ok(open));
-    holds!(rt; open_call(&sealed, &OPEN_CALL) == Err(GreetingFault::Suite));
-    holds!(rt; open_call(&greeter(Some([8; 32])), &CALL) == Err(GreetingFault::Tag));
+    holds!(rt; seal(&sealed, &call()).as_slice() == CALL.as_slice());
+    holds!(rt; seal(&unsealed, &plain).as_slice() == OPEN_CALL.as_slice());
+    holds!(rt; open::<Call>(&sealed, &CALL) == Ok(call()));
+    holds!(rt; open::<Call>(&unsealed, &OPEN_CALL) == Ok(plain));
+    holds!(rt; open::<Call>(&sealed, &OPEN_CALL) == Err(GreetingFault::Suite));
+    holds!(rt; open::<Call>(&greeter(Some([8; 32])), &CALL) == Err(GreetingFault::Tag));
 }
 
 #[test]
@@ -153,12 +150,12 @@ fn replies_have_these_bytes(ref rt: HostRuntime) {
         refusal,
     };
     let (four, full) = (refused(Refusal::Players(4)), refused(Refusal::Full));
-    holds!(rt; seal_answer(&sealed, &answer()).as_slice() == ANSWER.as_slice());
-    holds!(rt; open_answer(&sealed, &ANSWER) == Ok(answer()));
-    holds!(rt; seal_refused(&sealed, &four).as_slice() == REFUSED.as_slice());
-    holds!(rt; open_refused(&sealed, &REFUSED) == Ok(four));
-    holds!(rt; seal_refused(&greeter(None), &full).as_slice() == OPEN_REFUSED.as_slice());
-    holds!(rt; open_refused(&greeter(None), &OPEN_REFUSED) == Ok(full));
+    holds!(rt; seal(&sealed, &answer()).as_slice() == ANSWER.as_slice());
+    holds!(rt; open::<Answer>(&sealed, &ANSWER) == Ok(answer()));
+    holds!(rt; seal(&sealed, &four).as_slice() == REFUSED.as_slice());
+    holds!(rt; open::<Refused>(&sealed, &REFUSED) == Ok(four));
+    holds!(rt; seal(&greeter(None), &full).as_slice() == OPEN_REFUSED.as_slice());
+    holds!(rt; open::<Refused>(&greeter(None), &OPEN_REFUSED) == Ok(full));
 }
 
 #[test]
@@ -170,15 +167,15 @@ fn retries_have_these_bytes(ref rt: HostRuntime) {
         number,
         cookie: COOKIE,
     };
-    holds!(rt; seal_retry(&sealed, &retry(70_000)).as_slice() == RETRY.as_slice());
-    holds!(rt; open_retry(&sealed, &RETRY) == Ok(retry(70_000)));
-    holds!(rt; seal_retry(&unsealed, &retry(1)).as_slice() == OPEN_RETRY.as_slice());
-    holds!(rt; open_retry(&unsealed, &OPEN_RETRY) == Ok(retry(1)));
-    holds!(rt; open_retry(&unsealed, &RETRY) == Err(GreetingFault::Suite));
-    holds!(rt; open_retry(&sealed, altered(&RETRY, 47, 0).as_slice()) == Err(GreetingFault::Tag));
-    holds!(rt; open_retry(&sealed, altered(&RETRY, 11, 3).as_slice()) == Err(GreetingFault::What));
-    holds!(rt; open_retry(&sealed, &RETRY[..63]) == Err(GreetingFault::Length));
-    holds!(rt; open_call(&sealed, &RETRY) == Err(GreetingFault::What));
+    holds!(rt; seal(&sealed, &retry(70_000)).as_slice() == RETRY.as_slice());
+    holds!(rt; open::<Retry>(&sealed, &RETRY) == Ok(retry(70_000)));
+    holds!(rt; seal(&unsealed, &retry(1)).as_slice() == OPEN_RETRY.as_slice());
+    holds!(rt; open::<Retry>(&unsealed, &OPEN_RETRY) == Ok(retry(1)));
+    holds!(rt; open::<Retry>(&unsealed, &RETRY) == Err(GreetingFault::Suite));
+    holds!(rt; open::<Retry>(&sealed, altered(&RETRY, 47, 0).as_slice()) == Err(GreetingFault::Tag));
+    holds!(rt; open::<Retry>(&sealed, altered(&RETRY, 11, 3).as_slice()) == Err(GreetingFault::What));
+    holds!(rt; open::<Retry>(&sealed, &RETRY[..63]) == Err(GreetingFault::Length));
+    holds!(rt; open::<Call>(&sealed, &RETRY) == Err(GreetingFault::What));
 }
 
 #[test]
@@ -210,12 +207,12 @@ fn altered_calls_have_these_faults(ref rt: HostRuntime) {
     ];
     let sealed = greeter(Some(SECRET));
     for (place, byte, fault) in table {
-        holds!(rt; open_call(&sealed, altered(&CALL, place, byte).as_slice()) == Err(fault));
+        holds!(rt; open::<Call>(&sealed, altered(&CALL, place, byte).as_slice()) == Err(fault));
     }
-    holds!(rt; open_call(&sealed, &[]) == Err(GreetingFault::Short));
-    holds!(rt; open_call(&sealed, &CALL[..28]) == Err(GreetingFault::Short));
-    holds!(rt; open_call(&sealed, &CALL[..29]) == Err(GreetingFault::Length));
-    holds!(rt; open_call(&sealed, &CALL[..129]) == Err(GreetingFault::Length));
-    holds!(rt; open_call(&sealed, &ANSWER) == Err(GreetingFault::What));
-    holds!(rt; open_answer(&sealed, &CALL) == Err(GreetingFault::What));
+    holds!(rt; open::<Call>(&sealed, &[]) == Err(GreetingFault::Short));
+    holds!(rt; open::<Call>(&sealed, &CALL[..28]) == Err(GreetingFault::Short));
+    holds!(rt; open::<Call>(&sealed, &CALL[..29]) == Err(GreetingFault::Length));
+    holds!(rt; open::<Call>(&sealed, &CALL[..129]) == Err(GreetingFault::Length));
+    holds!(rt; open::<Call>(&sealed, &ANSWER) == Err(GreetingFault::What));
+    holds!(rt; open::<Answer>(&sealed, &CALL) == Err(GreetingFault::What));
 }

@@ -2,49 +2,23 @@
 //! where its proof has not every definition to carry.
 
 use arrayvec::ArrayVec;
-use dn_greeting::{
-    Address, Answer, Call, GreetingFault, Hinted, Joiner, News, Refused, Retry, Table,
-};
+use dn_greeting::{Address, Answer, Greeting, GreetingFault, Hinted, Joiner, News, Table};
 use dn_seal::Sealer;
 
 pub(super) fn greeter(secret: Option<[u8; 32]>) -> Sealer {
     dn_greeting::greeter(secret)
 }
 
-pub(super) fn open_call(sealer: &Sealer, bytes: &[u8]) -> Result<Call, GreetingFault> {
-    dn_greeting::open_call(sealer, bytes)
-}
-
-pub(super) fn open_answer(sealer: &Sealer, bytes: &[u8]) -> Result<Answer, GreetingFault> {
-    dn_greeting::open_answer(sealer, bytes)
-}
-
-pub(super) fn open_refused(sealer: &Sealer, bytes: &[u8]) -> Result<Refused, GreetingFault> {
-    dn_greeting::open_refused(sealer, bytes)
-}
-
-pub(super) fn open_retry(sealer: &Sealer, bytes: &[u8]) -> Result<Retry, GreetingFault> {
-    dn_greeting::open_retry(sealer, bytes)
+pub(super) fn open<G: Greeting>(sealer: &Sealer, bytes: &[u8]) -> Result<G, GreetingFault> {
+    dn_greeting::open(sealer, bytes)
 }
 
 pub(super) fn read_hinted(bytes: &[u8]) -> Result<Hinted, GreetingFault> {
     dn_greeting::read_hinted(bytes)
 }
 
-pub(super) fn seal_call(sealer: &Sealer, call: &Call) -> ArrayVec<u8, 130> {
-    dn_greeting::seal_call(sealer, call)
-}
-
-pub(super) fn seal_answer(sealer: &Sealer, answer: &Answer) -> ArrayVec<u8, 130> {
-    dn_greeting::seal_answer(sealer, answer)
-}
-
-pub(super) fn seal_refused(sealer: &Sealer, refused: &Refused) -> ArrayVec<u8, 130> {
-    dn_greeting::seal_refused(sealer, refused)
-}
-
-pub(super) fn seal_retry(sealer: &Sealer, retry: &Retry) -> ArrayVec<u8, 130> {
-    dn_greeting::seal_retry(sealer, retry)
+pub(super) fn seal<G: Greeting>(sealer: &Sealer, greeting: &G) -> ArrayVec<u8, 130> {
+    dn_greeting::seal(sealer, greeting)
 }
 
 pub(super) fn hinted_bytes(hinted: &Hinted) -> ArrayVec<u8, 130> {

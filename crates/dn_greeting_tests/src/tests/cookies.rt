@@ -1,9 +1,9 @@
 //! Cookies, which were worked out by another HMAC-SHA-256, and calls without them.
 
-use super::calls::{greeter, hear, open_answer, open_retry, seal_call};
+use super::calls::{greeter, hear, open, seal};
 use super::{COOKIES, GAME, MARK, SECRET, mapped};
 use arrayvec::ArrayVec;
-use dn_greeting::{Address, Call, Place, Retry, Table, Terms};
+use dn_greeting::{Address, Answer, Call, Place, Retry, Table, Terms};
 use dn_shared_tests::{holds, rows};
 
 fn table(cookies: [u8; 32]) -> Table {
@@ -26,7 +26,7 @@ fn call_of(mark: [u8; 16], number: u32, cookie: u128) -> ArrayVec<u8, 130> {
         players: None,
         cookie: cookie.to_be_bytes(),
     };
-    seal_call(&greeter(Some(SECRET)), &call)
+    seal(&greeter(Some(SECRET)), &call)
 }
 
 /// The bytes of a call of this number with this cookie.
@@ -49,7 +49,7 @@ fn asked(table: &mut Table, from: Address, number: u32, cookie: u128) -> Option<
     if reply.len() != 64 {
         return None;
     }
-    open_retry(&greeter(Some(SECRET)), reply.as_slice()).ok()
+    open::<Retry>(&greeter(Some(SECRET)), reply.as_slice()).ok()
 }
 
 /// The cookie that the retry has which a call brings.
@@ -63,7 +63,7 @@ fn cookie_for(table: &mut Table, from: Address, number: u32, cookie: u128) -> u1
 /// Whether a call brings an answer.
 fn answered(table: &mut Table, from: Address, number: u32, cookie: u128) -> bool {
     match hear(table, from, call(number, cookie).as_slice(), 0) {
-        Some(reply) => open_answer(&greeter(Some(SECRET)), reply.as_slice()).is_ok(),
+        Some(reply) => open::<Answer>(&greeter(Some(SECRET)), reply.as_slice()).is_ok(),
         None => false,
     }
 }

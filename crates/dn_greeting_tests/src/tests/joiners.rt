@@ -1,11 +1,10 @@
 //! What a joiner makes of replies.
 
-use super::calls::{
-    answer_of, begin, greeter, hinted_bytes, next_call, open_call, seal_answer, seal_refused,
-    seal_retry, told,
-};
+use super::calls::{answer_of, begin, greeter, hinted_bytes, next_call, open, seal, told};
 use super::{GAME, MARK, SECRET, mapped};
-use dn_greeting::{Address, Answer, Hint, Hinted, Joiner, News, Refusal, Refused, Retry, Terms};
+use dn_greeting::{
+    Address, Answer, Call, Hint, Hinted, Joiner, News, Refusal, Refused, Retry, Terms,
+};
 use dn_shared_tests::{holds, same};
 
 /// Where the host is.
@@ -49,7 +48,7 @@ fn hears(joiner: &mut Joiner, from: Address, answer: &Answer) -> News {
     told(
         joiner,
         from,
-        seal_answer(&greeter(Some(SECRET)), answer).as_slice(),
+        seal(&greeter(Some(SECRET)), answer).as_slice(),
     )
 }
 
@@ -57,7 +56,7 @@ fn hears(joiner: &mut Joiner, from: Address, answer: &Answer) -> News {
 fn calls_are_numbered(ref rt: HostRuntime) {
     let mut joiner = joiner();
     for number in 1..4 {
-        match open_call(&greeter(Some(SECRET)), next_call(&mut joiner).as_slice()) {
+        match open::<Call>(&greeter(Some(SECRET)), next_call(&mut joiner).as_slice()) {
             Ok(call) => {
                 same!(rt;
                     (call.number, call.seat, call.players),
@@ -133,7 +132,7 @@ fn who_has_a_seat_heeds_no_want_of_one(ref rt: HostRuntime) {
             mark: MARK,
             refusal,
         };
-        let bytes = seal_refused(&greeter(Some(SECRET)), &refused);
+        let bytes = seal(&greeter(Some(SECRET)), &refused);
         let is_heard = told(&mut joiner, host(), bytes.as_slice()) == News::Refused(refusal);
         same!(rt; is_heard, before);
         same!(rt;
@@ -176,9 +175,9 @@ fn refusals_are_for_the_mark(ref rt: HostRuntime) {
             mark,
             refusal: Refusal::Taken,
         };
-        let bytes = seal_refused(&sealer, &refused);
+        let bytes = seal(&sealer, &refused);
         same!(rt; told(&mut joiner, host(), bytes.as_slice()), news);
-        let forged = seal_refused(&greeter(None), &refused);
+        let forged = seal(&greeter(None), &refused);
         same!(rt; told(&mut joiner, host(), forged.as_slice()), News::Nothing);
     }
 }
@@ -220,7 +219,7 @@ fn hints_are_heeded_before_a_retry(ref rt: HostRuntime) {
                 number,
                 cookie,
             };
-            let asked = seal_retry(&sealer, &retry);
+            let asked = seal(&sealer, &retry);
             same!(rt; told(&mut joiner, host(), asked.as_slice()), news);
             same!(rt; told(&mut joiner, host(), bytes.as_slice()), after);
         }
@@ -252,7 +251,7 @@ fn in_its_game_it_heeds_where_others_are(ref rt: HostRuntime) {
         mark: MARK,
         refusal: Refusal::Begun,
     };
-    let bytes = seal_refused(&greeter(Some(SECRET)), &refused);
+    let bytes = seal(&greeter(Some(SECRET)), &refused);
     same!(rt; told(&mut joiner, host(), bytes.as_slice()), News::Nothing);
 }
 
@@ -273,7 +272,7 @@ fn a_game_without_a_seat_heeds_nothing(ref rt: HostRuntime) {
 
 /// The cookie of the next call.
 fn next_cookie(joiner: &mut Joiner) -> Option<[u8; 16]> {
-    match open_call(&greeter(Some(SECRET)), next_call(joiner).as_slice()) {
+    match open::<Call>(&greeter(Some(SECRET)), next_call(joiner).as_slice()) {
         Ok(call) => Some(call.cookie),
         Err(_) => None,
     }
@@ -304,14 +303,14 @@ fn who_is_asked_again_calls_with_the_cookie(ref rt: HostRuntime) {
             number,
             cookie: [byte; 16],
         };
-        let bytes = seal_retry(&greeter(Some(SECRET)), &retry);
+        let bytes = seal(&greeter(Some(SECRET)), &retry);
         let news = told(&mut joiner, from, bytes.as_slice());
         holds!(rt; (news == News::Retry) == is_taken && (news == News::Nothing) != is_taken);
         if is_taken {
             last = byte;
         }
         holds!(rt; next_cookie(&mut joiner) == Some([last; 16]));
-        let forged = seal_retry(&greeter(None), &retry);
+        let forged = seal(&greeter(None), &retry);
         same!(rt; told(&mut joiner, host(), forged.as_slice()), News::Nothing);
     }
 }

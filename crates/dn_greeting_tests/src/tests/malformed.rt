@@ -1,8 +1,8 @@
 //! Greetings under a right tag that are none, with tags that were worked out by another HMAC-SHA-256.
 
 use super::SECRET;
-use super::calls::{greeter, open_answer, open_call};
-use dn_greeting::GreetingFault;
+use super::calls::{greeter, open};
+use dn_greeting::{Answer, Call, GreetingFault};
 use dn_shared_tests::{holds, rows};
 
 /// Bytes of a greeting that differ from a right one, each after its place, and the tag of it all.
@@ -86,7 +86,7 @@ const NO_ANSWERS: [Malformed; 10] = rows! {
 fn malformed_calls_are_none(ref rt: HostRuntime) {
     for row in &NO_CALLS {
         let bytes = bytes_of(&RIGHT_CALL, row);
-        holds!(rt; open_call(&greeter(Some(SECRET)), &bytes) == Err(GreetingFault::Form));
+        holds!(rt; open::<Call>(&greeter(Some(SECRET)), &bytes) == Err(GreetingFault::Form));
     }
 }
 
@@ -94,6 +94,6 @@ fn malformed_calls_are_none(ref rt: HostRuntime) {
 fn malformed_answers_are_none(ref rt: HostRuntime) {
     for row in &NO_ANSWERS {
         let bytes = bytes_of(&RIGHT_ANSWER, row);
-        holds!(rt; open_answer(&greeter(Some(SECRET)), &bytes) == Err(GreetingFault::Form));
+        holds!(rt; open::<Answer>(&greeter(Some(SECRET)), &bytes) == Err(GreetingFault::Form));
     }
 }

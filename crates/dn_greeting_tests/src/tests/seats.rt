@@ -1,9 +1,11 @@
 //! Who gets which seat.
 
-use super::calls::{greeter, hear, open_answer, open_refused, open_retry, read_hinted, seal_call};
+use super::calls::{greeter, hear, open, read_hinted, seal};
 use super::{COOKIES, GAME, SECRET, mapped};
 use arrayvec::ArrayVec;
-use dn_greeting::{Address, Call, Hint, Hinted, Place, Refusal, Refused, Table, Terms};
+use dn_greeting::{
+    Address, Answer, Call, Hint, Hinted, Place, Refusal, Refused, Retry, Table, Terms,
+};
 use dn_shared_tests::{holds, same};
 
 /// What a call brings.
@@ -54,13 +56,13 @@ fn call(mark: u8, seat: Option<u8>, players: Option<u8>) -> Call {
 
 /// Its bytes.
 fn sealed(call: &Call) -> ArrayVec<u8, 130> {
-    seal_call(&greeter(Some(SECRET)), call)
+    seal(&greeter(Some(SECRET)), call)
 }
 
 /// What a call brings that is made again with the cookie of its address.
 fn heard(table: &mut Table, from: Address, mut call: Call, now: u32) -> Option<ArrayVec<u8, 130>> {
     let reply = hear(table, from, sealed(&call).as_slice(), now)?;
-    if let Ok(retry) = open_retry(&greeter(Some(SECRET)), reply.as_slice()) {
+    if let Ok(retry) = open::<Retry>(&greeter(Some(SECRET)), reply.as_slice()) {
         let cookie = retry.cookie;
         call.cookie = cookie;
     }
@@ -84,15 +86,15 @@ fn read(reply: Option<ArrayVec<u8, 130>>) -> Brought {
         return Brought::Nothing;
     };
     let sealer = greeter(Some(SECRET));
-    if let Ok(answer) = open_answer(&sealer, bytes.as_slice()) {
+    if let Ok(answer) = open::<Answer>(&sealer, bytes.as_slice()) {
         let seats = answer.seats;
         let held = seats.iter().filter(|place| place.is_some()).count();
         return Brought::Seat(answer.seat, held);
     }
-    if let Ok(Refused { refusal, .. }) = open_refused(&sealer, bytes.as_slice()) {
+    if let Ok(Refused { refusal, .. }) = open::<Refused>(&sealer, bytes.as_slice()) {
         return Brought::Refused(refusal);
     }
-    if open_retry(&sealer, bytes.as_slice()).is_ok() {
+    if open::<Retry>(&sealer, bytes.as_slice()).is_ok() {
         return Brought::Retry;
     }
     match read_hinted(bytes.as_slice()) {
@@ -227,7 +229,7 @@ fn an_own_address_of_a_machine_is_told_on_it_alone(ref rt: HostRuntime) {
         let mut table = Table::new(Some(SECRET), COOKIES, terms(3), GAME);
         let _ = heard(&mut table, first, call(1, None, None), 0);
         let reply = heard(&mut table, second, call(2, None, None), 0);
-        match open_answer(
+        match open::<Answer>(
             &greeter(Some(SECRET)),
             reply.unwrap_or(ArrayVec::new()).as_slice(),
         ) {
@@ -323,7 +325,7 @@ fn the_answer_has_the_number_of_the_game(ref rt: HostRuntime) {
         holds!(rt; table.game() == game);
         let call = numbered(number, 1, None, None);
         let reply = heard(&mut table, at(1), call, 0).unwrap_or(ArrayVec::new());
-        match open_answer(&greeter(Some(SECRET)), reply.as_slice()) {
+        match open::<Answer>(&greeter(Some(SECRET)), reply.as_slice()) {
             Ok(answer) => {
                 holds!(rt; answer.game == game && answer.terms == table.terms());
                 holds!(rt; answer.seats == [Some(at(1)), None, None]);
