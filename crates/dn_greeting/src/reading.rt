@@ -1,6 +1,6 @@
 //! Reading any bytes as a greeting.
 
-ghost use Rattle.std.specs.{Prelude.◌≡◌, Prelude.◌≢◌, Prelude.◌≤◌, Prelude.◌+◌, Prelude.◌-◌, Prelude.length, Prelude.take, Prelude.drop, Prelude.IfErr, Prelude.IfOk, Prelude.MatchOption, Prelude.None, Prelude.Some, Prelude.Result, Str.bytes_eq};
+ghost use Rattle.std.specs.{Prelude.◌≡◌, Prelude.◌≢◌, Prelude.◌≤◌, Prelude.◌+◌, Prelude.length, Prelude.take, Prelude.drop, Prelude.MatchOption, Prelude.None, Prelude.Some, Prelude.Result, Str.bytes_eq};
 ghost use Rattle.dn_seal.specs.Sealing.{sealing};
 ghost use Rattle.dn_greeting.specs.{declared.greeting.GreetingFault.GreetingFault, declared.greeting.Hinted.Hinted, Text.kind_bytes, Reading.first_fault, Reading.hint_fault, Reading.IsHintedIn, Reading.IsReadAs};
 
