@@ -1,16 +1,13 @@
 -- One node more in a game that opens.
 use Rattle.std.proofs.Common.{◌≡◌, ℕ, zero, suc, ◌⊎◌, false, List, [], ◌∷◌, ◌++◌, length, map, append-nil, Some, ap, sym, ◌∙◌, refl, inl, inr, arith}
-use Rattle.std.specs.Prelude.{slice_get, slice_index_or}
+use Rattle.std.specs.Prelude.{slice_get}
 use Rattle.std.proofs.lemmas.List.{append_assoc, map_push, nil_from_length}
-use Rattle.std.proofs.lemmas.List.Elements.{All-push}
 use Rattle.std.proofs.lemmas.Option.{same_Some}
 use Rattle.dn_setup.specs.Settings.{Settings}
-use Rattle.dn_machine.specs.Game.{fresh, opening_game}
+use Rattle.dn_machine.specs.Game.{opening_game}
 use Rattle.dn_machine.specs.Worlds.{Rules}
 use Rattle.dn_node.specs.declared.node.Node.{Node}
-use Rattle.dn_node.specs.Contents.{contents}
-use Rattle.dn_node.specs.Represents.{Represents}
-use Rattle.dn_game.specs.Fresh.{AreFresh, AreLimited}
+use Rattle.dn_game.specs.Fresh.{AreFresh, EachIs}
 use Rattle.dn_game.specs.Represents as represents
 use Rattle.dn_game.specs.declared.flight.Flight.{Flight}
 
@@ -27,25 +24,11 @@ slice_get-more (z ∷ xs) y (suc k) x h = elim (slice_get-more xs y k x h) [
 
 -- what holds of each at its place holds with one more
 pub each_more : {A : Type 0} (P : ℕ → A → Type 0) (xs : List A) (y : A)
-    → ((k : ℕ) (x : A) → slice_get xs k ≡ Some x → P k x) → P (length xs) y
-    → (k : ℕ) (x : A) → slice_get (xs ++ y ∷ []) k ≡ Some x → P k x
+    → EachIs P xs → P (length xs) y → EachIs P (xs ++ y ∷ [])
 each_more P xs y before one k x there = elim (slice_get-more xs y k x there) [
   | inl old ↦ before k x old
   | inr (at, last) ↦ rw (last, at) one
 ]
-
-pub fresh_more : {W S : Type 0} (state : W → S) (rules : Rules S) (settings : Settings)
-    (nodes : List (Node W)) (node : Node W)
-    → AreFresh state rules settings nodes → Represents state rules (length nodes) (contents node)
-    (fresh settings (length nodes))
-    → AreFresh state rules settings (nodes ++ node ∷ [])
-fresh_more {W} {S} state rules settings nodes node =
-    each_more (λ (i : ℕ) (n : Node W). Represents state rules i (contents n) (fresh settings i)) nodes node
-
-pub limited_more : {W : Type 0} (limit : ℕ) (nodes : List (Node W)) (node : Node W) → AreLimited limit nodes
-    → (contents node).demo.limit ≡ limit → AreLimited limit (nodes ++ node ∷ [])
-limited_more {W} limit nodes node before one =
-    All-push (λ (n : Node W). (contents n).demo.limit ≡ limit) nodes node before one
 
 pub opens : {W S : Type 0} (state : W → S) (rules : Rules S) (vanilla : represents.IsVanilla rules.limits)
     (settings : Settings) (nodes : List (Node W))

@@ -7,11 +7,14 @@ use Rattle.dn_node.specs.declared.node.Node.{Node}
 use Rattle.dn_node.specs.Contents.{contents}
 use Rattle.dn_node.specs.Represents.{Represents}
 
+-- this holds of each, by its number
+abbrev pub EachIs : {N : Type 0} → (ℕ → N → Type 0) → List N → Type 0
+EachIs {N} Is nodes = (i : ℕ) (n : N) → slice_get nodes i ≡ Some n → Is i n
+
 -- each represents a node of no history
 abbrev pub AreFresh : {W S : Type 0} → (W → S) → Rules S → Settings → List (Node W) → Type 0
-AreFresh {W} state rules settings nodes =
-    (i : ℕ) (n : Node W) → slice_get nodes i ≡ Some n
-    → Represents state rules i (contents n) (fresh settings i)
+AreFresh state rules settings =
+    EachIs (λ i n. Represents state rules i (contents n) (fresh settings i))
 
 -- each node's demo has memory for this many bytes
 abbrev pub AreLimited : {W : Type 0} → ℕ → List (Node W) → Type 0

@@ -12,7 +12,7 @@ use crate::flight::Flight;
 use crate::pool::Pool;
 use dn_node::Node;
 use dn_world::World;
-pub use opening::{config_of, nodes_of};
+pub use opening::nodes_of;
 
 /// All nodes of a game, who of them has stopped, and every packet that was ever sent, in order.
 #[derive(Drop)]

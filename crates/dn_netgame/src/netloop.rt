@@ -72,7 +72,9 @@ fn play_all<R: Net>(
     ensures fault { IfErr result (λ fault. fault ≡ RunFault.Memory) }
 {
     let walks = new_walks(alloc, players)?;
-    let mut nodes = nodes_of(alloc, &config, walks)?;
+    let Ok(mut nodes) = nodes_of(alloc, config, walks) else {
+        return Err(RunFault::Memory);
+    };
     let Ok(mut line) = UdpLine::bind(rt, alloc, net.base, 0, players - 1, players) else {
         return Ok(None);
     };

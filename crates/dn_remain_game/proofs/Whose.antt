@@ -1,18 +1,17 @@
 -- A node stays whose it is, and keeps the limit of its demo.
-use Rattle.std.proofs.Common.{◌≡◌, ℕ, Bool, true, false, List, [], ◌∷◌, ◌++◌, set, Option, Some, None, refl, ap, ◌∙◌}
-use Rattle.std.specs.List.{All}
+use Rattle.std.proofs.Common.{◌≡◌, ℕ, Bool, true, false, List, set, Option, Some, None, refl, ap, ◌∙◌}
 use Rattle.std.specs.Prelude.{slice_index_or}
 use Rattle.std.proofs.Math.Seq.{map-set_same}
-use Rattle.std.proofs.lemmas.List.Elements.{All-cons, All-head, All-map, All-nil, All-push, All-tail}
 use Rattle.dn_machine.specs.Drops as drops
 use Rattle.dn_machine.specs.declared.answers.Heard.{Heard}
 use Rattle.dn_report.specs.declared.report.Report.{Report}
-use Rattle.dn_lockstep.specs.Contents.{Whose, whose}
+use Rattle.dn_lockstep.specs.Contents.{whose}
 use Rattle.dn_lockstep.specs.Hearing.{HearsAny, Spares}
 use Rattle.dn_survivor.specs.Calls.{GivesUp, GivesUpUnless, HearsReport, HearsReportUnless, refused_give_up, refused_report}
 use Rattle.dn_survivor.specs.Surviving.{Surviving, has_given_up}
 use Rattle.dn_survivor.specs.declared.answers.GivenUp.{GivenUp}
 use Rattle.dn_survivor.specs.declared.answers.Reported.{Reported}
+use Rattle.dn_game.proofs.Whose.{keep_limits}
 use Rattle.dn_remain_game.specs.declared.lived.Lived.{Lived}
 use Rattle.dn_remain_game.specs.Fresh.{AreLimited}
 use Rattle.dn_remain_game.specs.Kept.{whose_of}
@@ -59,27 +58,7 @@ whose_step {W} nodes place old next read kept =
     let own = λ (n : Lived W). whose (living n).survivor.lockstep in
     map-set_same own nodes place next old (kept ∙ ap own read)
 
--- the limits of the demos
-module _ {W : Type 0} (limit : ℕ) where
-  pub limited_none : AreLimited {W = W} limit []
-  limited_none = All-nil (λ (n : Lived W). (living n).survivor.lockstep.demo.limit ≡ limit)
-
-  pub limited_more : (nodes : List (Lived W)) (node : Lived W) → AreLimited limit nodes
-      → (living node).survivor.lockstep.demo.limit ≡ limit → AreLimited limit (nodes ++ node ∷ [])
-  limited_more nodes node before one =
-      All-push (λ (n : Lived W). (living n).survivor.lockstep.demo.limit ≡ limit) nodes node before one
-
-  limited_as : (nodes : List (Lived W)) → All (λ (w : Whose). w.limit ≡ limit) (whose_of nodes)
-      → AreLimited limit nodes
-  limited_as [] all = limited_none
-  limited_as (node ∷ nodes) all =
-      let P = λ (w : Whose). w.limit ≡ limit in
-      let first = whose (living node).survivor.lockstep in
-      All-cons (λ (n : Lived W). (living n).survivor.lockstep.demo.limit ≡ limit) node nodes
-      (All-head P first (whose_of nodes) all) (limited_as nodes (All-tail P first (whose_of nodes) all))
-
-  pub limits_stay : (old new : List (Lived W)) → whose_of new ≡ whose_of old → AreLimited limit old
-      → AreLimited limit new
-  limits_stay old new kept before =
-      limited_as new (rw kept
-      (All-map (λ (w : Whose). w.limit ≡ limit) (λ (n : Lived W). whose (living n).survivor.lockstep) old before))
+-- so each demo has the limit that it had
+pub limits_stay : {W : Type 0} (limit : ℕ) (old new : List (Lived W)) → whose_of new ≡ whose_of old
+    → AreLimited limit old → AreLimited limit new
+limits_stay {W} = keep_limits (λ (n : Lived W). whose (living n).survivor.lockstep)

@@ -1,10 +1,10 @@
 //! One player's node: a survivor and a world, kept in step.
 
-ghost use Rattle.std.specs.Prelude.{◌≡◌, Some, IfOk};
-ghost use Rattle.dn_lockstep.specs.Opening.{IsAdmitted, whose_in, limits_in};
+ghost use Rattle.std.specs.Prelude.{◌≡◌};
 
 mod stepping;
 
+use dn_game::Player;
 use dn_lockstep::{Config, MOST_AHEAD, NodeFault};
 use dn_survivor::{Survivor, calls_are_wary};
 use dn_world::World;
@@ -17,28 +17,30 @@ pub struct Lived<W> {
     world: W,
 }
 
-impl<W: World> Lived<W> {
-    ghost use Rattle.dn_setup.specs.Settings.{Settings as Choice};
+impl<W: World> Player<W> for Lived<W> {
     ghost use Rattle.dn_machine.specs.{Game.fresh, Worlds.rules_within};
-    ghost use Rattle.dn_lockstep.specs.Contents.{whose};
-    ghost use Rattle.dn_survivor.specs.{Represents.nobody_gone, Surviving.surviving};
+    ghost use Rattle.dn_lockstep.specs.Contents.{whose as whose_lockstep};
+    ghost use Rattle.dn_survivor.specs.Represents.{nobody_gone};
     ghost use Rattle.dn_remain_game.specs.Living.{Represents, living};
 
-    /// A node with no history, that has given up nobody: player 0 gathers, the others listen. All memory that
-    /// it needs is taken here; the world is given up where there is no node.
-    pub(crate) fn new(alloc: Global, config: Config, world: W) -> Result<Lived<W>, NodeFault>
-        ensures admitted { IsAdmitted config result }
-        ensures opened { IfOk result (λ node. (settings : Choice)
-            → (config.me ≡ 0 → config.settings ≡ Some settings)
-            → Represents W.state (rules_within W.physics (limits_in config)) config.me (living node)
-            (nobody_gone (fresh settings config.me))) }
-        ensures given { IfOk result (λ node. (living node).world ≡ world) }
-        ensures whose { IfOk result (λ node. whose (living node).survivor.lockstep ≡ whose_in config) }
-    {
+    // it has given up nobody
+    ghost is_fresh = { λ limits settings i node. Represents W.state (rules_within W.physics limits) i
+        (living node) (nobody_gone (fresh settings i)) };
+
+    ghost world_of = { λ node. (living node).world };
+
+    ghost whose = { λ node. whose_lockstep (living node).survivor.lockstep };
+
+    fn new(alloc: Global, config: Config, world: W) -> Result<Lived<W>, NodeFault> {
         calls_are_wary();
         let survivor = Survivor::new(alloc, config, MOST_AHEAD)?;
         Ok(Lived { survivor, world })
     }
+}
+
+impl<W: World> Lived<W> {
+    ghost use Rattle.dn_survivor.specs.Surviving.{surviving};
+    ghost use Rattle.dn_remain_game.specs.Living.{living};
 
     /// Its lockstep, whom its player has given up, and what the others told of them.
     pub fn survivor(&self) -> &Survivor

@@ -1,18 +1,17 @@
 //! How a game is made.
 
-ghost use Rattle.std.specs.{Prelude.◌≡◌, Prelude.length, Prelude.IfOk, Vec.vec_capacity};
-ghost use Rattle.dn_demo.specs.Recorded.{IsLimit};
-ghost use Rattle.dn_lockstep.specs.Opening.{IsGame};
-ghost use Rattle.dn_game.specs.{Opening.IsAdmitted, Opening.config_of, Opening.rules_in, Fresh.AreFresh, Fresh.AreLimited, Fresh.worlds_of};
+ghost use Rattle.std.specs.{Prelude.◌≡◌, Prelude.length, Prelude.map, Prelude.All, Prelude.IfOk, Vec.vec_capacity};
+ghost use Rattle.dn_game.specs.{Opening.IsAdmitted, Opening.config_of, Opening.rules_in, Fresh.AreLimited, Fresh.EachIs, Fresh.worlds_of};
 
 use super::Game;
 use crate::config::{GameConfig, GameFault};
+use crate::player::Player;
 use crate::pool::Pool;
 use dn_demo::is_limit;
 use dn_lockstep::is_game;
-use dn_node::{Config, Node, NodeFault};
+use dn_node::{Config, NodeFault};
 use dn_world::World;
-use std::alloc::{AllocError, Global};
+use std::alloc::Global;
 
 impl<W: World> Game<W> {
     ghost use Rattle.dn_machine.specs.Game.{opening_game};
@@ -30,13 +29,7 @@ impl<W: World> Game<W> {
         // No memory is taken for packets yet.
         ensures room { IfOk result (λ game. room_of game ≡ record { bytes = 0; records = 0 }) }
     {
-        if !is_game(worlds.len()) {
-            return Err(GameFault::Players);
-        }
-        if !is_limit(config.limit) {
-            return Err(GameFault::Limit);
-        }
-        let nodes = nodes_of(alloc, &config, worlds)?;
+        let nodes = nodes_of(alloc, config, worlds)?;
         Ok(Game {
             nodes,
             stopped: [false; 4],
@@ -46,7 +39,7 @@ impl<W: World> Game<W> {
 }
 
 /// The configuration of a player's node: player 0 has the settings.
-pub fn config_of(config: &GameConfig, players: u8, me: u8) -> Config
+fn config_of(config: &GameConfig, players: u8, me: u8) -> Config
     ensures { result ≡ config_of config.now players me }
 {
     Config {
@@ -59,30 +52,35 @@ pub fn config_of(config: &GameConfig, players: u8, me: u8) -> Config
 }
 
 /// A node for each world, in the players' order, with no history, in a list that has room for these and no
-/// more. Memory for the list or for a demo may be refused, and nothing else: then the worlds are given up.
-pub fn nodes_of<W: World>(
+/// more. The worlds are given up where there are no nodes.
+pub fn nodes_of<W: World, P: Player<W>>(
     alloc: Global,
-    config: &GameConfig,
+    config: GameConfig,
     worlds: Vec<W>,
-) -> Result<Vec<Node<W>>, AllocError>
-    requires game { IsGame (length worlds.items) }
-    requires limit { IsLimit config.now.limit }
-    ensures opened { IfOk result (λ nodes. AreFresh W.state
-        (rules_in W.physics config.now (length worlds.items)) config.now.settings nodes.items) }
-    ensures given { IfOk result (λ nodes. worlds_of nodes.items ≡ worlds.items) }
-    ensures limits { IfOk result (λ nodes. AreLimited config.now.limit nodes.items) }
+) -> Result<Vec<P>, GameFault>
+    ensures admitted { IsAdmitted config (length worlds.items) result }
+    ensures opened { IfOk result (λ nodes. EachIs
+        (P.is_fresh (rules_in W.physics config (length worlds.items)).limits config.settings) nodes.items) }
+    ensures given { IfOk result (λ nodes. map P.world_of nodes.items ≡ worlds.items) }
+    ensures limits { IfOk result (λ nodes. All (λ node. (P.whose node).limit ≡ config.limit) nodes.items) }
     ensures one_each { IfOk result (λ nodes. length nodes.items ≡ length worlds.items) }
     ensures room { IfOk result (λ nodes. vec_capacity nodes ≡ length worlds.items) }
 {
+    if !is_game(worlds.len()) {
+        return Err(GameFault::Players);
+    }
+    if !is_limit(config.limit) {
+        return Err(GameFault::Limit);
+    }
     let players = worlds.len() as u8;
     let mut nodes = Vec::with_capacity(alloc, worlds.len())?;
     for world in worlds {
-        let own = config_of(config, players, nodes.len() as u8);
-        match Node::new(alloc, own, world) {
+        let own = config_of(&config, players, nodes.len() as u8);
+        match P::new(alloc, own, world) {
             Ok(node) => nodes.push_reserved(node),
             Err(fault) => {
                 prove!(fault == NodeFault::Memory);
-                return Err(AllocError);
+                return Err(GameFault::Memory);
             }
         }
     }

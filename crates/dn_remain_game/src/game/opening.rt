@@ -1,18 +1,13 @@
 //! How a game is made.
 
-ghost use Rattle.std.specs.{Prelude.◌≡◌, Prelude.length, Prelude.IfOk, Vec.vec_capacity};
-ghost use Rattle.dn_demo.specs.Recorded.{IsLimit};
-ghost use Rattle.dn_lockstep.specs.Opening.{IsGame};
+ghost use Rattle.std.specs.Prelude.{◌≡◌, length, IfOk};
 ghost use Rattle.dn_game.specs.Opening.{IsAdmitted, rules_in};
-ghost use Rattle.dn_remain_game.specs.{Fresh.AreFresh, Fresh.AreLimited, Fresh.worlds_of};
+ghost use Rattle.dn_remain_game.specs.{Fresh.AreLimited, Fresh.worlds_of};
 
 use super::Game;
-use crate::lived::Lived;
-use dn_demo::is_limit;
-use dn_game::{GameConfig, GameFault, config_of};
-use dn_lockstep::{NodeFault, is_game};
+use dn_game::{GameConfig, GameFault, nodes_of};
 use dn_world::World;
-use std::alloc::{AllocError, Global};
+use std::alloc::Global;
 
 impl<W: World> Game<W> {
     ghost use Rattle.dn_remain.specs.Remaining.{opening_remaining};
@@ -32,13 +27,7 @@ impl<W: World> Game<W> {
         // No memory is taken for packets and reports yet.
         ensures none { IfOk result (λ game. room_of game ≡ record { packets = 0; reports = 0 }) }
     {
-        if !is_game(worlds.len()) {
-            return Err(GameFault::Players);
-        }
-        if !is_limit(config.limit) {
-            return Err(GameFault::Limit);
-        }
-        let nodes = nodes_of(alloc, &config, worlds)?;
+        let nodes = nodes_of(alloc, config, worlds)?;
         Ok(Game {
             nodes,
             stopped: [false; 4],
@@ -46,35 +35,4 @@ impl<W: World> Game<W> {
             reports: Vec::new(alloc),
         })
     }
-}
-
-/// A node for each world, in the players' order, with no history, in a list that has room for these and no
-/// more. Memory for the list or for a demo may be refused, and nothing else: then the worlds are given up.
-fn nodes_of<W: World>(
-    alloc: Global,
-    config: &GameConfig,
-    worlds: Vec<W>,
-) -> Result<Vec<Lived<W>>, AllocError>
-    requires game { IsGame (length worlds.items) }
-    requires limit { IsLimit config.now.limit }
-    ensures opened { IfOk result (λ nodes. AreFresh W.state
-        (rules_in W.physics config.now (length worlds.items)) config.now.settings nodes.items) }
-    ensures given { IfOk result (λ nodes. worlds_of nodes.items ≡ worlds.items) }
-    ensures limits { IfOk result (λ nodes. AreLimited config.now.limit nodes.items) }
-    ensures one_each { IfOk result (λ nodes. length nodes.items ≡ length worlds.items) }
-    ensures room { IfOk result (λ nodes. vec_capacity nodes ≡ length worlds.items) }
-{
-    let players = worlds.len() as u8;
-    let mut nodes = Vec::with_capacity(alloc, worlds.len())?;
-    for world in worlds {
-        let own = config_of(config, players, nodes.len() as u8);
-        match Lived::new(alloc, own, world) {
-            Ok(node) => nodes.push_reserved(node),
-            Err(fault) => {
-                prove!(fault == NodeFault::Memory);
-                return Err(AllocError);
-            }
-        }
-    }
-    Ok(nodes)
 }

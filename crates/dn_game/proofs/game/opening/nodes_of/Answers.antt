@@ -1,31 +1,32 @@
 use Rattle.std.proofs.Common.{rules, ◌≡◌, [], ◌∷◌, ◌++◌, length, ap, sym, ◌∙◌, arith, length-append}
 use Rattle.std.specs.Prelude.{◌==◌}
 use Rattle.std.proofs.lemmas.Bool.{cond-true, eq-eqb}
+use Rattle.std.proofs.lemmas.List.Elements.{All-push}
 use Rattle.dn_lockstep.specs.declared.config.Config.{Config}
 use Rattle.dn_lockstep.specs.Contents.{Whose}
-use Rattle.dn_game.proofs.Freshening.{fresh_more, given_more, given_all, limited_more}
+use Rattle.dn_game.specs.Opening.{rules_in}
+use Rattle.dn_game.proofs.Freshening.{each_more, given_more, given_all}
 use Rattle.dn_game.proofs.game.opening.nodes_of.Goals as goal
 
 pub loop-world-preserved : goal.loop-world-preserved
 loop-world-preserved g c =
-    let config = c.args.config.now in
+    let config = c.args.config in
     let before = c.loop-world.invariant in
-    let pushed : c.push_reserved.new.self.items ≡ c.loop-world.nodes.items ++ c.in-Ok.node ∷ [] =
-    c.push_reserved.ensures.items in
-    let longer = ap length pushed ∙ length-append c.loop-world.nodes.items (c.in-Ok.node ∷ []) in
+    let nodes = c.loop-world.nodes.items in
+    let pushed : c.push_reserved.new.self.items ≡ nodes ++ c.in-Ok.node ∷ [] = c.push_reserved.ensures.items in
     let players : c.len-players.result ≡ length c.args.worlds.items = search rules in
-    let me : c.len-in-loop-world.result ≡ length c.loop-world.nodes.items = search rules in
+    let me : c.len-in-loop-world.result ≡ length nodes = search rules in
     let opened = (rw c.config_of-own.ensures at c.in-Ok.ensures.opened) config.settings
     (λ zero. cond-true (c.len-in-loop-world.result == 0) _ _ (eq-eqb _ 0 zero)) in
-    let limit = ap (λ (w : Whose). w.limit) c.in-Ok.ensures.whose ∙ ap (λ (own : Config). own.limit) c.config_of-own.ensures in (
+    let limit : (g.P.Player.whose c.in-Ok.node).limit ≡ config.limit =
+    ap (λ (w : Whose). w.limit) c.in-Ok.ensures.whose ∙ ap (λ (own : Config). own.limit) c.config_of-own.ensures in (
       before.0,
       before.1,
-      omega (arith, longer, before.2, c.in-Some.ensures.steps.1),
-      rw pushed (fresh_more g.W.World.state _ config.settings c.loop-world.nodes.items c.in-Ok.node before.3
-          (rw (players, me) at opened)),
-      given_more _ c.loop-world.nodes.items _ _ before.4 _ _ _ _ pushed c.in-Ok.ensures.given
-          c.in-Some.ensures.steps.0,
-      rw pushed (limited_more config.limit c.loop-world.nodes.items c.in-Ok.node before.5 limit),
+      omega (arith, ap length pushed ∙ length-append nodes (c.in-Ok.node ∷ []), before.2, c.in-Some.ensures.steps.1),
+      rw pushed (each_more (g.P.Player.is_fresh (rules_in g.W.World.physics config (length c.args.worlds.items)).limits
+          config.settings) nodes c.in-Ok.node before.3 (rw (players, me) at opened)),
+      given_more _ nodes _ _ before.4 _ _ _ _ pushed c.in-Ok.ensures.given c.in-Some.ensures.steps.0,
+      rw pushed (All-push (λ n. (g.P.Player.whose n).limit ≡ config.limit) nodes c.in-Ok.node before.5 limit),
       c.push_reserved.ensures.capacity ∙ before.6,
     )
 
