@@ -114,7 +114,7 @@ impl Link {
         ensures seal { seal_of self.new ≡ seal_of self.old }
         ensures identity { identity_of self.new ≡ identity_of self.old }
     {
-        let made = self.survivor.build(keys);
+        let made = self.survivor.lockstep_mut().build(keys);
         self.pace.take(Input::Pressed(keys), made);
         made
     }
@@ -131,7 +131,7 @@ impl Link {
         ensures seal { seal_of self.new ≡ seal_of self.old }
         ensures identity { identity_of self.new ≡ identity_of self.old }
     {
-        let made = self.survivor.give(command);
+        let made = self.survivor.lockstep_mut().give(command);
         self.pace.take(Input::Given(command), made);
         made
     }
@@ -147,6 +147,6 @@ impl Link {
         ensures seal { seal_of self.new ≡ seal_of self.old }
         ensures identity { identity_of self.new ≡ identity_of self.old }
     {
-        self.survivor.quit()
+        self.survivor.lockstep_mut().quit()
     }
 }

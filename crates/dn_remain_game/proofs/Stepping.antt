@@ -7,9 +7,9 @@ use Rattle.dn_machine.specs.declared.answers.Made.{Made}
 use Rattle.dn_machine.specs.Limits.{Limits}
 use Rattle.dn_machine.specs.Node.{Node}
 use Rattle.dn_machine.specs.Worlds.{rules_within}
+use Rattle.dn_lockstep.specs.declared.lockstep.Lockstep.{Lockstep}
+use Rattle.dn_lockstep.specs.Contents.{contents}
 use Rattle.dn_lockstep.specs.Steps as lockstep
-use Rattle.dn_survivor.specs.declared.survivor.Survivor.{Survivor}
-use Rattle.dn_survivor.specs.Surviving.{surviving}
 use Rattle.dn_survivor.proofs.Steps.{stepped}
 use Rattle.dn_remain_game.specs.declared.lived.Lived.{Lived}
 use Rattle.dn_remain_game.specs.Living.{Builds, Living, Steps, living, on_node}
@@ -40,14 +40,17 @@ steps_alone state physics old new step IsAnswer locks others known same leaves l
           (λ played. is.played ∙ played) same;
     }
 
+-- the node with another lockstep
+abbrev pub with_lockstep : {W : Type 0} → Lived W → Lockstep → Living W
+with_lockstep old new =
+    record { survivor = record { lockstep = contents new; others = old.survivor.others }; world = old.world }
+
 -- so is a command that it builds
-pub builds_alone : {W S : Type 0} (state : W → S) (physics : Physics S) (old : Lived W) (new : Survivor)
+pub builds_alone : {W S : Type 0} (state : W → S) (physics : Physics S) (old : Lived W) (new : Lockstep)
     (input : Input) (made : Made)
-    → lockstep.Steps (living old).survivor.lockstep (surviving new).lockstep
+    → lockstep.Steps (living old).survivor.lockstep (contents new)
     (λ limits me m. on_build limits me m input) (λ x. made ≡ x)
-    → (surviving new).others ≡ (living old).survivor.others
-    → Builds state physics (living old) (record { survivor = surviving new; world = old.world }) input made
-builds_alone {W} state physics old new input made locks others =
-    let after : Living W = record { survivor = surviving new; world = old.world } in
-    steps_alone state physics (living old) after (λ limits me m. on_build limits me m input) (λ x. made ≡ x) locks others
-    new.lockstep.known refl (λ limits me m. build_beside limits me m input)
+    → Builds state physics (living old) (with_lockstep old new) input made
+builds_alone state physics old new input made locks =
+    steps_alone state physics (living old) (with_lockstep old new) (λ limits me m. on_build limits me m input)
+    (λ x. made ≡ x) locks refl new.known refl (λ limits me m. build_beside limits me m input)

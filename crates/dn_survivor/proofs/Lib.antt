@@ -19,3 +19,4 @@ pub mod Moves
 pub mod Pairs
 pub mod Heard
 pub mod Unsettled
+pub mod Lent

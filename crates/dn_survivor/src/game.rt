@@ -30,11 +30,12 @@ pub fn remaining_game_opens()
 
 /// And so they stay after each call on one of them whose caller keeps the duty. Each clause takes what the
 /// call's own contract says, and the new survivor where it says it: `others` is the clause `others` of the
-/// call. The duty is: a datagram comes as it was given, to whom it was given, from no more than 64 tics away
-/// (`heard`); a report comes as it was given, to whom it was given (`reported`); and a run is handed the marks
-/// of a world that moved on by the rows that its caller was told, of the players who take part in the tic
-/// (`ran`). Whom a survivor gives up, and when, is not asked. `built` is of `build` and `give`, `gave` of
-/// `packet`, `gave_to` of `packet_to`, `told` of `report`, and `kept` of a call that changes nothing.
+/// call, and `lockstep_mut` says the same by what it writes back. The duty is: a datagram comes as it was given,
+/// to whom it was given, from no more than 64 tics away (`heard`); a report comes as it was given, to whom it was
+/// given (`reported`); and a run is handed the marks of a world that moved on by the rows that its caller was
+/// told, of the players who take part in the tic (`ran`). Whom a survivor gives up, and when, is not asked.
+/// `built` is of the lockstep's `build` and `give`, `quit` of its `quit`, `gave` of `packet`, `gave_to` of
+/// `packet_to`, `told` of `report`, and `kept` of a call that changes nothing.
 #[tactic(auto, using(crate::proofs::OneGame::keeps))]
 pub fn remaining_game_goes_on()
     ensures built { (marking : Marking) (limits : Limits) (settings : Settings) (session : Session) (player : ℕ)

@@ -1,50 +1,18 @@
-//! The calls of a lockstep, as a survivor makes them.
+//! How a survivor runs tics and gives packets.
 
-ghost use Rattle.dn_tic.specs.declared.input.Input.TheVariants.{Pressed, Given};
-ghost use Rattle.dn_machine.specs.declared.answers.Made.TheVariants as made;
 ghost use Rattle.dn_machine.specs.declared.answers.Ran.TheVariants as ran;
 
 use crate::survivor::Survivor;
 use arrayvec::ArrayVec;
-use dn_machine::{Made, Ran};
+use dn_machine::Ran;
 use dn_packet::MAX_DATAGRAM;
-use dn_tic::{Command, Keys, Move};
+use dn_tic::Move;
 
 impl Survivor {
     ghost use Rattle.std.specs.{Prelude.◌≡◌, Prelude.◌≢◌, Prelude.◌≤◌, Prelude.ℕ, Prelude.◌+◌, Prelude.ℤ, Prelude.true, Prelude.false, Prelude.None, Prelude.IfSome, Prelude.length, Option.option_map};
-    ghost use Rattle.dn_machine.specs.{Running.on_quit, Running.on_run_but};
-    ghost use Rattle.dn_lockstep.specs.{Commands.Builds, Giving.IsSentTo, Giving.IsSilent, Near.IsFair, Runs.FillsIn, Runs.RunsBy, Runs.RunsOne, Runs.TellsNoRow, Runs.WaitsAsItWas, Runs.told_by, Sent.sent_to, Sent.bytes_of, Steps.Steps, Steps.Tells};
+    ghost use Rattle.dn_machine.specs.Running.{on_run_but};
+    ghost use Rattle.dn_lockstep.specs.{Giving.IsSentTo, Giving.IsSilent, Near.IsFair, Runs.FillsIn, Runs.RunsBy, Runs.RunsOne, Runs.TellsNoRow, Runs.WaitsAsItWas, Runs.told_by, Sent.sent_to, Sent.bytes_of, Steps.Steps, Steps.Tells};
     ghost use Rattle.dn_survivor.specs.{Calls.sent_unless, Surviving.surviving, Surviving.has_given_up};
-
-    /// As `Lockstep::build`.
-    pub fn build(&mut self, keys: Keys) -> Made
-        ensures step { Builds (surviving self.old).lockstep (surviving self.new).lockstep (Pressed keys) result }
-        ensures full { result ≡ made.Full → surviving self.new ≡ surviving self.old }
-        ensures idle { result ≡ made.NotPlaying → surviving self.new ≡ surviving self.old }
-        ensures others { (surviving self.new).others ≡ (surviving self.old).others }
-    {
-        self.lockstep.build(keys)
-    }
-
-    /// As `Lockstep::give`.
-    pub fn give(&mut self, command: Command) -> Made
-        ensures step { Builds (surviving self.old).lockstep (surviving self.new).lockstep (Given command) result }
-        ensures full { result ≡ made.Full → surviving self.new ≡ surviving self.old }
-        ensures idle { result ≡ made.NotPlaying → surviving self.new ≡ surviving self.old }
-        ensures others { (surviving self.new).others ≡ (surviving self.old).others }
-    {
-        self.lockstep.give(command)
-    }
-
-    /// As `Lockstep::quit`.
-    pub fn quit(&mut self) -> bool
-        ensures step { Steps (surviving self.old).lockstep (surviving self.new).lockstep
-            (λ limits me m. on_quit m) (λ quit. result ≡ quit) }
-        ensures idle { result ≡ false → surviving self.new ≡ surviving self.old }
-        ensures others { (surviving self.new).others ≡ (surviving self.old).others }
-    {
-        self.lockstep.quit()
-    }
 
     /// As `Lockstep::run_into`, but no mark is compared of players who are given up.
     pub fn run_into(&mut self, marks: &[i16; 4], row: &mut [Option<Move>; 4]) -> Ran

@@ -43,7 +43,7 @@ fn open_ahead(rt: &impl Abort, alloc: Global, players: u8, me: u8, ahead: u8) ->
 // proof of the test, which needs none of it.
 
 fn build(survivor: &mut Survivor) -> Made {
-    survivor.build(Keys::default())
+    survivor.lockstep_mut().build(Keys::default())
 }
 
 fn give_up(survivor: &mut Survivor, player: u8) -> GivenUp {
@@ -67,7 +67,7 @@ fn report_to(survivor: &Survivor, to: u8) -> Option<Report> {
 }
 
 fn quit(survivor: &mut Survivor) -> bool {
-    survivor.quit()
+    survivor.lockstep_mut().quit()
 }
 
 fn undecided(survivor: &Survivor) -> Option<u8> {

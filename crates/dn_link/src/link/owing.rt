@@ -25,8 +25,8 @@ impl Link {
         ensures identity { identity_of self.new ≡ identity_of self.old }
     {
         match input {
-            Input::Pressed(keys) => self.survivor.build(keys),
-            Input::Given(command) => self.survivor.give(command),
+            Input::Pressed(keys) => self.survivor.lockstep_mut().build(keys),
+            Input::Given(command) => self.survivor.lockstep_mut().give(command),
         }
     }
 

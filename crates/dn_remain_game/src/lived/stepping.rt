@@ -29,7 +29,7 @@ impl<W: World> Lived<W> {
         ensures step { Builds W.state W.physics (living self.old) (living self.new) (Pressed keys) result }
         ensures whose { StaysWhose (living self.old) (living self.new) }
     {
-        self.survivor.build(keys)
+        self.survivor.lockstep_mut().build(keys)
     }
 
     /// Takes the given command for the next tic, where [`Lived::build`] would build one.
@@ -37,7 +37,7 @@ impl<W: World> Lived<W> {
         ensures step { Builds W.state W.physics (living self.old) (living self.new) (Given command) result }
         ensures whose { StaysWhose (living self.old) (living self.new) }
     {
-        self.survivor.give(command)
+        self.survivor.lockstep_mut().give(command)
     }
 
     /// Ends the node, and answers whether it had not ended.
@@ -46,7 +46,7 @@ impl<W: World> Lived<W> {
             (λ rules me wary. on_node wary (on_quit wary.node)) (λ quit. result ≡ quit) }
         ensures whose { StaysWhose (living self.old) (living self.new) }
     {
-        self.survivor.quit()
+        self.survivor.lockstep_mut().quit()
     }
 
     /// The next packet to a peer, with its exact numbers; none to one who is given up.

@@ -1,10 +1,11 @@
 use Rattle.dn_tic.specs.declared.input.Input.TheVariants.{Pressed}
+use Rattle.dn_survivor.proofs.Lent.{lent_steps}
 use Rattle.dn_remain_game.proofs.Stepping.{builds_alone}
 use Rattle.dn_remain_game.proofs.lived.Lived.build.Goals as goal
 
 pub returns-clause-step : goal.returns-clause-step
 returns-clause-step g c = builds_alone g.W.World.state g.W.World.physics c.args.self.now c.build.new.self
-    (Pressed c.args.keys) c.build.result c.build.ensures.step c.build.ensures.others
+    (Pressed c.args.keys) c.build.result (lent_steps c.lockstep_mut.ensures.value c.build.ensures.step)
 
 pub returns-clause-whose : goal.returns-clause-whose
-returns-clause-whose g c = c.build.ensures.step.same
+returns-clause-whose g c = (lent_steps c.lockstep_mut.ensures.value c.build.ensures.step).same
