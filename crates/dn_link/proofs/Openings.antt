@@ -8,7 +8,7 @@ use Rattle.std.proofs.Math.Seq.{take-append_seam, drop-append_seam}
 use Rattle.dn_seal.specs.declared.seal.Seal.{Seal}
 use Rattle.dn_seal.specs.Hmac.{tag_of}
 use Rattle.dn_seal.specs.Keys.{suite_byte}
-use Rattle.dn_seal.specs.Opening.{Sealing, IsOfGame, IsFor, IsTagged, told_game, told_body, told_tag}
+use Rattle.dn_seal.specs.Opening.{Sealing, IsOfKind, IsOfGame, IsFor, IsTagged, told_game, told_body, told_tag}
 use Rattle.dn_seal.proofs.Envelopes.{length-tag}
 use Rattle.dn_link.specs.declared.bundle.Bundle.{Bundle}
 use Rattle.dn_link.specs.declared.bundle.BundleFault.{BundleFault}
@@ -139,6 +139,18 @@ module _ (s : Sealing) (bytes : List ℕ) where
   only_long many (Err Receiver) h = absurd (let t = h.0.0.0.0.1 in omega arith)
   only_long many (Err Tag) h = absurd (let t = h.0.0.0.0.0.1 in omega arith)
   only_long many (Err Form) h = absurd (let t = h.0.0.0.0.0.0.1 in omega arith)
+
+  pub only_game : IsOfKind bundles s bytes → told_game bytes ≢ take 8 s.seal.game → (read : Result Bundle BundleFault)
+      → IsBundledAs s bytes read → Err Game ≡ read
+  only_game of wrong (Ok b) h = absurd (wrong (tagged s bytes b h).0.0.1)
+  only_game of wrong (Err Short) h = absurd (let t = of.0.0.0 in omega arith)
+  only_game of wrong (Err Long) h = absurd (let t = of.0.0.1 in omega arith)
+  only_game of wrong (Err Suite) h = absurd (h.1 of.0.1)
+  only_game of wrong (Err Kind) h = absurd (h.1 of.1)
+  only_game of wrong (Err Game) h = refl
+  only_game of wrong (Err Receiver) h = absurd (wrong h.0.1)
+  only_game of wrong (Err Tag) h = absurd (wrong h.0.0.1)
+  only_game of wrong (Err Form) h = absurd (wrong h.0.0.0.1)
 
   pub only_receiver : IsOfGame bundles s bytes → slice_index bytes 11 ≢ s.me → (read : Result Bundle BundleFault)
       → IsBundledAs s bytes read → Err Receiver ≡ read

@@ -1,10 +1,10 @@
-use Rattle.std.proofs.Common.{◌≡◌, ◌≢◌, ◌≤◌, rules, sym, ◌∙◌, arith, length}
+use Rattle.std.proofs.Common.{◌≡◌, ◌≢◌, ◌≤◌, rules, sym, ◌∙◌, arith, length, take}
 use Rattle.std.specs.Prelude.{slice_index}
 use Rattle.dn_seal.specs.Hmac.{tag_of}
-use Rattle.dn_seal.specs.Opening.{IsOfGame, IsFor, IsTagged, told_body, told_tag}
+use Rattle.dn_seal.specs.Opening.{IsOfKind, IsOfGame, IsFor, IsTagged, told_body, told_game, told_tag}
 use Rattle.dn_seal.specs.Sealing.{sealing}
 use Rattle.dn_link.specs.Reading.{bundles}
-use Rattle.dn_link.proofs.Openings.{only_short, only_long, only_receiver, only_tag, only_form, only_bundle, formless, datagram_is, eight_long}
+use Rattle.dn_link.proofs.Openings.{only_short, only_long, only_game, only_receiver, only_tag, only_form, only_bundle, formless, datagram_is, eight_long}
 use Rattle.dn_link.proofs.reading.open_bundle.Goals as goal
 
 pub returns-then-bytes-lt60-clause-only : goal.returns-then-bytes-lt60-clause-only
@@ -12,6 +12,13 @@ returns-then-bytes-lt60-clause-only c = only_short _ _ (omega arith)
 
 pub returns-then-bytes-gt1200-clause-only : goal.returns-then-bytes-gt1200-clause-only
 returns-then-bytes-gt1200-clause-only c = only_long _ _ (omega arith)
+
+pub returns-then-not-is_of_game-clause-only : goal.returns-then-not-is_of_game-clause-only
+returns-then-not-is_of_game-clause-only c =
+    let s = sealing c.args.sealer.now in
+    let of : IsOfKind bundles s c.args.bytes.now = search rules in
+    let other : told_game c.args.bytes.now ≢ take 8 s.seal.game = search rules in
+    only_game s c.args.bytes.now of other
 
 pub returns-then-bytes-me-clause-only : goal.returns-then-bytes-me-clause-only
 returns-then-bytes-me-clause-only c =
@@ -32,8 +39,8 @@ opens c =
     let s = sealing c.args.sealer.now in
     let bytes = c.args.bytes.now in
     let tests : IsTagged bundles s bytes = search rules in
-    let ten : length c.front-front.result ≡ 10 = search rules in
-    let game : 8 ≤ length s.seal.game = eight_long _ _ s.seal.game c.front-front.result c.front-front.ensures ten in
+    let ten : length c.front.result ≡ 10 = search rules in
+    let game : 8 ≤ length s.seal.game = eight_long _ _ s.seal.game c.front.result c.front.ensures ten in
     datagram_is s bytes game (λ i. omega (arith, c.type_inv.bytes i)) tests c.in-Some.bundle
     (sym c.bundle_in.ensures ∙ c.in-Some.is)
 
