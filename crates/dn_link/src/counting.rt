@@ -3,7 +3,7 @@
 ghost use Rattle.std.specs.Prelude.{◌≡◌, ◌≢◌, ◌<◌, ℕ, ◌+◌, nat_lt, nat_le, false, None, Some, IfOk, IfSome, Option};
 ghost use Rattle.dn_lockstep.specs.{Contents.contents, Contents.end_in, Rings.count_of};
 ghost use Rattle.dn_seal.specs.Sealing.{sealing};
-ghost use Rattle.dn_link.specs.{Counting.counts_of, Counting.has_of, Ends.tells_end, Linked.certain};
+ghost use Rattle.dn_link.specs.{Counting.counts_of, Counting.has_of, Ends.tells_end};
 
 use crate::bundle::{Bundle, Counts};
 use dn_lockstep::Lockstep;
@@ -36,17 +36,6 @@ pub(crate) fn counts_of(lockstep: &Lockstep) -> Counts
             has_of(lockstep, 3),
         ],
     }
-}
-
-/// How many of a lockstep's own commands a peer that reported this count of them has for certain.
-pub(crate) fn certain(lockstep: &Lockstep, count: u32) -> u32
-    ensures { result ≡ certain (contents lockstep.now) count }
-{
-    let commands = match lockstep.end(lockstep.me()) {
-        Some(_) => count.saturating_sub(1),
-        None => count,
-    };
-    commands.min(lockstep.made())
 }
 
 /// Whether a datagram reports that its sender has left.

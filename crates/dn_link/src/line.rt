@@ -1,8 +1,9 @@
 //! What is known of the line from a peer.
 
-ghost use Rattle.std.specs.Prelude.{◌≡◌, ◌<◌, ◌≤◌, ◌+ℤ◌, ◌-ℤ◌, None, nat_abs, pos};
+ghost use Rattle.std.specs.Prelude.{◌≡◌, ◌<◌, ◌≤◌, ◌+ℤ◌, ◌-ℤ◌, None, nat_abs, nat_le, pos};
 ghost use Rattle.dn_lockstep.specs.Contents.{contents};
 ghost use Rattle.dn_link.specs.{Line.after_old, Line.byte_of, Line.counted, Line.heard_on, Line.lead_over, Line.missing, Line.after_newest, Line.new_line, Line.with_tally, Lines.line_of};
+ghost use Rattle.dn_link.specs.{Pace.is_lossy_line};
 
 use crate::bundle::Bundle;
 use crate::presence::LATEST;
@@ -11,6 +12,9 @@ use dn_lockstep::Lockstep;
 
 /// How many numbers a block has.
 const BLOCK: u32 = 64;
+
+/// How many missing datagrams make a line a lossy one.
+const LOSSY: u8 = 2;
 
 /// A number of at most one byte.
 fn byte_of(number: u64) -> u8
@@ -99,6 +103,20 @@ impl Line {
         ensures { result ≡ missing (line_of self.now) }
     {
         self.holes.max(self.before)
+    }
+
+    /// Whether the peer reports that datagrams to it are missing.
+    pub(crate) fn misses(&self) -> bool
+        ensures { result ≡ nat_le 2 (line_of self.now).reported_holes }
+    {
+        self.reported_holes >= LOSSY
+    }
+
+    /// Whether datagrams are missing, there or here.
+    pub(crate) fn is_lossy(&self) -> bool
+        ensures { result ≡ is_lossy_line (line_of self.now) }
+    {
+        self.misses() || self.missing() >= LOSSY
     }
 
     /// Counts what is missing between two datagrams.

@@ -1,13 +1,12 @@
 //! What a link keeps for its pace.
 
-ghost use Rattle.std.specs.Prelude.{◌≡◌, ◌≤◌, ◌+ℤ◌, pos, nat_abs};
+ghost use Rattle.std.specs.Prelude.{◌≡◌, ◌<◌, ◌≤◌, ◌+ℤ◌, pos, nat_abs};
 ghost use Rattle.dn_machine.specs.declared.answers.Made.{Made as AnyMade};
 ghost use Rattle.dn_lockstep.specs.Contents.{contents};
-ghost use Rattle.dn_link.specs.{Leaning.looks, Leaning.step_of, Leaning.worked_off, Pace.after_input, Pace.after_refusal, Pace.owed_after, Pace.still_owed, Pace.with_leads, Pacing.new_pace};
-ghost use Rattle.dn_link.specs.{Pacing.state_of, Stretching.stretches};
+ghost use Rattle.dn_link.specs.{Leaning.looks, Leaning.step_of, Leaning.worked_off, Lines.line_of, Pace.after_datagram, Pace.after_input, Pace.after_refusal, Pace.owed_after, Pace.still_owed};
+ghost use Rattle.dn_link.specs.{Pace.with_leads, Pacing.new_pace, Pacing.state_of, Stretching.stretches};
 
-mod lines;
-
+use crate::bundle::Bundle;
 use crate::leaning::Leaning;
 use crate::line::Line;
 use crate::stretching::Stretching;
@@ -60,6 +59,22 @@ impl Pace {
             stretching: Stretching::new(),
             refused: 0,
         }
+    }
+
+    /// The line from a player.
+    pub(crate) fn line(&self, player: u8) -> &Line
+        requires { player < 4 }
+        ensures { line_of result.now ≡ (state_of self.now).lines player }
+    {
+        &self.lines[player as usize]
+    }
+
+    /// A datagram of a peer came, in whose place another may come or not.
+    pub(crate) fn hear(&mut self, bundle: &Bundle, may_come: bool)
+        requires { bundle.now.from < 4 }
+        ensures { state_of self.new ≡ after_datagram bundle.now may_come (state_of self.old) }
+    {
+        self.lines[bundle.from as usize].hear(bundle, may_come);
     }
 
     /// The input of which a command is owed.

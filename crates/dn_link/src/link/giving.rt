@@ -42,12 +42,13 @@ impl Link {
         let packet = next_unless(held, self.survivor.lockstep_mut(), to);
         let settings = is_settings(gathers, &packet);
         let (number, parts) = self.peers[to as usize].parts(me, packet, settings);
+        let line = self.pace.line(to);
         let bundle = Bundle {
             from: me,
             to,
             number,
-            lead: self.pace.own_lead(to),
-            holes: self.pace.missing(to),
+            lead: line.own_lead,
+            holes: line.missing(),
             counts: counts_of(self.lockstep()),
             message,
             parts,

@@ -1,7 +1,7 @@
 //! How ticks are paced.
 
 use super::Link;
-use crate::line::{apart, total};
+use crate::line::{apart, lead_over, total};
 
 impl Link {
     ghost use Rattle.std.specs.Prelude.{◌<◌, ◌≤◌, ◌+◌, ◌&&◌, nat_abs, nat_lt, ◌≡◌};
@@ -13,7 +13,7 @@ impl Link {
         ensures { result ≡ is_paced (linked self.now) (pace_of self.now) player }
     {
         self.is_peer(player)
-            && self.pace.is_heard(player)
+            && self.pace.line(player).newest.is_some()
             && self.end(player).is_none()
             && self.peer(player).presence.is_playing()
     }
@@ -27,7 +27,10 @@ impl Link {
         if !self.is_paced(player) {
             return 0;
         }
-        apart(self.lead_over(player), self.pace.lead(player))
+        apart(
+            lead_over(self.lockstep(), player),
+            self.pace.line(player).lead,
+        )
     }
 
     /// Of all peers together.
@@ -59,7 +62,7 @@ impl Link {
         requires { player < 4 }
         ensures { result ≡ is_lossy_to (linked self.now) (pace_of self.now) player }
     {
-        self.is_paced(player) && self.pace.is_lossy(player)
+        self.is_paced(player) && self.pace.line(player).is_lossy()
     }
 
     /// Whether they are on some line.
@@ -93,6 +96,6 @@ impl Link {
     pub fn wants_second(&self, player: u8) -> bool
         ensures { result ≡ wants_second (linked self.now) (pace_of self.now) player }
     {
-        self.is_paced(player) && self.pace.misses(player)
+        self.is_paced(player) && self.pace.line(player).misses()
     }
 }

@@ -1,12 +1,11 @@
 //! What a link reads of its lockstep.
 
 use super::Link;
-use crate::{counting, line};
 
 impl Link {
     ghost use Rattle.std.specs.Prelude.{◌≡◌};
     ghost use Rattle.dn_lockstep.specs.Told.{made};
-    ghost use Rattle.dn_link.specs.{Line.lead_over, Linked.certain, Linked.end_known, Linking.linked};
+    ghost use Rattle.dn_link.specs.{Linked.certain, Linked.end_known, Linking.linked};
 
     /// The number of its player.
     pub(super) fn me(&self) -> u8
@@ -33,13 +32,10 @@ impl Link {
     pub(super) fn certain(&self, count: u32) -> u32
         ensures { result ≡ certain (linked self.now).node count }
     {
-        counting::certain(self.lockstep(), count)
-    }
-
-    /// By how many commands it leads a player.
-    pub(super) fn lead_over(&self, player: u8) -> i8
-        ensures { result ≡ lead_over (linked self.now).node player }
-    {
-        line::lead_over(self.lockstep(), player)
+        let commands = match self.end(self.me()) {
+            Some(_) => count.saturating_sub(1),
+            None => count,
+        };
+        commands.min(self.made())
     }
 }

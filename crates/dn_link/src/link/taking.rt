@@ -10,7 +10,7 @@ use crate::received::{Received, received_of};
 
 impl Link {
     ghost use Rattle.dn_link.specs.{Presence.may_come, Hearing.ByTest, Hearing.HearsAll, Packets.packets_in, Linked.IsWhole, Linked.Receives, Linked.ReceivesAs, Linked.done_with, Linked.has_given_up};
-    ghost use Rattle.dn_link.specs.{Linked.hears, Linked.is_peer, Linked.met, Notices.HearsNotice, Notices.is_notice, Linking.identity_of, Linking.linked, Linking.seal_of, Pace.Paces, Pace.PacesAs};
+    ghost use Rattle.dn_link.specs.{Linked.hears, Linked.is_peer, Linked.met, Notices.HearsNotice, Notices.is_notice, Linking.identity_of, Linking.linked, Linking.seal_of, Pace.Paces};
     ghost use Rattle.dn_link.specs.{Pace.after_datagram, Pacing.pace_of};
     ghost use Rattle.std.specs.Prelude.{ℕ, ◌<◌, ◌&&◌, not, true, false, Ok, ◌≡◌};
     ghost use Rattle.dn_machine.specs.Game.{fresh};
@@ -79,7 +79,7 @@ impl Link {
         ensures identity { identity_of self.new ≡ identity_of self.old }
     {
         let from = bundle.from;
-        let fresh = is_fresh(self.pace.newest(from), bundle.number);
+        let fresh = is_fresh(self.pace.line(from).newest, bundle.number);
         let peer = self.peer(from);
         let may_come = peer.presence.may_come(peer.gave);
         let presence = peer
@@ -92,24 +92,8 @@ impl Link {
         received_of(differs, from, started)
     }
 
-    /// Takes in what was opened, if its sender is a peer who is not given up.
-    fn take(&mut self, bundle: &Bundle) -> Received
-        ensures heard { ReceivesAs (identity_of self.old) (pace_of self.old) (Ok bundle.now) (linked self.old) (linked self.new) result }
-        ensures pace { PacesAs (Ok bundle.now) (linked self.old) (pace_of self.old) (pace_of self.new) }
-        ensures others { (linked self.new).others ≡ (linked self.old).others }
-        ensures seal { seal_of self.new ≡ seal_of self.old }
-        ensures identity { identity_of self.new ≡ identity_of self.old }
-    {
-        if !self.is_peer(bundle.from) {
-            return Received::Stranger(bundle.from);
-        }
-        if self.has_given_up(bundle.from) {
-            return Received::GivenUp(bundle.from);
-        }
-        self.take_in(bundle)
-    }
-
-    /// Takes in bytes that are not of the kind of reports.
+    /// Takes in bytes that are not of the kind of reports: what is opened, if its sender is a peer who is not given
+    /// up.
     fn receive_datagram(&mut self, bytes: &[u8]) -> Received
         ensures heard { Receives (seal_of self.old) (identity_of self.old) (pace_of self.old) bytes.now (linked self.old)
             (linked self.new) result }
@@ -118,10 +102,17 @@ impl Link {
         ensures seal { seal_of self.new ≡ seal_of self.old }
         ensures identity { identity_of self.new ≡ identity_of self.old }
     {
-        match open_bundle(&self.sealer, bytes) {
-            Err(fault) => self.refuse(Received::Unopened(fault)),
-            Ok(bundle) => self.take(&bundle),
+        let bundle = match open_bundle(&self.sealer, bytes) {
+            Ok(bundle) => bundle,
+            Err(fault) => return self.refuse(Received::Unopened(fault)),
+        };
+        if !self.is_peer(bundle.from) {
+            return Received::Stranger(bundle.from);
         }
+        if self.has_given_up(bundle.from) {
+            return Received::GivenUp(bundle.from);
+        }
+        self.take_in(&bundle)
     }
 
     /// Takes in any bytes, wherever they come from. Answers which peer's datagram they are, and whether the

@@ -15,7 +15,7 @@ impl Link {
             then Some (figures_of ((pace_of self.now).lines player)) else None) }
     {
         if self.is_peer(player) {
-            Some(self.pace.figures(player))
+            Some(Figures::of(self.pace.line(player)))
         } else {
             None
         }

@@ -6,6 +6,7 @@ use Rattle.dn_lockstep.specs.Represents.{Represents}
 use Rattle.dn_link.specs.Counting.{counts_of}
 use Rattle.dn_link.specs.Giving.{SendsCarried}
 use Rattle.dn_link.specs.Hearing.{ByTest}
+use Rattle.dn_link.specs.Line.{LineState, missing}
 use Rattle.dn_link.specs.Presence.{message_of}
 use Rattle.dn_link.specs.Kept.{going, kept_after, taken_by}
 use Rattle.dn_link.specs.Linked.{PeerState, holds_back, is_gathering}
@@ -29,7 +30,8 @@ returns-clause-gives c =
     let after = c.parts-number.ensures in
     let settings : c.is_settings-settings.result ≡ (is_gathering n.phase && is_some packet) =
     c.is_settings-settings.ensures ∙ (λ i. c.is_gathering-gathers.ensures i && is_some packet) in
-    let led : to_z w8 (of_z w8 c.own_lead.result) ≡ c.own_lead.result = search rules in
+    let line = c.line-line.result.now in
+    let led : to_z w8 (of_z w8 line.own_lead) ≡ line.own_lead = search rules in
     record {
       given = packet;
       step = subst (λ (m : Contents). ByTest (holds_back (linked c.args.self.now)) ((after_it ≡ m)
@@ -41,7 +43,7 @@ returns-clause-gives c =
         from = c.me-me.result;
         to = c.args.to;
         number = c.parts-number.result.0;
-        lead = to_z w8 (of_z w8 c.own_lead.result);
+        lead = to_z w8 (of_z w8 line.own_lead);
         holes = c.missing.result;
         counts = c.counts_of.result;
         message = c.message_of-message.result;
@@ -52,8 +54,8 @@ returns-clause-gives c =
       from = me;
       goes = refl;
       number = after.number ∙ ap (λ (t : PeerState). t.number) here;
-      lead = led ∙ c.own_lead.ensures;
-      holes = c.missing.ensures;
+      lead = led ∙ ap (λ (l : LineState). l.own_lead) c.line-line.ensures;
+      holes = c.missing.ensures ∙ ap missing c.line-line.ensures;
       message = c.message_of-message.ensures ∙ ap (message_of (identity_of c.args.self.now))
           (c.phase.ensures ∙ ap (λ (n : Contents). n.phase) c.lockstep-2.ensures);
       counts = c.counts_of.ensures ∙ ap counts_of c.lockstep-3.ensures;

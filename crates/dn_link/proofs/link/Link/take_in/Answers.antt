@@ -17,7 +17,7 @@ returns-clause-heard c =
     let known = (linked c.args.self.now).peers b.from in
     let started = c.hear-started.result in
     let node = (linked c.hear-started.new.self).node in
-    let fresh = c.is_fresh-fresh.ensures ∙ (λ i. is_fresh (c.newest.ensures i) b.number) in
+    let fresh = c.is_fresh-fresh.ensures ∙ (λ i. is_fresh (c.line.ensures i).newest b.number) in
     rw (c.requires.peer, c.requires.stays) (
       presence,
       differs,
