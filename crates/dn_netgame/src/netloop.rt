@@ -12,7 +12,7 @@ use crate::fault::RunFault;
 use crate::games::new_walks;
 use crate::netplay::{NO_SOCKET, NetRounds, UNBOUND};
 use crate::transfer::print;
-use dn_game::{GameConfig, nodes_of};
+use dn_game::{GameConfig, GameFault, nodes_of};
 use dn_line::{Line, UdpLine};
 use dn_node::Node;
 use dn_text::push_node;
@@ -72,8 +72,10 @@ fn play_all<R: Net>(
     ensures fault { IfErr result (λ fault. fault ≡ RunFault.Memory) }
 {
     let walks = new_walks(alloc, players)?;
-    let Ok(mut nodes) = nodes_of(alloc, config, walks) else {
-        return Err(RunFault::Memory);
+    let mut nodes = match nodes_of(alloc, config, walks) {
+        Ok(nodes) => nodes,
+        Err(GameFault::Memory) => return Err(RunFault::Memory),
+        Err(GameFault::Players | GameFault::Limit) => unreachable!(),
     };
     let Ok(mut line) = UdpLine::bind(rt, alloc, net.base, 0, players - 1, players) else {
         return Ok(None);
