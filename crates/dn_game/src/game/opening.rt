@@ -29,9 +29,8 @@ impl<W: World> Game<W> {
         // No memory is taken for packets yet.
         ensures room { IfOk result (λ game. room_of game ≡ record { bytes = 0; records = 0 }) }
     {
-        let nodes = nodes_of(alloc, config, worlds)?;
         Ok(Game {
-            nodes,
+            nodes: nodes_of(alloc, config, worlds)?,
             stopped: [false; 4],
             pool: Pool::new(alloc),
         })

@@ -27,9 +27,8 @@ impl<W: World> Game<W> {
         // No memory is taken for packets and reports yet.
         ensures none { IfOk result (λ game. room_of game ≡ record { packets = 0; reports = 0 }) }
     {
-        let nodes = nodes_of(alloc, config, worlds)?;
         Ok(Game {
-            nodes,
+            nodes: nodes_of(alloc, config, worlds)?,
             stopped: [false; 4],
             flights: Vec::new(alloc),
             reports: Vec::new(alloc),
