@@ -3,6 +3,7 @@ use Rattle.std.specs.Prelude.{◌≡◌, ◌≢◌, ◌<◌, ◌≤◌, ℕ, tru
 use Rattle.dn_setup.specs.Settings.{Settings}
 use Rattle.dn_machine.specs.Flight.{Flight}
 use Rattle.dn_machine.specs.Limits.{Limits}
+use Rattle.dn_machine.specs.Node.{put}
 use Rattle.dn_lockstep.specs.Marking.{Marking}
 use Rattle.dn_lockstep.specs.OneGame.{AreOneGame}
 use Rattle.dn_lockstep.specs.Session.{Session}
@@ -36,3 +37,8 @@ pub record IsLater (session later : Session) : Type 0 where
       → has_of (session.locksteps player) which ≤ has_of (later.locksteps player) which
   pub ended : (player : ℕ) → has_ended (session.locksteps player) ≡ true
       → has_ended (later.locksteps player) ≡ true
+
+-- with a new link of a player they are those of the game in a later session
+abbrev pub StayLinked : Marking → Limits → Settings → Session → (ℕ → Linked) → ℕ → Linked → Session → Type 0
+StayLinked marking limits settings session links player new later =
+    AreLinked marking limits settings later (put links player new) × IsLater session later

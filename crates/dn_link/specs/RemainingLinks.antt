@@ -5,6 +5,7 @@ use Rattle.dn_report.specs.declared.report.Report.{Report}
 use Rattle.dn_report.specs.Text.{IsReport}
 use Rattle.dn_machine.specs.Flight.{Flight}
 use Rattle.dn_machine.specs.Limits.{Limits}
+use Rattle.dn_machine.specs.Node.{put}
 use Rattle.dn_lockstep.specs.Marking.{Marking}
 use Rattle.dn_seal.specs.declared.seal.Seal.{Seal}
 use Rattle.dn_notice.specs.Opening.{IsReportFrom}
@@ -35,6 +36,11 @@ pub record KeepsGiven (session later : Session) : Type 0 where
       → slice_get later.packets which ≡ Some packet
   pub reports : (which : ℕ) (given : Given) → slice_get session.reports which ≡ Some given
       → slice_get later.reports which ≡ Some given
+
+-- with a new link of a player they are those of the game in a later session
+abbrev pub StayRemaining : Marking → Limits → Settings → Session → (ℕ → Linked) → ℕ → Linked → Session → Type 0
+StayRemaining marking limits settings session links player new later =
+    AreRemainingLinks marking limits settings later (put links player new) × KeepsGiven session later
 
 -- the bytes are a datagram that carries nothing but packets of this game, to whom they were given
 abbrev pub CarriesGiven : Seal → Session → List ℕ → Type 0

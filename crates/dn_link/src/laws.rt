@@ -3,18 +3,18 @@
 ghost use Rattle.std.specs.Prelude.{◌≡◌, ◌≢◌, ◌<◌, ◌≤◌, ℕ, ℤ, pos, Bool, true, false, List, [], slice_index, All, get_or, length, Option, None, Some, IfSome, Result, Ok, Err};
 ghost use Rattle.dn_tic.specs.{declared.command.Move.Move, declared.input.Input.Input};
 ghost use Rattle.dn_setup.specs.Settings.{Settings};
-ghost use Rattle.dn_machine.specs.{declared.answers.Made.Made, declared.answers.Ran.Ran, Building.on_build, Flight.Flight, Game.fresh, Limits.Limits, Limits.IsWindow, Node.put, Running.is_over};
+ghost use Rattle.dn_machine.specs.{declared.answers.Made.Made, declared.answers.Ran.Ran, Flight.Flight, Game.fresh, Limits.Limits, Limits.IsWindow, Running.is_over};
 ghost use Rattle.dn_machine.specs.{Running.on_run, Running.on_quit};
-ghost use Rattle.dn_lockstep.specs.{Agreed.AreAgreed, Contents.Contents, Contents.end_in, Marking.Marking, Near.IsFair, OneGame.AreOneGame, OneGame.world_told, Represents.Represents, Runs.RunsBy};
-ghost use Rattle.dn_lockstep.specs.{Session.Session, Session.after_build, Session.after_packet, Session.after_run, Session.opening_session, Session.with_lockstep, Sent.sent_to, Steps.Steps};
-ghost use Rattle.dn_lockstep.specs.{Steps.Tells, Told.got, Told.made};
+ghost use Rattle.dn_lockstep.specs.{Agreed.AreAgreed, Commands.Builds, Contents.Contents, Contents.end_in, Marking.Marking, Near.IsFair, OneGame.AreOneGame, OneGame.world_told, Represents.Represents};
+ghost use Rattle.dn_lockstep.specs.{Runs.RunsBy, Session.Session, Session.after_build, Session.after_packet, Session.after_run, Session.opening_session, Session.with_lockstep, Sent.sent_to};
+ghost use Rattle.dn_lockstep.specs.{Steps.Steps, Steps.Tells, Told.got, Told.made};
 ghost use Rattle.dn_others.specs.Keeping.{nothing_kept};
 ghost use Rattle.dn_seal.specs.{declared.opened.Opened.Opened, declared.seal.Seal.Seal, Opening.Sealing};
 ghost use Rattle.dn_open.specs.Sealed.{sealing_of};
 ghost use Rattle.dn_link.specs.{declared.bundle.Bundle.Bundle, declared.bundle.BundleFault.BundleFault, declared.bundle.Identity.Identity, declared.received.Received.Received, Bundles.IsEmpty};
 ghost use Rattle.dn_link.specs.{Bundles.IsGenuineDatagram, Bundles.WasBundled, Bundles.WasGiven, declared.presence.Presence.TheVariants.Forgotten, Counting.has_ended, Presence.has_gone, Linked.Gives};
 ghost use Rattle.dn_link.specs.{Linked.Linked, Linked.Receives, Linked.certain, Linked.forgotten, Linked.holds_back, Linked.may_leave, Linked.never_played, LinkedGame.AreLinked, LinkedGame.IsLater};
-ghost use Rattle.dn_link.specs.{Linking.new_peer, Hearing.HearsAll, Paced.PaceState, Reading.IsBundledAs, Text.IsBundle, Text.sealed_bytes};
+ghost use Rattle.dn_link.specs.{LinkedGame.StayLinked, Linking.new_peer, Hearing.HearsAll, Paced.PaceState, Reading.IsBundledAs, Text.IsBundle, Text.sealed_bytes};
 
 use dn_lockstep::{locksteps_agree, one_game_goes_on, one_game_opens};
 use dn_open::letters_keep_one_game;
@@ -63,10 +63,10 @@ pub fn linked_game_goes_on()
     ensures built { (marking : Marking) (limits : Limits) (settings : Settings) (session : Session) (links : ℕ → Linked)
         (player : ℕ) (new : Linked) (input : Input) (made : Made)
         → AreLinked marking limits settings session links → player < limits.players
-        → Steps (links player).node new.node (λ limits me m. on_build limits me m input) (λ answer. made ≡ answer)
+        → Builds (links player).node new.node input made
         → new.others ≡ (links player).others → new.peers ≡ (links player).peers
-        → AreLinked marking limits settings (after_build session player input made new.node) (put links player new)
-        × IsLater session (after_build session player input made new.node) }
+        → StayLinked marking limits settings session links player new
+        (after_build session player input made new.node) }
     ensures ran { (marking : Marking) (limits : Limits) (settings : Settings) (session : Session) (links : ℕ → Linked)
         (player : ℕ) (new : Linked) (marks : List ℤ) (ran : Ran) (row : Option (List (Option Move)))
         → AreLinked marking limits settings session links → player < limits.players
@@ -76,21 +76,18 @@ pub fn linked_game_goes_on()
         → RunsBy marks (links player).node new.node (λ limits m marks. on_run limits m marks)
         (λ answer told. (ran ≡ answer) × (row ≡ told))
         → new.others ≡ (links player).others → new.peers ≡ (links player).peers
-        → AreLinked marking limits settings (after_run session player row new.node) (put links player new)
-        × IsLater session (after_run session player row new.node) }
+        → StayLinked marking limits settings session links player new (after_run session player row new.node) }
     ensures quit { (marking : Marking) (limits : Limits) (settings : Settings) (session : Session) (links : ℕ → Linked)
         (player : ℕ) (new : Linked) (quit : Bool)
         → AreLinked marking limits settings session links → player < limits.players
         → Steps (links player).node new.node (λ limits me m. on_quit m) (λ answer. quit ≡ answer)
         → new.others ≡ (links player).others → new.peers ≡ (links player).peers
-        → AreLinked marking limits settings (with_lockstep session player new.node) (put links player new)
-        × IsLater session (with_lockstep session player new.node) }
+        → StayLinked marking limits settings session links player new (with_lockstep session player new.node) }
     ensures forgot { (marking : Marking) (limits : Limits) (settings : Settings) (session : Session) (links : ℕ → Linked)
         (player peer : ℕ) (new : Linked)
         → AreLinked marking limits settings session links → player < limits.players
         → new ≡ forgotten peer (links player)
-        → AreLinked marking limits settings (with_lockstep session player new.node) (put links player new)
-        × IsLater session (with_lockstep session player new.node) }
+        → StayLinked marking limits settings session links player new (with_lockstep session player new.node) }
     ensures gave { (marking : Marking) (limits : Limits) (settings : Settings) (session : Session) (links : ℕ → Linked)
         (player to : ℕ) (seal : Seal) (identity : Identity) (pace : PaceState) (new : Linked) (bytes : List ℕ)
         → AreLinked marking limits settings session links → player < limits.players
@@ -98,23 +95,21 @@ pub fn linked_game_goes_on()
         → Tells (links player).node (λ limits me m. IfSome (sent_to to limits me m).1 IsFair))
         → Gives seal identity pace to (links player) new bytes
         → (flight : Option Flight) × WasBundled seal (after_packet session player flight new.node) bytes
-        × AreLinked marking limits settings (after_packet session player flight new.node) (put links player new)
-        × IsLater session (after_packet session player flight new.node) }
+        × StayLinked marking limits settings session links player new
+        (after_packet session player flight new.node) }
     ensures received { (marking : Marking) (limits : Limits) (settings : Settings) (session : Session) (links : ℕ → Linked)
         (player : ℕ) (seal : Seal) (identity : Identity) (pace : PaceState) (bytes : List ℕ) (new : Linked)
         (answer : Received)
         → AreLinked marking limits settings session links → player < limits.players
         → IsGenuineDatagram seal session player bytes
         → Receives seal identity pace bytes (links player) new answer
-        → AreLinked marking limits settings (with_lockstep session player new.node) (put links player new)
-        × IsLater session (with_lockstep session player new.node) }
+        → StayLinked marking limits settings session links player new (with_lockstep session player new.node) }
     ensures reported { (marking : Marking) (limits : Limits) (settings : Settings) (session : Session) (links : ℕ → Linked)
         (player : ℕ) (new : Linked)
         → AreLinked marking limits settings session links → player < limits.players
         → new.node ≡ (links player).node → new.others.gone ≡ (links player).others.gone
         → new.peers ≡ (links player).peers
-        → AreLinked marking limits settings (with_lockstep session player new.node) (put links player new)
-        × IsLater session (with_lockstep session player new.node) }
+        → StayLinked marking limits settings session links player new (with_lockstep session player new.node) }
 {
     one_game_goes_on();
     letters_keep_one_game();

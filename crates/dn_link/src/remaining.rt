@@ -4,9 +4,9 @@ ghost use Rattle.std.specs.Prelude.{◌≡◌, ◌<◌, ◌≤◌, ℕ, ℤ, pos
 ghost use Rattle.dn_tic.specs.{declared.command.Move.Move, declared.input.Input.Input};
 ghost use Rattle.dn_setup.specs.Settings.{Settings};
 ghost use Rattle.dn_report.specs.{declared.report.Report.Report, Text.IsReport};
-ghost use Rattle.dn_machine.specs.{declared.answers.Made.Made, declared.answers.Ran.Ran, Building.on_build, Flight.Flight, Game.fresh, Limits.Limits, Limits.IsWindow, Node.put, Running.is_over};
+ghost use Rattle.dn_machine.specs.{declared.answers.Made.Made, declared.answers.Ran.Ran, Flight.Flight, Game.fresh, Limits.Limits, Limits.IsWindow, Running.is_over};
 ghost use Rattle.dn_machine.specs.{Running.on_quit, Running.on_run_but};
-ghost use Rattle.dn_lockstep.specs.{Contents.end_in, Marking.Marking, Near.IsFair, OneGame.world_told, Represents.Represents, Runs.RunsBy, Sent.sent_to, Steps.Steps, Steps.Tells};
+ghost use Rattle.dn_lockstep.specs.{Commands.Builds, Contents.end_in, Marking.Marking, Near.IsFair, OneGame.world_told, Represents.Represents, Runs.RunsBy, Sent.sent_to, Steps.Steps, Steps.Tells};
 ghost use Rattle.dn_others.specs.Keeping.{nothing_kept};
 ghost use Rattle.dn_survivor.specs.{Agreed.AreAgreedInPairs, Agreed.FitInPairs, Calls.HearsReport, Demos.DemosAgreeInPairs, Session.Given, Session.Session, Session.after_build, Session.after_packet};
 ghost use Rattle.dn_survivor.specs.{Session.after_report, Session.after_run, Session.opening_session, Session.with_survivor, Telling.report_for, declared.answers.GivenUp.GivenUp};
@@ -17,7 +17,7 @@ ghost use Rattle.dn_open.specs.Sealed.{sealing_of};
 ghost use Rattle.dn_link.specs.{declared.bundle.Bundle.Bundle, declared.bundle.BundleFault.BundleFault, declared.bundle.Identity.Identity, declared.received.Received.Received, Linked.Gives};
 ghost use Rattle.dn_link.specs.{Linked.Linked, Linked.Receives, Linked.forgotten, Linked.has_given_up, Linked.holds_back, Linked.remains, Linked.surviving_of, Linking.new_peer, Notices.HearsNotice};
 ghost use Rattle.dn_link.specs.{Notices.is_notice, Notices.notice_for, Paced.PaceState, Reading.IsBundledAs, RemainingLinks.AreRemainingLinks, RemainingLinks.IsGenuineIn, RemainingLinks.KeepsGiven};
-ghost use Rattle.dn_link.specs.{RemainingLinks.WasSealedIn, Surviving.GivesUpPeer, Text.IsBundle, Text.sealed_bytes};
+ghost use Rattle.dn_link.specs.{RemainingLinks.StayRemaining, RemainingLinks.WasSealedIn, Surviving.GivesUpPeer, Text.IsBundle, Text.sealed_bytes};
 
 use dn_survivor::{remaining_game_opens, survivors_agree};
 
@@ -49,11 +49,10 @@ pub fn remaining_links_go_on()
     ensures built { (marking : Marking) (limits : Limits) (settings : Settings) (session : Session) (links : ℕ → Linked)
         (player : ℕ) (new : Linked) (input : Input) (made : Made)
         → AreRemainingLinks marking limits settings session links → player < limits.players
-        → Steps (links player).node new.node (λ limits me m. on_build limits me m input) (λ answer. made ≡ answer)
+        → Builds (links player).node new.node input made
         → new.others ≡ (links player).others → new.peers ≡ (links player).peers
-        → AreRemainingLinks marking limits settings (after_build session player input made (surviving_of new))
-        (put links player new)
-        × KeepsGiven session (after_build session player input made (surviving_of new)) }
+        → StayRemaining marking limits settings session links player new
+        (after_build session player input made (surviving_of new)) }
     ensures ran { (marking : Marking) (limits : Limits) (settings : Settings) (session : Session) (links : ℕ → Linked)
         (player : ℕ) (new : Linked) (marks : List ℤ) (ran : Ran) (row : Option (List (Option Move)))
         → AreRemainingLinks marking limits settings session links → player < limits.players
@@ -64,31 +63,27 @@ pub fn remaining_links_go_on()
         (λ limits m marks. on_run_but limits (has_given_up (links player)) m marks)
         (λ answer told. (ran ≡ answer) × (row ≡ told))
         → new.others ≡ (links player).others → new.peers ≡ (links player).peers
-        → AreRemainingLinks marking limits settings (after_run session player row (surviving_of new))
-        (put links player new)
-        × KeepsGiven session (after_run session player row (surviving_of new)) }
+        → StayRemaining marking limits settings session links player new
+        (after_run session player row (surviving_of new)) }
     ensures quit { (marking : Marking) (limits : Limits) (settings : Settings) (session : Session) (links : ℕ → Linked)
         (player : ℕ) (new : Linked) (quit : Bool)
         → AreRemainingLinks marking limits settings session links → player < limits.players
         → Steps (links player).node new.node (λ limits me m. on_quit m) (λ answer. quit ≡ answer)
         → new.others ≡ (links player).others → new.peers ≡ (links player).peers
-        → AreRemainingLinks marking limits settings (with_survivor session player (surviving_of new))
-        (put links player new)
-        × KeepsGiven session (with_survivor session player (surviving_of new)) }
+        → StayRemaining marking limits settings session links player new
+        (with_survivor session player (surviving_of new)) }
     ensures forgot { (marking : Marking) (limits : Limits) (settings : Settings) (session : Session) (links : ℕ → Linked)
         (player peer : ℕ) (new : Linked)
         → AreRemainingLinks marking limits settings session links → player < limits.players
         → new ≡ forgotten peer (links player)
-        → AreRemainingLinks marking limits settings (with_survivor session player (surviving_of new))
-        (put links player new)
-        × KeepsGiven session (with_survivor session player (surviving_of new)) }
+        → StayRemaining marking limits settings session links player new
+        (with_survivor session player (surviving_of new)) }
     ensures gave_up { (marking : Marking) (limits : Limits) (settings : Settings) (session : Session) (links : ℕ → Linked)
         (here player : ℕ) (new : Linked) (answer : GivenUp)
         → AreRemainingLinks marking limits settings session links → here < limits.players
         → GivesUpPeer player (links here) new answer
-        → AreRemainingLinks marking limits settings (with_survivor session here (surviving_of new))
-        (put links here new)
-        × KeepsGiven session (with_survivor session here (surviving_of new)) }
+        → StayRemaining marking limits settings session links here new
+        (with_survivor session here (surviving_of new)) }
     ensures gave { (marking : Marking) (limits : Limits) (settings : Settings) (session : Session) (links : ℕ → Linked)
         (player to : ℕ) (seal : Seal) (identity : Identity) (pace : PaceState) (new : Linked) (bytes : List ℕ)
         → AreRemainingLinks marking limits settings session links → player < limits.players
@@ -97,9 +92,8 @@ pub fn remaining_links_go_on()
         → Tells (links player).node (λ limits me m. IfSome (sent_to to limits me m).1 IsFair))
         → Gives seal identity pace to (links player) new bytes
         → (packet : Option Flight) × WasSealedIn seal (after_packet session player packet (surviving_of new)) bytes
-        × AreRemainingLinks marking limits settings (after_packet session player packet (surviving_of new))
-        (put links player new)
-        × KeepsGiven session (after_packet session player packet (surviving_of new)) }
+        × StayRemaining marking limits settings session links player new
+        (after_packet session player packet (surviving_of new)) }
     ensures told { (marking : Marking) (limits : Limits) (settings : Settings) (session : Session) (links : ℕ → Linked)
         (player to : ℕ) (report : Option Report)
         → AreRemainingLinks marking limits settings session links → player < limits.players
@@ -121,24 +115,21 @@ pub fn remaining_links_go_on()
         → IsGenuineIn seal session player bytes
         → (is_notice bytes ≡ false → Receives seal identity pace bytes (links player) new answer)
         → (is_notice bytes ≡ true → HearsNotice seal bytes (links player) pace new after answer)
-        → AreRemainingLinks marking limits settings (with_survivor session player (surviving_of new))
-        (put links player new)
-        × KeepsGiven session (with_survivor session player (surviving_of new)) }
+        → StayRemaining marking limits settings session links player new
+        (with_survivor session player (surviving_of new)) }
     ensures reported { (marking : Marking) (limits : Limits) (settings : Settings) (session : Session) (links : ℕ → Linked)
         (which : ℕ) (given : Given) (new : Linked) (answer : Reported)
         → AreRemainingLinks marking limits settings session links → slice_get session.reports which ≡ Some given
         → HearsReport given.from given.report (surviving_of (links given.to)) (surviving_of new) answer
         → new.peers ≡ (links given.to).peers
-        → AreRemainingLinks marking limits settings (with_survivor session given.to (surviving_of new))
-        (put links given.to new)
-        × KeepsGiven session (with_survivor session given.to (surviving_of new)) }
+        → StayRemaining marking limits settings session links given.to new
+        (with_survivor session given.to (surviving_of new)) }
     ensures kept { (marking : Marking) (limits : Limits) (settings : Settings) (session : Session) (links : ℕ → Linked)
         (player : ℕ) (new : Linked)
         → AreRemainingLinks marking limits settings session links → player < limits.players
         → new ≡ links player
-        → AreRemainingLinks marking limits settings (with_survivor session player (surviving_of new))
-        (put links player new)
-        × KeepsGiven session (with_survivor session player (surviving_of new)) }
+        → StayRemaining marking limits settings session links player new
+        (with_survivor session player (surviving_of new)) }
 {}
 
 /// What was sealed in such a game may come to any link of it at any later time, and so may bytes that a link
