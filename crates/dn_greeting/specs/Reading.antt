@@ -12,7 +12,8 @@ use Rattle.dn_greeting.specs.declared.greeting.GreetingFault.TheVariants.{Short,
 use Rattle.dn_greeting.specs.declared.greeting.Hinted.{Hinted}
 use Rattle.dn_greeting.specs.declared.greeting.Refused.{Refused}
 use Rattle.dn_greeting.specs.declared.greeting.Retry.{Retry}
-use Rattle.dn_greeting.specs.Text.{kind_bytes, greeting_bytes, call_rest, answer_rest, refused_rest, retry_rest, hinted_bytes, IsCall, IsAnswer, IsRefused, IsRetry, IsHinted}
+use Rattle.dn_greeting.specs.Rests.{calls, answers, refusals, retries}
+use Rattle.dn_greeting.specs.Text.{kind_bytes, greeting_bytes, hinted_bytes, IsHinted}
 
 -- the first fault of bytes where a greeting with a tag, of this kind and size, is expected. None, where only what
 -- stands under the tag may be one
@@ -37,16 +38,16 @@ IsReadAs {T} seal what size Is rest bytes (Err fault) =
     × ((read : T) → Is read → drop 12 (told_body bytes) ≢ rest read))
 
 abbrev pub IsCallIn : Seal → List ℕ → Result Call GreetingFault → Type 0
-IsCallIn seal bytes read = IsReadAs seal 1 130 IsCall call_rest bytes read
+IsCallIn seal bytes read = IsReadAs seal calls.what calls.size calls.Is calls.rest bytes read
 
 abbrev pub IsAnswerIn : Seal → List ℕ → Result Answer GreetingFault → Type 0
-IsAnswerIn seal bytes read = IsReadAs seal 2 130 IsAnswer answer_rest bytes read
+IsAnswerIn seal bytes read = IsReadAs seal answers.what answers.size answers.Is answers.rest bytes read
 
 abbrev pub IsRefusedIn : Seal → List ℕ → Result Refused GreetingFault → Type 0
-IsRefusedIn seal bytes read = IsReadAs seal 3 46 IsRefused refused_rest bytes read
+IsRefusedIn seal bytes read = IsReadAs seal refusals.what refusals.size refusals.Is refusals.rest bytes read
 
 abbrev pub IsRetryIn : Seal → List ℕ → Result Retry GreetingFault → Type 0
-IsRetryIn seal bytes read = IsReadAs seal 5 64 IsRetry retry_rest bytes read
+IsRetryIn seal bytes read = IsReadAs seal retries.what retries.size retries.Is retries.rest bytes read
 
 -- the first fault of bytes where a hint is expected
 unfoldable pub hint_fault : List ℕ → Option GreetingFault

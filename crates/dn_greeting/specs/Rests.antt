@@ -1,4 +1,4 @@
--- What stands behind the head of a greeting is found again in its bytes.
+-- The rest of a greeting, which stands behind its head, is found again in its bytes; and, at the end, the four sorts.
 use Rattle.std.proofs.Common.{◌≡◌, ◌≤◌, ◌+◌, ℕ, zero, suc, List, [], ◌∷◌, ◌++◌, length, drop, All, refl, ap, sym, ◌∙◌, arith, Option, Some, None, length-append, true, false, Bool}
 use Rattle.std.specs.Prelude.{IfSome, ◌==◌, slice_index}
 use Rattle.std.specs.List.{flat_map}
@@ -40,7 +40,7 @@ length-padding : length padding ≡ 64
 unfolding padding
 length-padding = refl
 
--- a call has as many bytes behind its head as an answer
+-- a call has as many bytes as an answer
 pub length-call : (call : Call) → IsCall call → length (call_rest call) + 28 ≡ 130
 length-call call is = omega (
   arith,
@@ -242,6 +242,7 @@ retry_back retry is =
       cookie = a' ∷ b' ∷ c' ∷ d' ∷ e' ∷ f' ∷ g' ∷ h' ∷ i' ∷ j' ∷ k' ∷ l' ∷ n' ∷ o' ∷ p' ∷ q' ∷ [];
     })
 
+-- the sorts
 abbrev pub calls : Sort Call
 calls = sort 1 130 IsCall call_rest told_call (refl, length-call, call_back)
 

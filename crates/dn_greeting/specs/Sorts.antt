@@ -1,8 +1,9 @@
 -- The sorts of greetings that have a tag.
 use Rattle.std.specs.Prelude.{◌≡◌, ◌+◌, nat_le, ℕ, true, List, length}
 
--- what the head says that it is, how many bytes it has, whether its fields fit, what stands behind its head, and
--- what is told there. It has so many bytes, and is told by them
+-- a sort: the number in the head, how many bytes a greeting has (twelve of the head, its rest, 16 of the tag),
+-- whether its fields fit, the bytes of its rest, and what bytes are decoded as. The laws: there is a rest; a rest
+-- has as many bytes as it should; and what fits is decoded from its rest
 pub record Sort (T : Type 0) : Type 1 where
   pub what : ℕ
   pub size : ℕ

@@ -109,7 +109,7 @@ pub struct Hinted {
     pub hint: Hint,
 }
 
-/// Why bytes are no greeting of the kind that is expected: the first of these faults that they have.
+/// Why bytes are no greeting of the sort that is expected: the first of these faults that they have.
 #[derive(Clone, Copy, Debug, PartialEq, Eq, Error)]
 pub enum GreetingFault {
     /// Fewer than 29 bytes.
@@ -118,8 +118,8 @@ pub enum GreetingFault {
     /// Not the bytes that every greeting has.
     #[error("no greeting")]
     Kind,
-    /// Another kind of greeting.
-    #[error("another kind of greeting")]
+    /// Another sort of greeting.
+    #[error("another sort of greeting")]
     What,
     /// Another version.
     #[error("a greeting of another version")]

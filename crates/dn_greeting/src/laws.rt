@@ -8,7 +8,7 @@ ghost use Rattle.dn_greeting.specs.{Lobby.has_cookie, Lobby.one_more, Lobby.retr
 ghost use Rattle.dn_greeting.specs.{Reading.IsHintedIn, Reading.IsRefusedIn, Reading.IsRetryIn, Text.answer_rest, Text.body_bytes, Text.call_rest, Text.greeting_bytes, Text.hinted_bytes};
 ghost use Rattle.dn_greeting.specs.{Text.refused_rest, Text.retry_rest, Text.IsAnswer, Text.IsCall, Text.IsHinted, Text.IsRefused, Text.IsRetry};
 
-/// Bytes are read as one greeting of each kind, or for one fault.
+/// Bytes are read as one greeting of each sort, or for one fault.
 pub fn one_greeting()
     ensures calls { (seal : Seal) (bytes : List ℕ) (a b : Result Call GreetingFault)
         → IsCallIn seal bytes a → IsCallIn seal bytes b → a ≡ b }

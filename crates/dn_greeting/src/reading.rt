@@ -68,7 +68,7 @@ pub fn open<G: Greeting>(sealer: &Sealer, bytes: &[u8]) -> Result<G, GreetingFau
     ensures only { (read : Result G GreetingFault)
         → IsReadAs (sealing sealer.now).seal G.sort.what G.sort.size G.sort.Is G.sort.rest bytes.now read → result ≡ read }
 {
-    let (what, size) = G::kind();
+    let (what, size) = G::what_and_size();
     match fault_in(sealer, what, size, bytes) {
         Some(fault) => Err(fault),
         None => greeting_in(&bytes[12..bytes.len() - 16]).ok_or(GreetingFault::Form),

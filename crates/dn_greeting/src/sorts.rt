@@ -18,11 +18,15 @@ pub trait Greeting: Copy {
     fn rest(&self) -> ArrayVec<u8, 102>
         ensures { result.items ≡ sort.rest self.now };
 
-    /// What its head says that it is, and how many bytes it has.
-    fn kind() -> (u8, usize)
+    /// The sort that byte 11 of its head tells, and how many bytes it has, head and tag among them.
+    fn what_and_size() -> (u8, usize)
         ensures { result ≡ (sort.what, sort.size) };
 
-    /// What is told behind a head, if its fields fit.
+    /// Decodes the bytes between the twelve of the head and the 16 of the tag: as many as `rest` writes, no more and
+    /// no fewer. None if a field is out of range. Where there is one it need not have been encoded so: [`open`]
+    /// compares the bytes with those of its `rest`.
+    ///
+    /// [`open`]: crate::open
     fn told(bytes: &[u8]) -> Option<Self>
         requires { length bytes.now + 28 ≡ sort.size }
         ensures { MatchOption result ((greeting : Self) → sort.Is greeting → sort.told bytes.now ≢ greeting)
@@ -41,7 +45,7 @@ impl Greeting for Call {
         bytes
     }
 
-    fn kind() -> (u8, usize) {
+    fn what_and_size() -> (u8, usize) {
         (1, 130)
     }
 
@@ -70,7 +74,7 @@ impl Greeting for Answer {
         bytes
     }
 
-    fn kind() -> (u8, usize) {
+    fn what_and_size() -> (u8, usize) {
         (2, 130)
     }
 
@@ -93,7 +97,7 @@ impl Greeting for Refused {
         bytes
     }
 
-    fn kind() -> (u8, usize) {
+    fn what_and_size() -> (u8, usize) {
         (3, 46)
     }
 
@@ -121,7 +125,7 @@ impl Greeting for Retry {
         bytes
     }
 
-    fn kind() -> (u8, usize) {
+    fn what_and_size() -> (u8, usize) {
         (5, 64)
     }
 

@@ -26,7 +26,7 @@ pub fn seal<G: Greeting>(sealer: &Sealer, greeting: &G) -> ArrayVec<u8, 130>
     ensures value { result.items ≡ greeting_bytes (sealing sealer.now).seal G.sort.what (G.sort.rest greeting.now) }
     ensures short { length result.items ≤ 130 }
 {
-    let (what, _) = G::kind();
+    let (what, _) = G::what_and_size();
     let front = sealer.front(KIND);
     let mut bytes = ArrayVec::new();
     append(&mut bytes, &front[..1]);

@@ -8,7 +8,7 @@ ghost use Rattle.dn_netgame.specs.{Shown.ShowsOrFails, SimShown.ArePlayed, SimSh
 
 use crate::fault::RunFault;
 use crate::games::new_walks;
-use crate::telling::Telling;
+use crate::telling::Teller;
 use crate::transfer::{gather, print};
 use dn_game::{Event, GameConfig, GameFault, Nobody, play_observed};
 use dn_script::{MAX_SCRIPT, ScriptFault, read_script};
@@ -17,7 +17,7 @@ use std::alloc::{AllocError, Global};
 use std::io::{Read, Write};
 
 /// What is told of a game of walks that has played these events.
-fn text_of_events<T: Telling>(
+fn text_of_events<T: Teller>(
     alloc: Global,
     config: GameConfig,
     players: u8,
@@ -49,7 +49,7 @@ fn text_of_fault(alloc: Global, fault: ScriptFault) -> Result<(String, u8), RunF
 }
 
 /// The lines of what a script's bytes are read as, and the exit status.
-fn text_of<T: Telling>(
+fn text_of<T: Teller>(
     alloc: Global,
     config: GameConfig,
     players: u8,
@@ -71,13 +71,15 @@ fn text_of<T: Telling>(
 }
 
 /// Reads a script of at most 1,048,576 bytes, plays its events in a game of `players` new walks, and writes what
-/// `T` tells of it: [`Nobody`] the lines of the game, and [`Trace`] a line for each event before them. The answer
-/// is the exit status: 0 for a script, 1 for bytes that are none.
+/// `T` tells of it: [`Nobody`] the lines of the game, [`crate::Trace`] a line for each event before them, and
+/// [`crate::Script`] the events alone, as a script. The answer is the exit status: 0 for a script, 1 for bytes
+/// that are none.
 ///
 /// A read that fails is the fault `Read`, a write that fails or takes no bytes is `Write`, and
 /// `Memory` is answered where memory for the script, the game or the text was refused. Each ends
-/// the run there. A packet that found no room is no fault for these two: its event counts as refused.
-pub fn tell_sim<T: Telling, R: Read, W: Write>(
+/// the run there. A packet that finds no room is the fault `Memory` for a `Script`, and else none: its event
+/// counts as refused.
+pub fn tell_sim<T: Teller, R: Read, W: Write>(
     alloc: Global,
     config: GameConfig,
     players: u8,

@@ -8,21 +8,20 @@ ghost use Rattle.dn_netgame.specs.{Shown.PrintsOrFails, StormShown.IsStorm, Told
 use crate::calm::calm_after;
 use crate::fault::RunFault;
 use crate::games::storm_walks;
-use crate::telling::Telling;
+use crate::telling::Teller;
 use crate::transfer::print;
 use dn_game::{GameConfig, Nobody};
 use std::alloc::Global;
 use std::io::Write;
 
-/// How many events of which seed's schedule are played, and how many rounds after them, if a calm follows, in
-/// which every packet arrives and nobody presses a key.
+/// Events of a schedule, and the calm after them: rounds in which every packet arrives and nobody presses a key.
 #[derive(Clone, Copy)]
 pub struct Storm {
     /// The schedule's seed.
     pub seed: u64,
     /// How many events.
     pub count: u32,
-    /// How many rounds, if a calm follows.
+    /// How many rounds, if a calm follows. No calm and one of no rounds are told alike.
     pub calm: Option<u32>,
 }
 
@@ -33,16 +32,15 @@ const TOO_MANY: &str = "too many packets\n";
 const CUT_SHORT: u8 = 3;
 
 /// Plays the storm, and the calm if there is one, in a game of `players` new walks, and writes what `T` tells of
-/// it: [`Nobody`] the lines of the game; [`Trace`] a line for each event of the schedule before them, with its
-/// number, counted from 0, the event in the words of a script, and its answer in words; and [`Script`] the events
-/// as a script, which `run_sim` reads if it has at most 1,048,576 bytes. The rounds of a calm have no lines, and no
-/// line counts them. The answer is the exit status: 0, and 3 where a round would send a packet after 2^32, which
+/// it: [`Nobody`] the lines of the game, [`crate::Trace`] a line for each event of the schedule before them, and
+/// [`crate::Script`] the events alone, as a script, which `run_sim` reads if it has at most 1,048,576 bytes. The
+/// rounds of a calm have no lines, and no line counts them. The answer is the exit status: 0, and 3 where a round would send a packet after 2^32, which
 /// no event can name; then one line says so.
 ///
 /// A write that fails or takes no bytes is the fault `Write`, and `Memory` is answered where memory
 /// for the game, a packet of the rounds or the text was refused. Each ends the run there. A packet of the storm
-/// that found no room is no fault, and its event counts as refused, but where a script is written.
-pub fn tell_storm<T: Telling, W: Write>(
+/// that finds no room is the fault `Memory` for a `Script`, and else none: its event counts as refused.
+pub fn tell_storm<T: Teller, W: Write>(
     alloc: Global,
     config: GameConfig,
     players: u8,

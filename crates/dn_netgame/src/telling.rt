@@ -10,8 +10,8 @@ use dn_text::{push_game, push_trace_line};
 use dn_world::Walk;
 use std::alloc::{AllocError, Global};
 
-/// A way to tell of a game: it is told of each event, and has the text in the end.
-pub trait Telling: Observer + Drop {
+/// Who tells of a game: it is told of each event, and has the text in the end.
+pub trait Teller: Observer + Drop {
     // which text it makes of events, their answers and the game that they led to
     ghost account: { Account };
 
@@ -29,7 +29,7 @@ pub trait Telling: Observer + Drop {
 }
 
 /// The lines of the game. Nobody is told of its events, which costs no call.
-impl Telling for Nobody {
+impl Teller for Nobody {
     ghost account = { IsQuiet };
 
     ghost is_new = { λ nobody. Unit {0} };
@@ -45,7 +45,8 @@ impl Telling for Nobody {
     }
 }
 
-/// A line for each event with its answer, and then the lines of the game.
+/// A line for each event, with its number, counted from 0, the event in the words of a script, and its answer in
+/// words; and then the lines of the game.
 #[derive(Drop)]
 pub struct Trace(pub String);
 
@@ -62,7 +63,7 @@ impl Observer for Trace {
     }
 }
 
-impl Telling for Trace {
+impl Teller for Trace {
     ghost account = { IsTrace };
 
     ghost is_new = { λ trace. string_bytes trace.0 ≡ [] };
@@ -99,7 +100,7 @@ impl Observer for Script {
     }
 }
 
-impl Telling for Script {
+impl Teller for Script {
     ghost account = { IsScript };
 
     ghost is_new = { λ script. string_bytes script.0 ≡ [] };

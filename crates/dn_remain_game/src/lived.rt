@@ -4,20 +4,21 @@ ghost use Rattle.std.specs.Prelude.{◌≡◌};
 
 mod stepping;
 
-use dn_game::Player;
+use dn_game::GameNode;
 use dn_lockstep::{Config, MOST_AHEAD, NodeFault};
 use dn_survivor::{Survivor, calls_are_wary};
 use dn_world::World;
 use std::alloc::Global;
 
-/// One player's node. A contract sees what it holds, and the node of `dn_remain` that this represents.
+/// One player's node. A contract sees what it holds, and the node of `dn_remain` that this represents. Only the
+/// nodes of a game take steps; one that is made by itself can be read.
 #[derive(Drop)]
 pub struct Lived<W> {
     survivor: Survivor,
     world: W,
 }
 
-impl<W: World> Player<W> for Lived<W> {
+impl<W: World> GameNode<W> for Lived<W> {
     ghost use Rattle.dn_machine.specs.{Game.fresh, Worlds.rules_within};
     ghost use Rattle.dn_lockstep.specs.Contents.{whose as whose_lockstep};
     ghost use Rattle.dn_survivor.specs.Represents.{nobody_gone};

@@ -1,7 +1,7 @@
 //! Worlds of games in which player 0 vanishes, or player 1 before the start.
 
 use crate::{Config, GivenUp, Lived, NodeFault, Reported};
-use dn_game::Player;
+use dn_game::GameNode;
 use dn_machine::{Heard, Made, Phase, Ran};
 use dn_setup::Settings;
 use dn_tic::{Command, Keys};

@@ -156,7 +156,7 @@ impl Sealer {
         front
     }
 
-    /// Whether bytes have the game's number, as far as every envelope tells it.
+    /// Whether bytes 2 to 9, of at least ten, are the first eight of the game's number, as in all that is sealed.
     pub fn is_of_game(&self, bytes: &[u8]) -> bool
         requires { 10 ≤ length bytes.now }
         ensures { IsTrue result ↔ (told_game bytes.now ≡ take 8 (sealing self.now).seal.game) }

@@ -5,7 +5,7 @@ ghost use Rattle.dn_game.specs.{Opening.IsAdmitted, Opening.config_of, Opening.r
 
 use super::Game;
 use crate::config::{GameConfig, GameFault};
-use crate::player::Player;
+use crate::game_node::GameNode;
 use crate::pool::Pool;
 use dn_demo::is_limit;
 use dn_lockstep::is_game;
@@ -51,17 +51,18 @@ fn config_of(config: &GameConfig, players: u8, me: u8) -> Config
 }
 
 /// A node for each world, in the players' order, with no history, in a list that has room for these and no
-/// more. The worlds are given up where there are no nodes.
-pub fn nodes_of<W: World, P: Player<W>>(
+/// more. Where there are none the worlds are dropped, and the fault is `Players` unless there are two to four
+/// worlds, then `Limit` where it is out of range, and `Memory` only where nothing else is wrong.
+pub fn nodes_of<W: World, N: GameNode<W>>(
     alloc: Global,
     config: GameConfig,
     worlds: Vec<W>,
-) -> Result<Vec<P>, GameFault>
+) -> Result<Vec<N>, GameFault>
     ensures admitted { IsAdmitted config (length worlds.items) result }
     ensures opened { IfOk result (λ nodes. EachIs
-        (P.is_fresh (rules_in W.physics config (length worlds.items)).limits config.settings) nodes.items) }
-    ensures given { IfOk result (λ nodes. map P.world_of nodes.items ≡ worlds.items) }
-    ensures limits { IfOk result (λ nodes. All (λ node. (P.whose node).limit ≡ config.limit) nodes.items) }
+        (N.is_fresh (rules_in W.physics config (length worlds.items)).limits config.settings) nodes.items) }
+    ensures given { IfOk result (λ nodes. map N.world_of nodes.items ≡ worlds.items) }
+    ensures limits { IfOk result (λ nodes. All (λ node. (N.whose node).limit ≡ config.limit) nodes.items) }
     ensures one_each { IfOk result (λ nodes. length nodes.items ≡ length worlds.items) }
     ensures room { IfOk result (λ nodes. vec_capacity nodes ≡ length worlds.items) }
 {
@@ -75,7 +76,7 @@ pub fn nodes_of<W: World, P: Player<W>>(
     let mut nodes = Vec::with_capacity(alloc, worlds.len())?;
     for world in worlds {
         let own = config_of(&config, players, nodes.len() as u8);
-        match P::new(alloc, own, world) {
+        match N::new(alloc, own, world) {
             Ok(node) => nodes.push_reserved(node),
             Err(fault) => {
                 prove!(fault == NodeFault::Memory);

@@ -12,12 +12,12 @@ of_sort seal bytes same found is = sym (λ i. first_fault seal (same i).0 (same 
 
 pub returns-in-Some-clause-only : goal.returns-in-Some-clause-only
 returns-in-Some-clause-only g c =
-    let first = of_sort _ _ c.kind-what.ensures c.fault_in.ensures.first c.in-Some.is in
+    let first = of_sort _ _ c.what_and_size-what.ensures c.fault_in.ensures.first c.in-Some.is in
     λ read. only g.G.Greeting.sort _ _ _ read (inl first)
 
 pub returns-in-None : goal.returns-in-None
 returns-in-None g c =
-    let first = of_sort _ _ c.kind-what.ensures c.fault_in.ensures.first c.in-None.is in
+    let first = of_sort _ _ c.what_and_size-what.ensures c.fault_in.ensures.first c.in-None.is in
     let reads =
     opened g.G.Greeting.sort _ _ first _ c.greeting_in.ensures _ c.ok_or.ensures.value in
     record { opens = reads; only = λ read. only g.G.Greeting.sort _ _ _ read reads }

@@ -8,5 +8,5 @@ pub returns-in_ok-text-in-Ok-clause-shown : goal.returns-in_ok-text-in-Ok-clause
 returns-in_ok-text-in-Ok-clause-shown g c =
     let a = c.args in
     let Shown : List Event → Type 0 =
-    λ events. ArePlayed g.T.Telling.account a.config a.players events (string_bytes c.in_ok-text-in-Ok.text) 0 in
+    λ events. ArePlayed g.T.Teller.account a.config a.players events (string_bytes c.in_ok-text-in-Ok.text) 0 in
     (Ok c.in-Ok.events.items, c.in-Ok.ensures.reads, subst Shown c.as_slice.ensures.value c.in_ok-text-in-Ok.ensures)

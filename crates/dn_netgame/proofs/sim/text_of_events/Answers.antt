@@ -16,6 +16,6 @@ returns-in-Ok g c =
     let seen = subst By all c.in-Ok.ensures.promised in
     let p = seen.promised.events_played in
     IfOk-weaker c.finish.result _
-    (λ t. ArePlayed g.T.Telling.account a.config a.players a.events.now (string_bytes t) 0)
+    (λ t. ArePlayed g.T.Teller.account a.config a.players a.events.now (string_bytes t) 0)
     (λ t has. (c.in-Ok.played, p, has _ a.events.now p.answers c.new-teller.ensures seen.observed, refl))
     c.finish.ensures

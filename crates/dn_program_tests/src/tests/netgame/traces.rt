@@ -226,16 +226,30 @@ fn storms_are_told_event_by_event(rt: HostRuntime) {
 #[test]
 fn a_storm_is_written_as_its_script(rt: HostRuntime) {
     let rt = &rt;
-    let mut output = Vec::new(rt.alloc());
-    let game = must!(rt; rules(DEFAULT_LIMIT));
-    let storm = Storm {
-        seed: 42,
-        count: 6,
-        calm: None,
-    };
-    let status = tell_storm::<Script, _>(rt.alloc(), game, 2, storm, &mut output);
-    same!(rt; status, Ok(0));
-    same!(rt; output.as_slice(), DRAWN.as_bytes());
+    for calm in [None, Some(0), Some(4)] {
+        let mut output = Vec::new(rt.alloc());
+        let game = must!(rt; rules(DEFAULT_LIMIT));
+        let storm = Storm {
+            seed: 42,
+            count: 6,
+            calm,
+        };
+        let status = tell_storm::<Script, _>(rt.alloc(), game, 2, storm, &mut output);
+        same!(rt; status, Ok(0), calm);
+        same!(rt; output.as_slice(), DRAWN.as_bytes(), calm);
+    }
+}
+
+#[test]
+fn a_script_is_written_as_itself(ref rt: HostRuntime) {
+    for (players, script) in [(2, DRAWN.as_bytes()), (2, QUIT), (3, b"".as_slice())] {
+        let mut input = script;
+        let mut output = Vec::new(rt.alloc());
+        let game = must!(rt; rules(DEFAULT_LIMIT));
+        let status = tell_sim::<Script, _, _>(rt.alloc(), game, players, &mut input, &mut output);
+        same!(rt; status, Ok(0), players);
+        same!(rt; output.as_slice(), script, players);
+    }
 }
 
 /// The script of a storm, played, comes to the same end.

@@ -18,15 +18,15 @@ loop-world-preserved g c =
     let me : c.len-in-loop-world.result ≡ length nodes = search rules in
     let opened = (rw c.config_of-own.ensures at c.in-Ok.ensures.opened) config.settings
     (λ zero. cond-true (c.len-in-loop-world.result == 0) _ _ (eq-eqb _ 0 zero)) in
-    let limit : (g.P.Player.whose c.in-Ok.node).limit ≡ config.limit =
+    let limit : (g.N.GameNode.whose c.in-Ok.node).limit ≡ config.limit =
     ap (λ (w : Whose). w.limit) c.in-Ok.ensures.whose ∙ ap (λ (own : Config). own.limit) c.config_of-own.ensures in (
       before.0,
       before.1,
       omega (arith, ap length pushed ∙ length-append nodes (c.in-Ok.node ∷ []), before.2, c.in-Some.ensures.steps.1),
-      rw pushed (each_more (g.P.Player.is_fresh (rules_in g.W.World.physics config (length c.args.worlds.items)).limits
+      rw pushed (each_more (g.N.GameNode.is_fresh (rules_in g.W.World.physics config (length c.args.worlds.items)).limits
           config.settings) nodes c.in-Ok.node before.3 (rw (players, me) at opened)),
       given_more _ nodes _ _ before.4 _ _ _ _ pushed c.in-Ok.ensures.given c.in-Some.ensures.steps.0,
-      rw pushed (All-push (λ n. (g.P.Player.whose n).limit ≡ config.limit) nodes c.in-Ok.node before.5 limit),
+      rw pushed (All-push (λ n. (g.N.GameNode.whose n).limit ≡ config.limit) nodes c.in-Ok.node before.5 limit),
       c.push_reserved.ensures.capacity ∙ before.6,
     )
 

@@ -10,8 +10,8 @@ invariant-loop-world g l =
     (goal.iterator-loop-world g).can_next l.world-iterator
     × (goal.iterator-loop-world g).is_finite l.world-iterator
     × (length l.nodes.items + (goal.iterator-loop-world g).remaining l.world-iterator ≡ length l.fn.worlds.items)
-    × EachIs (g.P.Player.is_fresh (rules_in g.W.World.physics l.config (length l.fn.worlds.items)).limits
+    × EachIs (g.N.GameNode.is_fresh (rules_in g.W.World.physics l.config (length l.fn.worlds.items)).limits
     l.config.settings) l.nodes.items
-    × (map g.P.Player.world_of l.nodes.items ++ l.world-iterator.rest.items ≡ l.fn.worlds.items)
-    × All (λ n. (g.P.Player.whose n).limit ≡ l.config.limit) l.nodes.items
+    × (map g.N.GameNode.world_of l.nodes.items ++ l.world-iterator.rest.items ≡ l.fn.worlds.items)
+    × All (λ n. (g.N.GameNode.whose n).limit ≡ l.config.limit) l.nodes.items
     × (vec_capacity l.nodes ≡ length l.fn.worlds.items)

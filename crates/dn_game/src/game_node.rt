@@ -1,4 +1,4 @@
-//! What stands for a player in a game.
+//! What a game has for each player.
 
 ghost use Rattle.std.specs.Prelude.{◌≡◌, ℕ, Some, IfOk};
 ghost use Rattle.dn_setup.specs.Settings.{Settings as Choice};
@@ -9,8 +9,8 @@ use dn_node::{Config, Node, NodeFault};
 use dn_world::World;
 use std::alloc::Global;
 
-/// One player's node, that has a world.
-pub trait Player<W: World>: Drop {
+/// One player's node, which has a world.
+pub trait GameNode<W: World>: Drop {
     // it has no history, as the node of this number in a game of these limits and this choice
     ghost is_fresh: { Limits → Choice → ℕ → Self → Type 0 };
 
@@ -20,8 +20,9 @@ pub trait Player<W: World>: Drop {
     // whose it is, and of what game
     ghost whose: { Self → Whose };
 
-    /// A node with no history: player 0 gathers, the others listen. All memory that it needs is taken here; the
-    /// world is given up where there is no node.
+    /// A node with no history: player 0 gathers, the others listen. All memory that it needs is taken here. Where
+    /// there is no node the world is dropped, and the fault is the first thing that is wrong with the configuration,
+    /// or `Memory` where nothing is.
     fn new(alloc: Global, config: Config, world: W) -> Result<Self, NodeFault>
         ensures admitted { IsAdmitted config result }
         ensures opened { IfOk result (λ node. (settings : Choice)
@@ -31,7 +32,7 @@ pub trait Player<W: World>: Drop {
         ensures whose { IfOk result (λ node. whose node ≡ whose_in config) };
 }
 
-impl<W: World> Player<W> for Node<W> {
+impl<W: World> GameNode<W> for Node<W> {
     ghost use Rattle.dn_machine.specs.{Game.fresh, Worlds.rules_within};
     ghost use Rattle.dn_node.specs.{Contents.contents, Contents.whose as whose_node, Represents.Represents};
 

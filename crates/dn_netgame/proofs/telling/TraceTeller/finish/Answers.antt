@@ -2,7 +2,7 @@ use Rattle.std.proofs.Common.{ℕ, List, ◌++◌, ap, ◌∙◌}
 use Rattle.std.specs.String.{string_bytes}
 use Rattle.dn_text.specs.GameLines.{game_lines}
 use Rattle.dn_netgame.proofs.Tracing.{traced}
-use Rattle.dn_netgame.proofs.telling.TraceTelling.finish.Goals as goal
+use Rattle.dn_netgame.proofs.telling.TraceTeller.finish.Goals as goal
 
 pub returns : goal.returns
 returns c = λ new events answers empty told.

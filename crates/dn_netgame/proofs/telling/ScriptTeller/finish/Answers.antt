@@ -1,6 +1,6 @@
 use Rattle.std.specs.String.{string_bytes}
 use Rattle.dn_netgame.proofs.Tracing.{scripted}
-use Rattle.dn_netgame.proofs.telling.ScriptTelling.finish.Goals as goal
+use Rattle.dn_netgame.proofs.telling.ScriptTeller.finish.Goals as goal
 
 pub returns : goal.returns
 returns c = λ new events answers empty told.

@@ -1,5 +1,5 @@
 use Rattle.std.proofs.Common.{inl, inr, arith}
-use Rattle.dn_remain_game.proofs.lived.LivedPlayer.new.Goals as goal
+use Rattle.dn_remain_game.proofs.lived.LivedGameNode.new.Goals as goal
 
 pub returns-clause-opened : goal.returns-clause-opened
 returns-clause-opened g c settings key = elim c.in_ok-survivor.ensures.admitted [
