@@ -242,7 +242,8 @@ fn a_storm_is_written_as_its_script(rt: HostRuntime) {
 
 #[test]
 fn a_script_is_written_as_itself(ref rt: HostRuntime) {
-    for (players, script) in [(2, DRAWN.as_bytes()), (2, QUIT), (3, b"".as_slice())] {
+    let quit = b"quit 0\n".as_slice();
+    for (players, script) in [(2, DRAWN.as_bytes()), (2, quit), (3, b"".as_slice())] {
         let mut input = script;
         let mut output = Vec::new(rt.alloc());
         let game = must!(rt; rules(DEFAULT_LIMIT));
