@@ -15,6 +15,7 @@ local report = Proto("doom_report", "Doom netgame, report")
 local greeting = Proto("doom_greeting", "Doom netgame, greeting")
 
 local MAX_COMMANDS, MAX_DATAGRAM, MAX_PARTS, MAX_RUN, MAX_TOLD, MAX_TAIL = 12, 104, 24, 24, 2, 24
+local THIRD, MAX_HEAD = 32, 159 -- of a run's first byte: the unit of a third player's number, and the most
 local EXIT, RETRANSMIT, SETUP, KILL = 8, 4, 2, 1
 local SUM = 0x10000000 -- the checksum word has the flags in units of this
 local HEAD, TAG = 12, 16 -- bytes of the head that all but greetings have, and of the tag
@@ -102,6 +103,7 @@ local l = {
     parts = P.uint8("doom_link.parts", "Number of parts"),
     part = P.none("doom_link.part", "Part"),
     run = P.uint8("doom_link.part.run", "Packets in the run, or 0 for one as it is"),
+    third = P.uint8("doom_link.part.player", "Third player, whose commands the sender hands on"),
     size = P.uint8("doom_link.part.length", "Bytes of the packet"),
 }
 link.fields = l
@@ -277,11 +279,12 @@ end
 
 -- The part at the front of bytes, or none if they lack the form.
 local function part_in(r)
-    local count = r:len() > 0 and r(0, 1):uint() or 0
-    if count > 0 then
+    local head = r:len() > 0 and r(0, 1):uint() or 0
+    if head > 0 then
+        local count, third = head % THIRD, head >= THIRD and math.floor(head / THIRD) - 1 or nil
         local size = 5 + 8 * count
-        if count > MAX_RUN or r:len() < size then return nil end
-        return { run = count, all = r(0, size), exact = { start = r(1, 4):le_uint() } }
+        if count == 0 or count > MAX_RUN or head > MAX_HEAD or r:len() < size then return nil end
+        return { run = count, third = third, all = r(0, size), exact = { start = r(1, 4):le_uint() } }
     end
     if r:len() < 11 then return nil end
     local exact, size = exact_in(r(1, 9)), r(10, 1):uint()
@@ -307,11 +310,13 @@ end
 
 local function add_part(tree, part, sender)
     local item, r = tree:add(l.part, part.all), part.all
-    item:add(l.run, r(0, 1))
+    item:add(l.run, r(0, 1), part.run)
+    if part.third then item:add(l.third, r(0, 1), part.third) end
     if part.run > 0 then
         item:add_le(f.exact_start, r(1, 4))
         for k = 0, part.run - 1 do add_command(item, r(5 + 8 * k, 8), (part.exact.start + k) % 2 ^ 32) end
-        return tics(part.exact.start, part.run, 2 ^ 32)
+        local words = tics(part.exact.start, part.run, 2 ^ 32)
+        return part.third and ("player %d: %s"):format(part.third, words) or words
     end
     add_exact(item, r(1, 9))
     item:add(l.size, r(10, 1))

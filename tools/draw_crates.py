@@ -36,8 +36,9 @@ PLACES = [
     ('promise', 0, 255, [['dn_turn']]),
     ('promise', 1, 375, [['dn_script', 'dn_game']]),
     ('promise', 0, 598, [['dn_link'], ['dn_open']]),
+    ('promise', 1, 511, [['dn_link_game']]),
     ('promise', 2, 394, [['dn_remain_game']]),
-    ('promise', 2, 512, [['zirmegat']]),
+    ('promise', 2, 572, [['zirmegat']]),
     ('promise', 3, 262, [['dn_text', 'dn_netgame', 'dn_options'], ['dn_program', 'netgame']]),
     ('promise', 3, 650, [['dn_host']]),
 ]

@@ -471,9 +471,9 @@ size_t zmg_sealed_lockstep_demo(zmg_sealed_lockstep *node, size_t from, uint8_t 
  * for the peer, as far as it fits: commands of a lost datagram are in the next one, and nobody has to ask for
  * them. As with a sealed lockstep, datagrams may be lost, repeated, reordered, delayed, altered or forged, and
  * the same is owed: that something gets through, one link of a player at a time, and no second one once the
- * first has been given the settings, unless it said goodbye before its game; one number for each game, a secret
- * that is kept, and the marks of zmg_link_run. A link and a sealed lockstep do not open each other's bytes:
- * either all players of a game have links, or none has.
+ * first has been given the settings; one number for each game, a secret that is kept, and the marks of
+ * zmg_link_run. A link and a sealed lockstep do not open each other's bytes: either all players of a game have
+ * links, or none has.
  *
  *     a tick, 35 times a second by the caller's own clock, from the start: so the players find each other:
  *         zmg_link_build(&link, keys);  or zmg_link_give
@@ -535,12 +535,13 @@ zmg_made zmg_link_give(zmg_link *link, const zmg_command *command);
 #define ZMG_BUILD_NONE_OWED 3u
 zmg_made zmg_link_catch_up(zmg_link *link);
 
-/* Call it once a tick, after the build. Returns by how many 32nds of a tick the next tick comes later than
- * one tick after this one, or sooner if it is below 0: -2 to 34. It evens out how far the players are ahead
- * of each other, so that nobody carries another's delay. On a line that is longer than the window, and loses
- * little, it also stretches ticks once input was dropped for a while, so that less is dropped. A caller that
- * does not follow the number loses no more than that; but make the call at each tick all the same, since
- * datagrams report the lead that it takes.
+/* Call it once a tick, after the build. Returns by how many 32nds of a tick the next tick comes later than one
+ * tick after this one, or sooner if it is below 0: -2 to 34. It evens out how far the players are ahead of each
+ * other, so that nobody carries another's delay. On a line that is longer than the window, and loses little, it
+ * also stretches ticks once input was dropped for a while, so that less is dropped. A caller that does not
+ * follow the number loses no more than that; but make the call at each tick all the same: datagrams report the
+ * lead that it takes, and it is the clock by which the link sees that a player's commands are overdue at
+ * another. Without it the link hands nothing on (zmg_link_datagram).
  *
  * Count from when this tick was due, not from when you handled it; else each late frame slows the player
  * down. If ticks were missed, as in a slow frame, make up for them at once, one after another, each with its
@@ -563,8 +564,10 @@ uint32_t zmg_link_quit(zmg_link *link);
 
 /* Writes the current datagram to player `to` to the front of out, and returns how many bytes it has. It has
  * every packet that is kept for the player, oldest first, as far as they fit, also once the link has ended.
- * Returns 0, and leaves the link and out as they were, if room is below ZMG_LINK_SIZE, if `to` is not another
- * player's number, or if that player is given up by zmg_link_give_up. */
+ * Behind them, if there is room, it may hand on commands of third players of whom the player seems to hear
+ * nothing: so two who cannot reach each other play on through a third. A datagram that hands nothing on has not
+ * a byte more for that. Returns 0, and leaves the link and out as they were, if room is below ZMG_LINK_SIZE, if
+ * `to` is not another player's number, or if that player is given up by zmg_link_give_up. */
 size_t zmg_link_datagram(zmg_link *link, uint8_t to, uint8_t *out, size_t room);
 
 /* What a link made of bytes. With ZMG_LINK_RECEIVE_STRANGER and ZMG_LINK_RECEIVE_GIVEN_UP nothing changed, and
@@ -599,7 +602,8 @@ size_t zmg_link_datagram(zmg_link *link, uint8_t to, uint8_t *out, size_t room);
 #define ZMG_REPORT_EXCLUDED 2u /* its sender has given up this player */
 #define ZMG_REPORT_IMPROPER 3u /* it tells of its sender's or its receiver's commands, which none does */
 #define ZMG_REPORT_STALE 4u    /* it is older than the newest of its sender */
-#define ZMG_REPORT_UNTAKEN 16u /* it is kept, but an end cannot be taken: this plus a ZMG_SETTLE_ */
+#define ZMG_REPORT_UNTAKEN 16u /* it is kept, but an end cannot be taken: this plus a ZMG_SETTLE_. Some report
+                                * is false, but it need not be this one */
 
 /* reason: see ZMG_BUNDLE_ and ZMG_REPORT_; 0 except with ZMG_LINK_RECEIVE_UNOPENED, _REPORTED and _UNREPORTED, and
  * with the first of them too if the handle holds no link. player: the sender; 0 with ZMG_LINK_RECEIVE_UNOPENED
@@ -622,8 +626,8 @@ zmg_received zmg_link_receive(zmg_link *link, const uint8_t *bytes, size_t lengt
 #define ZMG_PRESENCE_AWAY 4u      /* it left before its game started, or was forgotten before the game of this
                                    * link did; another may take its place, with a link of its own, and is
                                    * heard once 64 of its datagrams have come, or before; but if cause is 0,
-                                   * only if the link that was forgotten is gone, and never if the player is
-                                   * given up (zmg_link_has_given_up) */
+                                   * only if the link that was forgotten is gone, and never if player 0 gave
+                                   * it the settings, or if the player is given up (zmg_link_has_given_up) */
 #define ZMG_PRESENCE_LEFT 5u      /* it has played, and left */
 #define ZMG_PRESENCE_FORGOTTEN 6u /* it was forgotten when this link played or had ended, or had given it the
                                    * settings, or had heard that it plays: nobody takes its place */
@@ -636,22 +640,34 @@ typedef struct zmg_presence {
     uint8_t host[ZMG_HOST_SIZE];
 } zmg_presence;
 
-/* Returns what is known of another player. Player 0 gives its settings once all others are there: until then
- * a player may come, go, and come again. Once they were given, nobody else may take the place of player 0, nor
- * of a player who was given them, unless that player said goodbye before its game. The caller has to see to
- * that: player 0's link may give another the settings too, unless the first is ZMG_PRESENCE_FORGOTTEN there. */
+/* Returns what is known of another player. Player 0 gives its settings once all others are there: until then a
+ * player may come, go, and come again. Once they were given, nobody else may take the place of player 0, nor of
+ * a player who was given them, whatever that player said since: a goodbye may be an old one that comes again.
+ * Player 0's link sees to the latter: it hears no hello of a player whom it gave the settings. To learn of a
+ * player who is ZMG_PRESENCE_AWAY whether its place is free, player 0 forgets it (zmg_link_forget): the place
+ * is free if the player is ZMG_PRESENCE_AWAY still. Other links do not know whom player 0 gave the settings. */
 zmg_presence zmg_link_presence(zmg_link *link, uint8_t player);
 
 /* Forgets a player who has not been heard for too long (`came` of zmg_link_line rises with each new one of
- * its datagrams). While this link listens or gathers, the player is then ZMG_PRESENCE_AWAY, with cause 0,
- * until a new hello or goodbye comes, or a datagram of its game or a goodbye after its game, of any age; and
- * another may take its place. But if this link plays or has ended, or has given the player the settings, or has
- * heard that it plays, the player is ZMG_PRESENCE_FORGOTTEN, until a datagram of its game comes that is newer
- * than its newest, or 64 or more behind it, or a goodbye after its game, of any age; zmg_link_may_leave does
- * not wait for it. Then nobody takes its place, since its commands may have reached others: for another player,
- * make a new game with a new number. Its commands are still missing: the game goes on without it only if its
- * end is known. A player who is ZMG_PRESENCE_LEFT stays so. Of one who is given up by zmg_link_give_up nothing is
- * heard any more, and nobody takes its place. For a number that is not another player's nothing happens. */
+ * its datagrams). What becomes of the player:
+ *
+ * - It cannot have started: this link listens or gathers, has not given it the settings, and has not heard that
+ *   it plays. Then it is ZMG_PRESENCE_AWAY, with cause 0, until a new hello or goodbye comes, or a datagram of
+ *   its game or a goodbye after its game, of any age; and another may take its place.
+ * - Else it may have started, and it is ZMG_PRESENCE_FORGOTTEN, until a datagram of its game comes that is
+ *   newer than its newest, or 64 or more behind it, or a goodbye after its game, of any age. zmg_link_may_leave
+ *   does not wait for it. Nobody takes its place, since its commands may have reached others: for another
+ *   player, make a new game with a new number. Its commands are still missing: the game goes on without it only
+ *   if its end is known, or after zmg_link_give_up.
+ *
+ * At a player 0 that still gathers the second case may end this game's number. If the player has not started,
+ * as when the settings were lost on the way, it goes on saying hello, and that is not heard; nor is another's
+ * hello; and player 0 gives nobody the settings while one is missing. So all wait for good, though every
+ * datagram comes: make a new game with a new number, or give the player up by zmg_link_give_up, and the others
+ * play without it.
+ *
+ * A player who is ZMG_PRESENCE_LEFT stays so. Of one who is given up by zmg_link_give_up nothing is heard any
+ * more, and nobody takes its place. For a number that is not another player's nothing happens. */
 void zmg_link_forget(zmg_link *link, uint8_t player);
 
 /* What zmg_link_give_up returns. */
@@ -660,7 +676,7 @@ void zmg_link_forget(zmg_link *link, uint8_t player);
                                      * is known */
 #define ZMG_GIVE_UP_UNTAKEN 2u      /* the player is given up, and all reports are there; but the end of
                                      * `player`, who need not be the one just given up, cannot be taken: some
-                                     * report is false, and reason says how it shows */
+                                     * report is false, and reason says how it shows, but nothing says whose */
 #define ZMG_GIVE_UP_ALREADY 3u      /* the player was given up before */
 #define ZMG_GIVE_UP_NOT_A_PLAYER 4u /* the number is not another player's */
 #define ZMG_GIVE_UP_NOT_PLAYING 5u  /* the link listens or has ended, or the handle holds none */
@@ -744,8 +760,8 @@ uint32_t zmg_link_refused(zmg_link *link);
 
 /* Returns how many of this player's commands are not yet acknowledged for certain by every player, leaving
  * out players who need nothing more, as zmg_link_may_leave says. The oldest of them has been on its way for
- * about so many ticks. Once the link has left, its last command is certain only if its end was acknowledged
- * too. */
+ * about so many ticks. What was acknowledged before the link left stays so; from then on its last command is
+ * certain only if its end was acknowledged too. */
 uint32_t zmg_link_unacknowledged(zmg_link *link);
 
 zmg_phase zmg_link_phase(zmg_link *link);

@@ -24,13 +24,17 @@ static int one_of_a_hundred(double percent) { return draw() * 100 < percent; }
 
 static unsigned way(unsigned from, unsigned to) { return from > to; }
 
+/* Players 1 and 2, who have a line of their own. */
+static int is_pair(unsigned from, unsigned to) { return from + to == 3 && from != 0 && to != 0; }
+
 void line_begin(line *l) { memset(l->in_burst, 0, sizeof l->in_burst); }
 
 unsigned line_copies(const line *l) { return 1 + (unsigned)one_of_a_hundred(l->repeat); }
 
 double line_delay(const line *l, unsigned from, unsigned to) {
     unsigned w = way(from, to);
-    return l->least[w] + draw() * (l->most[w] - l->least[w]) + ADDED;
+    double longer = is_pair(from, to) ? l->pair_delay : 0;
+    return l->least[w] + draw() * (l->most[w] - l->least[w]) + ADDED + longer;
 }
 
 /* A burst ends with one of its datagrams in burst_length, and begins as often as makes the share of the
@@ -42,7 +46,8 @@ static int burst_goes_on(line *l, unsigned from, unsigned to) {
     return *on;
 }
 
-int line_loses(line *l, unsigned from, unsigned to) {
+int line_loses(line *l, unsigned from, unsigned to, double time) {
     if (l->burst > 0 && burst_goes_on(l, from, to)) return 1;
+    if (l->pair_loss > 0 && time >= l->pair_from && is_pair(from, to) && one_of_a_hundred(l->pair_loss)) return 1;
     return one_of_a_hundred(l->loss[way(from, to)]);
 }

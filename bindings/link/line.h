@@ -16,6 +16,9 @@ typedef struct line {
     /* how many of a hundred are lost in bursts besides, and how many datagrams a burst has on average (the
      * model of Gilbert and Elliott, with a state for each pair of players and each way) */
     double burst, burst_length;
+    /* between players 1 and 2: how many of a hundred are lost besides, from this time on, and how much longer the
+     * delay is */
+    double pair_loss, pair_from, pair_delay;
     uint8_t in_burst[PLAYERS][PLAYERS];
 } line;
 
@@ -28,7 +31,7 @@ void line_begin(line *l);
 /* How many copies of a datagram are sent. */
 unsigned line_copies(const line *l);
 double line_delay(const line *l, unsigned from, unsigned to);
-/* Whether a first copy is lost. A second never is. */
-int line_loses(line *l, unsigned from, unsigned to);
+/* Whether a first copy is lost that is sent at this time. A second never is. */
+int line_loses(line *l, unsigned from, unsigned to, double time);
 
 #endif

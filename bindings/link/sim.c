@@ -8,6 +8,8 @@
  *     repeat=5         of a hundred come twice
  *     burst=5          of a hundred are lost in bursts, besides
  *     length=4.5       how many datagrams a burst has on average
+ *     pair=30          of a hundred between players 1 and 2 are lost besides; pair=100/10 from this second on
+ *     longer=100       how much longer the delay is between these two, in milliseconds
  *     drift0=2         by how many of a hundred player 0's clock is fast; drift1 to drift3 the others'
  *     seconds=60       how long a game is, from when all have run a tic
  *     seed=1 seeds=8   one game from each of so many seeds, from this one on
@@ -57,7 +59,7 @@ typedef struct figures {
 } figures;
 
 static uint8_t players = 2, ahead = 5;
-static line the_line = { { 0, 0 }, { 0, 0 }, { 0, 0 }, 0, 0, 4.5, { { 0 } } };
+static line the_line = { { 0, 0 }, { 0, 0 }, { 0, 0 }, 0, 0, 4.5, 0, 0, 0, { { 0 } } };
 static double drift[PLAYERS], seconds = 60;
 static unsigned long seed = 1, seeds = 8, game;
 static int hears_at_ticks, runs_smoothly;
@@ -90,7 +92,7 @@ static void wait_for(kind what, uint8_t me, double at) {
 static void post(uint8_t from, uint8_t to, const uint8_t *bytes, size_t length) {
     for (unsigned copy = 0, copies = line_copies(&the_line); copy < copies; copy++) {
         event e = { now + line_delay(&the_line, from, to), 0, ARRIVAL, to, from, NULL, length };
-        if (copy == 0 && line_loses(&the_line, from, to)) continue;
+        if (copy == 0 && line_loses(&the_line, from, to, now)) continue;
         /* until the socket is read, within a millisecond */
         e.at += draw();
         e.bytes = room_for(length);
@@ -381,6 +383,14 @@ static int read_delay(const char *text) {
     return read_ways(text, the_line.least) && read_ways(text, the_line.most);
 }
 
+/* How many are lost between two players, and from which second on. */
+static int read_pair(const char *text) {
+    char *end;
+    the_line.pair_loss = strtod(text, &end);
+    the_line.pair_from = *end == '/' ? strtod(end + 1, &end) * 1000 : 0;
+    return *end == 0;
+}
+
 static int read_number(const char *text, double *number) {
     char *end;
     *number = strtod(text, &end);
@@ -404,6 +414,8 @@ static int read_word(const char *word) {
     if (is_named(word, "repeat", &value)) return read_number(value, &the_line.repeat);
     if (is_named(word, "burst", &value)) return read_number(value, &the_line.burst);
     if (is_named(word, "length", &value)) return read_number(value, &the_line.burst_length);
+    if (is_named(word, "pair", &value)) return read_pair(value);
+    if (is_named(word, "longer", &value)) return read_number(value, &the_line.pair_delay);
     if (is_named(word, "seconds", &value)) return read_number(value, &seconds);
     if (is_named(word, "hear", &value)) return hears_at_ticks = strcmp(value, "tick") == 0;
     for (unsigned p = 0; p < PLAYERS; p++)

@@ -27,7 +27,7 @@ EXACT = ["doom.exact." + name for name in ("start", "asked", "ask")]
 SEAL = ["doom_seal." + name for name in ("suite", "kind", "from", "to")]
 LINK = ["doom_link." + name for name in
         ("number", "lead", "holes", "made", "ran", "got", "message", "players", "extra", "ahead", "limit",
-         "host", "cause", "parts", "part.run", "part.length")]
+         "host", "cause", "parts", "part.run", "part.player", "part.length")]
 REPORT = ["doom_report." + name for name in
           ("gone", "gone.player0", "gone.player1", "gone.player2", "gone.player3", "left", "player", "count",
            "last")]

@@ -4,8 +4,8 @@
  * With N, every Nth request for memory is refused.
  *
  * Each link has two twins. A link that is given the same calls must answer the same, and give the same
- * datagrams. A plain node that is given the packets of the datagrams that were heard, one by one, must come to
- * the same; they are read here from the bytes. Bytes that a link does not open are counted, and change nothing
+ * datagrams. A plain node that is given the packets of the datagrams that were heard, one by one, those of third
+ * players among them, must come to the same; they are read here from the bytes. Bytes that a link does not open are counted, and change nothing
  * else of it. Now and then a player quits, or a link gives another player up. All links of a game run the same
  * rows, tell the same ends and record the same demos. Each datagram has every command that its receiver has not
  * acknowledged. C99 and C++. Ends with status 0, or names the line that failed. */
@@ -40,7 +40,7 @@ typedef struct datagram {
 typedef struct seat {
     zmg_link link, twin;
     zmg_lockstep node;
-    uint32_t keys, is_given, owes, acknowledged[NODES];
+    uint32_t keys, is_given, owes, acknowledged[NODES], ahead;
     zmg_command command;
     datagram noted[NODES];
 } seat;
@@ -164,6 +164,7 @@ static void sit(game *g, uint8_t me) {
     memset(s->acknowledged, 0, sizeof s->acknowledged);
     memset(s->noted, 0, sizeof s->noted);
     s->owes = 0;
+    s->ahead = g->ahead;
     codes[0] = zmg_link_new(&s->link, &c, g->ahead, g->secret, g->number, g->host);
     codes[1] = zmg_link_new(&s->twin, &c, g->ahead, g->secret, g->number, g->host);
     codes[2] = zmg_lockstep_new_within(&s->node, &c, g->ahead);
@@ -203,9 +204,10 @@ static void short_packet(uint8_t packet[16], uint8_t from, uint32_t tic, const u
     for (unsigned k = 0; k < 4; k++) packet[k] = (uint8_t)((sum & 0xfffffff) >> 8 * k);
 }
 
-/* A packet with its full numbers. */
+/* A packet with its full numbers, of whose player, and where the run begins that it stands in. */
 typedef struct carried {
-    uint32_t start;
+    uint8_t from;
+    uint32_t start, begins;
     zmg_number ask;
     size_t length;
     uint8_t bytes[ZMG_PACKET_SIZE];
@@ -221,28 +223,45 @@ static const uint8_t *read_whole(const uint8_t *at, carried *packet) {
     return at + 10 + packet->length;
 }
 
-/* Reads all packets of a datagram that was heard or given: how many. */
+/* A run, which is of a third player where its first byte is above 31. */
+static const uint8_t *read_run(const uint8_t *at, uint8_t from, carried *packets, size_t *count) {
+    unsigned head = *at++, commands = head % 32;
+    uint32_t begins = number_at(at);
+    if (head > 31) from = (uint8_t)(head / 32 - 1);
+    at += 4;
+    for (uint32_t k = 0; k < commands; k++, at += 8) {
+        carried *packet = &packets[(*count)++];
+        packet->from = from;
+        packet->begins = begins;
+        packet->start = begins + k;
+        packet->ask.known = packet->ask.value = 0;
+        packet->length = 16;
+        short_packet(packet->bytes, from, packet->start, at);
+    }
+    return at;
+}
+
+/* Reads all packets of a datagram that was heard or given: how many. Those of third players stand last. */
 static size_t read_packets(const uint8_t *bytes, size_t length, carried *packets) {
     static const uint8_t message_bytes[3] = { 24, 1, 2 };
     const uint8_t *at = bytes + MESSAGE + message_bytes[bytes[MESSAGE]], *end = bytes + length - TAG;
     size_t count = 0;
     for (unsigned parts = *at++; parts; parts--) {
-        unsigned commands = *at++;
-        uint32_t tic = number_at(at);
-        if (commands == 0) {
-            at = read_whole(at, &packets[count++]);
-            continue;
-        }
-        for (at += 4; commands; commands--, at += 8) {
-            carried *packet = &packets[count++];
-            packet->start = tic++;
-            packet->ask.known = packet->ask.value = 0;
-            packet->length = 16;
-            short_packet(packet->bytes, bytes[FROM], packet->start, at);
-        }
+        if (*at == 0) {
+            packets[count].from = bytes[FROM];
+            at = read_whole(at + 1, &packets[count++]);
+        } else at = read_run(at, bytes[FROM], packets, &count);
     }
     MUST(at == end);
     return count;
+}
+
+/* How many of the packets are the sender's own. */
+static size_t own_packets(const uint8_t *bytes, const carried *packets, size_t count) {
+    size_t own = 0;
+    while (own < count && packets[own].from == bytes[FROM]) own++;
+    for (size_t k = own; k < count; k++) MUST(packets[k].from != bytes[FROM] && packets[k].from != bytes[FROM + 1]);
+    return own;
 }
 
 static int is_near(zmg_lockstep *node, uint32_t tic) {
@@ -250,18 +269,26 @@ static int is_near(zmg_lockstep *node, uint32_t tic) {
     return -NEAR <= away && away <= NEAR;
 }
 
-static int node_starts(zmg_lockstep *node, uint8_t from, const carried *packet) {
+static int node_starts(zmg_lockstep *node, const carried *packet) {
     if (!is_near(node, packet->start) || (packet->ask.known && !is_near(node, packet->ask.value))) return 0;
-    return zmg_lockstep_receive(node, from, packet->bytes, packet->length).code == ZMG_RECEIVE_STARTED;
+    return zmg_lockstep_receive(node, packet->from, packet->bytes, packet->length).code == ZMG_RECEIVE_STARTED;
+}
+
+/* Leaves out the packets of third players whose runs begin past what the node has: how many remain. */
+static size_t taken(zmg_lockstep *node, const uint8_t *bytes, carried *packets, size_t count) {
+    size_t kept = own_packets(bytes, packets, count);
+    for (size_t k = kept; k < count; k++)
+        if (packets[k].begins <= zmg_lockstep_got(node, packets[k].from).value) packets[kept++] = packets[k];
+    return kept;
 }
 
 /* Hands a node the packets, up to the one that starts its game, and then all again. Whether it starts. */
 static int node_hears(zmg_lockstep *node, const uint8_t *bytes, size_t length) {
     static carried packets[PART + 1];
-    size_t count = read_packets(bytes, length, packets), k = 0;
-    while (k < count && !node_starts(node, bytes[FROM], &packets[k])) k++;
+    size_t count = taken(node, bytes, packets, read_packets(bytes, length, packets)), k = 0;
+    while (k < count && !node_starts(node, &packets[k])) k++;
     if (k == count) return 0;
-    for (k = 0; k < count; k++) node_starts(node, bytes[FROM], &packets[k]);
+    for (k = 0; k < count; k++) node_starts(node, &packets[k]);
     return 1;
 }
 
@@ -287,6 +314,14 @@ static void acknowledge(seat *s, const uint8_t *bytes) {
     uint32_t *most = &s->acknowledged[bytes[FROM]];
     if (ended && count) count--;
     if (count > *most) *most = count;
+}
+
+/* A player whose command is there, whoever handed it on, had run all tics more than a window before it. */
+static void acknowledge_by_commands(seat *s) {
+    for (uint8_t p = 0; p < NODES; p++) {
+        uint32_t has = zmg_lockstep_got(&s->node, p).value;
+        if (has > s->ahead && has - s->ahead > s->acknowledged[p]) s->acknowledged[p] = has - s->ahead;
+    }
 }
 
 /* ---- Calls ---- */
@@ -336,7 +371,7 @@ static size_t give(game *g, uint8_t me, uint8_t to) {
         && zmg_link_phase(&s->link).code != ZMG_PHASE_NONE));
     if (length == 0) return 0;
     MUST(memcmp(out, again, length) == 0 && out[FROM] == me && out[FROM + 1] == to);
-    count = read_packets(out, length, packets);
+    count = own_packets(out, packets, read_packets(out, length, packets));
     size = zmg_lockstep_packet(&s->node, to, packet, sizeof packet);
     if (is_there(g, to) && zmg_link_phase(&s->link).code >= ZMG_PHASE_PLAYING) {
         MUST(size == 0 || is_last(packets, count, packet, size) == takes(s, to, packet, size));
@@ -482,6 +517,7 @@ static zmg_received receive(seat *s, const uint8_t *bytes, size_t length) {
     if (answer.code == ZMG_LINK_RECEIVE_HEARD) {
         acknowledge(s, bytes);
         MUST(answer.started == node_starts_with(s, bytes, length, answer.started));
+        acknowledge_by_commands(s);
         starts += answer.started;
     } else {
         after = tell(&s->link);

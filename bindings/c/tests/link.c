@@ -208,6 +208,8 @@ static void one_quits_before_the_start(void) {
     MUST(datagram(0, 1, &f) && arrives(1, &f).started);
     MUST(zmg_link_quit(&links[1]) == 1 && zmg_link_quit(&links[2]) == 1);
     MUST(zmg_link_may_leave(&links[2]) == 1 && zmg_link_made(&links[1]) == 0);
+    /* its goodbye comes before player 0 gives it the settings; else nobody could take its place */
+    MUST(datagram(2, 0, &f) && arrives(0, &f).player == 2);
     turns(SHORT, 1, 1, 1);
     MUST(phase(0) == ZMG_PHASE_GATHERING && presence(0, 1).state == ZMG_PRESENCE_LEFT);
     MUST(presence(0, 2).state == ZMG_PRESENCE_AWAY && presence(1, 2).state == ZMG_PRESENCE_AWAY);

@@ -16,7 +16,7 @@
 #include <stdlib.h>
 #include <string.h>
 
-enum { NODES = 4, HELD = 500 };
+enum { NODES = 4, HELD = 500, HELLO = 83 };
 
 /* In turns, of which each player takes one: how late a player comes or quits at most, how long it stops, how
  * long it gives datagrams after it may leave; how long it waits at most for a tic, and for leave; and how long
@@ -30,12 +30,13 @@ enum { FORGER = NODES, OTHER_GAME, OUTSIDER, LINKS };
 typedef enum stage { ABSENT, HERE, LEAVING, GONE } stage;
 
 /* A player's part of a game: when it comes, quits, runs again after a stop, last ran a tic, has quit and may
- * leave; how many turns it took; and a sum of its rows, which is its world. */
+ * leave; how many turns it took; and a sum of its rows, which is its world. has_settings: player 0 gave them to
+ * this number. */
 typedef struct player {
     stage is;
     uint32_t comes, quits, stopped, last_run, quit_at, left_at, turns;
     uint16_t world;
-    uint8_t may_leave, is_replaced, gives_up;
+    uint8_t may_leave, is_replaced, gives_up, has_settings;
 } player;
 
 static uint32_t players, lost, slowest;
@@ -132,6 +133,9 @@ static void give(unsigned from, uint8_t to) {
     MUST(f.length <= ZMG_LINK_SIZE);
     MUST(f.length == 0 || to != zmg_link_me(&links[from]));
     if (f.length == 0) return;
+    /* a hello of player 0 that carries anything carries the settings */
+    if (from == 0 && zmg_link_phase(&links[0]).code == ZMG_PHASE_GATHERING && f.length > HELLO)
+        all[to].has_settings = 1;
     f.from = (uint8_t)from;
     f.to = to;
     f.changed = from == FORGER || from == OTHER_GAME;
@@ -335,14 +339,25 @@ static void look_at_demo(uint8_t me) {
     if (length) tells_demo(&common, players, zmg_link_ran(&links[me]), 1, demo, length);
 }
 
+/* Nobody takes the place of one who was given the settings: if that one is away, there is no game. */
+static void look_for_places(void) {
+    for (uint8_t p = 1; p < players; p++)
+        if (all[p].has_settings && zmg_link_presence(&links[0], p).state == ZMG_PRESENCE_AWAY) {
+            all[0].gives_up = 1;
+            all[0].quits = now;
+        }
+}
+
 static void go(uint8_t me) {
     player *p = &all[me];
+    uint8_t has_settings = p->has_settings;
     look_at_demo(me);
     zmg_link_free(&links[me]);
     p->is = GONE;
     if (!p->is_replaced) return;
     /* another takes its place */
     memset(p, 0, sizeof *p);
+    p->has_settings = has_settings;
     p->comes = now + below(LATEST);
     p->quits = p->comes + below(LAST);
     replaced++;
@@ -356,6 +371,7 @@ static int wants_to_quit(uint8_t me) {
 static void live(uint8_t me) {
     player *p = &all[me];
     if (p->is == ABSENT && now >= p->comes) come(me);
+    if (me == 0 && p->is == HERE && zmg_link_phase(&links[0]).code == ZMG_PHASE_GATHERING) look_for_places();
     if (p->is == HERE && wants_to_quit(me)) quit(me);
     if (p->is == HERE && zmg_link_phase(&links[me]).code == ZMG_PHASE_PLAYING && !all[0].gives_up)
         MUST(now - p->last_run < PATIENCE);

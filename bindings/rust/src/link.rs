@@ -20,10 +20,9 @@ use std::fmt;
 /// show who is there. Player 0 gives its settings once all others are.
 ///
 /// The caller owes what it owes for a [`SealedLockstep`](crate::SealedLockstep): that something gets through,
-/// one link of a player at a time, and no second one once the first has been given the settings, unless it said
-/// goodbye before its game; one number for each game, a secret that is kept, and the marks of
-/// [`run`](Link::run). A link and a sealed lockstep do not open each other's bytes: either all players of a
-/// game have links, or none has.
+/// one link of a player at a time, and no second one once the first has been given the settings; one number for
+/// each game, a secret that is kept, and the marks of [`run`](Link::run). A link and a sealed lockstep do not
+/// open each other's bytes: either all players of a game have links, or none has.
 ///
 /// Dropping a link frees its memory. It may pass to another thread, but only one thread at a time uses it.
 pub struct Link(raw::Held);
@@ -76,7 +75,9 @@ impl Link {
     /// ahead of each other, so that nobody carries another's delay. On a line that is longer than the window,
     /// and loses little, it also stretches ticks once input was dropped for a while, so that less is dropped.
     /// A caller that does not follow the number loses no more than that; but make the call at each tick all
-    /// the same, since datagrams report the lead that it takes.
+    /// the same: datagrams report the lead that it takes, and it is the clock by which the link sees that a
+    /// player's commands are overdue at another. Without it the link hands nothing on
+    /// ([`datagram`](Link::datagram)).
     ///
     /// Count from when this tick was due, not from when you handled it; else each late frame slows the player
     /// down. If ticks were missed, as in a slow frame, make up for them at once, one after another, each with
@@ -96,8 +97,10 @@ impl Link {
     }
 
     /// Returns the current datagram to player `to`. It has every packet that is kept for the player, oldest
-    /// first, as far as they fit, also once the link has ended. Send one to each other player at each tick,
-    /// also before the game has started. Returns None, and leaves the link as it was, if `to` is not another
+    /// first, as far as they fit, also once the link has ended. Behind them, if there is room, it may hand on
+    /// commands of third players of whom the player seems to hear nothing: so two who cannot reach each other
+    /// play on through a third. Send one to each other player at each tick, also before the game has started.
+    /// Returns None, and leaves the link as it was, if `to` is not another
     /// player's number, or if that player is given up by [`give_up`](Link::give_up).
     pub fn datagram(&mut self, to: u8) -> Option<LinkDatagram> {
         LinkDatagram::written(|out, room| {
@@ -115,25 +118,38 @@ impl Link {
 
     /// Returns what is known of another player, as far as this link has heard. Player 0 gives its settings
     /// once all others are there: until then a player may come, go, and come again. Once they were given,
-    /// nobody else may take the place of player 0, nor of a player who was given them, unless that player
-    /// said goodbye before its game. The caller has to see to that: player 0's link may give another the
-    /// settings too, unless the first is [`Presence::Forgotten`] there.
+    /// nobody else may take the place of player 0, nor of a player who was given them, whatever that player
+    /// said since: a goodbye may be an old one that comes again. Player 0's link sees to the latter: it hears
+    /// no hello of a player whom it gave the settings. To learn of a player who is [`Presence::Away`] whether
+    /// its place is free, player 0 forgets it ([`forget`](Link::forget)): the place is free if the player is
+    /// away still. Other links do not know whom player 0 gave the settings.
     pub fn presence(&self, player: u8) -> Presence {
         // SAFETY: the call has exclusive use of the handle (`Held`).
         presence(unsafe { raw::zmg_link_presence(self.0.at(), player) })
     }
 
     /// Forgets a player who has not been heard for too long ([`came`](Line::came) rises with each new one of
-    /// its datagrams). While this link listens or gathers, the player is then [`Presence::Away`], with
-    /// [`Parting::Forgotten`], until a new hello or goodbye comes, or a datagram of its game or a goodbye after
-    /// its game, of any age; and another may take its place. But if this link plays or has ended, or has given
-    /// the player the settings, or has heard that it plays, the player is [`Presence::Forgotten`], until a
-    /// datagram of its game comes that is newer than its newest, or 64 or more behind it, or a goodbye after
-    /// its game, of any age; [`may_leave`](Link::may_leave) does not wait for it. Then nobody takes its place,
-    /// since its commands may have reached others: for another player, make a new game with a new number. Its
-    /// commands are still missing: the game goes on without it only if its end is known. A player who has
-    /// [left](Presence::Left) stays so. Of one who is given up by [`give_up`](Link::give_up) nothing is heard any
-    /// more, and nobody takes its place. For a number that is not another player's nothing happens.
+    /// its datagrams). What becomes of the player:
+    ///
+    /// - It cannot have started: this link listens or gathers, has not given it the settings, and has not heard
+    ///   that it plays. Then it is [`Presence::Away`], with [`Parting::Forgotten`], until a new hello or
+    ///   goodbye comes, or a datagram of its game or a goodbye after its game, of any age; and another may take
+    ///   its place.
+    /// - Else it may have started, and it is [`Presence::Forgotten`], until a datagram of its game comes that
+    ///   is newer than its newest, or 64 or more behind it, or a goodbye after its game, of any age.
+    ///   [`may_leave`](Link::may_leave) does not wait for it. Nobody takes its place, since its commands may
+    ///   have reached others: for another player, make a new game with a new number. Its commands are still
+    ///   missing: the game goes on without it only if its end is known, or after [`give_up`](Link::give_up).
+    ///
+    /// At a player 0 that still gathers the second case may end this game's number. If the player has not
+    /// started, as when the settings were lost on the way, it goes on saying hello, and that is not heard; nor
+    /// is another's hello; and player 0 gives nobody the settings while one is missing. So all wait for good,
+    /// though every datagram comes: make a new game with a new number, or give the player up by
+    /// [`give_up`](Link::give_up), and the others play without it.
+    ///
+    /// A player who has [left](Presence::Left) stays so. Of one who is given up by [`give_up`](Link::give_up)
+    /// nothing is heard any more, and nobody takes its place. For a number that is not another player's nothing
+    /// happens.
     pub fn forget(&mut self, player: u8) {
         // SAFETY: the call has exclusive use of the handle (`Held`).
         unsafe { raw::zmg_link_forget(self.0.at(), player) }
@@ -214,8 +230,8 @@ impl Link {
 
     /// Returns how many of this player's commands are not yet acknowledged for certain by every player,
     /// leaving out players who need nothing more, as [`may_leave`](Link::may_leave) says. The oldest of them
-    /// has been on its way for about so many ticks. Once the link has left, its last command is certain only
-    /// if its end was acknowledged too.
+    /// has been on its way for about so many ticks. What was acknowledged before the link left stays so; from
+    /// then on its last command is certain only if its end was acknowledged too.
     pub fn unacknowledged(&self) -> u32 {
         // SAFETY: the call has exclusive use of the handle (`Held`).
         unsafe { raw::zmg_link_unacknowledged(self.0.at()) }
@@ -345,8 +361,8 @@ pub enum Presence {
     Different(Identity),
     /// It left before its game started, or was forgotten before the game of this link did. Another may take its
     /// place, with a link of its own, and is heard once 64 of its datagrams have come, or before; but if it was
-    /// forgotten ([`Parting::Forgotten`]), only if the link that was forgotten is gone, and never if the player
-    /// is given up ([`Link::has_given_up`]).
+    /// forgotten ([`Parting::Forgotten`]), only if the link that was forgotten is gone, and never if player 0
+    /// gave it the settings, or if the player is given up ([`Link::has_given_up`]).
     Away(Parting),
     /// It has played and left.
     Left(Parting),

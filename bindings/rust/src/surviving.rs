@@ -33,7 +33,7 @@ pub enum GivenUp {
     /// The player is given up, and where the commands of all who are given up end is known.
     Decided,
     /// The player is given up, and all reports are there; but the end of `player`, who need not be the one just
-    /// given up, cannot be taken.
+    /// given up, cannot be taken: some report is false, and nothing says whose.
     #[allow(missing_docs)]
     Untaken { player: u8, reason: SettleError },
     /// The player was given up before.
@@ -54,7 +54,8 @@ pub enum Reported {
     Kept,
     /// It is kept, and where the commands of all who are given up end is known.
     Decided,
-    /// It is kept, but the end of a player who is given up cannot be taken, for this reason.
+    /// It is kept, but the end of a player who is given up cannot be taken, for this reason: some report is
+    /// false, and it need not be this one.
     Untaken(SettleError),
     /// Its sender has given up this player. Nothing changed.
     Excluded,

@@ -46,7 +46,7 @@ use Rattle.dn_game.proofs.Places.{there_is}
 module _ {W S : Type 0} (state : W → S) (rules : Rules S) (g : Contents W) (m : machine.Game)
     (r : Represents state rules g m) where
   -- the lockstep of each player's node represents the player's node of the machine
-  its_lockstep : (p : ℕ) → p < rules.players
+  pub its_lockstep : (p : ℕ) → p < rules.players
       → lockstep_to.Represents rules.limits p (lockstep_at g p) (m.nodes p)
   its_lockstep p below =
       let found = there_is g.nodes p (omega (arith, below, r.players)) in

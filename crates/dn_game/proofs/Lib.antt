@@ -4,6 +4,7 @@ pub mod InputsMade
 pub mod Promising
 pub mod SteadyAnswers
 pub mod Agreeing
+pub mod Headlines
 pub mod Places
 pub mod Packing
 pub mod Standing

@@ -10,6 +10,7 @@ pub mod InputsMade
 pub mod Promised
 pub mod Told
 pub mod Agreed
+pub mod Headline
 pub mod RoundEvents
 pub mod Rounds
 pub mod GoingOn

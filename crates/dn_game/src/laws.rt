@@ -7,7 +7,7 @@ ghost use Rattle.dn_lockstep.specs.Opening.{IsGame};
 ghost use Rattle.dn_seal.specs.declared.seal.Seal.{Seal};
 ghost use Rattle.dn_open.specs.declared.open_event.OpenEvent.{OpenEvent};
 ghost use Rattle.dn_game.specs.{Agreed.AreAgreed, Contents.Contents, declared.open_done.OpenDone.OpenDone, OpenPlayed.IsReachedOpen, OpenPromised.AreGenuine, OpenPromised.IsPromisedOpen};
-ghost use Rattle.dn_game.specs.{Played.IsReachedWith, Promised.IsReached, Promised.IsPromised, Promised.IsSteady};
+ghost use Rattle.dn_game.specs.{Headline.HaveAgreed, Played.IsReachedWith, Promised.IsReached, Promised.IsPromised, Promised.IsSteady};
 
 use dn_setup::settings_found_again;
 use dn_world::World;
@@ -15,6 +15,10 @@ use dn_world::World;
 /// Whatever game of the machine a game represents: if a list of events may lead to that one, all that is
 /// promised holds of it, and the nodes agree in what they tell of themselves.
 pub fn reached_games_agree<W: World>()
+    // The headline.
+    ensures headline { (players : ℕ) (extra : Bool) (capacity : ℕ) (settings : Settings) (events : List Event)
+        (g : Contents W) → IsReached W.state (rules_of W.physics players extra capacity) settings events g
+        → HaveAgreed W.state W.physics settings players g }
     ensures promised { (players : ℕ) (extra : Bool) (capacity : ℕ) (settings : Settings) (events : List Event)
         (g : Contents W)
         → (reached : IsReached W.state (rules_of W.physics players extra capacity) settings events g)

@@ -1,7 +1,7 @@
 //! Playing a list of events: what the whole project promises.
 
 ghost use Rattle.std.specs.Prelude.{◌≡◌, ◌⊎◌, length, Err, IfOk};
-ghost use Rattle.dn_game.specs.{Contents.contents, Fresh.AreLimited, Given.KeepsGiven, Observed.IsPlayedObserved, Opening.IsAdmitted, Opening.rules_in, Pool.IsWithinTwice, Promised.HasPlayed};
+ghost use Rattle.dn_game.specs.{Contents.contents, Fresh.AreLimited, Given.KeepsGiven, Headline.HaveAgreed, Observed.IsPlayedObserved, Opening.IsAdmitted, Opening.rules_in, Pool.IsWithinTwice, Promised.HasPlayed};
 ghost use Rattle.dn_game.specs.{Room.room_of, declared.config.GameFault.TheVariants.Players, declared.config.GameFault.TheVariants.Limit};
 
 use crate::config::{GameConfig, GameFault};
@@ -22,10 +22,13 @@ pub fn play<W: World>(
     events: &[Event],
 ) -> Result<Played<W>, GameFault>
     ensures admitted { IsAdmitted config (length worlds.items) result }
+    // The headline. In the game that is left any two nodes that ran a tic used the same command of every player,
+    // no ring overwrote an unread command, no consistency check failed, and of any two demos one's commands are a
+    // prefix of the other's.
+    ensures agreed { IfOk result (λ played. HaveAgreed W.state W.physics config.settings (length worlds.items)
+        (contents played.game)) }
     // Each event is applied as the machine applies it, but for sends that are left out since memory was
-    // refused, and each is counted by its answer. In the game that is left any two nodes that ran a tic
-    // used the same command of every player, no ring overwrote an unread command, no consistency check
-    // failed, and of any two demos one's commands are a prefix of the other's.
+    // refused, and each is counted by its answer; and all else that is promised of such a game.
     ensures promised { IfOk result (λ played. HasPlayed W.state
         (rules_in W.physics config (length worlds.items)) config.settings events.now played) }
     // A node has the world that was given for it, unless an answer to an event that names it tells that it

@@ -15,7 +15,7 @@ use Rattle.dn_link.specs.Kept.{IsCovering, Reaches, Unacknowledged, acknowledged
 use Rattle.dn_link.specs.Linked.{Gives, Linked, PeerState}
 use Rattle.dn_link.specs.Linking.{peers_of}
 use Rattle.dn_link.specs.Paced.{PaceState}
-use Rattle.dn_link.specs.Packets.{opened_from, packets_in, packets_of}
+use Rattle.dn_link.specs.Packets.{opened_from, packets_of}
 use Rattle.dn_link.specs.Packing.{ArePacked}
 use Rattle.dn_link.specs.Text.{parts_bytes}
 
@@ -135,15 +135,15 @@ reached kept packet = go (is_news kept packet) refl
 -- and a datagram has all of them, where it has room
 pub carries : (seal : Seal) (identity : Identity) (pace : PaceState) (to : ℕ) (old new : Linked) (bytes : List ℕ)
     (gives : Gives seal identity pace to old new bytes)
-    → IsCovering (old.peers to).kept → length gives.bundle.parts.items < 22
-    → length (parts_bytes gives.bundle.parts.items) ≤ 998
-    → (packets : List Carried) × (packets_in gives.bundle ≡ map (opened_from old.node.me) packets)
+    → IsCovering (old.peers to).kept → length gives.own < 22 → length (parts_bytes gives.own) ≤ 998
+    → (packets : List Carried) × (flat_map (packets_of gives.bundle.from) gives.own
+    ≡ map (opened_from old.node.me) packets)
     × ((tic : ℕ) → (old.peers to).kept.done ≤ tic → tic < (new.peers to).kept.covered → has_tic tic packets ≡ true)
 carries seal identity pace to old new bytes gives covers few short =
     let kept : Unacknowledged = (old.peers to).kept in
     let taken : Option Carried = taken_by (old.peers to).presence gives.given in
     let packets : List Carried = going kept taken in
-    let packed : ArePacked old.node.me packets gives.bundle.parts.items = gives.packed in
+    let packed : ArePacked old.node.me packets gives.own = gives.packed in
     let told : List Opened = map (opened_from old.node.me) packets in
     let long = length-map packets (opened_from old.node.me) in
     let all : length packets ≤ packed.count = elim (cases_lt packed.count (length packets)) [
@@ -155,7 +155,7 @@ carries seal identity pace to old new bytes gives covers few short =
     ap (λ (f : ℕ → PeerState). (f to).kept.covered) gives.peers
     ∙ ap (λ (t : PeerState). t.kept.covered) (put_at old.peers to to _ refl) in (
       packets,
-      ap (λ (k : ℕ). flat_map (packets_of k) gives.bundle.parts.items) gives.from ∙ packed.front
+      ap (λ (k : ℕ). flat_map (packets_of k) gives.own) gives.from ∙ packed.front
           ∙ ap (λ (k : ℕ). take k told) count ∙ ap (take (length told)) (sym (append-nil told))
           ∙ take-append_seam told [],
       λ tic needed before. goes_covering kept taken covers tic needed (subst (λ (n : ℕ). tic < n) now before),

@@ -5,6 +5,11 @@ use Rattle.std.specs.List.{flat_map}
 use Rattle.std.specs.Option.{option_map}
 use Rattle.std.proofs.lemmas.Bool.{cases_lt, cond_both, lt-ltb, eq-eqb}
 use Rattle.std.proofs.lemmas.List.Elements.{All-head}
+use Rattle.dn_tic.specs.Command.{command_bytes}
+use Rattle.dn_tic.specs.declared.command.TicCmd.{TicCmd}
+use Rattle.dn_lockstep.proofs.Shown.{tells_held}
+use Rattle.dn_link.specs.Relays.{AreHandedOn, AreTold, Handed, handed_part}
+use Rattle.dn_link.proofs.Senders.{All-front, All-back}
 use Rattle.dn_setup.specs.Settings.{Settings}
 use Rattle.dn_machine.specs.Flight.{Flight}
 use Rattle.dn_machine.specs.Limits.{Limits}
@@ -26,7 +31,7 @@ use Rattle.dn_link.specs.Ends.{tells_end}
 use Rattle.dn_link.specs.declared.bundle.Counts.{Counts}
 use Rattle.dn_link.specs.declared.bundle.Identity.{Identity}
 use Rattle.dn_link.specs.declared.bundle.Part.{Part}
-use Rattle.dn_link.specs.declared.bundle.Part.TheVariants.{Whole, Run}
+use Rattle.dn_link.specs.declared.bundle.Part.TheVariants.{Whole, Run, Relay}
 use Rattle.dn_link.specs.Bundles.{IsEmpty}
 use Rattle.dn_link.specs.Counting.{counts_of, with_end}
 use Rattle.dn_link.specs.Giving.{SendsCarried, carried_of}
@@ -73,6 +78,16 @@ no_parts from (Run run ∷ parts) all none =
   where
     go : (n : ℕ) → 1 ≤ n
         → short_packets n from run.start run.commands.items ++ flat_map (packets_of from) parts ≡ [] → ⊥
+    go zero less e = omega (arith, less)
+    go (suc n) less e = cc
+no_parts from (Relay relay ∷ parts) all none =
+    let is : IsPart (Relay relay) = All-head IsPart (Relay relay) parts all in
+    let some = is.run.some in
+    absurd (go (length relay.run.commands.items / 8) (omega (arith, some)) none)
+  where
+    go : (n : ℕ) → 1 ≤ n
+        → short_packets n relay.player relay.run.start relay.run.commands.items
+        ++ flat_map (packets_of from) parts ≡ [] → ⊥
     go zero less e = omega (arith, less)
     go (suc n) less e = cc
 
@@ -156,17 +171,39 @@ module _ (marking : Marking) (limits : Limits) (settings : Settings) (session : 
       clash (sym (λ i. r.stands.played i && is_ended (r.stands.phase i)) ∙ ended)
       (ap (λ (b : Bool). b && is_ended m.phase) played)
 
+  -- and hands on nothing
+  nothing_handed : (new : Contents) → Represents limits player new m → (to : ℕ) (handed : List Handed)
+      → AreHandedOn new to handed → All IsPart (map handed_part handed) → handed ≡ []
+  nothing_handed new r to [] all fit = refl
+  nothing_handed new r to (h ∷ handed) all fit =
+      let is : IsPart (handed_part h) = All-head IsPart (handed_part h) (map handed_part handed) fit in
+      let some = is.run.some in
+      absurd (go h.commands (omega (arith, some)) all.0.told)
+    where
+      go : (commands : List TicCmd) → 8 ≤ length (flat_map command_bytes commands)
+          → AreTold new h.player h.start commands → ⊥
+      go [] less told = omega (arith, less)
+      go (command ∷ commands) less told =
+          let has = tells_held limits player new m r h.player h.start command told.0 in
+          let none = ap (length {A = TicCmd}) (nothing.held played h.player) in
+          absurd (omega (arith, has.1, none))
+
   pub gives_nothing : (to : ℕ) (seal : Seal) (identity : Identity) (pace : PaceState) (new : Linked) (bytes : List ℕ)
       → (old.peers to).kept.packets ≡ [] → Gives seal identity pace to old new bytes → IsEmpty seal bytes
   gives_nothing to seal identity pace new bytes none gives =
       let after = gave to new.node gives.given gives.step in
+      let whole = subst (All IsPart) gives.parts gives.fits.parts in
+      let own_parts = All-front IsPart gives.own (map handed_part gives.handed) whole in
+      let none_handed : gives.handed ≡ [] = nothing_handed new.node after.0 to gives.handed gives.handed_on
+      (All-back IsPart gives.own (map handed_part gives.handed) whole) in
       let taken = ap (taken_by (old.peers to).presence) after.1 in
       let packets = ap (going (old.peers to).kept) taken ∙ none in (
         gives.bundle,
         gives.fits,
         gives.is,
-        no_parts old.node.me gives.bundle.parts.items gives.fits.parts
-            (none_packed old.node.me (going (old.peers to).kept (taken_by (old.peers to).presence gives.given)) gives.bundle.parts.items gives.packed packets),
+        gives.parts ∙ (λ i. no_parts old.node.me gives.own own_parts
+            (none_packed old.node.me (going (old.peers to).kept (taken_by (old.peers to).presence gives.given)) gives.own gives.packed packets) i
+            ++ map handed_part (none_handed i)),
         (λ which apart. ap (λ (c : Counts). slice_index c.got which) gives.counts
             ∙ no_counts new.node after.0 which (λ same. apart (same ∙ sym (gives.from ∙ own)))),
         no_end gives.bundle new.node after.0 gives.counts (gives.from ∙ own) (tells_end gives.bundle) refl,

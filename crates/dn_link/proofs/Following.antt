@@ -72,7 +72,7 @@ idle packet not_taken =
     eqb-true (commands_in packet) 0 (and_parts (commands_in packet == 0)
     (is_none packet.ask && nat_lt (slice_index packet.datagram.items 3) 16) is).0
 
-gone_or_idle : (presence : Presence) (packet : Carried) → takes_packet presence packet ≡ false
+pub gone_or_idle : (presence : Presence) (packet : Carried) → takes_packet presence packet ≡ false
     → IsGone presence ⊎ (commands_in packet ≡ 0)
 gone_or_idle (Left cause) packet not_taken = inl (cause, refl)
 gone_or_idle Playing packet not_taken = inr (idle packet not_taken)

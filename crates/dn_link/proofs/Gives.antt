@@ -14,10 +14,10 @@ use Rattle.dn_lockstep.specs.Marking.{Marking}
 use Rattle.dn_lockstep.specs.OneGame.{AreOneGame}
 use Rattle.dn_lockstep.specs.Represents.{Represents}
 use Rattle.dn_lockstep.specs.Sent.{sent_to}
-use Rattle.dn_lockstep.specs.Session.{Session, with_lockstep, after_packet}
+use Rattle.dn_lockstep.specs.Session.{Session, with_lockstep, after_packet, after_relays, given_on}
 use Rattle.dn_lockstep.specs.Near.{IsFair}
 use Rattle.dn_lockstep.specs.Steps.{Tells}
-use Rattle.dn_lockstep.proofs.OneGame.{GoesBetween, sent_between, gave}
+use Rattle.dn_lockstep.proofs.OneGame.{GoesBetween, sent_between, gave, relays}
 use Rattle.dn_seal.specs.declared.seal.Seal.{Seal}
 use Rattle.dn_link.specs.declared.bundle.Bundle.{Bundle}
 use Rattle.dn_link.specs.declared.bundle.Carried.{Carried}
@@ -34,11 +34,14 @@ use Rattle.dn_link.specs.Giving.{SendsCarried, carried_of}
 use Rattle.dn_link.specs.Linked.{Linked, Gives, PeerState, holds_back, is_gathering}
 use Rattle.dn_link.specs.LinkedGame.{AreLinked, IsLater}
 use Rattle.dn_link.specs.Paced.{PaceState}
+use Rattle.dn_link.specs.Relays.{AreHandedOn, Handed, flights_of}
+use Rattle.dn_link.proofs.Relays.{gives_all}
+use Rattle.dn_lockstep.specs.Told.{command_told}
 use Rattle.dn_link.proofs.Growing.{HasAsMuch, grows}
 use Rattle.dn_link.proofs.Holding.{Holds, holds_same, send_holds}
 use Rattle.dn_link.proofs.Outgoing.{goes_given, stays_kept}
 use Rattle.dn_link.proofs.Kepts.{AreKept}
-use Rattle.dn_link.proofs.Relinking.{found_later, later_by, relinked}
+use Rattle.dn_link.proofs.Relinking.{found_later, found_on, later_by, relinked}
 use Rattle.dn_others.specs.declared.others.Others.{Others}
 use Rattle.dn_link.proofs.Linking as base
 use Rattle.dn_link.proofs.Reported.{at_most, same_reported, same_presence}
@@ -72,20 +75,44 @@ module _ (marking : Marking) (limits : Limits) (settings : Settings) (session : 
       → has_ended (later.locksteps peer) ≡ true
   left_on = base.left_on marking limits settings session links player linked mine
 
+  -- the session after a packet, and after commands of third players that are handed on with it
+  abbrev pub after_all : Option Flight → Linked → List Handed → ℕ → Session
+  after_all flight new handed to = after_relays (after_packet session player flight new.node) (flights_of to handed)
+
+  hands_on : (flight : Option Flight) (new : Linked)
+      → AreOneGame marking limits settings (after_packet session player flight new.node) → (to : ℕ)
+      (handed : List Handed) → AreHandedOn new.node to handed
+      → AreOneGame marking limits settings (after_all flight new handed to)
+  hands_on flight new game to handed all =
+      gives_all new.node to
+      (λ given. AreOneGame marking limits settings (record (after_packet session player flight new.node) { given = given }))
+      (λ given who tic command now its there apart told fair.
+      let here : put session.locksteps player new.node player ≡ new.node =
+      put_at session.locksteps player player new.node refl in
+      let count : new.node.players ≡ limits.players =
+      ap (λ (n : Contents). n.players) (sym here) ∙ (now.nodes player mine).whose.players in
+      relays marking limits settings now player mine who to tic command (omega (arith, its, count))
+      (omega (arith, there, count)) apart
+      (ap (λ (n : Contents). command_told n who tic) here ∙ told) fair)
+      (given_on session.given flight) handed game all
+
   -- what goes to a peer, with the packet that the machine gave, if it gave one
   gave_by : (seal : Seal) (identity : Identity) (pace : PaceState) (to : ℕ) (new : Linked) (bytes : List ℕ)
       (flight : Option Flight) (gives : Gives seal identity pace to old new bytes)
       → AreOneGame marking limits settings (after_packet session player flight new.node)
       → GoesBetween player to flight → gives.given ≡ option_map carried_of flight
       → HasAsMuch player (session.locksteps player) new.node
-      → WasBundled seal (after_packet session player flight new.node) bytes
-      × AreLinked marking limits settings (after_packet session player flight new.node) (put links player new)
-      × IsLater session (after_packet session player flight new.node)
+      → WasBundled seal (after_all flight new gives.handed to) bytes
+      × AreLinked marking limits settings (after_all flight new gives.handed to) (put links player new)
+      × IsLater session (after_all flight new gives.handed to)
   gave_by seal identity pace to new bytes flight gives game between answer much =
       let all : AreKept session.given player old.peers = λ peer. linked.kept player peer mine in
       let taken : Option Carried = taken_by (old.peers to).presence gives.given in
-      let later : Session = after_packet session player flight new.node in
-      let is = later_by session later player new.node refl (found_later session.given flight) much in
+      let later : Session = after_all flight new gives.handed to in
+      let handed_game = hands_on flight new game to gives.handed gives.handed_on in
+      let is = later_by session later player new.node refl
+      (λ which one found. found_on (given_on session.given flight) (flights_of to gives.handed) which one
+      (found_later session.given flight which one found)) much in
       let told : (peer which : ℕ) → which ≢ peer
       → slice_index (new.peers peer).reported which ≤ has_of (later.locksteps peer) which =
       (λ peer which apart. at_most (ap (λ (l : List ℕ). slice_index l which)
@@ -113,7 +140,7 @@ module _ (marking : Marking) (limits : Limits) (settings : Settings) (session : 
                 (told_same gives.bundle new.node gives.counts (gives.from ∙ own ∙ sym (own_after new.node game)) tells);
           },
         ),
-        relinked marking limits settings session later links player new linked game refl is
+        relinked marking limits settings session later links player new linked handed_game refl is
             (ap (λ (o : Others). o.gone) gives.others)
             (stays_kept session.given flight player old new own seal identity pace to bytes gives between answer all)
             told left,
@@ -142,20 +169,20 @@ module _ (marking : Marking) (limits : Limits) (settings : Settings) (session : 
       → (seal : Seal) (identity : Identity) (pace : PaceState) (to : ℕ) (new : Linked) (bytes : List ℕ)
       → (holds_back old ≡ false → Tells old.node (λ limits me m. IfSome (sent_to to limits me m).1 IsFair))
       → Gives seal identity pace to old new bytes
-      → (flight : Option Flight) × WasBundled seal (after_packet session player flight new.node) bytes
-      × AreLinked marking limits settings (after_packet session player flight new.node) (put links player new)
-      × IsLater session (after_packet session player flight new.node)
+      → (flight : Option Flight) × (handed : List Handed) × WasBundled seal (after_all flight new handed to) bytes
+      × AreLinked marking limits settings (after_all flight new handed to) (put links player new)
+      × IsLater session (after_all flight new handed to)
   gave_to kept_game seal identity pace to new bytes all_fair gives = go (holds_back old) refl gives.step
     where
       go : (test : Bool) → holds_back old ≡ test
           → ByTest test ((new.node ≡ old.node) × (gives.given ≡ None)) (SendsCarried to old.node new.node gives.given)
-          → (flight : Option Flight) × WasBundled seal (after_packet session player flight new.node) bytes
-          × AreLinked marking limits settings (after_packet session player flight new.node) (put links player new)
-          × IsLater session (after_packet session player flight new.node)
+          → (flight : Option Flight) × (handed : List Handed) × WasBundled seal (after_all flight new handed to) bytes
+          × AreLinked marking limits settings (after_all flight new handed to) (put links player new)
+          × IsLater session (after_all flight new handed to)
       go true held step =
           let same = step.0 ∙ node in
           let all = gave_by seal identity pace to new bytes None gives (kept_game new.node same) tt step.1
-          (same_much new.node same) in (None, all.0, all.1, all.2)
+          (same_much new.node same) in (None, gives.handed, all.0, all.1, all.2)
       go false ready step =
           let m = linked.game.last.nodes player in
           let flight : Option Flight = (sent_to to limits player m).1 in
@@ -164,4 +191,4 @@ module _ (marking : Marking) (limits : Limits) (settings : Settings) (session : 
           let all = gave_by seal identity pace to new bytes flight gives
           (gave marking limits settings linked.game player mine to new.node sent.node
           (all_fair ready limits player m shows)) (sent_between limits player m to) sent.answer
-          (has_more new.node much) in (flight, all.0, all.1, all.2)
+          (has_more new.node much) in (flight, gives.handed, all.0, all.1, all.2)

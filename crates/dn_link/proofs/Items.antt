@@ -1,5 +1,5 @@
 -- Parts are read back, and what is read is what stands there.
-use Rattle.std.proofs.Common.{◌≡◌, ◌≢◌, ◌≤◌, ◌+◌, ◌*◌, ◌/◌, ℕ, zero, suc, List, [], ◌∷◌, ◌++◌, length, take, drop, refl, ap, sym, ◌∙◌, subst, arith, append_assoc, Option, Some, None, All, inl, inr}
+use Rattle.std.proofs.Common.{◌≡◌, ◌≢◌, ◌≤◌, ◌+◌, ◌*◌, ◌/◌, ◌%◌, ◌-◌, ℕ, zero, suc, List, [], ◌∷◌, ◌++◌, length, take, drop, refl, ap, sym, ◌∙◌, subst, arith, append_assoc, Option, Some, None, All, inl, inr}
 use Rattle.std.specs.Option.{option_map}
 use Rattle.std.specs.List.{flat_map}
 use Rattle.std.specs.Int.{w32, from_le_bytes, to_le_bytes}
@@ -12,10 +12,11 @@ use Rattle.std.proofs.Math.Seq.{take-append_seam, drop-append_seam}
 use Rattle.dn_seal.proofs.Openings.{four_bytes}
 use Rattle.dn_link.specs.declared.bundle.Carried.{Carried}
 use Rattle.dn_link.specs.declared.bundle.Part.{Part}
-use Rattle.dn_link.specs.declared.bundle.Part.TheVariants.{Whole, Run}
+use Rattle.dn_link.specs.declared.bundle.Part.TheVariants.{Whole, Run, Relay}
 use Rattle.dn_link.specs.declared.bundle.Run as run
-use Rattle.dn_link.specs.Text.{carried_bytes, part_bytes, IsPart, IsRun}
-use Rattle.dn_link.specs.Told.{number_at, told_whole, told_run, told_part, told_all}
+use Rattle.dn_link.specs.declared.bundle.Relay as relay
+use Rattle.dn_link.specs.Text.{carried_bytes, part_bytes, IsPart, IsRelay, IsRun}
+use Rattle.dn_link.specs.Told.{number_at, told_whole, told_run, told_relay, told_part, told_all}
 use Rattle.dn_link.proofs.Parts.{Fit, fit_drop, small}
 use Rattle.dn_link.proofs.Packets.{told_first, first_told, written_first, first_is, first_fits, length-carried}
 
@@ -26,6 +27,7 @@ run_back r rest is =
     let some = is.some in
     let few = is.few in
     let off = ne_eqb n 0 (λ e. absurd (omega (arith, e, whole, some))) in
+    let low = lt-ltb n 32 (omega (arith, whole, few)) in
     let a = le-ltb 24 n (omega (arith, whole, few)) in
     let both = length-append (to_le_bytes w32 r.start ++ r.commands.items) rest in
     let one = length-append (to_le_bytes w32 r.start) r.commands.items in
@@ -35,12 +37,41 @@ run_back r rest is =
     let start = from_le_bytes-to_le_bytes_4 r.start is.start in
     let items : take (8 * n) (r.commands.items ++ rest) ≡ r.commands.items =
     ap (λ (k : ℕ). take k (r.commands.items ++ rest)) whole ∙ take-append_seam r.commands.items rest in
-    rw (off, a, b) (λ i. Some (Run (record { start = start i; commands = record { items = items i } })))
+    rw (off, low, a, b) (λ i. Some (Run (record { start = start i; commands = record { items = items i } })))
+
+relay_back : (r : relay.Relay) (rest : List ℕ) → IsRelay r → told_part (part_bytes (Relay r) ++ rest) ≡ Some (Relay r)
+relay_back r rest is =
+    let k : ℕ = length r.run.commands.items / 8 in
+    let n : ℕ = 32 * (r.player + 1) + k in
+    let whole = is.run.whole in
+    let some = is.run.some in
+    let few = is.run.few in
+    let small = is.player in
+    let off = ne_eqb n 0 (λ e. absurd (omega (arith, e))) in
+    let high = le-ltb n 32 (omega arith) in
+    let count : n % 32 ≡ k = omega (arith, whole, few) in
+    let who : n / 32 - 1 ≡ r.player = omega (arith, whole, few) in
+    let a = le-ltb 159 n (omega (arith, whole, few, small)) in
+    let z = ne_eqb k 0 (λ e. absurd (omega (arith, e, whole, some))) in
+    let c = le-ltb 24 k (omega (arith, whole, few)) in
+    let both = length-append (to_le_bytes w32 r.run.start ++ r.run.commands.items) rest in
+    let one = length-append (to_le_bytes w32 r.run.start) r.run.commands.items in
+    let four : length (to_le_bytes w32 r.run.start) ≡ 4 = refl in
+    let b = le-ltb (length (to_le_bytes w32 r.run.start ++ r.run.commands.items ++ rest)) (4 + 8 * k)
+    (omega (arith, whole, both, one, four)) in
+    let start = from_le_bytes-to_le_bytes_4 r.run.start is.run.start in
+    let items : take (8 * k) (r.run.commands.items ++ rest) ≡ r.run.commands.items =
+    ap (λ (j : ℕ). take j (r.run.commands.items ++ rest)) whole ∙ take-append_seam r.run.commands.items rest in
+    rw (off, high, a, count, z, c, b) (λ i. Some (Relay (record {
+      player = who i;
+      run = record { start = start i; commands = record { items = items i } };
+    })))
 
 pub part_back : (part : Part) (rest : List ℕ) → IsPart part → told_part (part_bytes part ++ rest) ≡ Some part
 part_back (Whole packet) rest is =
     ap (option_map Whole) (told_first (carried_bytes packet ++ rest) packet (written_first packet rest is))
 part_back (Run r) rest is = run_back r rest is
+part_back (Relay r) rest is = relay_back r rest is
 
 -- what is read as a part is that part's bytes
 pub record IsPlaced (bytes : List ℕ) (part : Part) : Type 0 where
@@ -107,6 +138,75 @@ run_is n rest part some fits e = elim (cases_lt 24 n) [
       ]
 ]
 
+relay_at : (n : ℕ) (rest : List ℕ) → 32 ≤ n → n ≤ 159 → n % 32 ≢ 0 → n % 32 ≤ 24 → Fit rest
+    → 4 + 8 * (n % 32) ≤ length rest
+    → IsPlaced (n ∷ rest) (Relay (record {
+      player = n / 32 - 1;
+      run = record { start = number_at 0 rest; commands = record { items = take (8 * (n % 32)) (drop 4 rest) } };
+    }))
+relay_at n (s0 ∷ s1 ∷ s2 ∷ s3 ∷ more) high low some few fits long =
+    let k : ℕ = n % 32 in
+    let start : ℕ = from_le_bytes w32 (s0 ∷ s1 ∷ s2 ∷ s3 ∷ []) in
+    let starts = four_bytes s0 s1 s2 s3 start (fits 0) (fits 1) (fits 2) (fits 3) refl in
+    let one : 1 ≤ n % 32 = positive_of (n % 32) some in
+    let long_1 : 8 * (n % 32) ≤ length more = omega (arith, long) in
+    let sized : length (take (8 * (n % 32)) more) ≡ 8 * (n % 32) = length-take-le (8 * (n % 32)) more long_1 in
+    let head : n ≡ 32 * (n / 32 - 1 + 1) + length (take (8 * (n % 32)) more) / 8 = omega (arith, sized, high) in
+    let items : more ≡ take (8 * (n % 32)) more ++ drop (length (take (8 * (n % 32)) more)) more =
+    sym (take-append-drop (8 * (n % 32)) more)
+    ∙ ap (λ (j : ℕ). take (8 * (n % 32)) more ++ drop j more) (sym sized) in
+    record {
+      is = record {
+        player = omega (arith, low);
+        run = record {
+          start = small s0 s1 s2 s3 (fits 0) (fits 1) (fits 2) (fits 3);
+          some = omega (arith, sized, one);
+          few = omega (arith, sized, few);
+          whole = omega (arith, sized);
+        };
+      };
+      spelled = λ i. head i ∷ (starts i ++ items i);
+    }
+  where
+    positive_of : (k : ℕ) → k ≢ 0 → 1 ≤ k
+    positive_of zero is = absurd (is refl)
+    positive_of (suc k) is = omega arith
+relay_at n _ high low some few fits long = absurd (omega arith)
+
+relay_is : (n : ℕ) (rest : List ℕ) (part : Part) → 32 ≤ n → Fit rest → told_relay n rest ≡ Some part
+    → IsPlaced (n ∷ rest) part
+relay_is n rest part high fits e = elim (cases_lt 159 n) [
+  | inl many ↦
+      let a = lt-ltb 159 n many in
+      let none : ◌≡◌ {A = Option Part} None (Some part) = rw a at e in absurd (none-some part none)
+  | inr low ↦
+      let a = le-ltb 159 n low in
+      elim (cases_eq (n % 32) 0) [
+        | inl zero_is ↦
+            let z = eq-eqb (n % 32) 0 zero_is in
+            let none : ◌≡◌ {A = Option Part} None (Some part) = rw (a, z) at e in absurd (none-some part none)
+        | inr some ↦
+            let z = ne_eqb (n % 32) 0 some in
+            elim (cases_lt 24 (n % 32)) [
+              | inl lots ↦
+                  let c = lt-ltb 24 (n % 32) lots in
+                  let none : ◌≡◌ {A = Option Part} None (Some part) = rw (a, z, c) at e in absurd (none-some part none)
+              | inr few ↦
+                  let c = le-ltb 24 (n % 32) few in
+                  elim (cases_lt (length rest) (4 + 8 * (n % 32))) [
+                    | inl less ↦
+                        let b = lt-ltb (length rest) (4 + 8 * (n % 32)) less in
+                        let none : ◌≡◌ {A = Option Part} None (Some part) = rw (a, z, c, b) at e in
+                        absurd (none-some part none)
+                    | inr long ↦
+                        let b = le-ltb (length rest) (4 + 8 * (n % 32)) long in
+                        subst (IsPlaced (n ∷ rest)) (same_Some _ part (rw (a, z, c, b) at e))
+                        (relay_at n rest high low some few fits long)
+                  ]
+            ]
+      ]
+]
+
 pub part_is : (bytes : List ℕ) (part : Part) → Fit bytes → told_part bytes ≡ Some part → IsPlaced bytes part
 part_is [] part fits e = absurd (none-some part e)
 part_is (n ∷ rest) part fits e = elim (cases_eq n 0) [
@@ -115,7 +215,15 @@ part_is (n ∷ rest) part fits e = elim (cases_eq n 0) [
       subst (λ (k : ℕ). IsPlaced (k ∷ rest) part) (sym none)
       (whole_is rest part (fit_drop 1 (n ∷ rest) fits) (rw on at e))
   | inr some ↦
-      let off = ne_eqb n 0 some in run_is n rest part some (fit_drop 1 (n ∷ rest) fits) (rw off at e)
+      let off = ne_eqb n 0 some in
+      elim (cases_lt n 32) [
+        | inl own ↦
+            let low = lt-ltb n 32 own in
+            run_is n rest part some (fit_drop 1 (n ∷ rest) fits) (rw (off, low) at e)
+        | inr third ↦
+            let high = le-ltb n 32 third in
+            relay_is n rest part third (fit_drop 1 (n ∷ rest) fits) (rw (off, high) at e)
+      ]
 ]
 
 -- a part that is read lies within the bytes

@@ -7,7 +7,9 @@ use Rattle.dn_machine.specs.Node.{put}
 use Rattle.dn_machine.proofs.Put.{put_at, put_off}
 use Rattle.dn_link.specs.declared.bundle.Bundle.{Bundle}
 use Rattle.dn_link.specs.declared.presence.Presence.{Presence}
-use Rattle.dn_link.specs.Linked.{Linked, PeerState, done_with, known_by, met}
+use Rattle.dn_lockstep.specs.Contents.{Contents}
+use Rattle.dn_link.specs.Counting.{reached}
+use Rattle.dn_link.specs.Linked.{Linked, PeerState, done_with, known_by, met, with_reached}
 use Rattle.dn_link.proofs.Relinking.{AreGiven, without_given}
 
 module _ (given : List Flight) (player : ℕ) where
@@ -35,6 +37,11 @@ module _ (given : List Flight) (player : ℕ) where
       without_given given player bundle.from
       (done_with presence old.node (slice_index bundle.counts.got old.node.me))
       (old.peers bundle.from).kept.packets all
+
+  -- where what was heard acknowledges
+  pub reached_kept : (node : Contents) (peers : ℕ → PeerState) → AreKept peers → AreKept (with_reached node peers)
+  reached_kept node peers all peer =
+      without_given given player peer (reached node peer) (peers peer).kept.packets (all peer)
 
   pub met_kept : (old : Linked) (differs : Bool) (bundle : Bundle) (presence : Presence) → AreKept old.peers
       → AreKept (met differs bundle presence old).peers

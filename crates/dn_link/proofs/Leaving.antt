@@ -56,7 +56,7 @@ min_first : (a b bound : ℕ) → a ≤ bound → min a b ≤ bound
 min_first a b bound less = grind (arith, less)
 
 -- a count that is no larger than what is there, with the end where that is known to both
-at_most_there : (test : Bool) (count all there : ℕ) (end : Option ℕ) → count ≤ with_end there end
+pub at_most_there : (test : Bool) (count all there : ℕ) (end : Option ℕ) → count ≤ with_end there end
     → (is_some end ≡ true → test ≡ true) → min (if test then count - 1 else count) all ≤ there
 at_most_there true count all there None few known = min_first (count - 1) all there (omega (arith, few))
 at_most_there true count all there (Some end) few known = min_first (count - 1) all there (omega (arith, few))

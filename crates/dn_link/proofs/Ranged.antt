@@ -1,5 +1,5 @@
 -- The packets of a datagram are of its sender, and bytes.
-use Rattle.std.proofs.Common.{◌≡◌, ◌<◌, ◌+◌, ◌/◌, ◌%◌, ◌^◌, ℕ, zero, suc, List, [], ◌∷◌, ◌++◌, length, take, drop, refl, arith, All}
+use Rattle.std.proofs.Common.{◌<◌, ◌+◌, ◌/◌, ◌%◌, ◌^◌, ℕ, zero, suc, List, [], ◌∷◌, ◌++◌, length, take, drop, arith, All}
 use Rattle.std.specs.List.{flat_map}
 use Rattle.std.specs.Int.{w8, w32, cast_unsigned, to_le_bytes}
 use Rattle.std.proofs.Math.Nat.{mod-lt}
@@ -14,9 +14,9 @@ use Rattle.dn_seal.specs.Hmac.{tag_of}
 use Rattle.dn_seal.specs.Sealing.{front_bytes}
 use Rattle.dn_link.specs.declared.bundle.Bundle.{Bundle}
 use Rattle.dn_link.specs.declared.bundle.Part.{Part}
-use Rattle.dn_link.specs.declared.bundle.Part.TheVariants.{Whole, Run}
+use Rattle.dn_link.specs.declared.bundle.Part.TheVariants.{Whole, Run, Relay}
 use Rattle.dn_link.specs.Packets.{packets_in, packets_of, short_body, short_packet, short_packets, opened_from}
-use Rattle.dn_link.specs.Text.{bundle_bytes, carried_bytes, counts_bytes, message_bytes, part_bytes, parts_bytes, sealed_bytes}
+use Rattle.dn_link.specs.Text.{relay_head, run_bytes, bundle_bytes, carried_bytes, counts_bytes, message_bytes, part_bytes, parts_bytes, sealed_bytes}
 
 abbrev IsByte : ℕ → Type 0
 IsByte byte = byte < 256
@@ -31,9 +31,9 @@ before [] ys all = All-nil IsByte
 before (x ∷ xs) ys all =
     All-cons IsByte x xs (All-head IsByte x (xs ++ ys) all) (before xs ys (All-tail IsByte x (xs ++ ys) all))
 
--- a packet that is opened so
-abbrev pub IsOf : ℕ → Opened → Type 0
-IsOf from opened = (opened.from ≡ from) × AreBytes opened.datagram.items
+-- the datagram of a packet is of bytes
+abbrev pub IsSpelled : Opened → Type 0
+IsSpelled opened = AreBytes opened.datagram.items
 
 -- a packet of one command
 four_bytes : (a b c d : ℕ) → a < 256 → b < 256 → c < 256 → d < 256 → AreBytes (a ∷ b ∷ c ∷ d ∷ [])
@@ -47,44 +47,46 @@ sum_bytes sum = four_bytes (sum % 256) (sum / 256 % 256) (sum / 65536 % 256) (su
     (mod-lt (sum / 16777216) (omega arith))
 
 short_bytes : (from start : ℕ) (command : List ℕ) → from < 256 → AreBytes command
-    → IsOf from (opened_from from (short_packet from start command))
-short_bytes from start command low all = (
-  refl,
-  All-append IsByte (little_bytes 4 (sum_of (short_body from start command))) (short_body from start command)
-      (sum_bytes (sum_of (short_body from start command)))
-      (All-cons IsByte 0 (start % 256 ∷ from ∷ 1 ∷ command) (omega arith)
-      (All-cons IsByte (start % 256) (from ∷ 1 ∷ command) (mod-lt start (omega arith))
-      (All-cons IsByte from (1 ∷ command) low (All-cons IsByte 1 command (omega arith) all)))),
-)
+    → IsSpelled (opened_from from (short_packet from start command))
+short_bytes from start command low all =
+    All-append IsByte (little_bytes 4 (sum_of (short_body from start command))) (short_body from start command)
+    (sum_bytes (sum_of (short_body from start command)))
+    (All-cons IsByte 0 (start % 256 ∷ from ∷ 1 ∷ command) (omega arith)
+    (All-cons IsByte (start % 256) (from ∷ 1 ∷ command) (mod-lt start (omega arith))
+    (All-cons IsByte from (1 ∷ command) low (All-cons IsByte 1 command (omega arith) all))))
 
 shorts_bytes : (n from start : ℕ) (commands : List ℕ) → from < 256 → AreBytes commands
-    → All (IsOf from) (short_packets n from start commands)
-shorts_bytes zero from start commands low all = All-nil (IsOf from)
+    → All IsSpelled (short_packets n from start commands)
+shorts_bytes zero from start commands low all = All-nil IsSpelled
 shorts_bytes (suc n) from start commands low all =
-    All-cons (IsOf from) _ _ (short_bytes from start (take 8 commands) low (All-take IsByte 8 commands all))
+    All-cons IsSpelled _ _ (short_bytes from start (take 8 commands) low (All-take IsByte 8 commands all))
     (shorts_bytes n from ((start + 1) % 2 ^ 32) (drop 8 commands) low (All-drop IsByte 8 commands all))
 
 -- what a part stands for
-part_of_bytes : (from : ℕ) (part : Part) → from < 256 → AreBytes (part_bytes part) → All (IsOf from) (packets_of from part)
+part_of_bytes : (from : ℕ) (part : Part) → from < 256 → AreBytes (part_bytes part) → All IsSpelled (packets_of from part)
 part_of_bytes from (Whole packet) low all =
-    All-cons (IsOf from) (opened_from from packet) [] (
-      refl,
-      All-tail IsByte (length packet.datagram.items) packet.datagram.items
-          (after (ask_bytes packet.ask) (length packet.datagram.items ∷ packet.datagram.items)
-          (after (to_le_bytes w32 packet.start) (ask_bytes packet.ask ++ length packet.datagram.items ∷ packet.datagram.items)
-          (All-tail IsByte 0 (carried_bytes packet) all))),
-    )
-    (All-nil (IsOf from))
+    All-cons IsSpelled (opened_from from packet) []
+    (All-tail IsByte (length packet.datagram.items) packet.datagram.items
+    (after (ask_bytes packet.ask) (length packet.datagram.items ∷ packet.datagram.items)
+    (after (to_le_bytes w32 packet.start) (ask_bytes packet.ask ++ length packet.datagram.items ∷ packet.datagram.items)
+    (All-tail IsByte 0 (carried_bytes packet) all))))
+    (All-nil IsSpelled)
 part_of_bytes from (Run run) low all =
     shorts_bytes (length run.commands.items / 8) from run.start run.commands.items low
     (after (to_le_bytes w32 run.start) run.commands.items (All-tail IsByte (length run.commands.items / 8)
     (to_le_bytes w32 run.start ++ run.commands.items) all))
+part_of_bytes from (Relay relay) low all =
+    let head : ℕ = relay_head relay in
+    let first : relay_head relay < 256 = All-head IsByte head (run_bytes relay.run) all in
+    shorts_bytes (length relay.run.commands.items / 8) relay.player relay.run.start relay.run.commands.items
+    (omega (arith, first))
+    (after (to_le_bytes w32 relay.run.start) relay.run.commands.items (All-tail IsByte head (run_bytes relay.run) all))
 
 all_of_bytes : (from : ℕ) (parts : List Part) → from < 256 → AreBytes (flat_map part_bytes parts)
-    → All (IsOf from) (flat_map (packets_of from) parts)
-all_of_bytes from [] low all = All-nil (IsOf from)
+    → All IsSpelled (flat_map (packets_of from) parts)
+all_of_bytes from [] low all = All-nil IsSpelled
 all_of_bytes from (part ∷ parts) low all =
-    All-append (IsOf from) (packets_of from part) (flat_map (packets_of from) parts)
+    All-append IsSpelled (packets_of from part) (flat_map (packets_of from) parts)
     (part_of_bytes from part low (before (part_bytes part) (flat_map part_bytes parts) all))
     (all_of_bytes from parts low (after (part_bytes part) (flat_map part_bytes parts) all))
 
@@ -106,7 +108,7 @@ to_message seal bundle = to_counts seal bundle ++ message_bytes bundle.message
 
 -- what a datagram carries
 pub packets_of_bytes : (seal : Seal) (bundle : Bundle) → AreBytes (sealed_bytes seal bundle)
-    → All (IsOf bundle.from) (packets_in bundle)
+    → All (IsSpelled) (packets_in bundle)
 packets_of_bytes seal bundle all =
     let parts : List ℕ = parts_bytes bundle.parts.items in
     let whole = before (bundle_bytes seal bundle) (tag_of seal.key (bundle_bytes seal bundle)) all in

@@ -16,21 +16,22 @@ use Rattle.dn_link.specs.declared.bundle.Bundle.{Bundle}
 use Rattle.dn_link.specs.declared.bundle.BundleFault.{BundleFault}
 use Rattle.dn_link.specs.declared.bundle.Identity.{Identity}
 use Rattle.dn_link.specs.declared.presence.Presence.{Presence}
-use Rattle.dn_link.specs.Counting.{has_ended, has_of}
+use Rattle.dn_link.specs.Counting.{has_ended, has_of, held_of}
 use Rattle.dn_link.specs.declared.presence.Presence.TheVariants.{Left}
 use Rattle.dn_link.proofs.Lefts.{becomes_left}
 use Rattle.dn_link.specs.declared.received.Received.{Received}
 use Rattle.dn_link.specs.declared.received.Received.TheVariants.{GivenUp, Stranger}
 use Rattle.dn_link.specs.Bundles.{HasReached, WasGiven, IsGenuineDatagram}
 use Rattle.dn_link.specs.Hearing.{ByTest, HearsAll}
-use Rattle.dn_link.specs.Linked.{IsTakenIn, Linked, Receives, ReceivesAs, TakesIn, PeerState, has_given_up, hears, is_peer, known_by, met}
+use Rattle.dn_link.specs.Linked.{IsTakenIn, Linked, Receives, ReceivesAs, TakesIn, PeerState, has_given_up, hears, is_peer, known_by, met, takes}
 use Rattle.dn_link.specs.LinkedGame.{AreLinked, IsLater}
 use Rattle.dn_link.specs.Paced.{PaceState}
-use Rattle.dn_link.specs.Packets.{packets_in}
+use Rattle.dn_link.specs.Packets.{heard_in, packets_in}
+use Rattle.dn_link.proofs.Senders.{parts_heard}
 use Rattle.dn_link.specs.Reading.{IsBundledAs}
 use Rattle.dn_link.proofs.Keeping.{LettersKeep, all_keeps}
 use Rattle.dn_link.proofs.Growing.{HasAsMuch, all_grows}
-use Rattle.dn_link.proofs.Kepts.{AreKept, met_kept}
+use Rattle.dn_link.proofs.Kepts.{AreKept, met_kept, reached_kept}
 use Rattle.dn_link.proofs.Relinking.{later_by, relinked}
 use Rattle.dn_others.specs.declared.others.Others.{Others}
 use Rattle.dn_link.proofs.Linking as base
@@ -71,15 +72,17 @@ module _ (marking : Marking) (limits : Limits) (settings : Settings) (session : 
 
     -- its packets are heard, or none
     by_heard : (bundle : Bundle) (new : Linked) (started : Bool) → All (WasGiven session.given player) (packets_in bundle)
-        → (test : Bool) → ByTest test (HearsAll (packets_in bundle) old.node new.node started)
+        → (test : Bool) → ByTest test (HearsAll (heard_in (takes old) bundle) old.node new.node started)
         ((new.node ≡ old.node) × (started ≡ false))
         → AreOneGame marking limits settings (with_lockstep session player new.node)
         × HasAsMuch player (session.locksteps player) new.node
     by_heard bundle new started all true hears =
-        let heard = subst (λ (n : Contents). HearsAll (packets_in bundle) n new.node started) node hears in (
-          all_keeps letters marking limits settings session player (packets_in bundle) new.node started linked.game all heard,
-          all_grows letters marking limits settings session player mine (packets_in bundle) new.node started
-              linked.game all heard,
+        let packets = heard_in (takes old) bundle in
+        let heard = subst (λ (n : Contents). HearsAll packets n new.node started) node hears in
+        let each = parts_heard (has_given_up old) (held_of old.node) bundle.from (WasGiven session.given player) bundle.parts.items all in (
+          all_keeps letters marking limits settings session player packets new.node started linked.game each heard,
+          all_grows letters marking limits settings session player mine packets new.node started
+              linked.game each heard,
         )
     by_heard bundle new started all false stays =
         let same = stays.0 ∙ node in (
@@ -131,7 +134,8 @@ module _ (marking : Marking) (limits : Limits) (settings : Settings) (session : 
           relinked marking limits settings session later links player new linked game refl is
               (ap (λ (o : Others). o.gone) takes.others)
               (subst (AreKept session.given player) (sym takes.peers)
-              (met_kept session.given player old differs bundle presence (λ peer. linked.kept player peer mine)))
+              (reached_kept session.given player new.node (met differs bundle presence old).peers
+              (met_kept session.given player old differs bundle presence (λ peer. linked.kept player peer mine))))
               told left,
           is,
         )

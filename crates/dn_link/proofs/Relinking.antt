@@ -17,7 +17,7 @@ use Rattle.dn_lockstep.specs.OneGame.{AreOneGame}
 use Rattle.dn_lockstep.specs.Session.{Session, given_on}
 use Rattle.dn_lockstep.proofs.OneGame.{GoesBetween}
 use Rattle.dn_seal.specs.declared.opened.Opened.{Opened}
-use Rattle.dn_link.specs.declared.bundle.Bundle.{Bundle}
+use Rattle.dn_link.specs.declared.bundle.Part.{Part}
 use Rattle.dn_link.specs.declared.bundle.Carried.{Carried}
 use Rattle.dn_link.specs.Bundles.{WasGiven}
 use Rattle.dn_link.specs.Giving.{carried_of}
@@ -26,7 +26,7 @@ use Rattle.dn_link.specs.Linked.{IsWhole, Linked}
 use Rattle.dn_link.specs.Counting.{has_ended, has_of}
 use Rattle.dn_link.specs.declared.presence.Presence.TheVariants.{Left}
 use Rattle.dn_link.specs.LinkedGame.{AreLinked, IsLater}
-use Rattle.dn_link.specs.Packets.{opened_from, packets_of, packets_in}
+use Rattle.dn_link.specs.Packets.{opened_from, packets_of}
 use Rattle.dn_link.specs.Packing.{ArePacked}
 use Rattle.dn_link.proofs.Growing.{HasAsMuch}
 use Rattle.dn_link.proofs.Whole.{still_whole}
@@ -114,11 +114,10 @@ module _ (given : List Flight) (flight : Option Flight) (from to : ℕ) (kept : 
           by false = all_stay given flight from to kept.packets all
 
   -- and so was all that the parts stand for
-  pub packs_given : (bundle : Bundle) → bundle.from ≡ from → ArePacked from (going kept packet) bundle.parts.items
-      → All (WasGiven (given_on given flight) to) (packets_in bundle)
-  packs_given bundle mine packed =
-      subst (All (WasGiven (given_on given flight) to)) (sym (ap (λ (k : ℕ). flat_map (packets_of k) bundle.parts.items) mine
-      ∙ packed.front))
+  pub packs_given : (parts : List Part) → ArePacked from (going kept packet) parts
+      → All (WasGiven (given_on given flight) to) (flat_map (packets_of from) parts)
+  packs_given parts packed =
+      subst (All (WasGiven (given_on given flight) to)) (sym packed.front)
       (All-take (WasGiven (given_on given flight) to) packed.count (map (opened_from from) (going kept packet))
       (All-map (WasGiven (given_on given flight) to) (opened_from from) (going kept packet) goes_given))
 

@@ -1,5 +1,5 @@
 -- What a link gives to a peer, within one game in which players may be given up.
-use Rattle.std.proofs.Common.{◌≡◌, ◌<◌, ℕ, Bool, true, false, List, refl, ap, sym, ◌∙◌, subst, Option, None, inl}
+use Rattle.std.proofs.Common.{◌≡◌, ◌<◌, ℕ, Bool, true, false, List, [], ◌∷◌, append-nil, arith, refl, ap, sym, ◌∙◌, subst, Option, None, inl}
 use Rattle.std.specs.Prelude.{IfSome}
 use Rattle.std.specs.Option.{option_map}
 use Rattle.std.proofs.lemmas.Bool.{and_parts, not-true}
@@ -15,7 +15,14 @@ use Rattle.dn_lockstep.specs.Sent.{aim_of, bytes_of, sent_to}
 use Rattle.dn_lockstep.specs.Steps.{Steps, Tells}
 use Rattle.dn_lockstep.proofs.OneGame.{GoesBetween}
 use Rattle.dn_survivor.specs.OneGame.{AreRemaining}
-use Rattle.dn_survivor.specs.Session.{Session, after_packet}
+use Rattle.dn_survivor.specs.Session.{Session, after_packet, after_relays}
+use Rattle.dn_survivor.specs.Relaying.{MayRelay}
+use Rattle.dn_lockstep.specs.Session.{given_on}
+use Rattle.dn_lockstep.specs.Told.{command_told}
+use Rattle.dn_machine.proofs.Put.{put_at}
+use Rattle.dn_others.specs.declared.others.Others.{Others}
+use Rattle.dn_link.specs.Relays.{Handed, flights_of}
+use Rattle.dn_link.proofs.Relays.{gives_all}
 use Rattle.dn_survivor.specs.Surviving.{Surviving, has_given_up}
 use Rattle.dn_survivor.proofs.OneGame as one_game
 use Rattle.dn_seal.specs.declared.seal.Seal.{Seal}
@@ -27,8 +34,12 @@ use Rattle.dn_link.specs.Paced.{PaceState}
 use Rattle.dn_link.specs.RemainingLinks.{AreRemainingLinks, KeepsGiven, WasSealedIn}
 use Rattle.dn_link.proofs.Aims.{carried_by, datagram_in, datagrams, sent_alike}
 use Rattle.dn_link.proofs.Outgoing.{goes_given, stays_kept}
-use Rattle.dn_link.proofs.Relinking.{found_later}
+use Rattle.dn_link.proofs.Relinking.{found_later, found_on}
 use Rattle.dn_link.proofs.RemainingCalls as base
+
+-- of some one is there
+some_not : (h : Handed) (handed : List Handed) → h ∷ handed ≡ [] → ⊥
+some_not h handed none = cc
 
 module _ (marking : Marking) (limits : Limits) (settings : Settings) (session : Session) (links : ℕ → Linked)
     (linked : AreRemainingLinks marking limits settings session links) (player : ℕ)
@@ -42,12 +53,49 @@ module _ (marking : Marking) (limits : Limits) (settings : Settings) (session : 
   module _ (seal : Seal) (identity : Identity) (pace : PaceState) (to : ℕ) (new : Linked) (bytes : List ℕ)
       (gives : Gives seal identity pace to old new bytes) where
     -- it goes out in a datagram of this game, and the links are those of the game after it
+    abbrev pub after_all : Option Flight → Session
+    after_all packet =
+        after_relays (after_packet session player packet (surviving_of new)) (flights_of to gives.handed)
+
     abbrev pub IsGiven : Option Flight → Type 0
     IsGiven packet =
-        WasSealedIn seal (after_packet session player packet (surviving_of new)) bytes
-        × AreRemainingLinks marking limits settings (after_packet session player packet (surviving_of new))
-        (put links player new)
-        × KeepsGiven session (after_packet session player packet (surviving_of new))
+        WasSealedIn seal (after_all packet) bytes
+        × AreRemainingLinks marking limits settings (after_all packet) (put links player new)
+        × KeepsGiven session (after_all packet)
+
+    -- what it has given up, and heard, stays with the packet
+    may_still : MayRelay (surviving_of old) to → MayRelay (surviving_of new) to
+    may_still = subst (λ (o : Others). MayRelay (record { lockstep = old.node; others = o }) to
+        → MayRelay (record { lockstep = new.node; others = new.others }) to) gives.others
+        (λ may. record { stays = may.stays; within = may.within })
+
+    -- commands of third players are handed on with it
+    hands_on : (packet : Option Flight)
+        → AreRemaining marking limits settings (after_packet session player packet (surviving_of new))
+        → AreRemaining marking limits settings (after_all packet)
+    hands_on packet game = go gives.handed refl
+      where
+        go : (handed : List Handed) → gives.handed ≡ handed → AreRemaining marking limits settings (after_all packet)
+        go [] e =
+            subst (λ (hs : List Handed). AreRemaining marking limits settings
+            (after_relays (after_packet session player packet (surviving_of new)) (flights_of to hs))) (sym e)
+            (subst (λ (given : List Flight). AreRemaining marking limits settings
+            (record (after_packet session player packet (surviving_of new)) { packets = given }))
+            (sym (append-nil (given_on session.packets packet))) game)
+        go (h ∷ handed) e =
+            let may = may_still (gives.may (λ none. absurd (some_not h handed (sym e ∙ none)))) in
+            gives_all new.node to
+            (λ given. AreRemaining marking limits settings
+            (record (after_packet session player packet (surviving_of new)) { packets = given }))
+            (λ given who tic command now its there apart told fair.
+            let here : put session.survivors player (surviving_of new) player ≡ surviving_of new =
+            put_at session.survivors player player (surviving_of new) refl in
+            let count : new.node.players ≡ limits.players =
+            ap (λ (s : Surviving). s.lockstep.players) (sym here) ∙ (now.nodes player mine).node.whose.players in
+            one_game.relays marking limits settings now player mine who to tic command (omega (arith, its, count))
+            (omega (arith, there, count)) apart (subst (λ (s : Surviving). MayRelay s to) (sym here) may)
+            (ap (λ (s : Surviving). command_told s.lockstep who tic) here ∙ told) fair)
+            (given_on session.packets packet) gives.handed game gives.handed_on
 
     gave_by : (packet : Option Flight)
         → AreRemaining marking limits settings (after_packet session player packet (surviving_of new))
@@ -56,9 +104,10 @@ module _ (marking : Marking) (limits : Limits) (settings : Settings) (session : 
         let own = base.own marking limits settings session links linked player mine in
         let all = base.all_kept marking limits settings session links linked player mine in
         let on = base.relinked marking limits settings session links linked
-        (after_packet session player packet (surviving_of new)) player new game refl
+        (after_all packet) player new (hands_on packet game) refl
         (record {
-          packets = λ which one found. found_later session.packets packet which one found;
+          packets = λ which one found. found_on (given_on session.packets packet) (flights_of to gives.handed) which one
+              (found_later session.packets packet which one found);
           reports = λ which given found. found;
         })
         (stays_kept session.packets packet player old new own seal identity pace to bytes gives between answer all) in (

@@ -1,5 +1,5 @@
 -- What a link takes in, within one game in which players may be given up.
-use Rattle.std.proofs.Common.{◌≡◌, ◌<◌, ℕ, Bool, true, false, List, refl, ap, sym, ◌∙◌, subst, arith, All, Some}
+use Rattle.std.proofs.Common.{◌≡◌, ◌<◌, ℕ, Bool, true, false, List, refl, ap, sym, ◌∙◌, subst, arith, All, Some, inl, inr}
 use Rattle.std.specs.Prelude.{◌&&◌, not, Result, Ok, Err}
 use Rattle.dn_report.specs.declared.report.Report.{Report}
 use Rattle.dn_setup.specs.Settings.{Settings}
@@ -23,21 +23,22 @@ use Rattle.dn_link.specs.declared.presence.Presence.{Presence}
 use Rattle.dn_link.specs.declared.received.Received.{Received}
 use Rattle.dn_link.specs.declared.received.Received.TheVariants.{GivenUp, Stranger}
 use Rattle.dn_link.specs.Bundles.{WasGiven}
+use Rattle.dn_link.specs.Counting.{held_of}
 use Rattle.dn_link.specs.Hearing.{ByTest, HearsAll}
-use Rattle.dn_link.specs.Linked.{IsTakenIn, Linked, Receives, ReceivesAs, TakesIn, PeerState, has_given_up, hears, is_peer, met, surviving_of}
+use Rattle.dn_link.specs.Linked.{IsTakenIn, Linked, Receives, ReceivesAs, TakesIn, PeerState, has_given_up, hears, is_peer, met, surviving_of, takes}
 use Rattle.dn_link.specs.Notices.{HearsNotice, HearsNoticeAs, is_notice}
 use Rattle.dn_link.specs.Paced.{PaceState}
-use Rattle.dn_link.specs.Packets.{packets_in}
+use Rattle.dn_link.specs.Packets.{heard_in, packets_in}
 use Rattle.dn_link.specs.Reading.{IsBundledAs, IsDatagramOf}
 use Rattle.dn_link.specs.RemainingLinks.{AreRemainingLinks, CarriesGiven, IsGenuineIn}
 use Rattle.dn_link.proofs.Along.{all_along}
 use Rattle.dn_link.proofs.Genuine.{same_bundle}
-use Rattle.dn_link.proofs.Kepts.{AreKept, met_kept}
+use Rattle.dn_link.proofs.Kepts.{AreKept, met_kept, reached_kept}
 use Rattle.dn_link.proofs.Letters.{AreWith, MayBeHeard, packet_keeps}
 use Rattle.dn_link.proofs.Noticed.{opened_given}
 use Rattle.dn_link.proofs.RemainingCalls as base
 use Rattle.dn_link.proofs.RemainingCalls.{GoOn, nothing_given}
-use Rattle.dn_link.proofs.Senders.{parts_from}
+use Rattle.dn_link.proofs.Senders.{parts_from, parts_heard}
 
 module _ (marking : Marking) (limits : Limits) (settings : Settings) (session : Session) (links : ℕ → Linked)
     (linked : AreRemainingLinks marking limits settings session links) (player : ℕ)
@@ -68,15 +69,19 @@ module _ (marking : Marking) (limits : Limits) (settings : Settings) (session : 
   -- the packets of a datagram are heard, or none
   by_heard : (bundle : Bundle) (new : Linked) (started : Bool)
       → All (WasGiven session.packets player) (packets_in bundle) → has old.others.gone bundle.from ≡ false
-      → (test : Bool) → ByTest test (HearsAll (packets_in bundle) old.node new.node started)
+      → (test : Bool) → ByTest test (HearsAll (heard_in (takes old) bundle) old.node new.node started)
       ((new.node ≡ old.node) × (started ≡ false)) → AreHere new.node
   by_heard bundle new started all free true hears =
       all_along (MayBeHeard marking limits settings session player old.others) AreHere
-      (packet_keeps marking limits settings session player old.others) (packets_in bundle) old.node new.node started
+      (packet_keeps marking limits settings session player old.others) (heard_in (takes old) bundle)
+      old.node new.node started
       here
       (λ k d below. (
-        all k d below,
-        ap (λ (from : ℕ). has old.others.gone from) (parts_from bundle.from bundle.parts.items k d below) ∙ free,
+        parts_heard (has_given_up old) (held_of old.node) bundle.from (WasGiven session.packets player) bundle.parts.items all k d below,
+        elim (parts_from (has_given_up old) (held_of old.node) bundle.from bundle.parts.items k d below) [
+          | inl own ↦ ap (λ (from : ℕ). has old.others.gone from) own ∙ free
+          | inr third ↦ third.0
+        ],
       )) hears
   by_heard bundle new started all free false stays = subst AreHere (sym stays.0) here
 
@@ -93,8 +98,9 @@ module _ (marking : Marking) (limits : Limits) (settings : Settings) (session : 
       (with_survivor session player (record { lockstep = new.node; others = o }))) (sym takes.others) game)
       refl (nothing_given session (with_survivor session player (surviving_of new)) refl refl)
       (subst (λ (f : ℕ → PeerState). AreKept session.packets player f) (sym takes.peers)
+      (reached_kept session.packets player new.node (met differs bundle presence old).peers
       (met_kept session.packets player old differs bundle presence
-      (base.all_kept marking limits settings session links linked player mine)))
+      (base.all_kept marking limits settings session links linked player mine))))
 
   -- a datagram that is opened
   opened_in : (seal : Seal) (identity : Identity) (pace : PaceState) (bytes : List ℕ) (new : Linked)

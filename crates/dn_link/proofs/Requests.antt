@@ -1,5 +1,5 @@
 -- What comes in leaves the packets to a peer as they go on, unless the peer asks for commands past those.
-use Rattle.std.proofs.Common.{◌≡◌, ◌≤◌, ◌⊎◌, ◌&&◌, ◌||◌, ℕ, Bool, true, false, List, [], ◌∷◌, refl, ap, sym, ◌∙◌, subst, arith, Option, All, inl, inr}
+use Rattle.std.proofs.Common.{◌≡◌, ◌≢◌, ◌≤◌, ◌⊎◌, ◌&&◌, ◌||◌, ℕ, Bool, true, false, List, [], ◌∷◌, refl, ap, sym, ◌∙◌, subst, arith, Option, All, inl, inr}
 use Rattle.std.specs.Prelude.{IfSome, not, Result, Ok, Err, slice_index}
 use Rattle.std.proofs.lemmas.Bool.{cases_eq}
 use Rattle.std.proofs.lemmas.List.Elements.{All-head, All-tail}
@@ -33,18 +33,20 @@ use Rattle.dn_link.specs.declared.presence.Presence.{Presence}
 use Rattle.dn_link.specs.declared.presence.Presence.TheVariants.{Left}
 use Rattle.dn_link.specs.declared.received.Received.{Received}
 use Rattle.dn_link.specs.declared.received.Received.TheVariants.{GivenUp, Stranger}
+use Rattle.dn_link.specs.Counting.{held_of, reached}
 use Rattle.dn_link.specs.Ends.{tells_end}
 use Rattle.dn_link.specs.Hearing.{ByTest, HearsAll, HearsUntil, is_start}
 use Rattle.dn_link.specs.Kept.{IsKeptRising}
-use Rattle.dn_link.specs.Linked.{IsTakenIn, Linked, PeerState, Receives, ReceivesAs, TakesIn, done_with, has_given_up, hears, is_peer, known_by, met}
+use Rattle.dn_link.specs.Linked.{IsTakenIn, Linked, PeerState, Receives, ReceivesAs, TakesIn, done_with, has_given_up, hears, is_peer, known_by, met, takes, with_reached}
 use Rattle.dn_link.specs.Onward.{AskWithin, AsksWithin, GoesOn, IsGone, StillGoesOn}
 use Rattle.dn_link.specs.Paced.{PaceState}
-use Rattle.dn_link.specs.Packets.{packets_in}
+use Rattle.dn_link.specs.Packets.{heard_in, packets_in}
 use Rattle.dn_link.specs.Presence.{Becomes, Greets, goes, may_come, plays_on}
 use Rattle.dn_link.specs.Reading.{IsBundledAs}
 use Rattle.dn_link.proofs.Asked.{opened_asked}
 use Rattle.dn_link.proofs.Following.{next_same, same_peers, still}
-use Rattle.dn_link.proofs.Ranged.{IsOf, packets_of_bytes}
+use Rattle.dn_link.proofs.Ranged.{IsSpelled, packets_of_bytes}
+use Rattle.dn_link.proofs.Senders.{parts_from, parts_heard}
 use Rattle.dn_link.proofs.Rising.{rises_past}
 use Rattle.dn_link.proofs.Sending.{resend_of}
 
@@ -57,22 +59,26 @@ telling : AreRead → (read : Result Packet PacketFault) → (told : Result Sett
 telling are (Ok packet) = let t = are.packet packet in (t.told, t.is_told)
 telling are (Err fault) = (Err NotSetup, tt)
 
-module _ (are : AreRead) (limits : Limits) (me to from bound : ℕ) where
+module _ (are : AreRead) (limits : Limits) (me to bound : ℕ) where
   -- a node of the machine that is shown afterwards, has made as many commands, and sends next from where one
   -- did, or not past the bound
   abbrev pub Heeds : machine.Node → Contents → Type 0
   Heeds m new = (next : machine.Node) × Represents limits me new next
       × (made me next ≡ made me m) × ((resend_of next to ≡ resend_of m to) ⊎ (resend_of next to ≤ bound))
 
+  -- if it is the peer's, it asks for no more
+  abbrev pub AsksLittle : Opened → Type 0
+  AsksLittle packet = packet.from ≡ to → IfSome packet.ask (λ tic. tic ≤ bound)
+
   -- no more was made, or the peer asks for no more
   abbrev pub Within : machine.Node → List Opened → Type 0
-  Within m packets = (made me m ≤ bound) ⊎ (from ≡ to → AskWithin bound packets)
+  Within m packets = (made me m ≤ bound) ⊎ All AsksLittle packets
 
   one_heeds : (packet : Opened) (packets : List Opened) (now next : Contents) (answer : Arrived) (m : machine.Node)
-      → Represents limits me now m → IsOf from packet → Within m (packet ∷ packets)
+      → Represents limits me now m → IsSpelled packet → Within m (packet ∷ packets)
       → HearsOpened packet now next answer → Heeds m next
   one_heeds packet packets now next answer m shows is within heard =
-      let reading = are.bytes packet.datagram.items is.1 in
+      let reading = are.bytes packet.datagram.items is in
       let told = telling are reading.read in
       let after = heard.step reading.read told.0 (reading.is_read, told.1) limits me m shows in
       let asked = opened_asked limits me m to packet reading.read told.0 (reading.is_read, told.1) in (
@@ -84,7 +90,7 @@ module _ (are : AreRead) (limits : Limits) (me to from bound : ℕ) where
           | inr tells ↦ inr (elim within [
             | inl all ↦ omega (arith, all, tells.2)
             | inr asks ↦ subst (λ (o : Option ℕ). IfSome o (λ tic. tic ≤ bound)) tells.1
-                (All-head (λ p. IfSome p.ask (λ tic. tic ≤ bound)) packet packets (asks (sym is.0 ∙ tells.0)))
+                (All-head AsksLittle packet packets asks tells.0)
           ])
         ],
       )
@@ -105,24 +111,24 @@ module _ (are : AreRead) (limits : Limits) (me to from bound : ℕ) where
   )
 
   within_on : (m mid : machine.Node) (packets more : List Opened) → made me mid ≡ made me m
-      → (AskWithin bound packets → AskWithin bound more) → Within m packets → Within mid more
+      → (All AsksLittle packets → All AsksLittle more) → Within m packets → Within mid more
   within_on m mid packets more count rest within = elim within [
     | inl all ↦ inl (omega (arith, all, count))
-    | inr asks ↦ inr (λ e. rest (asks e))
+    | inr asks ↦ inr (rest asks)
   ]
 
   until_heeds : (packets : List Opened) (now new : Contents) (started : Bool) (m : machine.Node)
-      → Represents limits me now m → All (IsOf from) packets → Within m packets
+      → Represents limits me now m → All IsSpelled packets → Within m packets
       → HearsUntil packets now new started → Heeds m new
   until_heeds [] now new started m shows all within heard =
       (m, subst (λ (n : Contents). Represents limits me n m) (sym heard.0) shows, refl, inl refl)
   until_heeds (packet ∷ packets) now new started m shows all within (next, answer, one, spares, then) =
-      let first = one_heeds packet packets now next answer m shows (All-head (IsOf from) packet packets all) within one in
+      let first = one_heeds packet packets now next answer m shows (All-head IsSpelled packet packets all) within one in
       go (is_start answer) first
       (λ later. heeds_on m first.0 new first.2 first.3 (until_heeds packets next new started first.0 first.1
-      (All-tail (IsOf from) packet packets all)
+      (All-tail IsSpelled packet packets all)
       (within_on m first.0 (packet ∷ packets) packets first.2
-      (λ asks. All-tail (λ p. IfSome p.ask (λ tic. tic ≤ bound)) packet packets asks) within) later)) then
+      (λ asks. All-tail AsksLittle packet packets asks) within) later)) then
     where
       go : (test : Bool) → Heeds m next → (HearsUntil packets next new started → Heeds m new)
           → ByTest test ((new ≡ next) × (started ≡ true)) (HearsUntil packets next new started) → Heeds m new
@@ -130,7 +136,7 @@ module _ (are : AreRead) (limits : Limits) (me to from bound : ℕ) where
       go false first later then = later then
 
   all_heeds : (packets : List Opened) (now new : Contents) (started : Bool) (m : machine.Node)
-      → Represents limits me now m → All (IsOf from) packets → Within m packets
+      → Represents limits me now m → All IsSpelled packets → Within m packets
       → HearsAll packets now new started → Heeds m new
   all_heeds packets now new started m shows all within (next, first, then) =
       let begun = until_heeds packets now next started m shows all within first in
@@ -205,35 +211,38 @@ module _ (are : AreRead) (limits : Limits) (me to : ℕ) (old new : Linked) (goe
 
   is_met : (identity : Identity) (fresh : Bool) (bundle : Bundle) (presence : Presence) (differs started : Bool)
       → TakesIn identity fresh bundle old new presence differs started → IsMet
-  is_met identity fresh bundle presence differs started takes = elim (cases_eq to bundle.from) [
-    | inl at ↦
-        let now : new.peers to ≡ known differs bundle presence =
-        ap (λ (f : ℕ → PeerState). f to) takes.peers ∙ put_at old.peers bundle.from to _ at in
-        let was : old.peers to ≡ old.peers bundle.from = ap old.peers at in
-        record {
-          rising = subst (λ (t : PeerState). IsKeptRising t.kept) (sym now)
-              (known_rises differs bundle presence (subst (λ (t : PeerState). IsKeptRising t.kept) was goes_old.rising));
-          more = omega (
-            arith,
-            ap (λ (t : PeerState). t.kept.covered) now,
-            ap (λ (t : PeerState). t.kept.covered) was,
-            known_more differs bundle presence,
-          );
-          gone = λ gone.
-              let is = becomes_gone identity (old.peers bundle.from).gave fresh bundle bundle.message
-              (old.peers bundle.from).presence presence takes.becomes
-              (gone.0, ap (λ (t : PeerState). t.presence) (sym was) ∙ gone.1) in
-              (is.0, ap (λ (t : PeerState). t.presence) now ∙ known_presence differs bundle presence ∙ is.1);
-        }
-    | inr off ↦
-        let same : new.peers to ≡ old.peers to =
-        ap (λ (f : ℕ → PeerState). f to) takes.peers ∙ put_off old.peers bundle.from to _ off in
-        record {
-          rising = subst (λ (t : PeerState). IsKeptRising t.kept) (sym same) goes_old.rising;
-          more = omega (arith, ap (λ (t : PeerState). t.kept.covered) same);
-          gone = λ gone. (gone.0, ap (λ (t : PeerState). t.presence) same ∙ gone.1);
-        }
-  ]
+  is_met identity fresh bundle presence differs started takes =
+      let now : new.peers to ≡ with_reached new.node (met differs bundle presence old).peers to =
+      ap (λ (f : ℕ → PeerState). f to) takes.peers in
+      let mid = met_so (cases_eq to bundle.from) in
+      record {
+        rising = subst (λ (t : PeerState). IsKeptRising t.kept) (sym now) (rises_past _ _ _ (reached new.node to) mid.0);
+        more = omega (arith, ap (λ (t : PeerState). t.kept.covered) now, mid.1.0);
+        gone = λ gone. let is = mid.1.1 gone in (is.0, ap (λ (t : PeerState). t.presence) now ∙ is.1);
+      }
+    where
+      -- before what was heard acknowledges
+      IsMid : PeerState → Type 0
+      IsMid mid =
+          IsKeptRising mid.kept × (((old.peers to).kept.covered ≤ mid.kept.covered)
+          × (IsGone (old.peers to).presence → IsGone mid.presence))
+
+      met_so : (to ≡ bundle.from) ⊎ (to ≢ bundle.from) → IsMid ((met differs bundle presence old).peers to)
+      met_so (inl at) =
+          let was : old.peers to ≡ old.peers bundle.from = ap old.peers at in
+          subst IsMid (sym (put_at old.peers bundle.from to (known differs bundle presence) at)) (
+            known_rises differs bundle presence (subst (λ (t : PeerState). IsKeptRising t.kept) was goes_old.rising),
+            (
+              omega (arith, ap (λ (t : PeerState). t.kept.covered) was, known_more differs bundle presence),
+              (λ gone.
+                  let is = becomes_gone identity (old.peers bundle.from).gave fresh bundle bundle.message
+                  (old.peers bundle.from).presence presence takes.becomes
+                  (gone.0, ap (λ (t : PeerState). t.presence) (sym was) ∙ gone.1) in
+                  (is.0, known_presence differs bundle presence ∙ is.1)),
+            ),
+          )
+      met_so (inr off) = subst IsMid (sym (put_off old.peers bundle.from to (known differs bundle presence) off))
+          (goes_old.rising, (omega arith, (λ gone. gone)))
 
   nothing : new ≡ old → StillGoesOn limits me to old new
   nothing same =
@@ -242,24 +251,37 @@ module _ (are : AreRead) (limits : Limits) (me to : ℕ) (old new : Linked) (goe
       (ap (λ (l : Linked). l.peers) same)
 
   taken_in : (identity : Identity) (fresh : Bool) (bundle : Bundle) (presence : Presence) (differs started : Bool)
-      → All (IsOf bundle.from) (packets_in bundle)
-      → Within are limits me to bundle.from (new.peers to).kept.covered goes_old.node (packets_in bundle)
+      → All IsSpelled (packets_in bundle)
+      → (made me goes_old.node ≤ (new.peers to).kept.covered)
+      ⊎ (bundle.from ≡ to → AskWithin (new.peers to).kept.covered (packets_in bundle))
       → TakesIn identity fresh bundle old new presence differs started → StillGoesOn limits me to old new
-  taken_in identity fresh bundle presence differs started all within takes =
-      let met_now = is_met identity fresh bundle presence differs started takes in
-      let heeds : Heeds are limits me to bundle.from (new.peers to).kept.covered goes_old.node new.node =
-      by_heard (not differs && hears (met differs bundle presence old) presence) takes.heard in
+  taken_in identity fresh bundle presence differs started all within takes_it =
+      let met_now = is_met identity fresh bundle presence differs started takes_it in
+      let heeds : Heeds are limits me to (new.peers to).kept.covered goes_old.node new.node =
+      by_heard (not differs && hears (met differs bundle presence old) presence) takes_it.heard in
       still limits me to old new goes_old heeds.0 heeds.1 met_now.rising met_now.more (elim heeds.3 [
         | inl same ↦ next_same limits me to old new goes_old heeds.0 met_now.more met_now.gone same
         | inr low ↦ inr low
       ])
     where
-      by_heard : (test : Bool) → ByTest test (HearsAll (packets_in bundle) old.node new.node started)
+      -- what third players have handed on asks for nothing
+      little : Within are limits me to (new.peers to).kept.covered goes_old.node (heard_in (takes old) bundle)
+      little = elim within [
+        | inl few ↦ inl few
+        | inr asks ↦ inr (λ k d below e. elim (parts_from (has_given_up old) (held_of old.node) bundle.from bundle.parts.items k d below) [
+          | inl own ↦ parts_heard (has_given_up old) (held_of old.node) bundle.from (λ p. IfSome p.ask (λ tic. tic ≤ (new.peers to).kept.covered))
+              bundle.parts.items (asks (sym own ∙ e)) k d below
+          | inr third ↦ subst (λ (o : Option ℕ). IfSome o (λ tic. tic ≤ (new.peers to).kept.covered)) (sym third.1) tt
+        ])
+      ]
+
+      by_heard : (test : Bool) → ByTest test (HearsAll (heard_in (takes old) bundle) old.node new.node started)
           ((new.node ≡ old.node) × (started ≡ false))
-          → Heeds are limits me to bundle.from (new.peers to).kept.covered goes_old.node new.node
+          → Heeds are limits me to (new.peers to).kept.covered goes_old.node new.node
       by_heard true heard =
-          all_heeds are limits me to bundle.from (new.peers to).kept.covered (packets_in bundle) old.node new.node
-          started goes_old.node goes_old.shows all within heard
+          all_heeds are limits me to (new.peers to).kept.covered (heard_in (takes old) bundle) old.node new.node
+          started goes_old.node goes_old.shows
+          (parts_heard (has_given_up old) (held_of old.node) bundle.from IsSpelled bundle.parts.items all) little heard
       by_heard false stays =
           (goes_old.node, subst (λ (n : Contents). Represents limits me n goes_old.node) (sym stays.0) goes_old.shows, refl, inl refl)
 

@@ -20,6 +20,7 @@ use Rattle.dn_machine.specs.Sending.{after_sent, commands_flight, first_sent, la
 use Rattle.dn_machine.specs.Hearing.{is_within, after_request, after_exit, on_packet}
 use Rattle.dn_machine.specs.Running.{on_run, on_quit}
 use Rattle.dn_machine.proofs.Put.{put_at, put_off}
+use Rattle.dn_machine.proofs.Stages.{lag_low}
 use Rattle.dn_machine.proofs.Calls.{build_cases, send_cases, run_cases, quit_cases, packet_cases, sender_after}
 use Rattle.dn_link.specs.declared.bundle.Carried.{Carried}
 use Rattle.dn_link.specs.Giving.{carried_of}
@@ -136,6 +137,10 @@ module _ (limits : Limits) (me : ℕ) (node : Node) (to : ℕ) where
     pub start : packet.start ≡ resend_of node to
     pub end : (kept.end_of packet ≡ resend_of node to) ⊎ (kept.end_of packet ≤ made me node)
     pub next : resend_of new to ≤ kept.end_of packet
+    pub all : made me node ≤ resend_of node to + 12 → made me node ≤ kept.end_of packet
+    pub low : resend_of node to ≤ made me node → kept.end_of packet ≤ resend_of new to + lag limits
+    pub most : resend_of new to ≤ made me node - lag limits
+    pub up : resend_of node to ≤ made me node - lag limits → resend_of node to ≤ resend_of new to
 
   -- what it sends: nothing, or settings, which have no command; or such a packet
   abbrev pub Silent : Node → Option Flight → Type 0
@@ -206,6 +211,10 @@ module _ (limits : Limits) (me : ℕ) (node : Node) (to : ℕ) where
             | inr low ↦ inr (omega (arith, count, first, low))
           ];
           next = omega (arith, count, first, last);
+          all = λ near. omega (arith, count, first, near);
+          low = λ within. omega (arith, count, first, last, within);
+          most = omega (arith, last);
+          up = λ within. omega (arith, last, within, lag_low limits);
         }
 
     pub sends : Sends (on_send limits me node to).0 (on_send limits me node to).1

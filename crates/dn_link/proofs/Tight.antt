@@ -6,7 +6,7 @@ use Rattle.std.proofs.Math.Seq.{take-append_seam}
 use Rattle.arrayvec.specs.ArrayVec.{ArrayVec}
 use Rattle.dn_link.specs.declared.bundle.Carried.{Carried}
 use Rattle.dn_link.specs.declared.bundle.Part.{Part}
-use Rattle.dn_link.specs.declared.bundle.Part.TheVariants.{Whole, Run}
+use Rattle.dn_link.specs.declared.bundle.Part.TheVariants.{Whole, Run, Relay}
 use Rattle.dn_link.specs.declared.bundle.Run as run
 use Rattle.dn_link.specs.declared.packing.Packing.{Packing}
 use Rattle.dn_link.specs.Packets.{short_packet}
@@ -40,6 +40,7 @@ front_ended (a ∷ b ∷ parts) one all = (all.0, front_ended (b ∷ parts) one 
 before_whole : (one : Part) (packet : Carried) → IsEnded one (Whole packet)
 before_whole (Whole other) packet = tt
 before_whole (Run run) packet = tt
+before_whole (Relay relay) packet = tt
 
 whole_ended : (parts : List Part) (packet : Carried) → AreEnded parts → AreEnded (parts ++ Whole packet ∷ [])
 whole_ended [] packet all = tt

@@ -1,10 +1,9 @@
 -- A player of a game who has not played has no commands, and knows no end.
-use Rattle.std.proofs.Common.{◌≡◌, ◌&&◌, ℕ, ℤ, Bool, true, false, List, [], refl, ap, ◌∙◌, Option, None, inl, inr, eqb}
+use Rattle.std.proofs.Common.{◌≡◌, ◌&&◌, ℕ, ℤ, Bool, true, false, List, [], ◌∷◌, refl, ap, sym, subst, ◌∙◌, Option, None, inl, inr, eqb}
 use Rattle.std.specs.Prelude.{◌==◌, if◌then◌else◌}
 use Rattle.std.proofs.lemmas.Bool.{cases_eq, cond_both}
 use Rattle.dn_tic.specs.declared.input.Input.{Input}
 use Rattle.dn_setup.specs.Settings.{Settings}
-use Rattle.dn_machine.specs.declared.events.Event.{Event}
 use Rattle.dn_machine.specs.declared.answers.Cause.{Cause}
 use Rattle.dn_machine.specs.declared.answers.Heard.{Heard}
 use Rattle.dn_machine.specs.declared.answers.Phase.TheVariants.{Listening, Gathering, Playing, Ended}
@@ -16,11 +15,11 @@ use Rattle.dn_machine.specs.Hearing.{is_within, after_request, on_packet}
 use Rattle.dn_machine.specs.Limits.{Limits}
 use Rattle.dn_machine.specs.Node.{Node, with_peer, made, has_left, is_ended}
 use Rattle.dn_machine.specs.Running.{on_run, on_quit}
-use Rattle.dn_machine.specs.Runs.{Runs}
+use Rattle.dn_machine.specs.Relaying.{RelayEvent, Own, Relay, NextRelayed, LeadsRelayed, RunsRelayed}
 use Rattle.dn_machine.specs.Sending.{on_send}
 use Rattle.dn_machine.specs.Worlds.{Rules}
 use Rattle.dn_machine.proofs.Calls.{build_cases, send_cases, run_cases, quit_cases, packet_cases}
-use Rattle.dn_machine.proofs.EachEvent.{after_event, leads_keep}
+use Rattle.dn_machine.proofs.EachEvent.{after_event, next_keeps}
 use Rattle.dn_machine.proofs.Put.{put_at, put_off}
 
 -- who plays has played, and who has not has nothing
@@ -120,12 +119,23 @@ fresh_nothing settings me =
     go true e = absurd (cc)
     go false e = absurd (cc)
 
-pub always_nothing : {S : Type 0} (rules : Rules S) (settings : Settings) (events : List Event) (game : Game)
-    → Runs rules settings events game → (q : ℕ) → HasNothing (game.nodes q)
+pub always_nothing : {S : Type 0} (rules : Rules S) (settings : Settings) (events : List RelayEvent) (game : Game)
+    → RunsRelayed rules settings events game → (q : ℕ) → HasNothing (game.nodes q)
 unfolding opening_game
-always_nothing rules settings events game run = leads_keep rules (λ (g : Game). (q : ℕ) → HasNothing (g.nodes q))
-    (λ now event all q. after_event rules Still (λ node h. h) now q
-    (λ i input node. build_still rules.limits i node input) (λ i to node. send_still rules.limits i node to)
-    (λ i flight node. hear_still rules.limits i node flight) (λ node marks. run_still rules.limits 0 node marks)
-    (λ node. quit_still rules.limits 0 node) event (all q))
-    events (opening_game settings) game (λ q. fresh_nothing settings q) run
+always_nothing rules settings events game run = leads events (opening_game settings) game
+    (λ q. fresh_nothing settings q) run
+  where
+    Each : Game → Type 0
+    Each now = (q : ℕ) → HasNothing (now.nodes q)
+
+    one : (now next : Game) (event : RelayEvent) → Each now → NextRelayed rules now event next → Each next
+    one now next (Own event) all step = next_keeps rules Each
+        (λ now event all q. after_event rules Still (λ node h. h) now q
+        (λ i input node. build_still rules.limits i node input) (λ i to node. send_still rules.limits i node to)
+        (λ i flight node. hear_still rules.limits i node flight) (λ node marks. run_still rules.limits 0 node marks)
+        (λ node. quit_still rules.limits 0 node) event (all q)) now next event all step
+    one now next (Relay node player to tic) all step = subst Each (sym step.1) all
+
+    leads : (events : List RelayEvent) (now last : Game) → Each now → LeadsRelayed rules now events last → Each last
+    leads [] now last all same = subst Each (sym same) all
+    leads (event ∷ events) now last all way = leads events way.0 last (one now way.0 event all way.1) way.2

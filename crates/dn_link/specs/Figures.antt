@@ -1,9 +1,9 @@
 -- What is known of the line to a peer, and of the commands that are on their way.
-use Rattle.std.specs.Prelude.{ℕ, ◌-◌, if◌then◌else◌, min, slice_index}
+use Rattle.std.specs.Prelude.{ℕ, ◌-◌, if◌then◌else◌, min}
 use Rattle.dn_lockstep.specs.Told.{made}
 use Rattle.dn_link.specs.declared.figures.Figures.{Figures}
 use Rattle.dn_link.specs.Line.{LineState}
-use Rattle.dn_link.specs.Linked.{Linked, certain, needs_nothing}
+use Rattle.dn_link.specs.Linked.{Linked, needs_nothing}
 
 abbrev pub figures_of : LineState → Figures
 figures_of line =
@@ -17,12 +17,12 @@ figures_of line =
       lead_there = line.lead;
     }
 
--- how many of the node's commands a player has for certain; all, of one that needs nothing
+-- how many of the node's commands a player has acknowledged; all, of one that needs nothing
 abbrev pub acknowledged_by : Linked → ℕ → ℕ
 acknowledged_by link player =
     if needs_nothing link player
     then made link.node
-    else certain link.node (slice_index (link.peers player).reported link.node.me)
+    else min (link.peers player).kept.done (made link.node)
 
 -- how many of the node's commands not every remaining player has acknowledged
 abbrev pub unacknowledged : Linked → ℕ

@@ -4,8 +4,11 @@ pub mod Reading
 pub mod Packets
 pub mod Giving
 pub mod Counting
+pub mod Relays
 pub mod Linked
 pub mod Surviving
+pub mod Handing
+pub mod Overdue
 pub mod Notices
 pub mod Linking
 pub mod Running
@@ -17,6 +20,8 @@ pub mod Keeping
 pub mod Hearing
 pub mod Bundles
 pub mod LinkedGame
+pub mod CaughtUp
+pub mod Rounds
 pub mod RemainingLinks
 pub mod Line
 pub mod Leaning

@@ -1,5 +1,5 @@
 -- What a link keeps, and what its calls do.
-use Rattle.std.specs.Prelude.{◌≡◌, ℕ, ◌+◌, ◌-◌, ◌%◌, ◌^◌, ◌==◌, ◌&&◌, ◌||◌, if◌then◌else◌, nat_lt, min, max, Bool, not, List, [], ◌∷◌, slice_index, Option, is_none, is_some, None, true, false, Result, Ok, Err}
+use Rattle.std.specs.Prelude.{◌≡◌, ℕ, ◌+◌, ◌-◌, ◌%◌, ◌^◌, ◌==◌, ◌≤◌, ◌&&◌, ◌||◌, if◌then◌else◌, nat_lt, min, max, length, Bool, not, List, [], ◌∷◌, slice_index, ◌++◌, ◌≢◌, map, All, Option, is_none, is_some, None, true, false, Result, Ok, Err}
 use Rattle.dn_machine.specs.declared.answers.Phase.{Phase}
 use Rattle.dn_machine.specs.declared.answers.Phase.TheVariants.{Gathering}
 use Rattle.dn_machine.specs.Node.{is_ended, put}
@@ -19,15 +19,19 @@ use Rattle.dn_link.specs.declared.presence.Presence.TheVariants.{Left}
 use Rattle.dn_link.specs.declared.received.Received.{Received}
 use Rattle.dn_link.specs.declared.received.Received.TheVariants.{Unopened, Stranger, GivenUp, Different, Heard}
 use Rattle.dn_link.specs.Reading.{IsBundledAs}
-use Rattle.dn_link.specs.Counting.{counts_of}
+use Rattle.dn_link.specs.Counting.{counts_of, held_of, reached}
 use Rattle.dn_link.specs.Giving.{SendsCarried}
 use Rattle.dn_link.specs.Hearing.{ByTest, HearsAll}
 use Rattle.dn_link.specs.Kept.{Unacknowledged, acknowledged, going, kept_after, taken_by}
 use Rattle.dn_link.specs.Line.{missing}
 use Rattle.dn_link.specs.Paced.{PaceState}
-use Rattle.dn_link.specs.Packets.{packets_in}
+use Rattle.dn_link.specs.Packets.{heard_in, takes_relay}
 use Rattle.dn_link.specs.Packing.{ArePacked}
-use Rattle.dn_link.specs.Presence.{Becomes, Differs, when_forgotten, has_gone, has_left, is_fresh, is_there, message_of, still_given}
+use Rattle.dn_link.specs.Relays.{AreHandedOn, AreLacked, Handed, handed_part}
+use Rattle.dn_link.specs.declared.bundle.Part.{Part}
+use Rattle.dn_link.specs.declared.bundle.Relay as relay
+use Rattle.dn_survivor.specs.Relaying.{MayRelay}
+use Rattle.dn_link.specs.Presence.{Becomes, Differs, when_forgotten, has_gone, has_left, is_fresh, is_there, message_of}
 use Rattle.dn_link.specs.Text.{IsBundle, sealed_bytes}
 
 -- what it keeps of a peer: the packets that the peer has not acknowledged, the most that the peer's datagrams
@@ -88,9 +92,10 @@ abbrev pub SendsReady : ℕ → Linked → Contents → Option Carried → Type 
 SendsReady to old new given =
     ByTest (holds_back old) ((new ≡ old.node) × (given ≡ None)) (SendsCarried to old.node new given)
 
--- a datagram to a peer: what is kept for the peer, with the packet of the moment if the peer takes it, how far
--- the node is, by how many commands it led at its last tick, how many datagrams of the peer are missing, and
--- who or where it is
+-- a datagram to a peer: what is kept for the peer, with the packet of the moment if the peer takes it; behind
+-- these, commands of at most two third players, none of which the peer has reported, of no player who is given
+-- up, and only if the peer may be handed any; how far the node is; by how many commands it led at its last tick;
+-- how many datagrams of the peer are missing; and who or where the player is
 pub record Gives (seal : Seal) (identity : Identity) (pace : PaceState) (to : ℕ) (old new : Linked) (bytes : List ℕ) : Type 0 where
   pub given : Option Carried
   pub step : SendsReady to old new.node given
@@ -105,8 +110,15 @@ pub record Gives (seal : Seal) (identity : Identity) (pace : PaceState) (to : �
   pub holes : bundle.holes ≡ missing (pace.lines to)
   pub message : bundle.message ≡ message_of identity old.node.phase
   pub counts : bundle.counts ≡ counts_of new.node
-  pub packed : ArePacked old.node.me (going (old.peers to).kept (taken_by (old.peers to).presence given))
-      bundle.parts.items
+  pub own : List Part
+  pub handed : List Handed
+  pub parts : bundle.parts.items ≡ own ++ map handed_part handed
+  pub packed : ArePacked old.node.me (going (old.peers to).kept (taken_by (old.peers to).presence given)) own
+  pub handed_on : AreHandedOn new.node to handed
+  pub lacked : AreLacked (old.peers to).reported 0 handed
+  pub few : length handed ≤ 2
+  pub stay : All (λ h. has_given_up old h.player ≡ false) handed
+  pub may : handed ≢ [] → MayRelay (surviving_of old) to
   pub others : new.others ≡ old.others
   pub peers : new.peers ≡ put old.peers to (record (old.peers to) {
     kept = kept_after (old.peers to).kept (taken_by (old.peers to).presence given);
@@ -137,13 +149,12 @@ after_report node bundle presence peer =
       kept = acknowledged peer.kept (done_with presence node (slice_index bundle.counts.got node.me));
       reported = larger peer.reported bundle.counts.got;
       presence = presence;
-      gave = still_given presence peer.gave;
     }
 
 -- who it is, if nothing else of a datagram is taken
 abbrev pub known_by : Bool → Contents → Bundle → Presence → PeerState → PeerState
 known_by true node bundle presence peer =
-    record peer { presence = presence; gave = still_given presence peer.gave }
+    record peer { presence = presence }
 known_by false node bundle presence peer = after_report node bundle presence peer
 
 abbrev pub met : Bool → Bundle → Presence → Linked → Linked
@@ -152,22 +163,31 @@ met differs bundle presence link =
       peers = put link.peers bundle.from (known_by differs link.node bundle presence (link.peers bundle.from));
     }
 
+-- it takes these commands of a third player
+abbrev pub takes : Linked → relay.Relay → Bool
+takes link relay = takes_relay (has_given_up link) (held_of link.node) relay
+
+-- each player has acknowledged what it must have had when it made the commands that are here, whoever gave them
+abbrev pub with_reached : Contents → (ℕ → PeerState) → ℕ → PeerState
+with_reached node peers player =
+    record (peers player) { kept = acknowledged (peers player).kept (reached node player) }
+
 -- while players gather no packet is heard before all are there, and none of one that leaves without having
 -- played
 abbrev pub hears : Linked → Presence → Bool
 hears link presence = not (is_gathering link.node.phase) || (all_ready link && is_there presence)
 
 -- a datagram of a peer is taken in. Where it greets with another identity, or its sender differs, none of its
--- packets is heard, and none of its counts is taken
+-- packets is heard, and none of its counts is taken. What is heard then acknowledges, for whoever made it
 pub record TakesIn (identity : Identity) (fresh : Bool) (bundle : Bundle) (old new : Linked) (presence : Presence)
     (differs started : Bool) : Type 0 where
   pub becomes : Becomes identity (old.peers bundle.from).gave fresh bundle bundle.message
       (old.peers bundle.from).presence presence
   pub alike : Differs identity bundle.message presence differs
   pub heard : ByTest (not differs && hears (met differs bundle presence old) presence)
-      (HearsAll (packets_in bundle) old.node new.node started) ((new.node ≡ old.node) × (started ≡ false))
+      (HearsAll (heard_in (takes old) bundle) old.node new.node started) ((new.node ≡ old.node) × (started ≡ false))
   pub others : new.others ≡ old.others
-  pub peers : new.peers ≡ (met differs bundle presence old).peers
+  pub peers : new.peers ≡ with_reached new.node (met differs bundle presence old).peers
 
 abbrev pub received_of : Bool → ℕ → Bool → Received
 received_of differs from started = if differs then Different from else Heard from started
@@ -198,8 +218,8 @@ Receives seal identity pace bytes old new answer =
 abbrev pub end_known : Contents → ℕ → Option ℕ
 end_known node player = if nat_lt player node.players then end_in node player else None
 
--- nothing more is expected of a player: it has played and left, or is forgotten; or player 0 said goodbye before
--- its game, and without another player 0 there will be none
+-- nothing more is expected of a player: it has played and left, or is forgotten; or player 0 said goodbye
+-- before its game, and without another player 0 there will be none
 abbrev pub is_out : Linked → ℕ → Bool
 is_out link player = has_left (link.peers player).presence || has_gone (link.peers 0).presence
 

@@ -1,5 +1,5 @@
 -- The packets that a datagram carries.
-use Rattle.std.specs.Prelude.{ℕ, zero, suc, ◌+◌, ◌/◌, ◌%◌, ◌^◌, List, [], ◌∷◌, ◌++◌, length, take, drop, None}
+use Rattle.std.specs.Prelude.{ℕ, zero, suc, ◌+◌, ◌/◌, ◌%◌, ◌^◌, List, [], ◌∷◌, ◌++◌, length, take, drop, Bool, ◌&&◌, not, nat_le, slice_index, if◌then◌else◌, None}
 use Rattle.std.specs.List.{flat_map}
 use Rattle.byteorder.specs.Endian.{little_bytes}
 use Rattle.dn_packet.specs.Text.{sum_of}
@@ -7,7 +7,8 @@ use Rattle.dn_seal.specs.declared.opened.Opened.{Opened}
 use Rattle.dn_link.specs.declared.bundle.Bundle.{Bundle}
 use Rattle.dn_link.specs.declared.bundle.Carried.{Carried}
 use Rattle.dn_link.specs.declared.bundle.Part.{Part}
-use Rattle.dn_link.specs.declared.bundle.Part.TheVariants.{Whole, Run}
+use Rattle.dn_link.specs.declared.bundle.Part.TheVariants.{Whole, Run, Relay}
+use Rattle.dn_link.specs.declared.bundle.Relay as relay
 
 -- a packet as it would be opened, had it come alone in its sender's envelope
 abbrev pub opened_from : ℕ → Carried → Opened
@@ -40,6 +41,34 @@ short_packets (suc n) from start commands =
 abbrev pub packets_of : ℕ → Part → List Opened
 packets_of from (Whole packet) = opened_from from packet ∷ []
 packets_of from (Run run) = short_packets (length run.commands.items / 8) from run.start run.commands.items
+packets_of from (Relay relay) =
+    short_packets (length relay.run.commands.items / 8) relay.player relay.run.start relay.run.commands.items
+
+-- commands of a third player are taken who is not given up, and none past a gap: they begin where those end
+-- that are there already, or before
+abbrev pub takes_relay : (ℕ → Bool) → List ℕ → relay.Relay → Bool
+takes_relay gone counts relay =
+    not (gone relay.player) && nat_le relay.run.start (slice_index counts relay.player)
+
+-- what is heard of a part: of what is handed on, what is taken
+abbrev pub heard_of : (relay.Relay → Bool) → ℕ → Part → List Opened
+heard_of takes from (Whole packet) = packets_of from (Whole packet)
+heard_of takes from (Run run) = packets_of from (Run run)
+heard_of takes from (Relay relay) = if takes relay then packets_of from (Relay relay) else []
+
+-- what is heard of a datagram
+abbrev pub heard_in : (relay.Relay → Bool) → Bundle → List Opened
+heard_in takes bundle = flat_map (heard_of takes bundle.from) bundle.parts.items
+
+-- what a part has of its sender's own packets
+abbrev pub own_of : ℕ → Part → List Opened
+own_of from (Whole packet) = packets_of from (Whole packet)
+own_of from (Run run) = packets_of from (Run run)
+own_of from (Relay relay) = []
+
+-- what a datagram carries of them, oldest first
+abbrev pub own_in : Bundle → List Opened
+own_in bundle = flat_map (own_of bundle.from) bundle.parts.items
 
 -- what a datagram carries, oldest first
 abbrev pub packets_in : Bundle → List Opened

@@ -3,22 +3,25 @@ use Rattle.std.specs.Prelude.{◌≡◌, ◌≢◌, ◌<◌, ◌≤◌, ℕ, ◌
 use Rattle.std.specs.List.{flat_map}
 use Rattle.dn_link.specs.declared.bundle.Carried.{Carried}
 use Rattle.dn_link.specs.declared.bundle.Part.{Part}
-use Rattle.dn_link.specs.declared.bundle.Part.TheVariants.{Whole, Run}
+use Rattle.dn_link.specs.declared.bundle.Part.TheVariants.{Whole, Run, Relay}
 use Rattle.dn_link.specs.Packets.{opened_from, packets_of, short_packet}
 use Rattle.dn_link.specs.Text.{parts_bytes}
 
--- a packet stands whole only where no command of eight bytes tells it
+-- a packet stands whole only where no command of eight bytes tells it; and none is of a third player
 abbrev pub IsNeeded : ℕ → Part → Type 0
 IsNeeded from (Whole packet) =
     (command : List ℕ) → length command ≡ 8 → packet ≢ short_packet from packet.start command
 IsNeeded from (Run run) = Unit {0}
+IsNeeded from (Relay relay) = ⊥
 
 -- a run that another goes on with, one tic after its last, has all of its twenty-four commands
 abbrev pub IsEnded : Part → Part → Type 0
 IsEnded (Run one) (Run other) =
     (one.start + length one.commands.items / 8) % 2 ^ 32 ≡ other.start → length one.commands.items ≡ 192
 IsEnded (Run one) (Whole packet) = Unit {0}
+IsEnded (Run one) (Relay relay) = Unit {0}
 IsEnded (Whole packet) other = Unit {0}
+IsEnded (Relay relay) other = Unit {0}
 
 -- each part, by the one behind it
 abbrev pub AreEnded : List Part → Type 0
@@ -29,6 +32,7 @@ AreEnded (one ∷ other ∷ parts) = IsEnded one other × AreEnded (other ∷ pa
 abbrev pub runs : Part → ℕ
 runs (Whole packet) = 0
 runs (Run run) = 1
+runs (Relay relay) = 0
 
 -- how many of the parts are a last part that is a run: 1 or 0
 abbrev pub runs_last : List Part → ℕ

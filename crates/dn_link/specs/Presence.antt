@@ -29,7 +29,8 @@ has_played (Left cause) = true
 has_played Forgotten = true
 has_played presence = false
 
--- then it does not come anew, and no more does another in its place once it was given the settings
+-- then it does not come anew, and no more does another in its place once it was given the settings, whatever it
+-- said since
 abbrev pub may_come : Bool → Presence → Bool
 may_come gave presence = not (gave || has_played presence)
 
@@ -51,12 +52,6 @@ abbrev pub goes : Bool → ℕ → Presence → Presence
 goes true cause presence = Left cause
 goes false cause presence =
     if has_played presence || not (takes_part presence) then presence else Away cause
-
--- whom the settings were given, as far as it is there still: one that said goodbye before its game has not used
--- them
-abbrev pub still_given : Presence → Bool → Bool
-still_given (Away cause) gave = false
-still_given presence gave = gave
 
 -- what a datagram makes of what is known of its sender, which was given the settings or was not
 abbrev pub Becomes : Identity → Bool → Bool → Bundle → Message → Presence → Presence → Type 0

@@ -1,5 +1,5 @@
 -- The datagram of a bundle.
-use Rattle.std.specs.Prelude.{ℕ, ◌<◌, ◌≡◌, ◌≤◌, ◌^◌, ◌*◌, ◌/◌, Bool, true, false, List, [], ◌∷◌, ◌++◌, length, All, IfSome, FitsSigned}
+use Rattle.std.specs.Prelude.{ℕ, ◌+◌, ◌<◌, ◌≡◌, ◌≤◌, ◌^◌, ◌*◌, ◌/◌, Bool, true, false, List, [], ◌∷◌, ◌++◌, length, All, IfSome, FitsSigned}
 use Rattle.std.specs.List.{flat_map}
 use Rattle.std.specs.Int.{w8, w32, cast_unsigned, to_le_bytes}
 use Rattle.dn_seal.specs.declared.seal.Seal.{Seal}
@@ -12,7 +12,8 @@ use Rattle.dn_link.specs.declared.bundle.Identity.{Identity}
 use Rattle.dn_link.specs.declared.bundle.Message.{Message}
 use Rattle.dn_link.specs.declared.bundle.Message.TheVariants.{Hello, Game, Goodbye}
 use Rattle.dn_link.specs.declared.bundle.Part.{Part}
-use Rattle.dn_link.specs.declared.bundle.Part.TheVariants.{Whole, Run}
+use Rattle.dn_link.specs.declared.bundle.Part.TheVariants.{Whole, Run, Relay}
+use Rattle.dn_link.specs.declared.bundle.Relay as relay
 use Rattle.dn_link.specs.declared.bundle.Run as run
 use Rattle.dn_link.specs.declared.bundle.Bundle.{Bundle}
 
@@ -44,10 +45,19 @@ carried_bytes packet =
     to_le_bytes w32 packet.start ++ ask_bytes packet.ask
     ++ length packet.datagram.items ∷ packet.datagram.items
 
--- a whole packet stands behind a byte of 0; a run is its number of commands, its first tic and the commands
+-- what stands behind the first byte of a run: its first tic and the commands
+abbrev pub run_bytes : run.Run → List ℕ
+run_bytes run = to_le_bytes w32 run.start ++ run.commands.items
+
+abbrev pub relay_head : relay.Relay → ℕ
+relay_head relay = 32 * (relay.player + 1) + length relay.run.commands.items / 8
+
+-- a whole packet stands behind a byte of 0; a run behind its number of commands; and a run of a third player
+-- behind that number and 32 times the player's number plus one
 abbrev pub part_bytes : Part → List ℕ
 part_bytes (Whole packet) = 0 ∷ carried_bytes packet
 part_bytes (Run run) = length run.commands.items / 8 ∷ (to_le_bytes w32 run.start ++ run.commands.items)
+part_bytes (Relay relay) = relay_head relay ∷ run_bytes relay.run
 
 abbrev pub parts_bytes : List Part → List ℕ
 parts_bytes parts = length parts ∷ flat_map part_bytes parts
@@ -77,9 +87,15 @@ pub record IsRun (run : run.Run) : Type 0 where
   pub few : length run.commands.items ≤ 192
   pub whole : 8 * (length run.commands.items / 8) ≡ length run.commands.items
 
+-- the same of one of four players
+pub record IsRelay (relay : relay.Relay) : Type 0 where
+  pub player : relay.player < 4
+  pub run : IsRun relay.run
+
 abbrev pub IsPart : Part → Type 0
 IsPart (Whole packet) = IsCarried packet
 IsPart (Run run) = IsRun run
+IsPart (Relay relay) = IsRelay relay
 
 pub record AreCounts (counts : Counts) : Type 0 where
   pub made : counts.made < 2 ^ 32

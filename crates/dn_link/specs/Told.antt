@@ -1,5 +1,5 @@
 -- What bytes tell, part by part.
-use Rattle.std.specs.Prelude.{ℕ, zero, suc, ◌+◌, ◌*◌, ◌==◌, ◌||◌, nat_lt, if◌then◌else◌, Bool, true, false, List, [], ◌∷◌, length, take, drop, slice_index, Option, Some, None}
+use Rattle.std.specs.Prelude.{ℕ, zero, suc, ◌+◌, ◌-◌, ◌*◌, ◌/◌, ◌%◌, ◌==◌, ◌||◌, nat_lt, if◌then◌else◌, Bool, true, false, List, [], ◌∷◌, length, take, drop, slice_index, Option, Some, None}
 use Rattle.std.specs.Option.{option_map}
 use Rattle.std.specs.Int.{w8, w32, cast_signed, from_le_bytes}
 use Rattle.dn_seal.specs.Opening.{ask_in}
@@ -10,7 +10,7 @@ use Rattle.dn_link.specs.declared.bundle.Identity.{Identity}
 use Rattle.dn_link.specs.declared.bundle.Message.{Message}
 use Rattle.dn_link.specs.declared.bundle.Message.TheVariants.{Hello, Game, Goodbye}
 use Rattle.dn_link.specs.declared.bundle.Part.{Part}
-use Rattle.dn_link.specs.declared.bundle.Part.TheVariants.{Whole, Run}
+use Rattle.dn_link.specs.declared.bundle.Part.TheVariants.{Whole, Run, Relay}
 use Rattle.dn_link.specs.Text.{message_bytes, part_bytes}
 
 -- the number of four bytes from a place on
@@ -76,10 +76,26 @@ told_run n bytes =
       commands = record { items = take (8 * n) (drop 4 bytes) };
     }))
 
+-- a run of a third player, whose number and how many commands they are the first byte tells
+abbrev pub told_relay : ℕ → List ℕ → Option Part
+told_relay n bytes =
+    if nat_lt 159 n || (n % 32 == 0 || (nat_lt 24 (n % 32) || nat_lt (length bytes) (4 + 8 * (n % 32))))
+    then None
+    else Some (Relay (record {
+      player = n / 32 - 1;
+      run = record {
+        start = number_at 0 bytes;
+        commands = record { items = take (8 * (n % 32)) (drop 4 bytes) };
+      };
+    }))
+
 -- by the first byte
 abbrev pub told_part : List ℕ → Option Part
 told_part [] = None
-told_part (n ∷ rest) = if n == 0 then option_map Whole (told_whole rest) else told_run n rest
+told_part (n ∷ rest) =
+    if n == 0
+    then option_map Whole (told_whole rest)
+    else (if nat_lt n 32 then told_run n rest else told_relay n rest)
 
 -- so many parts, and nothing after them
 abbrev pub told_all : ℕ → List ℕ → Option (List Part)

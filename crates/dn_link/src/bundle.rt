@@ -24,6 +24,15 @@ pub struct Run {
     pub commands: ArrayVec<u8, 192>,
 }
 
+/// Commands of a third player, which the sender hands on: packets of that player, of one command each.
+#[derive(Debug, Drop, PartialEq, Eq)]
+pub struct Relay {
+    /// Whose commands these are.
+    pub player: u8,
+    /// The commands.
+    pub run: Run,
+}
+
 /// A part of what a datagram carries.
 #[derive(Debug, Drop, PartialEq, Eq)]
 pub enum Part {
@@ -31,6 +40,8 @@ pub enum Part {
     Whole(Carried),
     /// Packets of one command each, written as their commands.
     Run(Run),
+    /// The same of a third player.
+    Relay(Relay),
 }
 
 impl Default for Part {

@@ -3,7 +3,7 @@
 ghost use Rattle.std.specs.Prelude.{◌≡◌, ◌≢◌, ◌<◌, ℕ, ◌+◌, nat_lt, nat_le, false, None, Some, IfOk, IfSome, Option};
 ghost use Rattle.dn_lockstep.specs.{Contents.contents, Contents.end_in, Rings.count_of};
 ghost use Rattle.dn_seal.specs.Sealing.{sealing};
-ghost use Rattle.dn_link.specs.{Counting.counts_of, Counting.has_of, Ends.tells_end};
+ghost use Rattle.dn_link.specs.{Counting.counts_of, Counting.has_of, Counting.held, Counting.held_of, Counting.reached, Ends.tells_end};
 
 use crate::bundle::{Bundle, Counts};
 use dn_lockstep::Lockstep;
@@ -36,6 +36,36 @@ pub(crate) fn counts_of(lockstep: &Lockstep) -> Counts
             has_of(lockstep, 3),
         ],
     }
+}
+
+/// How many commands a lockstep has of a player; 0 for a number that is no player's.
+fn held(lockstep: &Lockstep, player: u8) -> u32
+    ensures { result ≡ held (contents lockstep.now) player }
+{
+    match lockstep.got(player) {
+        Some(got) => got,
+        None => 0,
+    }
+}
+
+/// How many commands a lockstep has of each player.
+pub(crate) fn held_of(lockstep: &Lockstep) -> [u32; 4]
+    ensures { result ≡ held_of (contents lockstep.now) }
+{
+    [
+        held(lockstep, 0),
+        held(lockstep, 1),
+        held(lockstep, 2),
+        held(lockstep, 3),
+    ]
+}
+
+/// How many tics a player had run at least when it made the last of its commands that a lockstep has: all but a
+/// window of them. So many commands of each player it had then.
+pub(crate) fn reached(lockstep: &Lockstep, player: u8) -> u32
+    ensures { result ≡ reached (contents lockstep.now) player }
+{
+    held(lockstep, player).saturating_sub(lockstep.ahead())
 }
 
 /// Whether a datagram reports that its sender has left.

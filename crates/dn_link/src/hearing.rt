@@ -1,11 +1,13 @@
 //! Hearing what a datagram carries.
 
-ghost use Rattle.std.specs.{Prelude.◌≡◌, List.flat_map};
+ghost use Rattle.std.specs.{Prelude.◌≡◌, Prelude.slice_index, List.flat_map};
 ghost use Rattle.dn_lockstep.specs.Contents.{contents};
+ghost use Rattle.dn_others.specs.Keeping.{has};
 ghost use Rattle.dn_open.specs.{Arrivals.HearsOpened, Arrivals.SparesSealed, declared.arrived.Arrived.Arrived};
-ghost use Rattle.dn_link.specs.{Hearing.HearsUntil, Hearing.HearsAll, Hearing.is_start, Packets.opened_from, Packets.packets_of, Packets.packets_in, declared.bundle.Part.TheVariants.Run as of_run};
+ghost use Rattle.dn_link.specs.{Counting.held_of, Hearing.HearsUntil, Hearing.HearsAll, Hearing.is_start, Packets.opened_from, Packets.packets_of, Packets.heard_of, Packets.heard_in, Packets.takes_relay, declared.bundle.Part.TheVariants.Run as of_run};
 
-use crate::bundle::{Bundle, Carried, Part, Run};
+use crate::bundle::{Bundle, Carried, Part, Relay, Run};
+use crate::counting::held_of;
 use crate::short::short_packet;
 use arrayvec::ArrayVec;
 use dn_lockstep::Lockstep;
@@ -62,24 +64,71 @@ fn hear_run(lockstep: &mut Lockstep, from: u8, run: &Run) -> bool
     false
 }
 
-/// Hears the packets of a part.
-fn hear_part(lockstep: &mut Lockstep, from: u8, part: &Part) -> bool
-    ensures { HearsUntil (packets_of from part.now) (contents lockstep.old) (contents lockstep.new) result }
+/// Whether a player is given up.
+fn is_gone(gone: &[bool; 4], player: u8) -> bool
+    ensures { result ≡ has gone.now player }
+{
+    match gone.get(usize::from(player)) {
+        Some(is_gone) => *is_gone,
+        None => false,
+    }
+}
+
+/// How many commands of a player are there, by these counts.
+fn count_of(counts: &[u32; 4], player: u8) -> u32
+    ensures { result ≡ slice_index counts.now player }
+{
+    match counts.get(usize::from(player)) {
+        Some(count) => *count,
+        None => 0,
+    }
+}
+
+/// Whether commands of a third player are taken: it is not given up, and no command is missing before them.
+/// Those past a gap would be asked for again of their maker, which may be out of reach.
+fn takes_relay(gone: &[bool; 4], counts: &[u32; 4], relay: &Relay) -> bool
+    ensures { result ≡ takes_relay (has gone.now) counts.now relay.now }
+{
+    !is_gone(gone, relay.player) && relay.run.start <= count_of(counts, relay.player)
+}
+
+/// Hears the packets of a part, and of what is handed on those that are taken.
+fn hear_part(
+    lockstep: &mut Lockstep,
+    from: u8,
+    gone: &[bool; 4],
+    counts: &[u32; 4],
+    part: &Part,
+) -> bool
+    ensures { HearsUntil (heard_of (takes_relay (has gone.now) counts.now) from part.now) (contents lockstep.old)
+        (contents lockstep.new) result }
 {
     match part {
         Part::Whole(packet) => starts(lockstep, from, packet),
         Part::Run(run) => hear_run(lockstep, from, run),
+        Part::Relay(relay) => {
+            if !takes_relay(gone, counts, relay) {
+                return false;
+            }
+            hear_run(lockstep, relay.player, &relay.run)
+        }
     }
 }
 
 /// Hears the packets of parts, up to the one that starts the game, and answers whether one did.
-fn hear_parts(lockstep: &mut Lockstep, from: u8, parts: &[Part]) -> bool
-    ensures { HearsUntil (flat_map (packets_of from) parts.now) (contents lockstep.old) (contents lockstep.new)
-        result }
+fn hear_parts(
+    lockstep: &mut Lockstep,
+    from: u8,
+    gone: &[bool; 4],
+    counts: &[u32; 4],
+    parts: &[Part],
+) -> bool
+    ensures { HearsUntil (flat_map (heard_of (takes_relay (has gone.now) counts.now) from) parts.now)
+        (contents lockstep.old) (contents lockstep.new) result }
 {
     let mut rest = parts;
     'parts: while let Some((part, after)) = rest.split_first() {
-        if hear_part(lockstep, from, part) {
+        if hear_part(lockstep, from, gone, counts, part) {
             return true;
         }
         rest = after;
@@ -87,15 +136,18 @@ fn hear_parts(lockstep: &mut Lockstep, from: u8, parts: &[Part]) -> bool
     false
 }
 
-/// Hears what a datagram carries, oldest first, and once more from the first where the game starts with one of
-/// them: those before it came too early. Answers whether the game started.
-pub(crate) fn hear_bundle(lockstep: &mut Lockstep, bundle: &Bundle) -> bool
-    ensures { HearsAll (packets_in bundle.now) (contents lockstep.old) (contents lockstep.new) result }
+/// Hears what a datagram carries, oldest first, but of what is handed on no commands of a player who is given
+/// up, and none past a gap; and once more from the first where the game starts with one of them: those before
+/// it came too early. Answers whether the game started.
+pub(crate) fn hear_bundle(lockstep: &mut Lockstep, gone: &[bool; 4], bundle: &Bundle) -> bool
+    ensures { HearsAll (heard_in (takes_relay (has gone.now) (held_of (contents lockstep.old))) bundle.now)
+        (contents lockstep.old) (contents lockstep.new) result }
 {
+    let counts = held_of(lockstep);
     let parts = bundle.parts.as_slice();
-    let started = hear_parts(lockstep, bundle.from, parts);
+    let started = hear_parts(lockstep, bundle.from, gone, &counts, parts);
     if started {
-        hear_parts(lockstep, bundle.from, parts);
+        hear_parts(lockstep, bundle.from, gone, &counts, parts);
     }
     started
 }

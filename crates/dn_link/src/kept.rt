@@ -143,6 +143,13 @@ impl Kept {
         parts
     }
 
+    /// How many commands the peer no longer needs.
+    pub(crate) fn done(&self) -> u32
+        ensures { result ≡ (kept self.now).done }
+    {
+        self.done
+    }
+
     /// The peer has so many commands.
     pub(crate) fn acknowledge(&mut self, count: u32)
         ensures { kept self.new ≡ acknowledged (kept self.old) count }

@@ -6,7 +6,7 @@ ghost use Rattle.dn_setup.specs.Settings.{Settings};
 ghost use Rattle.dn_machine.specs.{declared.answers.Made.Made, declared.answers.Ran.Ran, Flight.Flight, Game.fresh, Limits.Limits, Limits.IsWindow, Running.is_over};
 ghost use Rattle.dn_machine.specs.{Running.on_run, Running.on_quit};
 ghost use Rattle.dn_lockstep.specs.{Agreed.AreAgreed, Commands.Builds, Contents.Contents, Contents.end_in, Marking.Marking, Near.IsFair, OneGame.AreOneGame, OneGame.world_told, Represents.Represents};
-ghost use Rattle.dn_lockstep.specs.{Runs.RunsBy, Session.Session, Session.after_build, Session.after_packet, Session.after_run, Session.opening_session, Session.with_lockstep, Sent.sent_to};
+ghost use Rattle.dn_lockstep.specs.{Runs.RunsBy, Session.Session, Session.after_build, Session.after_packet, Session.after_relays, Session.after_run, Session.opening_session, Session.with_lockstep, Sent.sent_to};
 ghost use Rattle.dn_lockstep.specs.{Steps.Steps, Steps.Tells, Told.got, Told.made};
 ghost use Rattle.dn_others.specs.Keeping.{nothing_kept};
 ghost use Rattle.dn_seal.specs.{declared.opened.Opened.Opened, declared.seal.Seal.Seal, Opening.Sealing};
@@ -14,7 +14,7 @@ ghost use Rattle.dn_open.specs.Sealed.{sealing_of};
 ghost use Rattle.dn_link.specs.{declared.bundle.Bundle.Bundle, declared.bundle.BundleFault.BundleFault, declared.bundle.Identity.Identity, declared.received.Received.Received, Bundles.IsEmpty};
 ghost use Rattle.dn_link.specs.{Bundles.IsGenuineDatagram, Bundles.WasBundled, Bundles.WasGiven, declared.presence.Presence.TheVariants.Forgotten, Counting.has_ended, Presence.has_gone, Linked.Gives};
 ghost use Rattle.dn_link.specs.{Linked.Linked, Linked.Receives, Linked.certain, Linked.forgotten, Linked.holds_back, Linked.may_leave, Linked.never_played, LinkedGame.AreLinked, LinkedGame.IsLater};
-ghost use Rattle.dn_link.specs.{LinkedGame.StayLinked, Linking.new_peer, Hearing.HearsAll, Paced.PaceState, Reading.IsBundledAs, Text.IsBundle, Text.sealed_bytes};
+ghost use Rattle.dn_link.specs.{LinkedGame.StayLinked, Linking.new_peer, Hearing.HearsAll, Paced.PaceState, Reading.IsBundledAs, Relays.Handed, Relays.flights_of, Text.IsBundle, Text.sealed_bytes};
 
 use dn_lockstep::{locksteps_agree, one_game_goes_on, one_game_opens};
 use dn_open::letters_keep_one_game;
@@ -94,9 +94,10 @@ pub fn linked_game_goes_on()
         → (holds_back (links player) ≡ false
         → Tells (links player).node (λ limits me m. IfSome (sent_to to limits me m).1 IsFair))
         → Gives seal identity pace to (links player) new bytes
-        → (flight : Option Flight) × WasBundled seal (after_packet session player flight new.node) bytes
+        → (flight : Option Flight) × (handed : List Handed)
+        × WasBundled seal (after_relays (after_packet session player flight new.node) (flights_of to handed)) bytes
         × StayLinked marking limits settings session links player new
-        (after_packet session player flight new.node) }
+        (after_relays (after_packet session player flight new.node) (flights_of to handed)) }
     ensures received { (marking : Marking) (limits : Limits) (settings : Settings) (session : Session) (links : ℕ → Linked)
         (player : ℕ) (seal : Seal) (identity : Identity) (pace : PaceState) (bytes : List ℕ) (new : Linked)
         (answer : Received)

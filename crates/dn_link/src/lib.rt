@@ -2,30 +2,39 @@
 #![tactic(auto)]
 
 mod bundle;
+mod caught_up;
 mod counting;
 mod covering;
 mod figures;
 mod giving;
 mod hearing;
+mod history;
 mod kept;
+mod lag;
 mod laws;
 mod leaning;
 mod line;
 mod link;
 mod onward;
+mod overdue;
 mod pace;
 mod packing;
 mod peer;
 mod presence;
 mod reading;
 mod received;
+mod relaying;
 mod remaining;
 mod short;
 mod stretching;
 mod tally;
 mod writing;
 
-pub use bundle::{Bundle, BundleFault, Carried, Counts, Identity, Message, Part, Run};
+pub use bundle::{Bundle, BundleFault, Carried, Counts, Identity, Message, Part, Relay, Run};
+pub use caught_up::{
+    caught_up_links_cover, links_bring_all, links_open_caught_up, links_run_on,
+    links_stay_caught_up,
+};
 pub use covering::kept_covers;
 pub use figures::Figures;
 pub use laws::{

@@ -6,6 +6,7 @@ ghost use Rattle.dn_seal.specs.Sealing.{sealing};
 ghost use Rattle.dn_survivor.specs.Surviving.{surviving};
 
 mod giving;
+mod handing;
 mod leaving;
 mod lobby;
 mod notices;
@@ -18,6 +19,7 @@ mod taking;
 mod telling;
 
 use crate::bundle::Identity;
+use crate::overdue::Overdue;
 use crate::pace::Pace;
 use crate::peer::Peer;
 use dn_lockstep::{Config, Lockstep, NodeFault};
@@ -37,6 +39,7 @@ pub struct Link {
     identity: Identity,
     peers: [Peer; 4],
     pace: Pace,
+    overdue: Overdue,
     ghost own: { (sealing sealer).me ≡ (surviving survivor).lockstep.me },
 }
 
@@ -85,12 +88,14 @@ impl Link {
         };
         let survivor = Survivor::new(alloc, config, ahead)?;
         let sealer = Sealer::of(seal, survivor.lockstep().me());
+        let overdue = Overdue::new(survivor.lockstep().me());
         Ok(Link {
             survivor,
             sealer,
             identity,
             peers: [Peer::new(), Peer::new(), Peer::new(), Peer::new()],
             pace: Pace::new(),
+            overdue,
         })
     }
 

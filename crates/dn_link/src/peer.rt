@@ -37,7 +37,7 @@ fn larger(one: &[u32; 4], other: &[u32; 4]) -> [u32; 4]
 
 impl Peer {
     ghost use Rattle.std.specs.Prelude.{All, length, ◌≤◌, ◌<◌, ◌+◌, ◌%◌, ◌^◌, ◌||◌, slice_index};
-    ghost use Rattle.dn_link.specs.{Kept.acknowledged, Kept.going, Kept.kept_after, Kept.taken_by, Linking.new_peer, Linking.state_of, Packing.ArePacked, Presence.still_given, Text.IsPart};
+    ghost use Rattle.dn_link.specs.{Kept.acknowledged, Kept.going, Kept.kept_after, Kept.taken_by, Linking.new_peer, Linking.state_of, Packing.ArePacked, Text.IsPart};
     ghost use Rattle.dn_link.specs.{Text.parts_bytes};
 
     /// Of which nothing is known.
@@ -110,13 +110,25 @@ impl Peer {
         self.reported[player as usize]
     }
 
+    /// How many commands of this player it no longer needs.
+    pub(crate) fn done(&self) -> u32
+        ensures { result ≡ (state_of self.now).kept.done }
+    {
+        self.kept.done()
+    }
+
+    /// Drops what is kept for it of the commands below this tic, which it has.
+    pub(crate) fn has_reached(&mut self, count: u32)
+        ensures { state_of self.new ≡ record (state_of self.old) { kept = acknowledged (state_of self.old).kept count } }
+    {
+        self.kept.acknowledge(count);
+    }
+
     /// Notes who it is.
     pub(crate) fn is_now(&mut self, presence: Presence)
-        ensures { state_of self.new
-            ≡ record (state_of self.old) { presence = presence; gave = still_given presence (state_of self.old).gave } }
+        ensures { state_of self.new ≡ record (state_of self.old) { presence = presence } }
     {
         self.presence = presence;
-        self.gave = presence.still_given(self.gave);
     }
 
     /// Notes what it has of each player, who it is, and how many commands of this player it no longer needs.
@@ -125,7 +137,6 @@ impl Peer {
           kept = acknowledged (state_of self.old).kept done;
           reported = larger (state_of self.old).reported got.now;
           presence = presence;
-          gave = still_given presence (state_of self.old).gave;
         } }
     {
         self.kept.acknowledge(done);

@@ -2,7 +2,7 @@
 
 ghost use Rattle.std.specs.Prelude.{◌≡◌, Option};
 ghost use Rattle.dn_link.specs.{Ends.tells_end, Presence.Becomes, Presence.Differs, Presence.Greets, Presence.cause_byte, Presence.when_forgotten, Presence.goes, Presence.has_gone, Presence.has_left};
-ghost use Rattle.dn_link.specs.{Presence.has_played, Presence.is_fresh, Presence.is_playing, Presence.is_there, Presence.may_come, Presence.message_of, Presence.plays_on, Presence.still_given};
+ghost use Rattle.dn_link.specs.{Presence.has_played, Presence.is_fresh, Presence.is_playing, Presence.is_there, Presence.may_come, Presence.message_of, Presence.plays_on};
 ghost use Rattle.dn_link.specs.{Presence.takes_part};
 ghost use Rattle.dn_machine.specs.{declared.answers.Cause.Cause as AnyCause, declared.answers.Phase.Phase as AnyPhase};
 
@@ -25,8 +25,9 @@ pub enum Presence {
     Playing,
     /// It said hello with another identity, and takes no part.
     Different(Identity),
-    /// It left before its game started, for this cause, or was forgotten then (0). Another may take its place, but
-    /// not that of one who is given up (`Link::has_given_up`), of whom nothing is heard.
+    /// It left before its game started, for this cause, or was forgotten then (0). Another may take its place,
+    /// but not that of one to whom this link gave the settings, nor of one who is given up
+    /// (`Link::has_given_up`), of whom nothing is heard.
     Away(u8),
     /// It has played and left, for this cause.
     Left(u8),
@@ -160,16 +161,6 @@ impl Presence {
                     self
                 }
             }
-        }
-    }
-
-    /// Whether it has the settings that it was given: not if it said goodbye before its game.
-    pub(crate) fn still_given(self, gave: bool) -> bool
-        ensures { result ≡ still_given self gave }
-    {
-        match self {
-            Presence::Away(_) => false,
-            _ => gave,
         }
     }
 

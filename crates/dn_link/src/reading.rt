@@ -5,7 +5,7 @@ ghost use Rattle.dn_seal.specs.Sealing.{sealing};
 ghost use Rattle.dn_link.specs.{declared.bundle.Bundle.Bundle, declared.bundle.BundleFault.BundleFault, Told.told_bundle, Reading.IsBundledAs};
 
 mod fields;
-mod parts;
+pub(crate) mod parts;
 
 use crate::bundle::{Bundle, BundleFault};
 use crate::writing::KIND;

@@ -87,6 +87,12 @@ fn append_part(bytes: &mut ArrayVec<u8, 1200>, part: &Part)
             append(bytes, &run.start.to_le_bytes());
             append(bytes, run.commands.as_slice());
         }
+        Part::Relay(relay) => {
+            let count = (relay.run.commands.len() / 8) as u8;
+            append(bytes, &[32 * (relay.player + 1) + count]);
+            append(bytes, &relay.run.start.to_le_bytes());
+            append(bytes, relay.run.commands.as_slice());
+        }
     }
 }
 

@@ -9,7 +9,9 @@ mod identities;
 mod links;
 mod lobby;
 mod pace;
+mod relays;
 mod reports;
+mod speed;
 mod successors;
 mod surviving;
 

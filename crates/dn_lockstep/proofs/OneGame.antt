@@ -1,5 +1,5 @@
 -- The locksteps of one game stay those of one game, call by call.
-use Rattle.std.proofs.Common.{◌≡◌, ◌<◌, ◌≤◌, ◌+◌, ◌||◌, ℕ, ℤ, pos, Bool, true, false, List, [], ◌∷◌, ◌++◌, fold, Option, Some, None, refl, ap, sym, ◌∙◌, subst, arith, inl, inr, append_assoc, append-nil}
+use Rattle.std.proofs.Common.{◌≡◌, ◌≢◌, ◌<◌, ◌≤◌, ◌+◌, ◌||◌, ℕ, ℤ, pos, Bool, true, false, List, [], ◌∷◌, ◌++◌, fold, Option, Some, None, refl, ap, sym, ◌∙◌, subst, arith, inl, inr, append_assoc, append-nil}
 use Rattle.std.specs.Prelude.{◌⊎◌, nat_lt, get_or, slice_get, IfSome}
 use Rattle.std.specs.Option.{option_map}
 use Rattle.std.proofs.lemmas.Bool.{cases_eq, lt-ltb, cond_both}
@@ -24,7 +24,9 @@ use Rattle.dn_machine.specs.Node.{put, is_ended}
 use Rattle.dn_machine.specs.Running.{is_over, on_run, on_quit}
 use Rattle.dn_machine.specs.Worlds.{Inputs, Rules, opening, mark_in, world_after}
 use Rattle.dn_machine.proofs.Calls.{build_cases, send_cases, packet_cases, run_cases, quit_cases}
-use Rattle.dn_machine.proofs.Games
+use Rattle.dn_machine.proofs.Relays
+use Rattle.dn_machine.specs.Relaying.{Own, Relay, CanRelay, packet_of_one, relayed, with_relayed}
+use Rattle.dn_tic.specs.declared.command.TicCmd.{TicCmd}
 use Rattle.dn_machine.proofs.Promises
 use Rattle.dn_machine.specs.Drops as drops
 use Rattle.dn_machine.proofs.Invariant.{IsKept}
@@ -34,7 +36,7 @@ use Rattle.dn_lockstep.specs.Hearing.{HearsNear}
 use Rattle.dn_lockstep.specs.Marking.{History, Marking, free}
 use Rattle.dn_lockstep.specs.Near.{IsFair}
 use Rattle.dn_lockstep.specs.OneGame.{beside, world_told, AreOneGame, IsGivenAs}
-use Rattle.dn_lockstep.specs.Session.{Session, opening_session, with_lockstep, taken_on, after_build, given_on, after_packet, told_on, after_run}
+use Rattle.dn_lockstep.specs.Session.{Session, opening_session, with_lockstep, taken_on, after_build, given_on, after_packet, after_relays, told_on, after_run}
 use Rattle.dn_machine.specs.declared.answers.Phase.{Phase}
 use Rattle.dn_machine.specs.Building.{on_build_in}
 use Rattle.dn_machine.specs.Sending.{set_up_flight}
@@ -44,12 +46,13 @@ use Rattle.dn_lockstep.specs.Rows.{is_gone}
 use Rattle.dn_lockstep.specs.Runs.{marks_in, row_told, RunsBy}
 use Rattle.dn_lockstep.specs.Sent.{sent_to, bytes_of}
 use Rattle.dn_lockstep.specs.Steps.{Steps, Tells, IsAfter}
-use Rattle.dn_lockstep.specs.Told.{made}
+use Rattle.dn_lockstep.specs.Told.{made, command_told}
 use Rattle.dn_lockstep.specs.Phases.{is_listening}
 use Rattle.dn_machine.specs.Nearness.{is_start_near}
-use Rattle.dn_machine.proofs.Asking.{IsAsking, always_asking}
+use Rattle.dn_machine.proofs.Asking.{IsAsking}
 use Rattle.dn_machine.proofs.Nearness.{asks, numbered}
 use Rattle.dn_lockstep.proofs.Counting.{got_is}
+use Rattle.dn_lockstep.proofs.Shown.{tells_held}
 use Rattle.dn_lockstep.proofs.Running.{kept_same, run_same, run_tells}
 use Rattle.dn_tic.specs.declared.input.Input.{Input}
 use Rattle.dn_machine.specs.Progress.{build_of}
@@ -202,7 +205,7 @@ module _ (marking : Marking) (limits : Limits) (settings : Settings) where
     node = game.last.nodes
 
     pub kept : IsKept rules settings game.last
-    kept = Games.always rules settings game.window game.events game.last game.runs
+    kept = Relays.always rules settings game.window game.events game.last game.runs
 
     -- a lockstep that is what it was
     pub keeps : (i : ℕ) (new : Contents) → new ≡ session.locksteps i
@@ -243,9 +246,9 @@ module _ (marking : Marking) (limits : Limits) (settings : Settings) where
           (record { inputs = inputs; given = more; told = rows; locksteps = put session.locksteps i new })
       changes event m flights more inputs rows new is shows takes same fair tells = record {
         window = game.window;
-        events = game.events ++ event ∷ [];
+        events = game.events ++ Own event ∷ [];
         last = record { nodes = put node i m; stopped = game.last.stopped; flights = flights };
-        runs = Games.goes_on rules settings game.events event (opening_game settings) game.last _ game.runs
+        runs = Relays.goes_on rules settings game.events (Own event) (opening_game settings) game.last _ game.runs
             (inl (sym is));
         nodes = λ p below. elim (cases_eq p i) [
           | inl e ↦ rw (put_at session.locksteps i p new e, put_at node i p m e, e) shows
@@ -387,6 +390,32 @@ module _ (marking : Marking) (limits : Limits) (settings : Settings) where
             gave to new after.node (fair limits i (node i) r),
           )
 
+      -- a command that is told may be given to another
+      pub relays : (player to tic : ℕ) (command : TicCmd) → player < limits.players → to < limits.players
+          → player ≢ to → command_told (session.locksteps i) player tic ≡ Some command
+          → IsFair (packet_of_one player to tic command)
+          → AreOneGame marking limits settings (after_relays session (packet_of_one player to tic command ∷ []))
+      relays player to tic command its there apart told fair =
+          let has = tells_held limits i (session.locksteps i) (node i) (game.nodes i mine) player tic command told in
+          let can : CanRelay limits.players game.last i player to tic =
+          record { giver = mine; maker = its; receiver = there; apart = apart; has = has.1 } in
+          let same : relayed (node i) player to tic ≡ packet_of_one player to tic command =
+          ap (packet_of_one player to tic) (sym has.2) in
+          record {
+            window = game.window;
+            events = game.events ++ Relay i player to tic ∷ [];
+            last = with_relayed game.last i player to tic;
+            runs = Relays.goes_on rules settings game.events (Relay i player to tic) (opening_game settings)
+                game.last _ game.runs (can, refl);
+            nodes = game.nodes;
+            inputs = game.inputs;
+            flights = ap (λ (fs : List Flight). fs ++ relayed (node i) player to tic ∷ []) game.flights
+                ∙ ap (λ (f : Flight). session.given ++ f ∷ []) same;
+            rows = game.rows;
+            fair = fair_on session.given game.fair (Some (packet_of_one player to tic command)) fair;
+            going = game.going;
+          }
+
     -- a packet that was given
     module _ (which : ℕ) (flight : Flight) (at : slice_get session.given which ≡ Some flight) where
       given_there : slice_get game.last.flights which ≡ Some flight
@@ -402,7 +431,7 @@ module _ (marking : Marking) (limits : Limits) (settings : Settings) where
           (omega (arith, to_it, r.whose.players))
 
       asking : IsAsking rules settings game.last
-      asking = always_asking rules settings game.window game.events game.last game.runs
+      asking = Relays.always_asking rules settings game.window game.events game.last game.runs
 
       pub numbered_near : is_start_near limits (made (session.locksteps flight.to)) flight.start ≡ true
           → is_near (made (session.locksteps flight.to)) flight ≡ true

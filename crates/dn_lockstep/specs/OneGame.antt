@@ -4,11 +4,10 @@ use Rattle.std.specs.Option.{option_map}
 use Rattle.dn_tic.specs.declared.command.Move.{Move}
 use Rattle.dn_setup.specs.Settings.{Settings}
 use Rattle.dn_setup.specs.Starts.{start_of}
-use Rattle.dn_machine.specs.declared.events.Event.{Event}
 use Rattle.dn_machine.specs.Flight.{Flight}
 use Rattle.dn_machine.specs.Game.{Game}
 use Rattle.dn_machine.specs.Limits.{Limits, IsWindow}
-use Rattle.dn_machine.specs.Runs.{Runs}
+use Rattle.dn_machine.specs.Relaying.{RelayEvent, RunsRelayed}
 use Rattle.dn_machine.specs.Worlds.{Rules, rules_within}
 use Rattle.dn_lockstep.specs.Contents.{Contents}
 use Rattle.dn_lockstep.specs.Marking.{History, Marking, free}
@@ -31,12 +30,13 @@ world_told limits settings rows =
     record { start = start_of settings; present = seats_of limits.players; rows = rows }
 
 -- each player's lockstep represents the player's node of one game of the machine, in which these inputs were
--- taken, these packets given, and these rows told
+-- taken, these packets given, and these rows told. Packets that were given to others with commands of third
+-- players are among these
 pub record AreOneGame (marking : Marking) (limits : Limits) (settings : Settings) (session : Session) : Type 0 where
   pub window : IsWindow limits
-  pub events : List Event
+  pub events : List RelayEvent
   pub last : Game
-  pub runs : Runs (beside marking limits) settings events last
+  pub runs : RunsRelayed (beside marking limits) settings events last
   pub nodes : (player : ℕ) → player < limits.players
       → Represents limits player (session.locksteps player) (last.nodes player)
   pub inputs : (player : ℕ) → (last.nodes player).inputs ≡ session.inputs player

@@ -52,6 +52,10 @@ after_packet session player flight new =
       locksteps = put session.locksteps player new;
     }
 
+-- after packets of third players' commands, which change no lockstep
+abbrev pub after_relays : Session → List Flight → Session
+after_relays session flights = record session { given = session.given ++ flights }
+
 -- after a run, which tells a row if a tic was run
 abbrev pub told_on : List (List (Option Move)) → Option (List (Option Move)) → List (List (Option Move))
 told_on rows None = rows

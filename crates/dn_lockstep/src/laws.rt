@@ -1,6 +1,6 @@
 //! What holds of the locksteps of every game, whatever worlds their callers step.
 
-ghost use Rattle.std.specs.{Prelude.◌≡◌, Prelude.◌<◌, Prelude.◌≤◌, Prelude.◌+◌, Prelude.◌||◌, Prelude.ℕ, Prelude.ℤ, Prelude.Bool, Prelude.List, Prelude.true, Prelude.false, Prelude.Option};
+ghost use Rattle.std.specs.{Prelude.◌≡◌, Prelude.◌≢◌, Prelude.◌∷◌, Prelude.[], Prelude.◌<◌, Prelude.◌≤◌, Prelude.◌+◌, Prelude.◌||◌, Prelude.ℕ, Prelude.ℤ, Prelude.Bool, Prelude.List, Prelude.true, Prelude.false, Prelude.Option};
 ghost use Rattle.std.specs.{Prelude.Some, Prelude.Ok, Prelude.IfSome, Prelude.◌⊎◌, Prelude.get_or, Prelude.length, Prelude.pos, Prelude.slice_get, Option.option_map};
 ghost use Rattle.dn_machine.specs.Drops as drops;
 ghost use Rattle.dn_tic.specs.{declared.command.Move.Move, declared.input.Input.Input, declared.command.TicCmd.TicCmd};
@@ -12,7 +12,8 @@ ghost use Rattle.dn_machine.specs.{Node.demo_rows, Node.is_ended, Promise.Agree,
 ghost use Rattle.dn_lockstep.specs.{declared.config.Config.Config, Opening.CanBeAhead, Opening.FitsPackets, Opening.limits_in, Opening.limits_within, Told.command_told, Told.made, Contents.Contents};
 ghost use Rattle.dn_lockstep.specs.{Contents.end_in, Hearing.HearsNear, Marking.Marking, Near.IsFair, OneGame.beside, OneGame.world_told, OneGame.AreOneGame, OneGame.IsGivenAs, Agreed.AreAgreed};
 ghost use Rattle.dn_lockstep.specs.{Demos.rows_to, Phases.is_listening, Represents.Represents, Rows.seats_of, Runs.RunsBy, Sent.sent_to, Sent.bytes_of, Session.Session, Session.opening_session};
-ghost use Rattle.dn_lockstep.specs.{Session.with_lockstep, Session.after_build, Session.after_packet, Session.after_run, Steps.Steps, Steps.Tells};
+ghost use Rattle.dn_lockstep.specs.{Session.with_lockstep, Session.after_build, Session.after_packet, Session.after_relays, Session.after_run, Steps.Steps, Steps.Tells};
+ghost use Rattle.dn_machine.specs.Relaying.{packet_of_one};
 ghost use Rattle.dn_machine.specs.Node as machine;
 
 /// Each window that a lockstep can have is one of which the laws of `dn_machine` speak (`every_window_agrees`,
@@ -80,6 +81,13 @@ pub fn one_game_goes_on()
         → AreOneGame marking limits settings session → player < limits.players
         → Steps (session.locksteps player) new (λ limits me m. on_quit m) (λ answer. quit ≡ answer)
         → AreOneGame marking limits settings (with_lockstep session player new) }
+    ensures relayed { (marking : Marking) (limits : Limits) (settings : Settings) (session : Session)
+        (giver player to tic : ℕ) (command : TicCmd)
+        → AreOneGame marking limits settings session → giver < limits.players → player < limits.players
+        → to < limits.players → player ≢ to
+        → command_told (session.locksteps giver) player tic ≡ Some command
+        → IsFair (packet_of_one player to tic command)
+        → AreOneGame marking limits settings (after_relays session (packet_of_one player to tic command ∷ [])) }
     ensures kept { (marking : Marking) (limits : Limits) (settings : Settings) (session : Session) (player : ℕ)
         (new : Contents)
         → AreOneGame marking limits settings session → new ≡ session.locksteps player

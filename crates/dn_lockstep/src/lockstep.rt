@@ -1,6 +1,6 @@
 //! One player's lockstep, and what it tells of itself.
 
-ghost use Rattle.std.specs.Prelude.{◌≡◌, ◌≢◌, ℕ, ◌+◌, ◌*◌, ◌<◌, ◌≤◌, true, false, nat_lt, if◌then◌else◌, length, Some, None, is_some};
+ghost use Rattle.std.specs.Prelude.{◌≡◌, ◌≢◌, ℕ, ◌+◌, ◌*◌, ◌<◌, ◌≤◌, true, false, nat_lt, if◌then◌else◌, length, Some, None, is_some, IfSome, negsuc};
 ghost use Rattle.dn_demo.specs.{Layout.long_tics, Places.place, Places.seats_in, Recorded.recorded_size, declared.recorder.Stage.TheVariants.Blank, declared.recorder.Stage.TheVariants.Open};
 ghost use Rattle.dn_demo.specs.{declared.recorder.Stage.TheVariants.Closed};
 ghost use Rattle.dn_machine.specs.{declared.answers.Phase.TheVariants.Gathering, declared.answers.Phase.TheVariants.Playing, Running.tic_limit};
@@ -131,6 +131,13 @@ impl Lockstep {
         self.ran
     }
 
+    /// How many commands it may be ahead of the tics that it ran.
+    pub fn ahead(&self) -> u32
+        ensures { result ≡ (contents self.now).ahead }
+    {
+        self.ahead
+    }
+
     /// How many commands it has of a player, and None for a number that is no player's.
     pub fn got(&self, player: u8) -> Option<u32>
         ensures { result ≡ (if nat_lt player (contents self.now).players
@@ -152,6 +159,7 @@ impl Lockstep {
         ensures told { Tells (contents self.now) (λ limits me m. result ≡ last_held limits m player tic) }
         ensures next { player < (contents self.now).players → tic ≡ (contents self.now).ran
             → tic < count_of (contents self.now).rings player → is_some result ≡ true }
+        ensures no_stop { IfSome result (λ command. command.forward ≢ negsuc 127) }
     {
         if player < self.players && self.rings.count(player).saturating_sub(tic) <= self.places {
             self.rings.get(player, tic)

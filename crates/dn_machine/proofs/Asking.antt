@@ -277,7 +277,7 @@ module _ {S : Type 0} (rules : Rules S) (settings : Settings) (game : Game)
   )
   happens (Stop node) h = (asking.lacks, asking.close)
 
-  applied_asking : (event : Event) → IsAsking rules settings (applied rules game event).0
+  pub applied_asking : (event : Event) → IsAsking rules settings (applied rules game event).0
   unfolding applied
   applied_asking event =
       let after = go (refused rules.players game event) refl in
@@ -289,7 +289,7 @@ module _ {S : Type 0} (rules : Rules S) (settings : Settings) (game : Game)
       go None h = happens event h
 
 module _ {S : Type 0} (rules : Rules S) (settings : Settings) where
-  opens_asking : IsWindow rules.limits → IsAsking rules settings (opening_game settings)
+  pub opens_asking : IsWindow rules.limits → IsAsking rules settings (opening_game settings)
   unfolding opening_game
   opens_asking window = record {
     kept = opens rules settings window;

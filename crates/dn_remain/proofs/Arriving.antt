@@ -29,15 +29,16 @@ module _ {S : Type 0} (known : ℕ → Holder TicCmd → Type 0) (rules : Rules 
   kept : IsKept rules.players (past_seen (now_of game gone ∷ older))
   kept = always rules.players rules.ahead (past_seen (now_of game gone ∷ older)) follows.run
 
-  order : IsLater rules.players (past_seen (now_of game gone ∷ older)) flight.from (seen told.state)
-      (seen (now_of game gone flight.from))
-  order = kept.order flight.from (seen told.state) (was_seen (now_of game gone ∷ older) flight.from told.state told.had)
+  order : is_exit flight.kind ≡ true → IsLater rules.players (past_seen (now_of game gone ∷ older)) flight.from
+      (seen told.state) (seen (now_of game gone flight.from))
+  order x = kept.order flight.from (seen told.state)
+      (was_seen (now_of game gone ∷ older) flight.from told.state (told.exit (exit_is flight.kind x)).2)
 
   -- what the sender of an EXIT packet is
   pub end_is : is_exit flight.kind ≡ true → IsEnd game.nodes gone flight.to flight.from (end_of flight)
   end_is x =
       let ex = told.exit (exit_is flight.kind x) in
-      let same = order.left ex.0 in (
+      let same = (order x).left ex.0 in (
         told.apart,
         ap (λ (n : Node). n.left) same ∙ ex.0,
         ap (λ (n : Node). n.gone flight.to) same ∙ told.open_to,
@@ -47,7 +48,8 @@ module _ {S : Type 0} (known : ℕ → Holder TicCmd → Type 0) (rules : Rules 
   pub made_it : end_of flight ≤ length ((game.nodes flight.from).held flight.from)
   made_it =
       let a : length (told.state.held flight.from) ≤ length ((game.nodes flight.from).held flight.from) =
-      order.got flight.from in
+      (kept.sound told.by (seen told.state) (was_seen (now_of game gone ∷ older) told.by told.state told.had)).made
+      flight.from in
       let b = told.reaches in
       omega arith
 

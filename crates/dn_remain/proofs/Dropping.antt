@@ -57,8 +57,8 @@ module _ {S : Type 0} (rules : Rules S) (settings : Settings) (all : Remaining) 
     fits_in =
         let a = (fits rules.players rules.ahead (past_seen
         (now_of all.game all.gone ∷ older)) follows.run).overrun
-        flight.to flight.from flight.from (seen told.state) told.receiver here
-        (was_seen (now_of all.game all.gone ∷ older) flight.from told.state told.had) told.open_to in
+        flight.to told.by flight.from (seen told.state) told.receiver here
+        (was_seen (now_of all.game all.gone ∷ older) told.by told.state told.had) told.open_to in
         let b = told.reaches in
         let c = window.twice in
         let d = length_rows (end_seen (all.game.nodes flight.to)) (machine.ran (all.game.nodes flight.to)) in

@@ -71,8 +71,8 @@ module _ {S : Type 0} (rules : Rules S) (settings : Settings) (all : Remaining) 
     sent = λ which flight e here.
         let told = h.followed.follows.flights which flight e in
         let a = ran_is flight.to in
-        let b = windows.overrun flight.to flight.from flight.from (seen told.state) told.receiver here
-        (was_seen (now_of all.game all.gone ∷ older) flight.from told.state told.had) told.open_to in
+        let b = windows.overrun flight.to told.by flight.from (seen told.state) told.receiver here
+        (was_seen (now_of all.game all.gone ∷ older) told.by told.state told.had) told.open_to in
         let c = told.reaches in
         omega arith;
     told = λ which p t e here.

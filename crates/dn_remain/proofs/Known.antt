@@ -8,22 +8,28 @@ use Rattle.dn_machine.specs.Node as machine
 use Rattle.dn_machine.specs.Node.{ends_of, made, is_ended, has_left}
 use Rattle.dn_machine.specs.Game.{Game}
 use Rattle.dn_machine.specs.Worlds.{Rules}
+use Rattle.dn_vanish.specs.Node.{Within}
 use Rattle.dn_vanish.specs.Steps.{IsRun}
 use Rattle.dn_vanish.specs.Commands.{Holder, past_seen, Had, AreHanded}
 use Rattle.dn_remain.specs.Seen.{holder_of, now_of, row_had}
 use Rattle.dn_machine.specs.Limits.{Limits}
 
--- a packet carries a piece of its sender's list, as it was when the sender had not given up the receiver
+-- a packet carries a piece of its sender's list, as somebody had it who had not given up the receiver: the sender
+-- itself, or one who had given up nobody but whom the receiver had given up too
 pub record IsTold (players : ℕ) (history : List (ℕ → Holder TicCmd)) (flight : Flight) : Type 0 where
   pub sender : flight.from < players
   pub receiver : flight.to < players
   pub apart : flight.from ≢ flight.to
+  pub by : ℕ
   pub state : Holder TicCmd
-  pub had : Had history flight.from state
+  pub had : Had history by state
+  pub hands : (by ≡ flight.from) ⊎ ((by < players) × ((other : Holder TicCmd) × Had history flight.to other
+      × Within state.gone other.gone))
   pub open_to : state.gone flight.to ≡ false
   pub piece : flight.commands ≡ take (length flight.commands) (drop flight.start (state.held flight.from))
   pub reaches : end_of flight ≤ length (state.held flight.from)
   pub exit : flight.kind ≡ Exit → (state.left ≡ true) × (end_of flight ≡ length (state.held flight.from))
+      × Had history flight.from state
 
 -- an end that was told is that of one who has left
 abbrev pub IsEnd : (ℕ → machine.Node) → (ℕ → ℕ → Bool) → ℕ → ℕ → ℕ → Type 0
@@ -50,12 +56,17 @@ told_later players history next flight h = record {
   sender = h.sender;
   receiver = h.receiver;
   apart = h.apart;
+  by = h.by;
   state = h.state;
   had = inr h.had;
+  hands = elim h.hands [
+    | inl e ↦ inl e
+    | inr k ↦ inr (k.0, (k.1.0, inr k.1.1, k.1.2))
+  ];
   open_to = h.open_to;
   piece = h.piece;
   reaches = h.reaches;
-  exit = h.exit;
+  exit = λ e. let k = h.exit e in (k.0, k.1, inr k.2);
 }
 
 -- it follows whatever has stopped, and other states are known that were had

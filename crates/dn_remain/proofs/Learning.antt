@@ -7,7 +7,7 @@ use Rattle.dn_machine.specs.Node as machine
 use Rattle.dn_machine.specs.Node.{ends_of, ran, has_left}
 use Rattle.dn_machine.specs.Game.{Game, with_node}
 use Rattle.dn_machine.specs.Worlds.{Rules}
-use Rattle.dn_vanish.specs.Node.{put, is_over}
+use Rattle.dn_vanish.specs.Node.{put, is_over, Within}
 use Rattle.dn_vanish.specs.Steps.{Take, Learn}
 use Rattle.dn_vanish.specs.Commands.{Holder, seen, past_seen, Had}
 use Rattle.dn_vanish.proofs.Invariant.{IsKept}
@@ -31,7 +31,9 @@ module _ {S : Type 0} (known : ℕ → Holder TicCmd → Type 0) (rules : Rules 
     (open_from : gone q from ≡ false) (here : has_left (game.nodes q) ≡ false) (more : List TicCmd)
     (has : HasMore (game.nodes q) new from more)
     -- they are a piece of what the player had
-    (state : Holder TicCmd) (had : Had (now_of game gone ∷ older) from state) (open_to : state.gone q ≡ false)
+    (by : ℕ) (state : Holder TicCmd) (had : Had (now_of game gone ∷ older) by state) (open_to : state.gone q ≡ false)
+    (hands : (by ≡ from) ⊎ ((by < rules.players) × ((other : Holder TicCmd) × Had (now_of game gone ∷ older) q other
+    × Within state.gone other.gone)))
     (end : ℕ) (long : length more ≡ end) (below : end ≤ length (state.held from))
     (high : length ((game.nodes q).held from) ≤ end)
     (piece : (more ≡ (game.nodes q).held from) ⊎ (more ≡ take end (state.held from))) where
@@ -63,13 +65,22 @@ module _ {S : Type 0} (known : ℕ → Holder TicCmd → Type 0) (rules : Rules 
     | inl e ↦ elim piece [
       | inl same ↦ inl (held_at p e ∙ (same ∙ ap (game.nodes q).held (sym e)))
       | inr part ↦ inr (
-        from,
+        by,
         state,
         end,
         had,
         held_at p e ∙ (part ∙ ap (λ (i : ℕ). take end (state.held i)) (sym e)),
       )
     ]
+  ]
+
+  -- who hands it on had given up nobody but whom the node has given up too
+  handed_on : (by ≡ from) ⊎ ((by < rules.players) × Within state.gone (gone q))
+  handed_on = elim hands [
+    | inl e ↦ inl e
+    | inr k ↦
+        let order = kept.order q (seen k.1.0) (was_seen (now_of game gone ∷ older) q k.1.0 k.1.1) in
+        inr (k.0, λ p t. order.gone p (k.1.2 p t))
   ]
 
   -- no end is reached
@@ -81,7 +92,7 @@ module _ {S : Type 0} (known : ℕ → Holder TicCmd → Type 0) (rules : Rules 
           from,
           end,
           seen state,
-          was_seen (now_of game gone ∷ older) from state had,
+          (by, was_seen (now_of game gone ∷ older) by state had, handed_on),
           open_to,
           open_from,
           high,

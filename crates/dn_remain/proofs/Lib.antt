@@ -37,6 +37,7 @@ pub mod Deciding
 pub mod Told
 pub mod Taken
 pub mod Reached
+pub mod Relayed
 pub mod Dropping
 pub mod Steady
 pub mod Wide

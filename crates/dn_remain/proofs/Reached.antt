@@ -59,7 +59,7 @@ module _ {S : Type 0} (rules : Rules S) (settings : Settings) where
       reports = h.followed.reports;
     }
 
-    later : AreFollowed (Had (now_of all.game all.gone ∷ older)) rules next
+    pub later : AreFollowed (Had (now_of all.game all.gone ∷ older)) rules next
     later = Remains.by_event (Had (now_of all.game all.gone ∷ older)) rules all older now event next step
 
     kept : IsKept rules.players (past_seen (now_of next.game next.gone ∷ later.0))
@@ -109,7 +109,7 @@ module _ {S : Type 0} (rules : Rules S) (settings : Settings) where
       ]
     ]
 
-    goes_on : IsReached rules settings next later.0
+    pub goes_on : IsReached rules settings next later.0
     goes_on = record {
       followed = record {
         follows = record {
@@ -131,7 +131,7 @@ module _ {S : Type 0} (rules : Rules S) (settings : Settings) where
       told = Told.by_event rules all h.told event next step;
     }
 
-  opens : IsReached rules settings (opening_remaining settings) []
+  pub opens : IsReached rules settings (opening_remaining settings) []
   unfolding opening_remaining opening_game
   opens = record {
     followed = record {

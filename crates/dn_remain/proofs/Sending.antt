@@ -24,7 +24,7 @@ use Rattle.dn_remain.proofs.Known.{IsTold, Follows, Went, fit_self}
 use Rattle.dn_remain.proofs.Following.{stays}
 
 -- a packet joins those that were sent
-joins : {S : Type 0} (known : ℕ → Holder TicCmd → Type 0) (rules : Rules S) (game : Game) (gone : ℕ → ℕ → Bool) (older : List (ℕ → Holder TicCmd))
+pub joins : {S : Type 0} (known : ℕ → Holder TicCmd → Type 0) (rules : Rules S) (game : Game) (gone : ℕ → ℕ → Bool) (older : List (ℕ → Holder TicCmd))
     → Follows known rules game gone older → (flight : Flight) → IsTold rules.players (now_of game gone ∷ older) flight
     → Follows known rules (posted game (Some flight)).0 gone older
 joins known rules game gone older follows flight told = record {
@@ -100,11 +100,13 @@ module _ {S : Type 0} (known : ℕ → Holder TicCmd → Type 0) (rules : Rules 
         receiver = its;
         apart = apart;
         state = holder_of (after_sent rules.limits q (game.nodes q) to) (gone q);
+        by = q;
         had = inl (ap (λ (n : machine.Node). holder_of n (gone q)) (sym at));
+        hands = inl refl;
         open_to = open_to;
         piece = sym (take_long rules.most (drop (first_sent rules.limits q (game.nodes q) to) ((game.nodes q).held q)));
         reaches = omega arith;
-        exit = λ e. let k = leaving e in let l = k.1 in (k.0, omega arith);
+        exit = λ e. let k = leaving e in let l = k.1 in (k.0, omega arith, inl (ap (λ (n : machine.Node). holder_of n (gone q)) (sym at)));
       }
 
   gives : (q ≢ to) → (kind : Kind) (request : Option ℕ)
@@ -132,7 +134,9 @@ module _ {S : Type 0} (known : ℕ → Holder TicCmd → Type 0) (rules : Rules 
       receiver = its;
       apart = apart;
       state = holder_of (game.nodes q) (gone q);
+      by = q;
       had = inl (ap (λ (n : machine.Node). holder_of n (gone q)) (sym (put_at game.nodes q q (game.nodes q) refl)));
+      hands = inl refl;
       open_to = open_to;
       piece = refl;
       reaches = omega arith;

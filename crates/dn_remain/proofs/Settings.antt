@@ -42,7 +42,7 @@ module _ (settings : Settings) where
     flights = a.flights;
   }
 
-  post_set : (game : Game) → AreSet game → (o : Option Flight)
+  pub post_set : (game : Game) → AreSet game → (o : Option Flight)
       → ((flight : Flight) → o ≡ Some flight → Carries settings flight) → AreSet (posted game o).0
   post_set game a None h = a
   post_set game a (Some sent) h = record {

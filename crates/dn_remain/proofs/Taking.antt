@@ -71,7 +71,7 @@ module _ {S : Type 0} (known : ℕ → Holder TicCmd → Type 0) (rules : Rules 
                 (with_peer (game.nodes flight.to) flight.from peer)
                 (fit_peer known rules game gone older follows flight told open_from (with_peer (game.nodes flight.to) flight.from peer) peer (λ p. refl) refl refl low (end_known known rules game gone older follows flight told open_from peer ends))
                 flight.from told.sender told.apart open_from here ((game.nodes flight.to).held flight.from)
-                (record { held = λ p. put_self p; left = refl; ran = refl }) told.state told.had told.open_to
+                (record { held = λ p. put_self p; left = refl; ran = refl }) told.by told.state told.had told.open_to told.hands
                 (end_of flight) (omega arith) told.reaches (omega arith) (inl refl) is.1 is.2 last none.0
                 (ends_put (Some (end_of flight)) (told_end x) (with_peer (game.nodes flight.to) flight.from peer) (λ p. refl))
           ]
@@ -120,7 +120,7 @@ module _ {S : Type 0} (known : ℕ → Holder TicCmd → Type 0) (rules : Rules 
           (begins ((game.nodes flight.to).held flight.from) (told.state.held flight.from)
           ((game.nodes flight.from).held flight.from)
           (handed (now_of game gone ∷ older) follows.handed flight.to flight.from (now_of game gone flight.to) (inl refl))
-          (handed (now_of game gone ∷ older) follows.handed flight.from flight.from told.state told.had) (omega arith))
+          (handed (now_of game gone ∷ older) follows.handed told.by flight.from told.state told.had) (omega arith))
           first (omega arith)
 
       long : length ((game.nodes flight.to).held flight.from
@@ -134,7 +134,7 @@ module _ {S : Type 0} (known : ℕ → Holder TicCmd → Type 0) (rules : Rules 
       learn : IsEnd game.nodes gone flight.to flight.from (end_of flight) → peer.end ≡ Some (end_of flight)
           → Went known rules (with_node game flight.to new) gone
       learn is e = learns known rules game gone older follows flight.to told.receiver new fit flight.from told.sender told.apart
-          open_from here _ (record { held = λ p. refl; left = refl; ran = refl }) told.state told.had told.open_to
+          open_from here _ (record { held = λ p. refl; left = refl; ran = refl }) told.by told.state told.had told.open_to told.hands
           (end_of flight) long told.reaches (omega arith) (inr piece) is.1 is.2 is.3 (unknown known rules game gone older follows flight told open_from high)
           (ends_put (Some (end_of flight)) e new (λ p. refl))
 
@@ -143,7 +143,7 @@ module _ {S : Type 0} (known : ℕ → Holder TicCmd → Type 0) (rules : Rules 
           → reached (end_of flight) (ends_of (game.nodes flight.to) flight.from) ≡ None
           → Went known rules (with_node game flight.to new) gone
       pass f none = takes known rules game gone older follows flight.to told.receiver new fit flight.from told.sender told.apart
-          open_from here _ (record { held = λ p. refl; left = refl; ran = refl }) told.state told.had told.open_to
+          open_from here _ (record { held = λ p. refl; left = refl; ran = refl }) told.by told.state told.had told.open_to told.hands
           (end_of flight) long told.reaches (omega arith) (inr piece)
           (λ p. elim (cases_eq p flight.from) [
             | inl e ↦

@@ -4,3 +4,4 @@ pub mod Remaining
 pub mod RunsRemain
 pub mod Taking
 pub mod Promise
+pub mod Relaying

@@ -1,7 +1,7 @@
 -- The games that a list of events may lead to, where players may be given up. A packet or a report may come
 -- at any time after it was sent or told, in any order, many times or never; a node may stop at any time; and
 -- whom it gives up, and when, is not asked here.
-use Rattle.std.specs.Prelude.{ℕ, true, false, IsTrue, List, [], ◌∷◌, ◌≡◌, ◌⊎◌, slice_get}
+use Rattle.std.specs.Prelude.{ℕ, true, false, IsTrue, List, ◌≡◌, ◌⊎◌, slice_get}
 use Rattle.dn_setup.specs.Settings.{Settings}
 use Rattle.dn_machine.specs.declared.events.Event.{Event}
 use Rattle.dn_machine.specs.Game.{Game}

@@ -9,7 +9,7 @@ ghost use Rattle.dn_machine.specs.{Node.lowest, Node.ran, Running.is_awaited, Ru
 ghost use Rattle.dn_machine.specs.{declared.answers.Ran.TheVariants.Inconsistent, Promise.Agree, Promise.Fits, Promise.Steady, Runs.Runs, Worlds.rules_of, Worlds.rules_within, Worlds.world_after};
 ghost use Rattle.dn_vanish.specs.{Calls.is_newer, Commands.AreHanded, Commands.Holder, Commands.past_seen, Commands.seen, Steps.IsRun};
 ghost use Rattle.dn_remain.specs.{Seen.end_seen, Seen.now_of, Wary.Report, Wary.Wary, Wary.is_in_game, Wary.newest_seen, Wary.on_give_up, Wary.on_report, Wary.undecided, Remaining.Remaining};
-ghost use Rattle.dn_remain.specs.{RunsRemain.NobodyGivenUp, RunsRemain.RunsRemain, Promise.AgreeInPairs, Promise.FitsInPairs, Promise.IsPair, Promise.SteadyInPairs, declared.events.GivenUp.GivenUp};
+ghost use Rattle.dn_remain.specs.{RunsRemain.NobodyGivenUp, RunsRemain.RunsRemain, Promise.AgreeInPairs, Promise.FitsInPairs, Promise.IsPair, Promise.SteadyInPairs, declared.events.GivenUp.GivenUp, Relaying.RelayEvent, Relaying.Own as plain, Relaying.RunsRelayed};
 ghost use Rattle.dn_remain.specs.{declared.events.Reported.Reported, declared.events.RemainEvent.RemainEvent, declared.events.RemainEvent.TheVariants.Own};
 
 use dn_world::World;
@@ -55,6 +55,24 @@ pub fn those_who_remain_agree<W: World>()
     ensures settings { (limits : Limits) (settings : Settings) (events : List RemainEvent) (all : Remaining)
         → RunsRemain (rules_within W.physics limits) settings events all → (q : ℕ)
         → (all.game.nodes q).played ≡ true → (all.game.nodes q).settings ≡ Some settings }
+{}
+
+/// And the same where nodes give each other packets with commands of third players that they have.
+pub fn relayed_games_agree<W: World>()
+    ensures agree { (limits : Limits) (settings : Settings) (events : List RelayEvent) (all : Remaining)
+        → RunsRelayed (rules_within W.physics limits) settings events all
+        → AgreeInPairs (rules_within W.physics limits) settings all }
+    ensures fits { (limits : Limits) (settings : Settings) (events : List RelayEvent) (all : Remaining)
+        → RunsRelayed (rules_within W.physics limits) settings events all → FitsInPairs limits all }
+    ensures steady { (limits : Limits) (settings : Settings) (events : List RelayEvent) (all : Remaining)
+        → IsWindow limits → RunsRelayed (rules_within W.physics limits) settings events all
+        → SteadyInPairs limits all }
+    ensures settings { (limits : Limits) (settings : Settings) (events : List RelayEvent) (all : Remaining)
+        → RunsRelayed (rules_within W.physics limits) settings events all → (q : ℕ)
+        → (all.game.nodes q).played ≡ true → (all.game.nodes q).settings ≡ Some settings }
+    ensures own { (limits : Limits) (settings : Settings) (events : List RemainEvent) (all : Remaining)
+        → RunsRemain (rules_within W.physics limits) settings events all
+        → RunsRelayed (rules_within W.physics limits) settings (map plain events) all }
 {}
 
 /// A game in which nobody was given up is one that a list of the machine's own events leads to. So all that

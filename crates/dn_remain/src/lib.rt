@@ -21,5 +21,5 @@ pub use events::{GivenUp, RemainEvent, Reported};
 pub use laws::{
     a_game_goes_on, a_game_starts, a_wide_game_goes_on, answers_are_true, games_are_histories,
     games_are_quiet_games, marks_are_compared, quiet_games_agree, quiet_games_are_games,
-    remaining_games_are_histories, those_who_remain_agree,
+    relayed_games_agree, remaining_games_are_histories, those_who_remain_agree,
 };

@@ -14,6 +14,7 @@ use Rattle.dn_remain.specs.declared.events.GivenUp as remain_given
 use Rattle.dn_remain.specs.declared.events.RemainEvent.{RemainEvent}
 use Rattle.dn_survivor.specs.Represents.{given_up_is}
 use Rattle.dn_survivor.specs.declared.answers.GivenUp.{GivenUp}
+use Rattle.dn_remain.proofs.Relayed.{as_relayed}
 use Rattle.dn_survivor.proofs.Decided.{gone_can}
 use Rattle.dn_remain_game.specs.declared.happened.Happened.{Happened}
 use Rattle.dn_remain_game.specs.declared.lived.Lived.{Lived}
@@ -50,7 +51,8 @@ gives_up {W} {S} state physics g limits settings events answers reached node pla
     let shown = node_at state rules g all reached.game node old below read in
     let run = plays_leads rules events answers _ all reached.plays in
     let after = by limits node (wary_of all node) shown (λ phase peer can.
-    gone_can rules settings (window_of limits reached.game.vanilla) events all run node small
+    gone_can rules settings (window_of limits reached.game.vanilla) _ all
+    (as_relayed rules settings events all run) node small
     shown.survivor.player (its_player limits.players node small peer) (another limits.players node small peer) phase can) in
     let so = subst (λ (x : Wary × remain_given.GivenUp). node_to.IsAfter state rules node (living old) (living new) x
     (λ given. answer ≡ given_up_is given))

@@ -1,7 +1,10 @@
 -- What was reached is promised.
 use Rattle.dn_remain_game.proofs.Vanilla.{window_of}
 use Rattle.std.proofs.Common.{◌≡◌, ◌<◌, ℕ, List, Some, Result, refl, ap, sym, ◌∙◌, subst, arith}
-use Rattle.std.specs.Prelude.{slice_get, false}
+use Rattle.std.specs.Prelude.{map, slice_get, false}
+use Rattle.dn_lockstep.specs.OneGame.{beside}
+use Rattle.dn_remain.specs.Relaying.{Own as plain}
+use Rattle.dn_remain.proofs.Relayed.{as_relayed}
 use Rattle.std.specs.Option.{option_map}
 use Rattle.std.proofs.lemmas.Option.{same_Some, slice_get_within}
 use Rattle.dn_setup.specs.Settings.{Settings}
@@ -71,9 +74,9 @@ module _ {W S : Type 0} (state : W → S) (physics : Physics S) (limits : Limits
         let still = unstopped_runs physics limits settings events all run in
         record {
           window = window_of limits r.vanilla;
-          events = still.0;
+          events = map plain still.0;
           last = unstopped all;
-          runs = still.1;
+          runs = as_relayed (beside (marking_of physics) limits) settings still.0 (unstopped all) still.1;
           nodes = here;
           inputs = λ player. refl;
           packets = refl;

@@ -19,6 +19,7 @@ use Rattle.dn_survivor.specs.OneGame.{AreTelling}
 use Rattle.dn_survivor.specs.Session.{Given}
 use Rattle.dn_survivor.specs.Telling.{report_for}
 use Rattle.dn_survivor.specs.declared.answers.Reported.{Reported}
+use Rattle.dn_remain.proofs.Relayed.{as_relayed}
 use Rattle.dn_survivor.proofs.Decided.{told_can}
 use Rattle.dn_survivor.proofs.Reports as telling
 use Rattle.dn_survivor.proofs.Tellings.{as_many, telling_at, telling_more, told_apart}
@@ -145,7 +146,8 @@ hears_report {W} {S} state physics g limits settings events answers reached whic
     found.2.tells) in
     let after = by limits to (wary_of all to) found.0.report shown found.2.sender
     (λ e. found.2.apart (e ∙ is_to)) tells
-    (λ phase can. told_can rules settings (window_of limits reached.game.vanilla) events all run which t there phase
+    (λ phase can. told_can rules settings (window_of limits reached.game.vanilla) _ all
+    (as_relayed rules settings events all run) which t there phase
     can) in
     subst (λ (o : Option Exact). IsAfter state rules g (record g { nodes = set g.nodes to new })
     (heard_at limits all o) (Happened.Reported answer)) (sym there)

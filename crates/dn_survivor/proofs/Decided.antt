@@ -5,18 +5,17 @@ use Rattle.dn_setup.specs.Settings.{Settings}
 use Rattle.dn_machine.specs.Limits.{IsWindow}
 use Rattle.dn_machine.specs.Worlds.{Rules}
 use Rattle.dn_remain.specs.Remaining.{Remaining, Telling, wary_of}
-use Rattle.dn_remain.specs.RunsRemain.{RunsRemain}
+use Rattle.dn_remain.specs.Relaying.{RelayEvent, RunsRelayed}
 use Rattle.dn_remain.specs.Wary.{can_settle, is_in_game, with_gone, with_report}
-use Rattle.dn_remain.specs.declared.events.RemainEvent.{RemainEvent}
 use Rattle.dn_remain.proofs.Histories
 use Rattle.dn_remain.proofs.News.{gives, here, keeps, noted}
-use Rattle.dn_remain.proofs.Reached.{reached_by}
+use Rattle.dn_remain.proofs.Relayed.{reached_by}
 use Rattle.dn_survivor.specs.Represents.{CanTakeAll}
 use Rattle.dn_survivor.proofs.Ended.{ended_by}
 use Rattle.dn_survivor.proofs.Taken.{all_fair, placed_can_take}
 
 module _ {S : Type 0} (rules : Rules S) (settings : Settings) (window : IsWindow rules.limits)
-    (events : List RemainEvent) (all : Remaining) (runs : RunsRemain rules settings events all) where
+    (events : List RelayEvent) (all : Remaining) (runs : RunsRelayed rules settings events all) where
   pub gone_can : (q player : ℕ) → q < rules.players → player < rules.players → player ≢ q
       → is_in_game (all.game.nodes q).phase ≡ true
       → can_settle rules.limits q (with_gone rules.limits (wary_of all q) player) ≡ true

@@ -24,7 +24,11 @@ use Rattle.dn_remain.specs.Seen.{now_of}
 use Rattle.dn_remain.specs.Wary.{Report, Wary, on_give_up, on_report}
 use Rattle.dn_remain.specs.Remaining as remaining
 use Rattle.dn_remain.specs.Remaining.{Telling, Remaining, wary_of, with_wary, unless, with_telling, after_run, after_event, is_barred, is_barred_flight, opening_remaining}
-use Rattle.dn_remain.specs.RunsRemain.{NextRemain, LeadsRemain, RunsRemain}
+use Rattle.dn_remain.specs.RunsRemain.{NextRemain}
+use Rattle.dn_remain.specs.Relaying as relaying
+use Rattle.dn_remain.specs.Relaying.{RelayEvent, NextRelayed, LeadsRelayed, RunsRelayed}
+use Rattle.dn_remain.proofs.Reached.{IsReached}
+use Rattle.dn_remain.proofs.Relayed as relayed
 use Rattle.dn_remain.specs.declared.events.RemainEvent.{RemainEvent}
 use Rattle.dn_remain.specs.declared.events.RemainEvent.TheVariants.{Own, GiveUp, Tell, Hear}
 use Rattle.dn_remain.proofs.ButRuns.{IsNoRun}
@@ -206,13 +210,17 @@ module _ {S : Type 0} (rules : Rules S) (settings : Settings) where
   unfolding opening_remaining opening_game
   nobody q p e is past = absurd (none-some e is)
 
-  leads : (events : List RemainEvent) (all last : Remaining) → AreFollowed Histories.known rules all
-      → AreEnded all → LeadsRemain rules all events last → AreEnded last
+  leads : (events : List RelayEvent) (all last : Remaining)
+      → (older : List (ℕ → Holder TicCmd)) × IsReached rules settings all older
+      → AreEnded all → LeadsRelayed rules all events last → AreEnded last
   leads [] all last h ended same = subst AreEnded (sym same) ended
   leads (event ∷ events) all last h ended way = leads events way.0 last
-      (Remains.by_event Histories.known rules all h.0 h.1 event way.0 way.1)
-      (ended_on rules all h.0 h.1 ended event way.0 way.1) way.2
+      (relayed.one rules settings all way.0 h.0 event h.1 way.1) (goes event way.0 way.1) way.2
+    where
+      goes : (event : RelayEvent) (next : Remaining) → NextRelayed rules all event next → AreEnded next
+      goes (relaying.Own event) next step = ended_on rules all h.0 h.1.followed ended event next step
+      goes (relaying.Relay node player to tic) next step = subst AreEnded (sym step.1) ended
 
-  pub ended_by : (events : List RemainEvent) (all : Remaining) → RunsRemain rules settings events all → AreEnded all
+  pub ended_by : (events : List RelayEvent) (all : Remaining) → RunsRelayed rules settings events all → AreEnded all
   ended_by events all run = leads events (opening_remaining settings) all
-      (Remains.follow_all rules settings [] (opening_remaining settings) refl) nobody run
+      (relayed.reached_by rules settings [] (opening_remaining settings) refl) nobody run

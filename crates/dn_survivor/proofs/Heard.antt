@@ -1,5 +1,5 @@
 -- What is answered in a game of survivors.
-use Rattle.std.proofs.Common.{◌≡◌, ◌<◌, ℕ, true, false, refl, sym, ◌∙◌, arith, inl, inr}
+use Rattle.std.proofs.Common.{◌≡◌, ◌<◌, ℕ, true, false, sym, ◌∙◌, inl, inr}
 use Rattle.std.specs.Prelude.{◌⊎◌, Some, slice_get}
 use Rattle.std.proofs.lemmas.Bool.{both_ways, cond-false}
 use Rattle.dn_setup.specs.Settings.{Settings}
@@ -13,12 +13,10 @@ use Rattle.dn_lockstep.specs.Sent.{bytes_of}
 use Rattle.dn_lockstep.specs.Told.{made}
 use Rattle.dn_lockstep.specs.declared.lockstep.settling.Settled.{Settled}
 use Rattle.dn_remain.specs.Remaining.{wary_of, heard_of}
-use Rattle.dn_remain.specs.Wary.{Report, Wary, on_give_up, on_report}
-use Rattle.dn_remain.specs.declared.events.GivenUp as remain_given
-use Rattle.dn_remain.specs.declared.events.Reported as remain_reported
+use Rattle.dn_remain.specs.Wary.{on_give_up, on_report}
 use Rattle.dn_survivor.specs.Calls.{GivesUp, HearsReport}
 use Rattle.dn_survivor.specs.OneGame.{AreRemaining}
-use Rattle.dn_survivor.specs.Represents.{given_up_is, reported_is}
+use Rattle.dn_survivor.specs.Represents.{reported_is}
 use Rattle.dn_survivor.specs.Session.{Given, Session}
 use Rattle.dn_survivor.specs.Surviving.{Surviving, has_given_up}
 use Rattle.dn_survivor.specs.declared.answers.GivenUp.{GivenUp}

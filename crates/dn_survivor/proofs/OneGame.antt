@@ -1,5 +1,5 @@
 -- The survivors of one game stay those of one game, call by call.
-use Rattle.std.proofs.Common.{◌≡◌, ◌≢◌, ◌<◌, ◌≤◌, ℕ, zero, suc, ℤ, pos, Bool, true, false, List, [], ◌∷◌, ◌++◌, Option, Some, None, refl, ap, sym, ◌∙◌, subst, arith, inl, inr}
+use Rattle.std.proofs.Common.{◌≡◌, ◌≢◌, ◌<◌, ◌≤◌, ℕ, ℤ, pos, Bool, true, false, List, [], ◌∷◌, ◌++◌, Option, Some, None, refl, ap, sym, ◌∙◌, subst, arith, inl, inr}
 use Rattle.std.specs.Prelude.{nat_lt, get_or, slice_get, if◌then◌else◌, IfSome}
 use Rattle.std.specs.Option.{option_map}
 use Rattle.std.proofs.lemmas.Bool.{cases_Bool, cases_eq, cases_lt, both_ways, cond-true, lt-ltb, le-ltb}
@@ -42,7 +42,7 @@ use Rattle.dn_lockstep.specs.Runs.{RunsBy, marks_in, row_told}
 use Rattle.dn_lockstep.specs.Sent.{bytes_of, sent_to}
 use Rattle.dn_lockstep.specs.Session.{given_on, taken_on, told_on}
 use Rattle.dn_lockstep.specs.Steps.{Steps, Tells, IsAfter}
-use Rattle.dn_lockstep.specs.Told.{made}
+use Rattle.dn_lockstep.specs.Told.{made, command_told}
 use Rattle.dn_lockstep.proofs.Counting.{got_is}
 use Rattle.dn_lockstep.proofs.OneGame.{IsQuiet, Rows, build_inputs, build_rows, fair_on, hear_quiet, not_past, own_is, quit_quiet, send_quiet, sent_between}
 use Rattle.dn_lockstep.proofs.Running.{but_same, but_tells, kept_same}
@@ -50,19 +50,24 @@ use Rattle.dn_others.specs.Keeping.{nothing_kept}
 use Rattle.dn_others.specs.Represents as others
 use Rattle.dn_vanish.specs.Commands.{Holder}
 use Rattle.dn_remain.specs.Remaining.{Remaining, Telling, wary_of, with_wary, with_telling, unless, after_event, after_hearing, after_run, after_telling, is_barred, is_barred_flight, opening_remaining}
-use Rattle.dn_remain.specs.RunsRemain.{LeadsRemain, NextRemain}
+use Rattle.dn_remain.specs.RunsRemain.{NextRemain}
+use Rattle.dn_remain.specs.Relaying as relaying
+use Rattle.dn_remain.proofs.Relayed.{goes_on_by, reached_by}
+use Rattle.dn_machine.specs.Relaying.{packet_of_one, relayed, with_relayed}
+use Rattle.dn_lockstep.proofs.Shown.{tells_held}
+use Rattle.dn_survivor.specs.Relaying.{MayRelay, told_gone}
 use Rattle.dn_remain.specs.Wary.{Report, Wary, on_give_up, on_report, report_to}
 use Rattle.dn_remain.specs.declared.events.RemainEvent.{RemainEvent}
 use Rattle.dn_remain.specs.declared.events.RemainEvent.TheVariants.{Own, GiveUp, Tell, Hear}
 use Rattle.dn_remain.proofs.Known.{IsTold}
 use Rattle.dn_remain.specs.Seen.{now_of}
 use Rattle.dn_remain.proofs.Places.{own_put, there}
-use Rattle.dn_remain.proofs.Reached.{IsReached, reached_by}
+use Rattle.dn_remain.proofs.Reached.{IsReached}
 use Rattle.dn_survivor.specs.Calls.{GivesUp, HearsReport, sent_unless}
 use Rattle.dn_survivor.specs.OneGame.{AreRemaining, AreTelling, IsGivenAs, IsTelling}
 use Rattle.dn_survivor.specs.Represents.{Represents, given_up_is, reported_is}
 use Rattle.dn_survivor.specs.Session as session_of
-use Rattle.dn_survivor.specs.Session.{Given, Session, after_build, after_packet, after_report, opening_session, reports_on, with_survivor}
+use Rattle.dn_survivor.specs.Session.{Given, Session, after_build, after_packet, after_relays, after_report, opening_session, reports_on, with_survivor}
 use Rattle.dn_survivor.specs.Surviving.{Surviving, has_given_up}
 use Rattle.dn_survivor.specs.Telling.{report_for}
 use Rattle.dn_survivor.specs.declared.answers.GivenUp.{GivenUp}
@@ -73,15 +78,6 @@ use Rattle.dn_survivor.proofs.Reports as telling
 use Rattle.dn_survivor.proofs.Steps as steps
 use Rattle.dn_survivor.proofs.Tellings.{telling_at, telling_more, told_apart}
 use Rattle.dn_survivor.proofs.Waries as waries
-
--- one more event
-one_more : {S : Type 0} (rules : Rules S) (events : List RemainEvent) (event : RemainEvent) (all mid last : Remaining)
-    → LeadsRemain rules all events mid → NextRemain rules mid event last
-    → LeadsRemain rules all (events ++ event ∷ []) last
-one_more rules [] event all mid last same next =
-    (last, subst (λ (r : Remaining). NextRemain rules r event last) same next, refl)
-one_more rules (e ∷ events) event all mid last way next =
-    (way.0, way.1, one_more rules events event way.0 mid last way.2 next)
 
 -- what is read off the nodes, where one of them is another now
 read_on : {A : Type 0} (f : machine.Node → A) (nodes : ℕ → machine.Node) (values : ℕ → A) (i : ℕ)
@@ -188,9 +184,10 @@ module _ (marking : Marking) (limits : Limits) (settings : Settings) where
           → Still (with_own inputs packets rows new)
       changes event next inputs packets rows new step rest shows takes same told tells fair on = record {
         window = game.window;
-        events = game.events ++ event ∷ [];
+        events = game.events ++ relaying.Own event ∷ [];
         last = next;
-        runs = one_more rules game.events event (opening_remaining settings) game.last next game.runs step;
+        runs = goes_on_by rules settings game.events (relaying.Own event) (opening_remaining settings) game.last next
+            game.runs step;
         nodes = placed next new rest shows;
         inputs = takes;
         packets = same;
@@ -496,9 +493,10 @@ module _ (marking : Marking) (limits : Limits) (settings : Settings) where
         tells_to low (Some given) None is h = absurd h
         tells_to low (Some given) (Some told) is h = record {
           window = game.window;
-          events = game.events ++ Tell i to ∷ [];
+          events = game.events ++ relaying.Own (Tell i to) ∷ [];
           last = with_telling game.last i to (Some told);
-          runs = one_more rules game.events (Tell i to) (opening_remaining settings) game.last _ game.runs
+          runs = goes_on_by rules settings game.events (relaying.Own (Tell i to)) (opening_remaining settings)
+              game.last _ game.runs
               (inl (sym (told_step is)));
           nodes = game.nodes;
           inputs = game.inputs;
@@ -538,6 +536,58 @@ module _ (marking : Marking) (limits : Limits) (settings : Settings) where
           | inr past ↦ subst (λ (o : Option Told). Still (after_report session i to o))
               (sym (is ∙ none_past past)) game
         ]
+
+      -- whom it has given up is one whom it knows the other to have given up
+      known_gone : (to player : ℕ) (given : Option Told) (told : Option Report)
+          → others.AreTold limits.players limits.places i to given told → player < limits.players
+          → told_gone given player ≡ true → relaying.told_gone told player ≡ true
+      known_gone to player None None is below h = h
+      known_gone to player None (Some told) is below h = absurd is
+      known_gone to player (Some given) None is below h = absurd is
+      known_gone to player (Some given) (Some told) is below h = sym (is.gone player below) ∙ h
+
+      -- a command that is told may be given to another
+      pub relays : (player to tic : ℕ) (command : TicCmd) → player < limits.players → to < limits.players
+          → player ≢ to → MayRelay (session.survivors i) to
+          → command_told (session.survivors i).lockstep player tic ≡ Some command
+          → IsFair (packet_of_one player to tic command)
+          → Still (after_relays session (packet_of_one player to tic command ∷ []))
+      relays player to tic command its there apart may told fair =
+          let has = tells_held limits i (session.survivors i).lockstep (node i) shown.node player tic command told in
+          let same : relayed (node i) player to tic ≡ packet_of_one player to tic command =
+          ap (packet_of_one player to tic) (sym has.2) in
+          let can : relaying.CanRelay limits.players game.last i player to tic =
+          record {
+            can = record { giver = mine; maker = its; receiver = there; apart = apart; has = has.1 };
+            open_to = sym (shown.others.given_up to there) ∙ may.stays;
+            within = λ p gone.
+                let below : p < limits.players = peer_below p gone in
+                known_gone to p _ _ (shown.others.told to there) below
+                (may.within p (omega (arith, below, shown.few)) (shown.others.given_up p below ∙ gone));
+          } in
+          record {
+            window = game.window;
+            events = game.events ++ relaying.Relay i player to tic ∷ [];
+            last = record game.last { game = with_relayed game.last.game i player to tic };
+            runs = goes_on_by rules settings game.events (relaying.Relay i player to tic) (opening_remaining settings)
+                game.last _ game.runs (can, refl);
+            nodes = game.nodes;
+            inputs = game.inputs;
+            packets = ap (λ (fs : List Flight). fs ++ relayed (node i) player to tic ∷ []) game.packets
+                ∙ ap (λ (f : Flight). session.packets ++ f ∷ []) same;
+            reports = game.reports;
+            rows = game.rows;
+            fair = fair_on session.packets game.fair (Some (packet_of_one player to tic command)) fair;
+            going = game.going;
+          }
+        where
+          peer_below : (p : ℕ) → game.last.gone i p ≡ true → p < limits.players
+          peer_below p gone = let peer = shown.peers p gone in elim (cases_lt p limits.players) [
+            | inl low ↦ low
+            | inr past ↦
+                let off = le-ltb p limits.players past in
+                absurd (grind (arith, peer, off))
+          ]
 
     -- a packet that was given
     module _ (which : ℕ) (packet : Flight) (at : slice_get session.packets which ≡ Some packet) where

@@ -1,5 +1,5 @@
 -- What the survivors of one game tell of themselves agrees, since the nodes that they represent do.
-use Rattle.std.proofs.Common.{◌≡◌, ◌≢◌, ◌<◌, ◌≤◌, ◌||◌, ℕ, ◌+◌, ℤ, pos, Bool, true, false, List, [], ◌∷◌, ◌++◌, length, map, take, get_or, Option, Some, None, is_some, refl, ap, sym, ◌∙◌, subst, arith, inl, inr, drop, ◌*◌}
+use Rattle.std.proofs.Common.{◌≡◌, ◌≢◌, ◌<◌, ◌≤◌, ◌||◌, ℕ, ◌+◌, ℤ, pos, Bool, true, false, List, [], ◌++◌, length, map, take, get_or, Option, Some, None, is_some, refl, ap, sym, ◌∙◌, subst, arith, inl, inr, drop, ◌*◌}
 use Rattle.std.specs.Prelude.{◌⊎◌, if◌then◌else◌, nat_lt, slice_get, Ok}
 use Rattle.std.specs.List.{take_while}
 use Rattle.std.specs.Option.{option_map}

@@ -8,3 +8,4 @@ pub mod Session
 pub mod OneGame
 pub mod Agreed
 pub mod Demos
+pub mod Relaying

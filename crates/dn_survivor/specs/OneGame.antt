@@ -10,8 +10,7 @@ use Rattle.dn_lockstep.specs.OneGame.{IsAimedAs, beside}
 use Rattle.dn_lockstep.specs.Sent.{bytes_of}
 use Rattle.dn_others.specs.Represents as others
 use Rattle.dn_remain.specs.Remaining.{Remaining, Telling, wary_of}
-use Rattle.dn_remain.specs.RunsRemain.{RunsRemain}
-use Rattle.dn_remain.specs.declared.events.RemainEvent.{RemainEvent}
+use Rattle.dn_remain.specs.Relaying.{RelayEvent, RunsRelayed}
 use Rattle.dn_survivor.specs.Represents.{Represents}
 use Rattle.dn_survivor.specs.Session.{Given, Session}
 use Rattle.dn_survivor.specs.Surviving.{Surviving, has_given_up}
@@ -41,13 +40,14 @@ pub record IsGivenAs (now : Surviving) (sender receiver : ℕ) (spelling : Optio
   pub aim : has_given_up now receiver ≡ false → IsAimedAs now.lockstep receiver packet
 
 -- each player's survivor represents the player's node of one game in which players may be given up, in which
--- these inputs were taken, these packets and reports given, and these rows told
+-- these inputs were taken, these packets and reports given, and these rows told. Packets that were given to others
+-- with commands of third players are among these
 pub record AreRemaining (marking : Marking) (limits : Limits) (settings : Settings) (session : Session) : Type 0
   where
     pub window : IsWindow limits
-    pub events : List RemainEvent
+    pub events : List RelayEvent
     pub last : Remaining
-    pub runs : RunsRemain (beside marking limits) settings events last
+    pub runs : RunsRelayed (beside marking limits) settings events last
     pub nodes : (player : ℕ) → player < limits.players
         → Represents limits player (session.survivors player) (wary_of last player)
     pub inputs : (player : ℕ) → (last.game.nodes player).inputs ≡ session.inputs player

@@ -54,6 +54,10 @@ abbrev pub after_packet : Session → ℕ → Option Flight → Surviving → Se
 after_packet session player packet new =
     record (with_survivor session player new) { packets = given_on session.packets packet }
 
+-- after packets of third players' commands, which change no survivor
+abbrev pub after_relays : Session → List Flight → Session
+after_relays session packets = record session { packets = session.packets ++ packets }
+
 -- after a run, which tells a row if a tic was run
 abbrev pub after_run : Session → ℕ → Option (List (Option Move)) → Surviving → Session
 after_run session player row new =

@@ -9,7 +9,11 @@ ghost use Rattle.dn_machine.specs.Drops as drops;
 ghost use Rattle.dn_machine.specs.{declared.answers.Heard.Heard, declared.answers.Made.Made, declared.answers.Ran.Ran, Building.on_build, Flight.Flight, Flight.is_near, Game.fresh, Limits.Limits};
 ghost use Rattle.dn_machine.specs.{Limits.IsWindow, Running.is_over, Running.on_quit, Running.on_run_but};
 ghost use Rattle.dn_lockstep.specs.{Contents.end_in, Hearing.HearsNear, Hearing.Spares, Marking.Marking, Near.IsFair, OneGame.world_told, Runs.RunsBy, Sent.bytes_of, Sent.sent_to, Steps.Steps};
-ghost use Rattle.dn_lockstep.specs.{Steps.Tells, Told.made};
+ghost use Rattle.std.specs.{Prelude.◌∷◌, Prelude.[]};
+ghost use Rattle.dn_tic.specs.declared.command.TicCmd.{TicCmd};
+ghost use Rattle.dn_machine.specs.Relaying.{packet_of_one};
+ghost use Rattle.dn_survivor.specs.{Relaying.MayRelay, Session.after_relays};
+ghost use Rattle.dn_lockstep.specs.{Steps.Tells, Told.made, Told.command_told};
 ghost use Rattle.dn_lockstep.specs.Represents as lockstep;
 ghost use Rattle.dn_others.specs.Keeping.{nothing_kept};
 ghost use Rattle.dn_survivor.specs.{Calls.GivesUp, Calls.HearsReport, Calls.sent_unless, OneGame.AreRemaining, OneGame.IsGivenAs, Session.Given, Session.Session, Session.after_build};
@@ -100,6 +104,13 @@ pub fn remaining_game_goes_on()
         → AreRemaining marking limits settings session → here < limits.players
         → GivesUp player (session.survivors here) new answer
         → AreRemaining marking limits settings (with_survivor session here new) }
+    ensures relayed { (marking : Marking) (limits : Limits) (settings : Settings) (session : Session)
+        (giver player to tic : ℕ) (command : TicCmd)
+        → AreRemaining marking limits settings session → giver < limits.players → player < limits.players
+        → to < limits.players → player ≢ to → MayRelay (session.survivors giver) to
+        → command_told (session.survivors giver).lockstep player tic ≡ Some command
+        → IsFair (packet_of_one player to tic command)
+        → AreRemaining marking limits settings (after_relays session (packet_of_one player to tic command ∷ [])) }
     ensures told { (marking : Marking) (limits : Limits) (settings : Settings) (session : Session)
         (player to : ℕ) (report : Option Report)
         → AreRemaining marking limits settings session → player < limits.players

@@ -54,7 +54,7 @@ module _ (players ahead : ℕ) (nodes : ℕ → Node) (older : List (ℕ → Nod
   good : (act : Act) (new : Node) → Acts players ahead (nodes ∷ older) q act new → IsGood players nodes older q new
   good Make new a = mild _ new a.1 (makes players nodes older q l here kept)
   good Take new a = mild _ new a.8 (takes players nodes older q l here kept a.0 a.1 a.5 a.6
-      (let b : a.2.got a.0 ≤ (nodes a.0).got a.0 = (kept.order a.0 a.2 a.3).got a.0 in
+      (let b : a.2.got a.0 ≤ (nodes a.0).got a.0 = (kept.sound a.3.0 a.2 a.3.1).made a.0 in
       let c = a.7 in omega arith))
   good Learn new a = mild _ new a.5 (learns players nodes older q l here kept a.0 a.1 a.2 a.3)
   good Run new a = mild _ new a.1 (runs players nodes older q l here kept a.0)

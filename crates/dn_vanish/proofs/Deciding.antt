@@ -157,6 +157,20 @@ module _ (players : ℕ) (nodes : ℕ → Node) (older : List (ℕ → Node)) (q
         (heard r, ev.0, ev.1, λ p t. let a = got_in p t in let b = above p r m n o in omega arith)
   ]
 
+  -- and that has none of the commands that the node made later
+  stands_own : (r : ℕ) → r < players → (nodes q).gone r ≡ false
+      → (w : Node) × Was (nodes ∷ older) r w × Stands (nodes q).gone w
+      × (w.got q ≤ (decided players q (nodes q) heard).got q)
+  stands_own r m o =
+      let a : (nodes q).got q ≤ (decided players q (nodes q) heard).got q = up q in
+      elim (cases_eq r q) [
+        | inl e ↦ (nodes q, inl (ap nodes (sym e)), inl (λ p. refl), a)
+        | inr n ↦
+            let ev = hears r m n o in
+            let b : (heard r).got q ≤ (nodes q).got q = (kept.sound r (heard r) ev.0).made q in
+            (heard r, ev.0, ev.1, omega arith)
+      ]
+
   decision : IsDecision players (put nodes q (decided players q (nodes q) heard) ∷ nodes ∷ older) q
       (decided players q (nodes q) heard)
   decision = record {
@@ -164,6 +178,7 @@ module _ (players : ℕ) (nodes : ℕ → Node) (older : List (ℕ → Node)) (q
     own = sound.own;
     known = λ p t. ends_in p t ∙ ap (λ (i : ℕ). Some i) (sym (got_in p t));
     sees = λ r m o. let w = stands r m o in (w.0, inr w.1, w.2, w.3);
+    reaches = λ r m o. let w = stands_own r m o in (w.0, inr w.1, w.2, w.3);
     base = λ p t. subst (λ (i : ℕ). IsBase players (put nodes q (decided players q (nodes q) heard) ∷ nodes ∷ older)
         (nodes q).gone p i) (sym (got_in p t))
         (base_kept players (nodes ∷ older) (put nodes q (decided players q (nodes q) heard))
@@ -219,7 +234,7 @@ module _ (players : ℕ) (nodes : ℕ → Node) (older : List (ℕ → Node)) (q
     got = up;
     ends = old_ends;
     left = λ t. absurd (both_ways (nodes q).left here t);
-    frozen = λ p t. inr (decided players q (nodes q) heard, decision, (λ r u. u), (λ r u. u), refl);
+    frozen = λ p t. inr (decided players q (nodes q) heard, decision, (λ r u. u), (λ r u. u), refl, omega arith);
     grown = record { more = omega arith; same = λ tic p m. refl };
   }
 
@@ -257,11 +272,17 @@ module _ (players : ℕ) (nodes : ℕ → Node) (older : List (ℕ → Node)) (q
       → HasSource players (put nodes q (decided players q (nodes q) heard) ∷ nodes ∷ older) q
       (decided players q (nodes q) heard) p e
   source p e s = elim (cases_Bool ((nodes q).gone p)) [
-    | inl t ↦ inr (decided players q (nodes q) heard, decision, t, full p e s, λ r u. u)
-    | inr t ↦ source_kept players (nodes ∷ older) (put nodes q (decided players q (nodes q) heard))
+    | inl t ↦ inr (decided players q (nodes q) heard, decision, t, full p e s, (λ r u. u), omega arith)
+    | inr t ↦ elim (source_kept players (nodes ∷ older) (put nodes q (decided players q (nodes q) heard))
         (grows nodes q (decided players q (nodes q) heard) up) kept
         (stays nodes q (decided players q (nodes q) heard) here) q (nodes q) p e
-        (sound.source p e (sym (ends_out p t) ∙ s))
+        (sound.source p e (sym (ends_out p t) ∙ s))) [
+          | inl k ↦ inl k
+          | inr d ↦
+              let a = d.5 in
+              let b : (nodes q).got q ≤ (decided players q (nodes q) heard).got q = up q in
+              inr (d.0, d.1, d.2, d.3, d.4, omega arith)
+        ]
   ]
 
   -- what others have of one whose end it decided

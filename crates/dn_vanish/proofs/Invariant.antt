@@ -19,12 +19,15 @@ pub record IsDecision (players : ℕ) (history : List (ℕ → Node)) (x : ℕ) 
   -- of each player outside it had a state that stands for its set, whose counts it reaches
   pub sees : (r : ℕ) → r < players → d.gone r ≡ false
       → (w : Node) × Was history r w × Stands d.gone w × ((p : ℕ) → d.gone p ≡ true → w.got p ≤ d.got p)
+  -- and of which none had more of its own commands
+  pub reaches : (r : ℕ) → r < players → d.gone r ≡ false
+      → (w : Node) × Was history r w × Stands d.gone w × (w.got x ≤ d.got x)
   pub base : (p : ℕ) → d.gone p ≡ true → IsBase players history d.gone p (d.got p)
 
 -- a player's count stayed between two states of node `x`, or the last of them has it from a decision between
 abbrev pub IsFrozen : ℕ → List (ℕ → Node) → ℕ → Node → Node → ℕ → Type 0
 IsFrozen players history x u v p = (v.got p ≡ u.got p) ⊎ ((d : Node) × IsDecision players history x d
-    × Within u.gone d.gone × Within d.gone v.gone × (d.got p ≡ v.got p))
+    × Within u.gone d.gone × Within d.gone v.gone × (d.got p ≡ v.got p) × (d.got x ≤ v.got x))
 
 -- rows are added, and none is changed
 pub record IsGrown (u v : Node) : Type 0 where
@@ -43,7 +46,8 @@ pub record IsLater (players : ℕ) (history : List (ℕ → Node)) (x : ℕ) (u 
 -- where a node has a player's end from: EXIT, or a decision
 abbrev pub HasSource : ℕ → List (ℕ → Node) → ℕ → Node → ℕ → ℕ → Type 0
 HasSource players history x u p e = (((now history p).left ≡ true) × (e ≡ (now history p).got p))
-    ⊎ ((d : Node) × IsDecision players history x d × (d.gone p ≡ true) × (d.got p ≡ e) × Within d.gone u.gone)
+    ⊎ ((d : Node) × IsDecision players history x d × (d.gone p ≡ true) × (d.got p ≡ e) × Within d.gone u.gone
+    × (d.got x ≤ u.got x))
 
 -- what holds of one state of node `x`
 pub record IsSound (players : ℕ) (history : List (ℕ → Node)) (x : ℕ) (u : Node) : Type 0 where

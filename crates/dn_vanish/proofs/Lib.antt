@@ -9,7 +9,8 @@ pub mod Always
 pub mod Promises
 pub mod Windows
 pub mod Fitting
-pub mod Direct
+pub mod Rowing
+pub mod Behind
 pub mod Marks
 pub mod Marking
 pub mod Coming

@@ -35,7 +35,7 @@ module _ (players ahead : ℕ) (nodes : ℕ → Node) (older : List (ℕ → Nod
         | inl e ↦
             let c : new.got q ≡ a.1 =
             own new _ _ (ap (λ (n : Node). n.got) a.8) (put_at (nodes q).got a.0 q a.1 e) in
-            let d : a.2.got a.0 ≤ (nodes a.0).got a.0 = (kept.order a.0 a.2 a.3).got a.0 in
+            let d : a.2.got a.0 ≤ (nodes a.0).got a.0 = (kept.sound a.3.0 a.2 a.3.1).made a.0 in
             let f : a.1 ≤ a.2.got a.0 = a.7 in
             let g : (nodes q).got q ≡ (nodes a.0).got a.0 = ap (λ (i : ℕ). (nodes i).got i) e in
             omega arith

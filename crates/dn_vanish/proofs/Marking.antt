@@ -1,31 +1,32 @@
 -- So the marks of two nodes agree.
 use Rattle.std.proofs.Common.{◌≡◌, ℕ, ◌+◌, ◌<◌, ◌≤◌, sym, subst, arith, inl, inr, List}
 use Rattle.std.specs.Prelude.{false}
-use Rattle.std.proofs.lemmas.Bool.{cases_eq}
+use Rattle.std.proofs.lemmas.Bool.{cases_eq, cases_Bool}
 use Rattle.dn_vanish.specs.Node.{Node, ran, Was}
 use Rattle.dn_vanish.specs.Steps.{IsRun}
 use Rattle.dn_vanish.specs.Promise.{Marked, lacks_at}
 use Rattle.dn_vanish.proofs.Always.{always}
 use Rattle.dn_vanish.proofs.Promises.{agree}
 use Rattle.dn_vanish.proofs.Windows.{roomy}
-use Rattle.dn_vanish.proofs.Direct.{direct}
-use Rattle.dn_vanish.proofs.Views.{outside}
+use Rattle.dn_vanish.proofs.Behind.{behind}
+use Rattle.dn_vanish.proofs.Rowing.{rows_alike}
 use Rattle.dn_vanish.proofs.Marks.{marks}
 
--- of a player whom a node has not given up, it has what that player sent to it
+-- of a player whom a node has not given up, it has nothing that was made after a decision without the node
 module _ (players ahead : ℕ) (history : List (ℕ → Node)) (run : IsRun players ahead history) where
   apart : ahead ≤ 12 → (x p tic back r : ℕ) (u maker : Node) → x < players → p < players → r < players
       → (x ≡ p → ⊥) → Was history x u → Was history p maker → u.gone p ≡ false → maker.got p ≡ tic
       → back < ran maker → back < ran u → tic < u.got p → lacks_at u back r ≡ lacks_at maker back r
   apart low x p tic back r u maker l m n f w y g e i j held =
       let kept = always players ahead history run in
-      let sent = (direct players ahead history run).sent x p u f w g in
-      let c : maker.got p < sent.0.got p = let d = sent.3 in omega arith in
-      elim (kept.pairs p maker sent.0 y sent.1) [
-        | inr order ↦ let d = order.got p in absurd (omega arith)
-        | inl order ↦ (agree players history kept).rows_same x p r back u maker l m n f w y g
-            (outside maker.gone sent.0.gone x order.gone sent.2) j i
-      ]
+      rows_alike players history kept x p u maker l m f w y g
+      (λ d decides below. elim (cases_Bool (d.gone x)) [
+        | inr o ↦ o
+        | inl t ↦
+            let a : u.got p ≤ d.got p = behind players ahead history kept p d decides history run
+            (λ z v k. k) x u l f w g t in
+            absurd (omega arith)
+      ]) r back n j i
 
   own_row : (p back r : ℕ) (u maker : Node) → Was history p u → Was history p maker → back < ran maker
       → back < ran u → lacks_at u back r ≡ lacks_at maker back r

@@ -4,13 +4,15 @@ use Rattle.std.specs.Prelude.{false, Some}
 use Rattle.std.proofs.lemmas.Bool.{both_ways, cases_eq, cases_Bool}
 use Rattle.dn_vanish.specs.Node.{Node, put, ran, fresh, Was}
 use Rattle.dn_vanish.specs.Reports.{HasHeard, decided_end, decided}
-use Rattle.dn_vanish.specs.Steps.{Act, Make, Take, Learn, Run, GiveUp, Leave, Decide, Acts, Step, IsRun}
+use Rattle.dn_vanish.specs.Steps.{Act, Make, Take, Learn, Run, GiveUp, Leave, Decide, Acts, Step, IsRun, HandsOn}
 use Rattle.dn_vanish.specs.Promise.{lacks_at}
 use Rattle.dn_vanish.proofs.Put.{put_at, put_off}
 use Rattle.dn_vanish.proofs.Invariant.{IsGrown, IsKept}
 use Rattle.dn_vanish.proofs.Stepping.{was_q, was_other}
 use Rattle.dn_vanish.proofs.Deciding.{got_in, got_out, reached, not_q}
 use Rattle.dn_vanish.proofs.Always.{always}
+use Rattle.dn_vanish.proofs.Behind.{behind, handed_behind}
+use Rattle.dn_vanish.proofs.Rowing.{rows_alike}
 use Rattle.dn_vanish.proofs.Promises.{agree}
 use Rattle.dn_vanish.proofs.Windows.{IsRoomy, roomy}
 
@@ -82,6 +84,42 @@ module _ (players ahead : ℕ) (nodes : ℕ → Node) (older : List (ℕ → Nod
         old_row p tic back r maker m n f y e (omega arith) b
   ]
 
+  -- one count was raised to what another handed on
+  handed_row : IsRun players ahead (nodes ∷ older) → (a end : ℕ) (sent : Node)
+      → HandsOn players (nodes ∷ older) (nodes q) a sent → sent.gone q ≡ false
+      → (nodes q).gone a ≡ false → end ≤ sent.got a → (p tic back r : ℕ) (maker : Node) → p < players
+      → r < players → (q ≡ p → ⊥) → Was (nodes ∷ older) p maker → maker.got p ≡ tic
+      → tic < put (nodes q).got a end p → back + 12 ≤ tic → IsSameRow (nodes q) maker back r
+  handed_row run a end sent hands g o h p tic back r maker m n f y e s b = elim (cases_eq p a) [
+    | inr d ↦
+        let c = put_off (nodes q).got a p end d in
+        old_row p tic back r maker m n f y e (omega arith) b
+    | inl d ↦
+        let c = put_at (nodes q).got a p end d in
+        let i : sent.got p ≡ sent.got a = ap sent.got d in
+        let j : sent.got p ≤ (nodes q).got q + ahead = room.near q hands.0 p sent l here hands.1 g in
+        let t = room.own q (nodes q) (inl refl) in
+        let v : maker.got p ≤ ran maker + ahead = room.own p maker y in
+        let mine : back < ran (nodes q) = omega arith in
+        let its : back < ran maker = omega arith in
+        let open_p : (nodes q).gone p ≡ false = ap (nodes q).gone d ∙ o in
+        record {
+          ran_it = mine;
+          made_it = its;
+          same = rows_alike players (nodes ∷ older) kept q p (nodes q) maker l m f (inl refl) y open_p
+              (λ k decides below. elim (cases_Bool (k.gone q)) [
+                | inr z ↦ z
+                | inl z ↦
+                    let x : sent.got p ≤ k.got p = handed_behind players ahead (nodes ∷ older) kept p k decides
+                    nodes older (λ i u w. w)
+                    (λ i u l n w g t. behind players ahead (nodes ∷ older) kept p k decides (nodes ∷ older) run
+                    (λ i u w. w) i u l n w g t) q (nodes q) sent
+                    (subst (λ (i : ℕ). HandsOn players (nodes ∷ older) (nodes q) i sent) (sym d) hands) g open_p z in
+                    absurd (omega arith)
+              ]) r back n mine its;
+        }
+  ]
+
   decided_row : (heard : ℕ → Node) → HasHeard players (nodes ∷ older) q (nodes q) heard → (p tic back r : ℕ)
       (maker : Node) → p < players → r < players → (q ≡ p → ⊥) → Was (nodes ∷ older) p maker
       → maker.got p ≡ tic → tic < (decided players q (nodes q) heard).got p → back + 12 ≤ tic
@@ -111,33 +149,33 @@ module _ (players ahead : ℕ) (nodes : ℕ → Node) (older : List (ℕ → Nod
   same_got : (new next : Node) (p tic : ℕ) → next ≡ new → tic < next.got p → tic < new.got p
   same_got new next p tic e s = let a : next.got p ≡ new.got p = ap (λ (n : Node). n.got p) e in omega arith
 
-  new_row : (act : Act) (new : Node) → Acts players ahead (nodes ∷ older) q act new → (p tic back r : ℕ)
+  new_row : IsRun players ahead (nodes ∷ older) → (act : Act) (new : Node) → Acts players ahead (nodes ∷ older) q act new → (p tic back r : ℕ)
       (maker : Node) → p < players → r < players → (q ≡ p → ⊥) → Was (nodes ∷ older) p maker
       → maker.got p ≡ tic → tic < new.got p → back + 12 ≤ tic → IsSameRow (nodes q) maker back r
-  new_row Make new a p tic back r maker m n f y e s b =
+  new_row run Make new a p tic back r maker m n f y e s b =
       let c : put (nodes q).got q ((nodes q).got q + 1) p ≡ (nodes q).got p =
       put_off (nodes q).got q p ((nodes q).got q + 1) (λ i. f (sym i)) in
       let d = same_got (record (nodes q) { got = put (nodes q).got q ((nodes q).got q + 1) }) new p tic a.1 s in
       old_row p tic back r maker m n f y e (omega arith) b
-  new_row Take new a p tic back r maker m n f y e s b =
-      raised_row a.0 a.1 a.2 a.3 a.4 a.5 a.7 p tic back r maker m n f y e
+  new_row run Take new a p tic back r maker m n f y e s b =
+      handed_row run a.0 a.1 a.2 a.3 a.4 a.5 a.7 p tic back r maker m n f y e
       (same_got (record (nodes q) { got = put (nodes q).got a.0 a.1 }) new p tic a.8 s) b
-  new_row Learn new a p tic back r maker m n f y e s b =
+  new_row run Learn new a p tic back r maker m n f y e s b =
       raised_row a.0 ((nodes a.0).got a.0) (nodes a.0) (inl refl) a.4 a.2 (omega arith) p tic back r maker m n f y e
       (same_got (record (nodes q) {
         got = put (nodes q).got a.0 ((nodes a.0).got a.0);
         ends = put (nodes q).ends a.0 (Some ((nodes a.0).got a.0));
       }) new p tic a.5 s) b
-  new_row Run new a p tic back r maker m n f y e s b =
+  new_row run Run new a p tic back r maker m n f y e s b =
       let c : new.got p ≡ (nodes q).got p = ap (λ (n : Node). n.got p) a.1 in
       old_row p tic back r maker m n f y e (omega arith) b
-  new_row GiveUp new a p tic back r maker m n f y e s b =
+  new_row run GiveUp new a p tic back r maker m n f y e s b =
       let c : new.got p ≡ (nodes q).got p = ap (λ (n : Node). n.got p) a.3 in
       old_row p tic back r maker m n f y e (omega arith) b
-  new_row Leave new a p tic back r maker m n f y e s b =
+  new_row run Leave new a p tic back r maker m n f y e s b =
       let c : new.got p ≡ (nodes q).got p = ap (λ (n : Node). n.got p) a in
       old_row p tic back r maker m n f y e (omega arith) b
-  new_row Decide new a p tic back r maker m n f y e s b =
+  new_row run Decide new a p tic back r maker m n f y e s b =
       decided_row a.0 a.1 p tic back r maker m n f y e
       (same_got (decided players q (nodes q) a.0) new p tic a.2 s) b
 
@@ -193,13 +231,14 @@ module _ (players ahead : ℕ) (nodes : ℕ → Node) (older : List (ℕ → Nod
     }
 
 steps : (players ahead : ℕ) → ahead + ahead ≤ 12 → (nodes : ℕ → Node) (older : List (ℕ → Node)) (next : ℕ → Node)
+    → IsRun players ahead (nodes ∷ older)
     → Step players ahead (nodes ∷ older) next → IsKept players (nodes ∷ older) → IsKept players (next ∷ nodes ∷ older)
     → IsRoomy players ahead (nodes ∷ older) → IsMarked players (nodes ∷ older) → IsMarked players (next ∷ nodes ∷ older)
-steps players ahead low nodes older next step kept kept' room marked =
+steps players ahead low nodes older next run step kept kept' room marked =
     subst (λ (n : ℕ → Node). IsMarked players (n ∷ nodes ∷ older)) (sym step.next_is)
     (marked_after players ahead nodes older step.q step.player step.here kept low room marked step.new
     (subst (λ (n : ℕ → Node). IsKept players (n ∷ nodes ∷ older)) step.next_is kept')
-    (new_row players ahead nodes older step.q step.player step.here kept low room marked step.act step.new step.acts))
+    (new_row players ahead nodes older step.q step.player step.here kept low room marked run step.act step.new step.acts))
 
 opens : (players : ℕ) → IsMarked players ((λ node. fresh) ∷ [])
 opens players = record {
@@ -212,6 +251,6 @@ opens players = record {
 pub marks : (players ahead : ℕ) → ahead + ahead ≤ 12 → (history : List (ℕ → Node)) → IsRun players ahead history → IsMarked players history
 marks players ahead low [] run = absurd run
 marks players ahead low (nodes ∷ []) run = subst (λ (n : ℕ → Node). IsMarked players (n ∷ [])) (sym run) (opens players)
-marks players ahead low (next ∷ (nodes ∷ older)) run = steps players ahead low nodes older next run.0
+marks players ahead low (next ∷ (nodes ∷ older)) run = steps players ahead low nodes older next run.1 run.0
     (always players ahead (nodes ∷ older) run.1) (always players ahead (next ∷ (nodes ∷ older)) run)
     (roomy players ahead (nodes ∷ older) run.1) (marks players ahead low (nodes ∷ older) run.1)

@@ -127,7 +127,10 @@ module _ (players : ℕ) (nodes : ℕ → Node) (older : List (ℕ → Node)) (q
     | inl h ↦ elim (source_kept players (nodes ∷ older) (put nodes q new) (grows nodes q new up) kept
         (stays nodes q new mild.here) q (nodes q) p e ((kept.sound q (nodes q) (inl refl)).source p e h.0)) [
           | inl k ↦ inl k
-          | inr d ↦ inr (d.0, d.1, d.2, d.3, λ r t. mild.gone r (d.4 r t))
+          | inr d ↦
+              let a = d.5 in
+              let b : (nodes q).got q ≤ new.got q = up q in
+              inr (d.0, d.1, d.2, d.3, (λ r t. mild.gone r (d.4 r t)), omega arith)
         ]
     | inr h ↦
         let s = put_off nodes q p new h.0 in

@@ -82,7 +82,7 @@ run1 : IsRun 3 5 (n1 ∷ n0 ∷ [])
 run1 = (step n0 ([]) 0 Make (record (n0 0) { got = put (n0 0).got 0 ((n0 0).got 0 + 1) }) (omega arith) refl (omega arith, refl), refl)
 
 run2 : IsRun 3 5 (n2 ∷ n1 ∷ n0 ∷ [])
-run2 = (step n1 (n0 ∷ []) 1 Take (record (n1 1) { got = put (n1 1).got 0 1 }) (omega arith) refl (0, 1, n1 0, inl refl, refl, refl, omega arith, omega arith, refl), run1)
+run2 = (step n1 (n0 ∷ []) 1 Take (record (n1 1) { got = put (n1 1).got 0 1 }) (omega arith) refl (0, 1, n1 0, (0, inl refl, inl refl), refl, refl, omega arith, omega arith, refl), run1)
 
 run3 : IsRun 3 5 (n3 ∷ n2 ∷ n1 ∷ n0 ∷ [])
 run3 = (step n2 (n1 ∷ n0 ∷ []) 1 Make (record (n2 1) { got = put (n2 1).got 1 ((n2 1).got 1 + 1) }) (omega arith) refl (omega arith, refl), run2)
@@ -97,7 +97,7 @@ run6 : IsRun 3 5 (n6 ∷ n5 ∷ n4 ∷ n3 ∷ n2 ∷ n1 ∷ n0 ∷ [])
 run6 = (step n5 (n4 ∷ n3 ∷ n2 ∷ n1 ∷ n0 ∷ []) 2 Make (record (n5 2) { got = put (n5 2).got 2 ((n5 2).got 2 + 1) }) (omega arith) refl (omega arith, refl), run5)
 
 run7 : IsRun 3 5 (n7 ∷ n6 ∷ n5 ∷ n4 ∷ n3 ∷ n2 ∷ n1 ∷ n0 ∷ [])
-run7 = (step n6 (n5 ∷ n4 ∷ n3 ∷ n2 ∷ n1 ∷ n0 ∷ []) 2 Take (record (n6 2) { got = put (n6 2).got 1 2 }) (omega arith) refl (1, 2, n6 1, inl refl, refl, refl, omega arith, omega arith, refl), run6)
+run7 = (step n6 (n5 ∷ n4 ∷ n3 ∷ n2 ∷ n1 ∷ n0 ∷ []) 2 Take (record (n6 2) { got = put (n6 2).got 1 2 }) (omega arith) refl (1, 2, n6 1, (1, inl refl, inl refl), refl, refl, omega arith, omega arith, refl), run6)
 
 run8 : IsRun 3 5 (n8 ∷ n7 ∷ n6 ∷ n5 ∷ n4 ∷ n3 ∷ n2 ∷ n1 ∷ n0 ∷ [])
 run8 = (step n7 (n6 ∷ n5 ∷ n4 ∷ n3 ∷ n2 ∷ n1 ∷ n0 ∷ []) 1 GiveUp (record (n7 1) { gone = put (n7 1).gone 0 true }) (omega arith) refl (0, omega arith, (λ e. absurd (omega arith)), refl), run7)

@@ -73,9 +73,12 @@ module _ (players : ℕ) where
     frozen = λ p t. elim (k.frozen p (h.gone p t)) [
       | inl e ↦ elim (h.frozen p t) [
         | inl d ↦ inl (e ∙ d)
-        | inr d ↦ inr (d.0, d.1, d.2, (λ q s. k.gone q (d.3 q s)), d.4 ∙ sym e)
+        | inr d ↦
+            let a = d.5 in
+            let b : v.got x ≤ w.got x = k.got x in
+            inr (d.0, d.1, d.2, (λ q s. k.gone q (d.3 q s)), d.4 ∙ sym e, omega arith)
       ]
-      | inr d ↦ inr (d.0, d.1, (λ q s. d.2 q (h.gone q s)), d.3, d.4)
+      | inr d ↦ inr (d.0, d.1, (λ q s. d.2 q (h.gone q s)), d.3, d.4, d.5)
     ];
     grown = record {
       more = omega (arith, h.grown.more, k.grown.more);
@@ -113,6 +116,7 @@ module _ (players : ℕ) where
       own = h.own;
       known = h.known;
       sees = λ r l o. let w = h.sees r l o in (w.0, inr w.1, w.2, w.3);
+      reaches = λ r l o. let w = h.reaches r l o in (w.0, inr w.1, w.2, w.3);
       base = λ p t. base_kept d.gone p (d.got p) (λ r l o. let w = h.sees r l o in (w.0, w.1, w.2)) (h.base p t);
     }
 
@@ -120,7 +124,7 @@ module _ (players : ℕ) where
         → IsFrozen players (next ∷ history) x u v p
     frozen_kept x u v p h = elim h [
       | inl e ↦ inl e
-      | inr d ↦ inr (d.0, decision_kept x d.0 d.1, d.2, d.3, d.4)
+      | inr d ↦ inr (d.0, decision_kept x d.0 d.1, d.2, d.3, d.4, d.5)
     ]
 
     pub later_kept : (x : ℕ) (u v : Node) → IsLater players history x u v
@@ -141,7 +145,7 @@ module _ (players : ℕ) where
       | inl k ↦
           let s = stays p k.0 in
           inl (ap (λ (n : Node). n.left) s ∙ k.0, k.1 ∙ sym (ap (λ (n : Node). n.got p) s))
-      | inr d ↦ inr (d.0, decision_kept x d.0 d.1, d.2, d.3, d.4)
+      | inr d ↦ inr (d.0, decision_kept x d.0 d.1, d.2, d.3, d.4, d.5)
     ]
 
     pub sound_kept : (stays : (p : ℕ) → (now history p).left ≡ true → next p ≡ now history p) (x : ℕ)

@@ -5,7 +5,7 @@ use Rattle.std.proofs.lemmas.Bool.{both_ways, cases_eq, cases_Bool}
 use Rattle.std.proofs.lemmas.List.{length_push}
 use Rattle.dn_vanish.specs.Node.{Node, put, ran, is_over, fresh, now, Was}
 use Rattle.dn_vanish.specs.Reports.{HasHeard, decided_end, decided}
-use Rattle.dn_vanish.specs.Steps.{Act, Make, Take, Learn, Run, GiveUp, Leave, Decide, Acts, Step, IsRun}
+use Rattle.dn_vanish.specs.Steps.{Act, Make, Take, Learn, Run, GiveUp, Leave, Decide, Acts, Step, IsRun, HandsOn}
 use Rattle.dn_vanish.proofs.Put.{put_at, put_off}
 use Rattle.dn_vanish.proofs.Invariant.{IsKept}
 use Rattle.dn_vanish.proofs.Views.{outside, stands_outside}
@@ -57,6 +57,14 @@ module _ (players ahead : ℕ) (nodes : ℕ → Node) (older : List (ℕ → Nod
               ]
         ]
       ]
+
+  -- and what was handed on by one who had given up nobody but whom `q` has given up
+  handed_near : (p x : ℕ) (sent : Node) → x < players → (nodes x).left ≡ false → (nodes q).gone x ≡ false
+      → HandsOn players (nodes ∷ older) (nodes q) p sent → sent.gone q ≡ false → sent.got p ≤ (nodes x).got x + ahead
+  handed_near p x sent m h o hands g = elim hands.2 [
+    | inl e ↦ sent_near p x sent m h o (subst (λ (i : ℕ). Was (nodes ∷ older) i sent) e hands.1) g
+    | inr k ↦ roomy.near x hands.0 p sent m h hands.1 (outside sent.gone (nodes q).gone x k.1 o)
+  ]
 
   near_old : (x p : ℕ) → x < players → (nodes x).left ≡ false → (nodes q).gone x ≡ false
       → (nodes q).got p ≤ (nodes x).got x + ahead
@@ -110,7 +118,7 @@ module _ (players ahead : ℕ) (nodes : ℕ → Node) (older : List (ℕ → Nod
   near_new Take new a = at (λ (n : Node). (x p : ℕ) → x < players → (nodes x).left ≡ false → n.gone x ≡ false
       → n.got p ≤ (nodes x).got x + ahead) _ new a.8
       (λ x p m h o.
-      let b : a.2.got a.0 ≤ (nodes x).got x + ahead = sent_near a.0 x a.2 m h o a.3 a.4 in
+      let b : a.2.got a.0 ≤ (nodes x).got x + ahead = handed_near a.0 x a.2 m h o a.3 a.4 in
       let c : a.1 ≤ a.2.got a.0 = a.7 in
       near_put x a.0 a.1 p (near_old x p m h o) (omega arith))
   near_new Learn new a = at (λ (n : Node). (x p : ℕ) → x < players → (nodes x).left ≡ false → n.gone x ≡ false
@@ -144,7 +152,7 @@ module _ (players ahead : ℕ) (nodes : ℕ → Node) (older : List (ℕ → Nod
       (own_put q ((nodes q).got q + 1) (λ e. let b : (nodes q).got q < ran (nodes q) + ahead = a.0 in omega arith))
   own_new Take new a = at (λ (n : Node). n.got q ≤ ran n + ahead) _ new a.8
       (own_put a.0 a.1 (λ e.
-      let b : a.2.got a.0 ≤ (nodes a.0).got a.0 = (kept.order a.0 a.2 a.3).got a.0 in
+      let b : a.2.got a.0 ≤ (nodes a.0).got a.0 = (kept.sound a.3.0 a.2 a.3.1).made a.0 in
       let c : a.1 ≤ a.2.got a.0 = a.7 in
       let d : (nodes a.0).got a.0 ≡ (nodes q).got q = ap (λ (i : ℕ). (nodes i).got i) e in
       let f = own_old in

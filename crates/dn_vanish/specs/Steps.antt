@@ -1,17 +1,23 @@
 -- What one node may do next. A node that has left does nothing.
-use Rattle.std.specs.Prelude.{ℕ, ◌+◌, ◌<◌, ◌≤◌, true, false, List, [], ◌∷◌, ◌++◌, ◌≡◌, Some}
-use Rattle.dn_vanish.specs.Node.{Node, put, ran, is_over, fresh, now, Was}
+use Rattle.std.specs.Prelude.{ℕ, ◌+◌, ◌<◌, ◌≤◌, true, false, List, [], ◌∷◌, ◌++◌, ◌≡◌, ◌⊎◌, Some}
+use Rattle.dn_vanish.specs.Node.{Node, put, ran, is_over, fresh, now, Was, Within}
 use Rattle.dn_vanish.specs.Reports.{HasHeard, decided}
 
 -- it makes a command: never more ahead of the tics run than the window allows
 abbrev pub Makes : ℕ → ℕ → Node → Node → Type 0
 Makes ahead q node new = (node.got q < ran node + ahead) × (new ≡ record node { got = put node.got q (node.got q + 1) })
 
--- it takes commands of a player whom it has not given up, as far as that player had made them in some state in
--- which it had not given up `q`: nothing is sent to those whom one has given up
-abbrev pub Takes : List (ℕ → Node) → ℕ → Node → Node → Type 0
-Takes history q node new = (p end : ℕ) × (sent : Node) × Was history p sent × (sent.gone q ≡ false)
-    × (node.gone p ≡ false) × (node.got p ≤ end) × (end ≤ sent.got p)
+-- this was a state of the player, or of another who hands on what it has of the player, and had given up nobody
+-- but whom the node has given up too
+abbrev pub HandsOn : ℕ → List (ℕ → Node) → Node → ℕ → Node → Type 0
+HandsOn players history node p sent =
+    (r : ℕ) × Was history r sent × ((r ≡ p) ⊎ ((r < players) × Within sent.gone node.gone))
+
+-- it takes commands of a player whom it has not given up, as far as somebody had them in some state in which that
+-- one had not given up `q`: nothing is sent to those whom one has given up
+abbrev pub Takes : ℕ → List (ℕ → Node) → ℕ → Node → Node → Type 0
+Takes players history q node new = (p end : ℕ) × (sent : Node) × HandsOn players history node p sent
+    × (sent.gone q ≡ false) × (node.gone p ≡ false) × (node.got p ≤ end) × (end ≤ sent.got p)
     × (new ≡ record node { got = put node.got p end })
 
 -- it learns from an EXIT packet the end of a player who has left and whom it has not given up, and has all
@@ -55,7 +61,7 @@ pub data Act : Type 0 where
 
 abbrev pub Acts : ℕ → ℕ → List (ℕ → Node) → ℕ → Act → Node → Type 0
 Acts players ahead history q Make new = Makes ahead q (now history q) new
-Acts players ahead history q Take new = Takes history q (now history q) new
+Acts players ahead history q Take new = Takes players history q (now history q) new
 Acts players ahead history q Learn new = Learns (now history) q (now history q) new
 Acts players ahead history q Run new = RunsTic players (now history q) new
 Acts players ahead history q GiveUp new = GivesUp players q (now history q) new

@@ -19,6 +19,8 @@ static zmg_address peers[4];
 static uint32_t came[4];       /* how many datagrams of the player came, as the link counts */
 static uint32_t answered[4];   /* and how many had come when the last one went to it */
 static double heard[4];        /* when the last came, wherever it was from */
+static uint32_t has[4];        /* how many commands there are of the player */
+static double moved[4];        /* when the last of these came, perhaps by another player */
 static double heard_there[4];  /* from the address that is gone by */
 
 /* a joiner */
@@ -200,6 +202,18 @@ static void free_places(void)
     }
 }
 
+/* Notes who makes commands: a player may be reached only by way of another, who hands them on. */
+static void see_commands(void)
+{
+    for (int p = 0; p < zmg_the_game.players; p++)
+    {
+        uint32_t got = zmg_link_got(&zmg_the_link, (uint8_t) p).value;
+        if (got == has[p]) continue;
+        has[p] = got;
+        moved[p] = ZMG_Now();
+    }
+}
+
 void ZMG_PeersHear(void)
 {
     /* one byte more than a datagram has: one that was cut must not read as whole */
@@ -226,6 +240,7 @@ void ZMG_PeersHear(void)
             zmg_bytes_sent = zmg_datagrams_sent = 0;
         }
     }
+    if (zmg_has_begun) see_commands();
     if (!joins && !zmg_has_begun) free_places();
 }
 
@@ -276,6 +291,12 @@ void ZMG_PeersForget(double silence)
         if (p != zmg_the_game.me && ZMG_Now() - heard[p] > silence) zmg_link_forget(&zmg_the_link, (uint8_t) p);
 }
 
-double ZMG_PeersHeard(int player) { return heard[player]; }
+/* One of whom nothing has come yet in this game is not silent for longer than the game lasts: in a game of four,
+ * two joiners may not have heard each other when it begins. Nor is one silent whose commands come by another. */
+double ZMG_PeersHeard(int player)
+{
+    double last = heard[player] > moved[player] ? heard[player] : moved[player];
+    return last > zmg_began_at ? last : zmg_began_at;
+}
 
 const zmg_address *ZMG_PeersAddress(int player) { return &peers[player]; }

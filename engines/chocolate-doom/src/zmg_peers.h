@@ -36,7 +36,7 @@ void ZMG_PeersSend(void);
 void ZMG_PeersSendSecond(void);
 /* At the end: waits no more for who has not been heard for so many milliseconds. */
 void ZMG_PeersForget(double silence);
-/* When a player was heard last, or 0. */
+/* When a player was heard last, or a command of it came by another; in a game not before it began. 0: never. */
 double ZMG_PeersHeard(int player);
 /* Where a player is. */
 const zmg_address *ZMG_PeersAddress(int player);

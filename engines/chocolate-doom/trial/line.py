@@ -1,14 +1,16 @@
 #!/usr/bin/env python3
-"""A bad line on 127.0.0.1: line.py PORT HOSTPORT LOSS REPEAT MIN_MS MAX_MS SEED
+"""A bad line on 127.0.0.1: line.py PORT HOSTPORT LOSS REPEAT MIN_MS MAX_MS [PAIR_LOSS PAIR_MIN PAIR_MAX AFTER] SEED
 
 Clients send to PORT, and the host at HOSTPORT sees each at a port of its own, to which other clients may send
 too: so each way between two players passes once, and it serves links as well as the engine's own client and
 server. LOSS and REPEAT are percent; each datagram is delayed by a time drawn evenly from MIN_MS to MAX_MS, so a
-wide range reorders. Told to end (SIGTERM) it prints what it did."""
+wide range reorders. Between the first two clients the line is that of PAIR, once AFTER seconds are over. Told to end
+(SIGTERM) it prints what it did."""
 import heapq, random, select, signal, socket, sys, time
 port, host = map(int, sys.argv[1:3])
-loss, repeat, low, high = map(float, sys.argv[3:7])
-draw = random.Random(int(sys.argv[7]))
+loss, repeat, low, high, *pair = map(float, sys.argv[3:-1])
+draw = random.Random(int(sys.argv[-1]))
+began = time.monotonic()
 
 def open_port(number):
     s = socket.socket(socket.AF_INET, socket.SOCK_DGRAM)
@@ -36,6 +38,12 @@ def route(s, address):
         return front, owners[s]
     return side_of(address), owners[s]
 
+def line_of(one, other, now):
+    """How many percent are lost between two addresses, and the least and the longest delay."""
+    if pair and now - began >= pair[3] and {one, other} == set(list(sides)[:2]):
+        return pair[:3]
+    return loss, low, high
+
 heap, serial, going = [], 0, True
 def stop(*_):
     global going
@@ -56,14 +64,15 @@ while going:
             counts['came'] += 1
             counts['bytes'] += len(data)
             out, to = route(s, address)
-            if draw.random() * 100 < loss:
+            lost, least, longest = line_of(address, to, now)
+            if draw.random() * 100 < lost:
                 counts['lost'] += 1
                 continue
             copies = 1 + (draw.random() * 100 < repeat)
             counts['repeated'] += copies - 1
             for _ in range(copies):
                 serial += 1
-                heapq.heappush(heap, (now + draw.uniform(low, high) / 1000, serial, out, to, data))
+                heapq.heappush(heap, (now + draw.uniform(least, longest) / 1000, serial, out, to, data))
     now = time.monotonic()
     while heap and heap[0][0] <= now:
         _, _, out, to, data = heapq.heappop(heap)

@@ -41,7 +41,10 @@ impl Link {
         let gathers = self.is_gathering();
         let packet = next_unless(held, self.survivor.lockstep_mut(), to);
         let settings = is_settings(gathers, &packet);
-        let (number, parts) = self.peers[to as usize].parts(me, packet, settings);
+        let (number, own) = self.peers[to as usize].parts(me, packet, settings);
+        let is_first = self.overdue.give(to);
+        let parts = self.with_handed(to, is_first, own);
+        self.overdue.hand(to, parts.as_slice());
         let line = self.pace.line(to);
         let bundle = Bundle {
             from: me,

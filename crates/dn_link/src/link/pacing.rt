@@ -87,6 +87,7 @@ impl Link {
         let differences = self.differences();
         let playing = self.playing();
         let lossy = self.is_lossy();
+        self.look_back();
         self.pace
             .tick(self.survivor.lockstep(), differences, playing, lossy)
     }

@@ -3,13 +3,15 @@
 use super::Link;
 use super::notices::is_notice;
 use crate::bundle::Bundle;
+use crate::counting::reached;
 use crate::hearing::hear_bundle;
 use crate::presence::{Presence, differs, is_fresh};
 use crate::reading::open_bundle;
 use crate::received::{Received, received_of};
 
 impl Link {
-    ghost use Rattle.dn_link.specs.{Presence.may_come, Hearing.ByTest, Hearing.HearsAll, Packets.packets_in, Linked.IsWhole, Linked.Receives, Linked.ReceivesAs, Linked.done_with, Linked.has_given_up};
+    ghost use Rattle.dn_link.specs.{Presence.may_come, Hearing.ByTest, Hearing.HearsAll, Packets.heard_in, Linked.IsWhole, Linked.Receives, Linked.ReceivesAs, Linked.done_with, Linked.has_given_up, Linked.takes, Linked.with_reached};
+    ghost use Rattle.dn_machine.specs.Node.{put};
     ghost use Rattle.dn_link.specs.{Linked.hears, Linked.is_peer, Linked.met, Notices.HearsNotice, Notices.is_notice, Linking.identity_of, Linking.linked, Linking.seal_of, Pace.Paces};
     ghost use Rattle.dn_link.specs.{Pace.after_datagram, Pacing.pace_of};
     ghost use Rattle.std.specs.Prelude.{ℕ, ◌<◌, ◌&&◌, not, true, false, Ok, ◌≡◌};
@@ -51,10 +53,24 @@ impl Link {
         !self.is_gathering() || (self.all_ready() && presence.is_there())
     }
 
+    /// Hears the packets of a datagram.
+    fn hear_packets(&mut self, bundle: &Bundle) -> bool
+        ensures heard { HearsAll (heard_in (takes (linked self.old)) bundle.now) (linked self.old).node
+            (linked self.new).node result }
+        ensures others { (linked self.new).others ≡ (linked self.old).others }
+        ensures peers { (linked self.new).peers ≡ (linked self.old).peers }
+        ensures pace { pace_of self.new ≡ pace_of self.old }
+        ensures seal { seal_of self.new ≡ seal_of self.old }
+        ensures identity { identity_of self.new ≡ identity_of self.old }
+    {
+        let gone = self.survivor.others().gone;
+        hear_bundle(self.survivor.lockstep_mut(), &gone, bundle)
+    }
+
     /// Hears the packets of a datagram, if it does, and the datagram does not differ.
     fn hear(&mut self, bundle: &Bundle, presence: Presence, differs: bool) -> bool
         ensures heard { ByTest (not differs && hears (linked self.old) presence)
-            (HearsAll (packets_in bundle.now) (linked self.old).node (linked self.new).node result)
+            (HearsAll (heard_in (takes (linked self.old)) bundle.now) (linked self.old).node (linked self.new).node result)
             (((linked self.new).node ≡ (linked self.old).node) × (result ≡ false)) }
         ensures others { (linked self.new).others ≡ (linked self.old).others }
         ensures peers { (linked self.new).peers ≡ (linked self.old).peers }
@@ -62,7 +78,36 @@ impl Link {
         ensures seal { seal_of self.new ≡ seal_of self.old }
         ensures identity { identity_of self.new ≡ identity_of self.old }
     {
-        !differs && self.hears(presence) && hear_bundle(self.survivor.lockstep_mut(), bundle)
+        !differs && self.hears(presence) && self.hear_packets(bundle)
+    }
+
+    /// Notes what a player must have had when it made the last of its commands that are here.
+    fn note_reached(&mut self, player: u8)
+        requires { player < 4 }
+        ensures link { linked self.new ≡ record (linked self.old) {
+          peers = put (linked self.old).peers player (with_reached (linked self.old).node (linked self.old).peers player);
+        } }
+        ensures pace { pace_of self.new ≡ pace_of self.old }
+        ensures seal { seal_of self.new ≡ seal_of self.old }
+        ensures identity { identity_of self.new ≡ identity_of self.old }
+    {
+        let count = reached(self.lockstep(), player);
+        self.peers[player as usize].has_reached(count);
+    }
+
+    /// Notes of each player what it must have had by its commands, whoever gave them.
+    fn note_all_reached(&mut self)
+        ensures link { linked self.new ≡ record (linked self.old) {
+          peers = with_reached (linked self.old).node (linked self.old).peers;
+        } }
+        ensures pace { pace_of self.new ≡ pace_of self.old }
+        ensures seal { seal_of self.new ≡ seal_of self.old }
+        ensures identity { identity_of self.new ≡ identity_of self.old }
+    {
+        self.note_reached(0);
+        self.note_reached(1);
+        self.note_reached(2);
+        self.note_reached(3);
     }
 
     /// Takes in the datagram of a peer.
@@ -89,6 +134,7 @@ impl Link {
         self.meet(bundle, presence, differs);
         self.pace.hear(bundle, may_come);
         let started = self.hear(bundle, presence, differs);
+        self.note_all_reached();
         received_of(differs, from, started)
     }
 

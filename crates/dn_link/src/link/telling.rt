@@ -28,7 +28,7 @@ impl Link {
         self.pace.refused()
     }
 
-    /// How many of its commands a player has for certain; all, of one that needs nothing.
+    /// How many of its commands a player has acknowledged; all, of one that needs nothing.
     fn acknowledged_by(&self, player: u8) -> u32
         requires { player < 4 }
         ensures value { result ≡ acknowledged_by (linked self.now) player }
@@ -37,7 +37,7 @@ impl Link {
         if self.needs_nothing(player) {
             return self.made();
         }
-        self.certain(self.peer(player).reported_of(self.me()))
+        self.peer(player).done().min(self.made())
     }
 
     /// How many of its commands not every remaining player has acknowledged: the oldest has been on its way for

@@ -1,15 +1,16 @@
 //! Reading the parts of a datagram.
 
-ghost use Rattle.std.specs.{Prelude.◌≤◌, Prelude.◌≡◌, Prelude.length, Option.option_map};
-ghost use Rattle.dn_link.specs.{Text.part_bytes, Told.told_all, Told.told_part, Told.told_parts, Told.told_run, Told.told_whole};
+ghost use Rattle.std.specs.{Prelude.◌≤◌, Prelude.◌≡◌, Prelude.◌+◌, Prelude.IfSome, Prelude.length, Option.option_map};
+ghost use Rattle.dn_link.specs.{Text.part_bytes, Told.told_all, Told.told_part, Told.told_parts, Told.told_relay, Told.told_run, Told.told_whole};
 
-use crate::bundle::{Carried, Part, Run};
+use crate::bundle::{Carried, Part, Relay, Run};
 use arrayvec::ArrayVec;
 use dn_seal::{ask_in, tic_at};
 
 /// The packet at the front of bytes.
 fn whole_in(bytes: &[u8]) -> Option<Carried>
-    ensures { result ≡ told_whole bytes.now }
+    ensures told { result ≡ told_whole bytes.now }
+    ensures room { IfSome result (λ packet. 10 + length packet.datagram.items ≤ length bytes.now) }
 {
     if bytes.len() < 10 {
         return None;
@@ -32,7 +33,8 @@ fn whole_in(bytes: &[u8]) -> Option<Carried>
 
 /// The run of so many commands at the front of bytes.
 fn run_in(count: u8, bytes: &[u8]) -> Option<Part>
-    ensures { result ≡ told_run count bytes.now }
+    ensures told { result ≡ told_run count bytes.now }
+    ensures room { IfSome result (λ part. length (part_bytes part) ≤ 1 + length bytes.now) }
 {
     let size = 8 * usize::from(count);
     if count > 24 || bytes.len() < 4 + size {
@@ -46,12 +48,38 @@ fn run_in(count: u8, bytes: &[u8]) -> Option<Part>
     }))
 }
 
+/// The run of a third player at the front of bytes.
+fn relay_in(head: u8, bytes: &[u8]) -> Option<Part>
+    requires { 32 ≤ head }
+    ensures told { result ≡ told_relay head bytes.now }
+    ensures room { IfSome result (λ part. length (part_bytes part) ≤ 1 + length bytes.now) }
+{
+    let count = head % 32;
+    let size = 8 * usize::from(count);
+    if head > 159 || count == 0 || count > 24 || bytes.len() < 4 + size {
+        return None;
+    }
+    let mut commands = ArrayVec::new();
+    let _ = commands.try_extend_from_slice(&bytes[4..4 + size]);
+    Some(Part::Relay(Relay {
+        player: head / 32 - 1,
+        run: Run {
+            start: tic_at(bytes, 0),
+            commands,
+        },
+    }))
+}
+
 /// The part at the front of bytes.
 fn part_in(bytes: &[u8]) -> Option<Part>
-    ensures { result ≡ told_part bytes.now }
+    ensures told { result ≡ told_part bytes.now }
+    ensures room { IfSome result (λ part. length (part_bytes part) ≤ length bytes.now) }
 {
     if bytes.is_empty() {
         return None;
+    }
+    if bytes[0] > 31 {
+        return relay_in(bytes[0], &bytes[1..]);
     }
     if bytes[0] != 0 {
         return run_in(bytes[0], &bytes[1..]);
@@ -63,12 +91,13 @@ fn part_in(bytes: &[u8]) -> Option<Part>
 }
 
 /// How many bytes it takes.
-fn part_len(part: &Part) -> usize
+pub(crate) fn part_len(part: &Part) -> usize
     ensures { result ≡ length (part_bytes part.now) }
 {
     match part {
         Part::Whole(packet) => 11 + packet.datagram.len(),
         Part::Run(run) => 5 + run.commands.len(),
+        Part::Relay(relay) => 5 + relay.run.commands.len(),
     }
 }
 

@@ -1,4 +1,4 @@
-use Rattle.dn_lockstep.proofs.OneGame.{builds, gives, hears, runs, quits, keeps}
+use Rattle.dn_lockstep.proofs.OneGame.{builds, gives, hears, runs, quits, relays, keeps}
 use Rattle.dn_lockstep.proofs.laws.one_game_goes_on.Goals as goal
 
 pub returns : goal.returns
@@ -13,5 +13,7 @@ returns c = record {
       runs marking limits settings game player mine new marks ran row;
   quit = λ marking limits settings session player new quit game mine.
       quits marking limits settings game player mine new quit;
+  relayed = λ marking limits settings session giver player to tic command game mine.
+      relays marking limits settings game giver mine player to tic command;
   kept = λ marking limits settings session player new game. keeps marking limits settings game player new;
 }

@@ -1,10 +1,10 @@
-use Rattle.std.proofs.Common.{rules, ◌≡◌, ◌∙◌, not, arith}
+use Rattle.std.proofs.Common.{rules, not, arith}
 use Rattle.std.proofs.lemmas.Bool.{and_left, and_right, and_from}
 use Rattle.dn_machine.proofs.Marks.{lowest_none_each}
 use Rattle.dn_lockstep.specs.Rings.{ring_at}
 use Rattle.dn_lockstep.specs.Peers.{peer_at}
 use Rattle.dn_lockstep.specs.Marks.{slot}
-use Rattle.dn_lockstep.specs.Rows.{differs, differs_but, has, is_missing}
+use Rattle.dn_lockstep.specs.Rows.{differs_but, has, is_missing}
 use Rattle.dn_lockstep.proofs.Lowest.{lowest_zero, lowest_past, lowest_found}
 use Rattle.dn_lockstep.proofs.rows.first_off.Goals.{else-not-given_up-from-via-else-not-given_up-from, else-not-given_up-from-via-then-not-given_up-from+else-is_differing}
 use Rattle.dn_lockstep.proofs.rows.first_off.Goals as goal

@@ -1,5 +1,5 @@
 use Rattle.std.proofs.Common.{arith}
-use Rattle.dn_survivor.proofs.OneGame.{builds, gave_to, gives, gives_up, hears, quits, reports, runs, tells}
+use Rattle.dn_survivor.proofs.OneGame.{builds, gave_to, gives, gives_up, hears, quits, relays, reports, runs, tells}
 use Rattle.dn_survivor.proofs.game.remaining_game_goes_on.Goals as goal
 
 pub returns-clause-built : goal.returns-clause-built
@@ -28,6 +28,10 @@ returns-clause-quit c marking limits settings session player new quit game mine 
 pub returns-clause-gave_up : goal.returns-clause-gave_up
 returns-clause-gave_up c marking limits settings session here player new answer game mine =
     gives_up marking limits settings game here mine player new answer
+
+pub returns-clause-relayed : goal.returns-clause-relayed
+returns-clause-relayed c marking limits settings session giver player to tic command game mine =
+    relays marking limits settings game giver mine player to tic command
 
 pub returns-clause-told : goal.returns-clause-told
 returns-clause-told c = grind (arith, tells)

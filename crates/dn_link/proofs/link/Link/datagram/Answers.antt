@@ -1,4 +1,4 @@
-use Rattle.std.proofs.Common.{rules, ◌≡◌, ◌<◌, ◌+◌, ◌%◌, ◌^◌, ℕ, length, get_or, w8, to_z, of_z, refl, ap, sym, ◌∙◌, subst, arith}
+use Rattle.std.proofs.Common.{rules, ◌≡◌, ◌<◌, ◌+◌, List, ◌%◌, ◌^◌, ℕ, length, get_or, w8, to_z, of_z, refl, ap, sym, ◌∙◌, subst, arith}
 use Rattle.dn_machine.specs.Node.{put}
 use Rattle.std.specs.Prelude.{Bool, None, ◌&&◌, ◌||◌, is_some}
 use Rattle.dn_lockstep.specs.Contents.{Contents, contents}
@@ -11,6 +11,9 @@ use Rattle.dn_link.specs.Presence.{message_of}
 use Rattle.dn_link.specs.Kept.{going, kept_after, taken_by}
 use Rattle.dn_link.specs.Linked.{PeerState, holds_back, is_gathering}
 use Rattle.dn_link.specs.Linking.{identity_of, linked, peers_of, state_of}
+use Rattle.dn_link.proofs.Handing.{may_before}
+use Rattle.dn_link.proofs.Reported.{same_reported}
+use Rattle.dn_link.specs.Relays.{AreLacked}
 use Rattle.dn_link.specs.Packing.{ArePacked}
 use Rattle.dn_link.proofs.Linked.{peer_at, peers_put}
 use Rattle.dn_link.proofs.link.Link.datagram.Goals as goal
@@ -31,6 +34,18 @@ returns-clause-gives c =
     let settings : c.is_settings-settings.result ≡ (is_gathering n.phase && is_some packet) =
     c.is_settings-settings.ensures ∙ (λ i. c.is_gathering-gathers.ensures i && is_some packet) in
     let line = c.line-line.result.now in
+    let behind = c.with_handed-parts.ensures.behind.0 in
+    let new_peers = peers_put peers c.args.to c.parts-number.new.self below
+    ∙ ap (put (peers_of peers) c.args.to) (after.peer ∙ (λ i. record (here i) {
+      kept = kept_after (here i).kept (taken_by (here i).presence packet);
+      gave = (here i).gave || settings i;
+      number = ((here i).number + 1) % 2 ^ 32;
+    })) in
+    let old_peer = peers_of peers c.args.to in
+    let reported = ap (λ (f : ℕ → PeerState). (f c.args.to).reported) new_peers
+    ∙ same_reported (peers_of peers) c.args.to (kept_after old_peer.kept (taken_by old_peer.presence packet))
+    (old_peer.gave || (is_gathering n.phase && is_some packet)) ((old_peer.number + 1) % 2 ^ 32) c.args.to in
+    let lacked = subst (λ (l : List ℕ). AreLacked l 0 behind.handed) reported behind.lacked in
     let led : to_z w8 (of_z w8 line.own_lead) ≡ line.own_lead = search rules in
     record {
       given = packet;
@@ -47,7 +62,7 @@ returns-clause-gives c =
         holes = c.missing.result;
         counts = c.counts_of.result;
         message = c.message_of-message.result;
-        parts = c.parts-number.result.1;
+        parts = c.with_handed-parts.result;
       };
       is = c.seal_bundle.ensures.text;
       fits = c.seal_bundle.ensures.fits;
@@ -59,18 +74,21 @@ returns-clause-gives c =
       message = c.message_of-message.ensures ∙ ap (message_of (identity_of c.args.self.now))
           (c.phase.ensures ∙ ap (λ (n : Contents). n.phase) c.lockstep-2.ensures);
       counts = c.counts_of.ensures ∙ ap counts_of c.lockstep-3.ensures;
+      own = c.parts-number.result.1.items;
+      handed = behind.handed;
+      parts = behind.parts;
+      handed_on = behind.on;
+      lacked = lacked;
+      few = c.with_handed-parts.ensures.behind.1;
+      stay = behind.stay;
+      may = may_before (linked c.args.self.now) _ c.args.to 0 _ _ refl behind;
       packed = subst (λ (t : PeerState). ArePacked n.me
           (going t.kept (taken_by t.presence packet)) c.parts-number.result.1.items) here
           (subst (λ (k : ℕ). ArePacked k (going (state_of (get_or peers c.args.to c.index-self-to.result)).kept
           (taken_by (state_of (get_or peers c.args.to c.index-self-to.result)).presence packet))
           c.parts-number.result.1.items) me after.packed);
       others = refl;
-      peers = peers_put peers c.args.to c.parts-number.new.self below
-          ∙ ap (put (peers_of peers) c.args.to) (after.peer ∙ (λ i. record (here i) {
-            kept = kept_after (here i).kept (taken_by (here i).presence packet);
-            gave = (here i).gave || settings i;
-            number = ((here i).number + 1) % 2 ^ 32;
-          }));
+      peers = new_peers;
     }
 
 pub returns-clause-fair : goal.returns-clause-fair

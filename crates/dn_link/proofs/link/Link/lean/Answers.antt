@@ -1,26 +1,25 @@
-use Rattle.std.proofs.Common.{rules, ◌≡◌, ◌+ℤ◌, w8, w32, to_z, of_z, ◌∙◌}
+use Rattle.std.proofs.Common.{rules, ◌≡◌, ◌+ℤ◌, w8, w32, to_z, of_z, ap, ◌∙◌}
 use Rattle.std.specs.Prelude.{pos}
 use Rattle.dn_link.specs.Leaning.{looks, step_of, worked_off}
 use Rattle.dn_link.specs.Pace.{with_leads}
 use Rattle.dn_link.specs.Stretching.{stretches}
-use Rattle.dn_link.specs.Paced.{PaceState}
-use Rattle.dn_link.specs.Pacing.{pace_of}
+use Rattle.dn_link.specs.Linked.{Linked}
 use Rattle.dn_link.proofs.link.Link.lean.Goals as goal
 
 pub returns-clause-leans : goal.returns-clause-leans
 returns-clause-leans c =
-    let old : PaceState = pace_of c.args.self.now in
+    let old = c.look_back.ensures.pace in
     let same : to_z w8 (of_z w8 c.tick.result) ≡ c.tick.result = search rules in
     let seen : to_z w32 (of_z w32 c.differences-differences.result) ≡ c.differences-differences.result = search rules in
     same ∙ c.tick.ensures.leans ∙ (λ i. step_of (looks ((seen ∙ c.differences-differences.ensures.value) i)
-    (c.playing-playing.ensures.value i) old.leaning) +ℤ pos (stretches (c.is_lossy-lossy.ensures i) old.stretching).slow)
+    (c.playing-playing.ensures.value i) (old i).leaning) +ℤ pos (stretches (c.is_lossy-lossy.ensures i) (old i).stretching).slow)
 
 pub returns-clause-pace : goal.returns-clause-pace
 returns-clause-pace c =
-    let old : PaceState = pace_of c.args.self.now in
+    let old = c.look_back.ensures.pace in
     let seen : to_z w32 (of_z w32 c.differences-differences.result) ≡ c.differences-differences.result = search rules in
-    c.tick.ensures.next ∙ (λ i. record (with_leads (c.lockstep.ensures i) old) {
+    c.tick.ensures.next ∙ (λ i. record (with_leads ((c.lockstep.ensures ∙ ap (λ (l : Linked). l.node) c.look_back.ensures.link) i) (old i)) {
       leaning = worked_off (looks ((seen ∙ c.differences-differences.ensures.value) i)
-          (c.playing-playing.ensures.value i) old.leaning);
-      stretching = stretches (c.is_lossy-lossy.ensures i) old.stretching;
+          (c.playing-playing.ensures.value i) (old i).leaning);
+      stretching = stretches (c.is_lossy-lossy.ensures i) (old i).stretching;
     })

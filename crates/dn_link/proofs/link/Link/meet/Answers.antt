@@ -4,7 +4,6 @@ use Rattle.std.specs.Prelude.{slice_index}
 use Rattle.dn_link.specs.Kept.{acknowledged}
 use Rattle.dn_link.specs.Linked.{PeerState, done_with, larger}
 use Rattle.dn_link.specs.Linking.{linked, peers_of}
-use Rattle.dn_link.specs.Presence.{still_given}
 use Rattle.dn_link.proofs.Linked.{peer_at, peers_put}
 use Rattle.dn_link.proofs.link.Link.meet.Goals as goal
 
@@ -17,10 +16,7 @@ returns-then-differs-clause-link c =
     let here = peer_at peers bundle.from c.index-self-bundle.result below in
     rw c.if-differs.true (ap (λ (f : ℕ → PeerState). record (linked c.args.self.now) { peers = f })
     (peers_put peers bundle.from c.is_now.new.self below
-    ∙ ap (put (peers_of peers) bundle.from) (c.is_now.ensures ∙ (λ i. record (here i) {
-      presence = c.args.presence;
-      gave = still_given c.args.presence (here i).gave;
-    }))))
+    ∙ ap (put (peers_of peers) bundle.from) (c.is_now.ensures ∙ (λ i. record (here i) { presence = c.args.presence }))))
 
 pub returns-clause-link : goal.returns-clause-link
 returns-clause-link c =
@@ -37,7 +33,7 @@ returns-clause-link c =
       kept = acknowledged (here i).kept (done i);
       reported = larger (here i).reported bundle.counts.got;
       presence = c.args.presence;
-      gave = still_given c.args.presence (here i).gave;
+      gave = (here i).gave;
       number = (here i).number;
     }) in
     rw c.if-differs.false (ap (λ (f : ℕ → PeerState). record (linked c.args.self.now) { peers = f })

@@ -11,7 +11,7 @@ parts-init c = record { so_far = begins c.args.count c.args.bytes.now c.new-foun
 pub parts-preserved : goal.parts-preserved
 parts-preserved c =
     let rest = c.parts.rest.now in
-    let at : told_part rest ≡ Some c.in-Some.part = sym c.part_in.ensures ∙ c.in-Some.is in
+    let at : told_part rest ≡ Some c.in-Some.part = sym c.part_in.ensures.told ∙ c.in-Some.is in
     record {
       so_far = goes_on_to c.args.count c.args.bytes.now c.parts.done rest c.parts.found.items c.in-Some.part
           c.part_len.result _ _ c.parts-test.true c.parts.invariant.so_far at c.part_len.ensures
@@ -27,4 +27,4 @@ parts-preserved c =
 pub returns-in_default : goal.returns-in_default
 returns-in_default c =
     sym (fails c.args.count c.args.bytes.now c.parts.done c.parts.rest.now c.parts.found.items
-    c.parts-test.true c.parts.invariant.so_far (sym c.part_in.ensures ∙ c.in_default.is))
+    c.parts-test.true c.parts.invariant.so_far (sym c.part_in.ensures.told ∙ c.in_default.is))

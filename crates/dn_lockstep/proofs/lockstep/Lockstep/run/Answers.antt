@@ -1,4 +1,4 @@
-use Rattle.std.proofs.Common.{◌∙◌, refl}
+use Rattle.std.proofs.Common.{◌∙◌}
 use Rattle.dn_lockstep.proofs.After.{steps}
 use Rattle.dn_lockstep.proofs.Telling.{no_row}
 use Rattle.dn_lockstep.proofs.lockstep.Lockstep.run.Goals as goal

@@ -1,4 +1,4 @@
-use Rattle.std.proofs.Common.{◌∙◌, ap, refl, sym, rules, ℕ, zero, suc}
+use Rattle.std.proofs.Common.{ap, refl, sym, ℕ, zero, suc}
 use Rattle.std.specs.Prelude.{◌≡◌, get_or, false, ◌∷◌, []}
 use Rattle.dn_lockstep.specs.Runs.{with_row}
 use Rattle.dn_lockstep.proofs.After.{after, steps}

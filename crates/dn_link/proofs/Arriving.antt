@@ -1,0 +1,547 @@
+-- What packets leave that ask for nothing, where there is no gap behind what was there of the maker of any.
+use Rattle.std.proofs.Common.{◌≡◌, ◌≢◌, ◌<◌, ◌≤◌, ◌+◌, ◌-◌, ◌/◌, ◌⊎◌, ◌&&◌, ℕ, Bool, true, false, List, [], ◌∷◌, length, refl, ap, sym, ◌∙◌, subst, arith, Option, Some, None, All, inl, inr}
+use Rattle.std.specs.Prelude.{Ok, max, nat_lt, not, slice_get}
+use Rattle.std.proofs.lemmas.Bool.{cases_eq, ltb-true, not-false, true≢false}
+use Rattle.std.proofs.lemmas.List.Elements.{All-head, All-tail}
+use Rattle.dn_packet.proofs.Texts.{length-commands}
+use Rattle.dn_packet.specs.Text.{text}
+use Rattle.dn_tic.specs.declared.command.Move.{Move}
+use Rattle.dn_setup.specs.Settings.{Settings}
+use Rattle.dn_machine.specs.declared.answers.Heard.{Heard}
+use Rattle.dn_machine.specs.declared.answers.Phase.TheVariants.{Playing}
+use Rattle.dn_machine.specs.declared.peer.Peer.{Peer}
+use Rattle.dn_machine.specs.Flight.{Kind, SetUp, Play, Exit, Flight, packet_of, packet_of_kind, is_close, is_request_close, distance, end_of}
+use Rattle.dn_machine.specs.Game.{Game}
+use Rattle.dn_machine.specs.Hearing.{on_packet}
+use Rattle.dn_machine.specs.Limits.{Limits}
+use Rattle.dn_machine.specs.Node as machine
+use Rattle.dn_machine.specs.Node.{is_ended}
+use Rattle.dn_machine.specs.Worlds.{Rules}
+use Rattle.dn_machine.proofs.Relays
+use Rattle.dn_machine.proofs.Invariant.{IsKept, history_of}
+use Rattle.dn_machine.proofs.Lists
+use Rattle.dn_machine.proofs.Promises
+use Rattle.dn_machine.proofs.Put.{put_at, put_off}
+use Rattle.dn_lockstep.specs.Contents.{Contents}
+use Rattle.dn_lockstep.specs.Marking.{Marking}
+use Rattle.dn_lockstep.specs.Near.{IsFair}
+use Rattle.dn_lockstep.specs.OneGame.{AreOneGame, beside}
+use Rattle.dn_lockstep.specs.Represents.{Represents}
+use Rattle.dn_lockstep.specs.Session.{Session, with_lockstep}
+use Rattle.dn_lockstep.specs.Told.{got}
+use Rattle.dn_lockstep.proofs.OneGame.{hear_quiet}
+use Rattle.dn_lockstep.proofs.Nearby.{told_by, told_is, near_received}
+use Rattle.dn_lockstep.proofs.Shown.{has}
+use Rattle.dn_seal.specs.declared.opened.Opened.{Opened}
+use Rattle.dn_open.specs.Arrivals.{HearsOpened, IsRead, SparesSealed, heard, on_opened}
+use Rattle.dn_open.specs.declared.arrived.Arrived.{Arrived}
+use Rattle.dn_open.specs.Sealed.{opened_of}
+use Rattle.dn_open.proofs.Alikes.{alike}
+use Rattle.dn_open.proofs.Deliveries.{near_if}
+use Rattle.dn_link.specs.Bundles.{WasGiven}
+use Rattle.dn_link.specs.CaughtUp.{told_end}
+use Rattle.dn_link.specs.Hearing.{ByTest, HearsAll, HearsUntil, is_start}
+use Rattle.dn_link.specs.Onward.{next_to}
+use Rattle.dn_link.proofs.Hearer.{IsSpared, Leaves, settings_leave, word_leaves, word_reaches}
+use Rattle.dn_link.proofs.Keeping.{LettersKeep, keeps_one}
+use Rattle.dn_link.proofs.Makers.{HaveNoGaps, ends_of, then_end}
+
+-- who starts is told so
+started_is : (told : Heard) → is_start (Arrived.Heard told) ≡ true → told ≡ Heard.Started
+started_is Heard.Started is = refl
+started_is (Heard.Taken count) is = absurd (cc)
+started_is Heard.Stale is = absurd (cc)
+started_is Heard.Gap is = absurd (cc)
+started_is Heard.Left is = absurd (cc)
+started_is Heard.Noted is = absurd (cc)
+started_is (Heard.Dropped number) is = absurd (cc)
+
+-- where a packet ends, by its kind: settings have no command
+settings_end : (flight : Flight) (settings : Settings) → flight.kind ≡ SetUp settings
+    → told_end (opened_of flight) ≡ flight.start
+settings_end flight settings is =
+    let none : told_end (opened_of flight) ≡ flight.start + 0 =
+    ap (λ (k : Kind). flight.start + (length (text (packet_of_kind flight k)) - 8) / 8) is in
+    omega (arith, none)
+
+play_end : (flight : Flight) → flight.kind ≡ Play → told_end (opened_of flight) ≡ end_of flight
+play_end flight is =
+    let long = length-commands flight.commands in
+    ap (λ (k : Kind). flight.start + (length (text (packet_of_kind flight k)) - 8) / 8) is ∙ omega (arith, long)
+
+exit_end : (flight : Flight) → flight.kind ≡ Exit → told_end (opened_of flight) ≡ end_of flight
+exit_end flight is =
+    let long = length-commands flight.commands in
+    ap (λ (k : Kind). flight.start + (length (text (packet_of_kind flight k)) - 8) / 8) is ∙ omega (arith, long)
+
+-- of settings or of words
+by_kind : {A : Type 0} (flight : Flight) → ((settings : Settings) → flight.kind ≡ SetUp settings → A)
+    → ((flight.kind ≡ Play) ⊎ (flight.kind ≡ Exit) → told_end (opened_of flight) ≡ end_of flight → A) → A
+by_kind {A} flight settings words = go flight.kind refl
+  where
+    go : (kind : Kind) → flight.kind ≡ kind → A
+    go (SetUp chosen) is = settings chosen is
+    go Play is = words (inl is) (play_end flight is)
+    go Exit is = words (inr is) (exit_end flight is)
+
+-- it ends no later than its flight
+pub no_later : (flight : Flight) → told_end (opened_of flight) ≤ end_of flight
+no_later flight = by_kind flight (λ settings is. omega (arith, settings_end flight settings is)) (λ is same. omega (arith, same))
+
+-- nor more than twelve past its start
+short_of : (flight : Flight) → IsFair flight → told_end (opened_of flight) ≤ flight.start + 12
+short_of flight fair = by_kind flight (λ settings is. omega (arith, settings_end flight settings is))
+    (λ is same. let few = words is in omega (arith, same, few))
+  where
+    words : (flight.kind ≡ Play) ⊎ (flight.kind ≡ Exit) → length flight.commands ≤ 12
+    words is = elim is [
+      | inl play ↦
+          let count = ap (λ (k : Kind). length (packet_of_kind flight k).cmds.items) play in
+          omega (arith, fair.packet.count, count)
+      | inr exit ↦
+          let count = ap (λ (k : Kind). length (packet_of_kind flight k).cmds.items) exit in
+          omega (arith, fair.packet.count, count)
+    ]
+
+-- a packet of which a playing node has every command, because it tells a tic that is far from those that the
+-- node makes
+module _ {S : Type 0} (rules : Rules S) (settings : Settings) (game : Game) (kept : IsKept rules settings game)
+    (which : ℕ) (flight : Flight) (there : slice_get game.flights which ≡ Some flight) where
+  abbrev q : ℕ
+  q = flight.to
+
+  far_has : (end : ℕ) → end ≤ end_of flight → end ≤ flight.start + 12 → (game.nodes q).phase ≡ Playing
+      → is_close (machine.made q (game.nodes q)) flight.start ≡ false
+      → end ≤ length ((game.nodes q).held flight.from)
+  far_has end within few plays far =
+      let piece = kept.from_inputs.pieces which flight there in
+      let reached = piece.reached in
+      let goes_on : is_ended (game.nodes q).phase ≡ false = ap is_ended plays in
+      let close = Lists.close rules settings (history_of game) game.flights kept.from_inputs flight.from q piece.sender
+      piece.receiver (Promises.stays_in rules settings game kept q goes_on) in
+      let count = kept.from_inputs.counted q piece.receiver in
+      let ahead = kept.from_inputs.ahead q piece.receiver in
+      let back = kept.window.back in
+      let past = ltb-true 64 (distance flight.start (machine.made q (game.nodes q)))
+      (not-false (nat_lt 64 (distance flight.start (machine.made q (game.nodes q)))) far) in
+      elim (kept.from_inputs.run q flight.from piece.receiver piece.sender) [
+        | inl less ↦ omega (arith, few, within, reached, close, count, ahead, back, past, less)
+        | inr all ↦
+            let known = (kept.from_inputs.ended q flight.from all.0 piece.receiver piece.sender all.1).1 in
+            omega (arith, within, reached, known, all.2)
+      ]
+
+module _ (letters : LettersKeep) (marking : Marking) (limits : Limits) (settings : Settings) (session : Session)
+    (player : ℕ) (mine : player < limits.players) where
+  abbrev at : Contents → Session
+  at now = with_lockstep session player now
+
+  -- a lockstep that wants nothing again
+  abbrev pub WantsNone : Contents → Type 0
+  WantsNone now = (p : ℕ) → p < limits.players → p ≢ player → (now.peers p).want ≡ false
+
+  -- a packet that was given is a player's
+  given_from : (now : Contents) → AreOneGame marking limits settings (at now) → (packet : Opened)
+      → WasGiven session.given player packet → packet.from < limits.players
+  given_from now game packet (which, flight, found, to, is) =
+      let kept = Relays.always (beside marking limits) settings game.window game.events game.last game.runs in
+      let there = ap (λ (fs : List Flight). slice_get fs which) game.flights ∙ found in
+      let sender = (kept.from_inputs.pieces which flight there).sender in
+      omega (arith, sender, ap (λ (p : Opened). p.from) is)
+
+  -- what a packet leaves
+  pub record Hears (now next : Contents) (answer : Arrived) (packet : Opened) : Type 0 where
+    pub sender : packet.from < limits.players
+    pub apart : packet.from ≢ player
+    pub game : AreOneGame marking limits settings (at next)
+    pub starts : is_start answer ≡ true
+        → (now.phase ≢ Playing) × (is_ended now.phase ≡ false) × (next.phase ≡ Playing)
+    pub plays : next.phase ≡ Playing → (now.phase ≡ Playing) ⊎ (is_start answer ≡ true)
+    pub ended : is_ended next.phase ≡ false → is_ended now.phase ≡ false
+    pub stays : now.phase ≡ Playing → next.phase ≡ Playing
+    pub others : (p : ℕ) → p < limits.players → p ≢ packet.from → got next p ≡ got now p
+    pub least : got now packet.from ≤ got next packet.from
+    pub idle : now.phase ≢ Playing → got next packet.from ≡ got now packet.from
+    pub sends : (p : ℕ) → p < limits.players → next_to next p ≡ next_to now p
+    pub wants : WantsNone next
+    pub ran : next.ran ≡ now.ran
+    pub reach : now.phase ≡ Playing → told_end packet ≤ got next packet.from
+
+  one_hears : (packet : Opened) (now next : Contents) (answer : Arrived)
+      → AreOneGame marking limits settings (at now) → WasGiven session.given player packet → packet.ask ≡ None
+      → WantsNone now → (now.phase ≡ Playing → packet.start ≤ got now packet.from)
+      → HearsOpened packet now next answer → SparesSealed now next answer → Hears now next answer packet
+  one_hears packet now next answer game (which, flight, found, to, is) silent none low hears spares =
+      subst (λ (p : Opened). Hears now next answer p) (sym is)
+      (go (is_close (machine.made player m) flight.start && is_request_close (machine.made player m) flight.request) refl)
+    where
+      m : machine.Node
+      m = game.last.nodes player
+
+      shows : Represents limits player now (game.last.nodes player)
+      shows = subst (λ (n : Contents). Represents limits player n (game.last.nodes player))
+          (put_at session.locksteps player player now refl) (game.nodes player mine)
+
+      there : slice_get game.last.flights which ≡ Some flight
+      there = ap (λ (fs : List Flight). slice_get fs which) game.flights ∙ found
+
+      kept : IsKept (beside marking limits) settings game.last
+      kept = Relays.always (beside marking limits) settings game.window game.events game.last game.runs
+
+      fair : IsFair flight
+      fair = game.fair which flight found
+
+      asked : flight.request ≡ None
+      asked = ap (λ (p : Opened). p.ask) (sym is) ∙ silent
+
+      begins : now.phase ≡ Playing → flight.start ≤ got now flight.from
+      begins plays = let before = low plays in
+          omega (arith, before, ap (λ (p : Opened). p.start) is, ap (λ (p : Opened). got now p.from) is)
+
+      sender : flight.from < limits.players
+      sender = (kept.from_inputs.pieces which flight there).sender
+
+      apart : flight.from ≢ player
+      apart e = (kept.from_inputs.pieces which flight there).apart (e ∙ sym to)
+
+      keeps : AreOneGame marking limits settings (at next)
+      keeps = keeps_one letters marking limits settings session player packet now next answer game
+          (which, flight, found, to, is) hears
+
+      count : (p : ℕ) → p < limits.players → got now p ≡ length (m.held p)
+      count p l = has limits player now (game.last.nodes player) shows p l
+
+      -- it is not heard, as it tells a tic that is far
+      late : next ≡ now → (now.phase ≡ Playing → told_end (opened_of flight) ≤ got now flight.from)
+          → is_start answer ≡ false → Hears now next answer (opened_of flight)
+      late same has_it quiet = record {
+        sender = sender;
+        apart = apart;
+        game = keeps;
+        starts = λ e. absurd (true≢false (sym e ∙ quiet));
+        plays = λ e. inl (ap (λ (n : Contents). n.phase) (sym same) ∙ e);
+        ended = λ e. ap (λ (n : Contents). is_ended n.phase) (sym same) ∙ e;
+        stays = λ e. ap (λ (n : Contents). n.phase) same ∙ e;
+        others = λ p l n. ap (λ (n : Contents). got n p) same;
+        least = omega (arith, ap (λ (n : Contents). got n flight.from) same);
+        idle = λ e. ap (λ (n : Contents). got n flight.from) same;
+        sends = λ p l. ap (λ (n : Contents). next_to n p) same;
+        wants = subst WantsNone (sym same) none;
+        ran = ap (λ (n : Contents). n.ran) same;
+        reach = λ plays. omega (arith, has_it plays, ap (λ (n : Contents). got n flight.from) same);
+      }
+
+      -- it is heard
+      taken : (m' : machine.Node) (told : Heard) → m'.rows ≡ m.rows → Represents limits player next m'
+          → answer ≡ Arrived.Heard told
+          → Leaves limits player m flight asked sender apart (told_end (opened_of flight)) m' told
+          → (m.phase ≡ Playing → flight.start ≤ length (m.held flight.from)
+          → told_end (opened_of flight) ≤ length (m'.held flight.from))
+          → Hears now next answer (opened_of flight)
+      taken m' told rows after is_told leaves reaches =
+          let phase_was = shows.stands.phase in
+          let phase_is = after.stands.phase in
+          let was = count flight.from sender in
+          let is_now = has limits player next m' after flight.from sender in
+          record {
+            sender = sender;
+            apart = apart;
+            game = keeps;
+            starts = λ e.
+                let all = leaves.starts (started_is told (ap is_start (sym is_told) ∙ e)) in (
+                  (λ plays. all.0 (sym phase_was ∙ plays)),
+                  ap is_ended phase_was ∙ all.1,
+                  phase_is ∙ all.2,
+                );
+            plays = λ e. elim (leaves.plays (sym phase_is ∙ e)) [
+              | inl plays ↦ inl (phase_was ∙ plays)
+              | inr starts ↦ inr (ap is_start is_told ∙ ap (λ (x : Heard). is_start (Arrived.Heard x)) starts)
+            ];
+            ended = λ e. ap is_ended phase_was ∙ leaves.ended (ap is_ended (sym phase_is) ∙ e);
+            stays = λ e. phase_is ∙ leaves.stays (sym phase_was ∙ e);
+            others = λ p l n. has limits player next m' after p l ∙ leaves.others p n ∙ sym (count p l);
+            least = omega (arith, leaves.least, was, is_now);
+            idle = λ e. is_now ∙ leaves.idle (λ plays. e (phase_was ∙ plays)) ∙ sym was;
+            sends = λ p l. ap (λ (x : Peer). x.resend) (after.peers.known p l) ∙ leaves.next p
+                ∙ ap (λ (x : Peer). x.resend) (sym (shows.peers.known p l));
+            wants = λ p l n. ap (λ (x : Peer). x.want) (after.peers.known p l)
+                ∙ leaves.wants (λ plays. let before = begins (phase_was ∙ plays) in omega (arith, before, was))
+                (λ p l n. ap (λ (x : Peer). x.want) (sym (shows.peers.known p l)) ∙ none p l n) p l n;
+            ran = after.table.ran ∙ ap (length {A = List (Option Move)}) rows ∙ sym shows.table.ran;
+            reach = λ plays.
+                let before = begins plays in
+                let reached = reaches (sym phase_was ∙ plays) (omega (arith, before, was)) in
+                omega (arith, reached, is_now);
+          }
+
+      reads : IsRead (Ok (opened_of flight)) (Ok (packet_of flight)) (told_by flight.kind)
+      reads = ((fair.packet, refl), told_is flight flight.kind fair.kind)
+
+      heard_as : (r : machine.Node × Arrived) → on_opened limits player m (Ok (opened_of flight)) (Ok (packet_of flight))
+          (told_by flight.kind) ≡ r → Represents limits player next r.0 × (answer ≡ r.1)
+      heard_as r e =
+          let after = (subst (λ (p : Opened). HearsOpened p now next answer) is hears).step (Ok (packet_of flight))
+          (told_by flight.kind) reads limits player m shows in (
+            subst (λ (x : machine.Node × Arrived). Represents limits player next x.0) e after.node,
+            subst (λ (x : machine.Node × Arrived). answer ≡ x.1) e after.answer,
+          )
+
+      leaves : Leaves limits player m flight asked sender apart (told_end (opened_of flight))
+          (on_packet limits player m flight).0 (on_packet limits player m flight).1
+      leaves = by_kind flight
+          (λ chosen kind. subst (λ (n : ℕ). Leaves limits player m flight asked sender apart n
+          (on_packet limits player m flight).0 (on_packet limits player m flight).1) (sym (settings_end flight chosen kind))
+          (settings_leave limits player m flight asked sender apart chosen kind))
+          (λ kind same. subst (λ (n : ℕ). Leaves limits player m flight asked sender apart n
+          (on_packet limits player m flight).0 (on_packet limits player m flight).1) (sym same)
+          (word_leaves limits player m flight asked sender apart))
+
+      spared : IsSpared limits player m flight asked sender apart (on_packet limits player m flight).1
+      spared number dropped =
+          let fine = subst (λ (k : ℕ). (on_packet limits k (game.last.nodes k) flight).1 ≡ Heard.Dropped number
+          → (number ≡ 6) ⊎ (number ≡ 13)) to
+          (λ e. Promises.drops (beside marking limits) settings game.last kept which flight number there e) in
+          fine dropped
+
+      reaches : m.phase ≡ Playing → flight.start ≤ length (m.held flight.from)
+          → told_end (opened_of flight) ≤ length ((on_packet limits player m flight).0.held flight.from)
+      reaches plays before = by_kind flight
+          (λ chosen kind. omega (arith, settings_end flight chosen kind, before, leaves.least))
+          (λ kind same. let reach = word_reaches limits player m flight asked sender apart plays kind before spared in
+          omega (arith, same, reach))
+
+      go : (test : Bool)
+          → (is_close (machine.made player m) flight.start && is_request_close (machine.made player m) flight.request) ≡ test
+          → Hears now next answer (opened_of flight)
+      go true close =
+          let step : on_opened limits player m (Ok (opened_of flight)) (Ok (packet_of flight)) (told_by flight.kind)
+          ≡ heard (on_packet limits player m flight) =
+          rw (close, alike flight) (ap heard (near_received limits player m flight fair sender apart
+          (near_if (machine.made player m) flight close))) in
+          let result = heard_as (heard (on_packet limits player m flight)) step in
+          taken (on_packet limits player m flight).0 (on_packet limits player m flight).1
+          (hear_quiet limits player m flight).0 result.0 result.1 leaves reaches
+      go false far =
+          let step : on_opened limits player m (Ok (opened_of flight)) (Ok (packet_of flight)) (told_by flight.kind)
+          ≡ (m, Arrived.Late) = rw far refl in
+          let result = heard_as (m, Arrived.Late) step in
+          let away : is_close (machine.made player m) flight.start ≡ false =
+          apart_from (is_close (machine.made player m) flight.start) flight.request asked far in
+          late (subst (λ (a : Arrived). SparesSealed now next a) result.1 spares)
+          (λ plays.
+          let all = subst (λ (k : ℕ). (game.last.nodes k).phase ≡ Playing
+          → is_close (machine.made k (game.last.nodes k)) flight.start ≡ false
+          → told_end (opened_of flight) ≤ length ((game.last.nodes k).held flight.from)) to
+          (far_has (beside marking limits) settings game.last kept which flight there (told_end (opened_of flight))
+          (no_later flight) (short_of flight fair))
+          (sym shows.stands.phase ∙ plays) away in
+          omega (arith, all, count flight.from sender))
+          (ap is_start result.1)
+        where
+          apart_from : (test : Bool) (request : Option ℕ) → request ≡ None
+              → (test && is_request_close (machine.made player m) request) ≡ false → test ≡ false
+          apart_from true request none e = absurd (true≢false (ap (is_request_close (machine.made player m)) (sym none) ∙ e))
+          apart_from false request none e = refl
+
+  -- a lockstep behind which packets have no gap, unless it has ended
+  abbrev pub IsBehind : (ℕ → ℕ) → List Opened → Contents → Type 0
+  IsBehind tics packets now =
+      is_ended now.phase ≡ false
+      → (now.phase ≡ Playing → (p : ℕ) → p < limits.players → tics p ≤ got now p) × HaveNoGaps tics packets
+
+  abbrev IsQuiet : Opened → Type 0
+  IsQuiet packet = WasGiven session.given player packet × (packet.ask ≡ None)
+
+  -- what packets leave that end there
+  pub record HearsOn (ends : ℕ → ℕ) (now new : Contents) (started : Bool) : Type 0 where
+    pub game : AreOneGame marking limits settings (at new)
+    pub starts : started ≡ true → (now.phase ≢ Playing) × (is_ended now.phase ≡ false) × (new.phase ≡ Playing)
+    pub plays : new.phase ≡ Playing → (now.phase ≡ Playing) ⊎ (started ≡ true)
+    pub ended : is_ended new.phase ≡ false → is_ended now.phase ≡ false
+    pub least : (p : ℕ) → p < limits.players → got now p ≤ got new p
+    pub own : got new player ≡ got now player
+    pub idle : is_ended now.phase ≡ true → (p : ℕ) → p < limits.players → got new p ≡ got now p
+    pub sends : (p : ℕ) → p < limits.players → next_to new p ≡ next_to now p
+    pub wants : WantsNone new
+    pub ran : new.ran ≡ now.ran
+    pub reach : now.phase ≡ Playing → (p : ℕ) → p < limits.players → ends p ≤ got new p
+
+  until_hears : (packets : List Opened) (now new : Contents) (started : Bool) (tics : ℕ → ℕ)
+      → AreOneGame marking limits settings (at now) → WantsNone now → All IsQuiet packets
+      → IsBehind tics packets now → HearsUntil packets now new started
+      → HearsOn (ends_of tics packets) now new started
+  until_hears [] now new started tics game none all behind hears =
+      let same : new ≡ now = hears.0 in
+      record {
+        game = subst (λ (n : Contents). AreOneGame marking limits settings (at n)) (sym same) game;
+        starts = λ e. absurd (true≢false (sym e ∙ hears.1));
+        plays = λ e. inl (ap (λ (n : Contents). n.phase) (sym same) ∙ e);
+        ended = λ e. ap (λ (n : Contents). is_ended n.phase) (sym same) ∙ e;
+        least = λ p l. omega (arith, ap (λ (n : Contents). got n p) same);
+        own = ap (λ (n : Contents). got n player) same;
+        idle = λ e p l. ap (λ (n : Contents). got n p) same;
+        sends = λ p l. ap (λ (n : Contents). next_to n p) same;
+        wants = subst WantsNone (sym same) none;
+        ran = ap (λ (n : Contents). n.ran) same;
+        reach = λ plays p l. let has_it = (behind (ap is_ended plays)).0 plays p l in
+            omega (arith, has_it, ap (λ (n : Contents). got n p) same);
+      }
+  until_hears (packet ∷ packets) now new started tics game none all behind (next, answer, hears, spares, then) =
+      go (is_start answer) refl
+      (λ not later. until_hears packets next new started (then_end tics packet) step.game step.wants
+      (All-tail IsQuiet packet packets all) (behind_on not) later) then
+    where
+      quiet : IsQuiet packet
+      quiet = All-head IsQuiet packet packets all
+
+      low : packet.from < limits.players → now.phase ≡ Playing → packet.start ≤ got now packet.from
+      low inside plays =
+          let here = behind (ap is_ended plays) in
+          let has_it = here.0 plays packet.from inside in
+          let begins = here.1.0 in
+          omega (arith, has_it, begins)
+
+      step : Hears now next answer packet
+      step = one_hears packet now next answer game quiet.0 quiet.1 none
+          (low (given_from now game packet quiet.0)) hears spares
+
+      least_of : (p : ℕ) → p < limits.players → got now p ≤ got next p
+      least_of p l = elim (cases_eq p packet.from) [
+        | inl at ↦ omega (arith, step.least, ap (got now) at, ap (got next) at)
+        | inr off ↦ let same = step.others p l off in omega (arith, same)
+      ]
+
+      idle_of : now.phase ≢ Playing → (p : ℕ) → p < limits.players → got next p ≡ got now p
+      idle_of e p l = elim (cases_eq p packet.from) [
+        | inl at ↦ ap (got next) at ∙ step.idle e ∙ ap (got now) (sym at)
+        | inr off ↦ step.others p l off
+      ]
+
+      own_of : got next player ≡ got now player
+      own_of = step.others player mine (λ e. step.apart (sym e))
+
+      behind_on : is_start answer ≡ false → IsBehind (then_end tics packet) packets next
+      behind_on not goes_on =
+          let here = behind (step.ended goes_on) in (
+            (λ plays p l. elim (step.plays plays) [
+              | inl played ↦ elim (cases_eq p packet.from) [
+                | inl at ↦
+                    let now_at = put_at tics packet.from p (max (tics packet.from) (told_end packet)) at in
+                    let had = here.0 played packet.from step.sender in
+                    let reach = step.reach played in
+                    omega (arith, now_at, had, reach, step.least, ap (got next) at)
+                | inr off ↦
+                    let now_off = put_off tics packet.from p (max (tics packet.from) (told_end packet)) off in
+                    let had = here.0 played p l in
+                    let same = step.others p l off in
+                    omega (arith, now_off, had, same)
+              ]
+              | inr starts ↦ absurd (true≢false (sym starts ∙ not))
+            ]),
+            here.1.1,
+          )
+
+      go : (test : Bool) → is_start answer ≡ test
+          → (is_start answer ≡ false → HearsUntil packets next new started
+          → HearsOn (ends_of (then_end tics packet) packets) next new started)
+          → ByTest test ((new ≡ next) × (started ≡ true)) (HearsUntil packets next new started)
+          → HearsOn (ends_of (then_end tics packet) packets) now new started
+      go true is on done =
+          let same : new ≡ next = done.0 in
+          let at_start = step.starts is in
+          record {
+            game = subst (λ (n : Contents). AreOneGame marking limits settings (at n)) (sym same) step.game;
+            starts = λ e. (at_start.0, at_start.1, ap (λ (n : Contents). n.phase) same ∙ at_start.2);
+            plays = λ e. inr done.1;
+            ended = λ e. at_start.1;
+            least = λ p l. let more = least_of p l in omega (arith, more, ap (λ (n : Contents). got n p) same);
+            own = ap (λ (n : Contents). got n player) same ∙ own_of;
+            idle = λ e. absurd (true≢false (sym e ∙ at_start.1));
+            sends = λ p l. ap (λ (n : Contents). next_to n p) same ∙ step.sends p l;
+            wants = subst WantsNone (sym same) step.wants;
+            ran = ap (λ (n : Contents). n.ran) same ∙ step.ran;
+            reach = λ plays. absurd (at_start.0 plays);
+          }
+      go false not on then =
+          let later = on not then in
+          record {
+            game = later.game;
+            starts = λ e.
+                let all = later.starts e in
+                ((λ plays. all.0 (step.stays plays)), step.ended all.1, all.2);
+            plays = λ e. elim (later.plays e) [
+              | inl mid ↦ elim (step.plays mid) [
+                | inl first ↦ inl first
+                | inr starts ↦ absurd (true≢false (sym starts ∙ not))
+              ]
+              | inr starts ↦ inr starts
+            ];
+            ended = λ e. step.ended (later.ended e);
+            least = λ p l. let one = least_of p l in let more = later.least p l in omega (arith, one, more);
+            own = later.own ∙ own_of;
+            idle = λ e p l. later.idle (ends e (is_ended next.phase) refl) p l
+                ∙ idle_of (λ plays. true≢false (sym e ∙ ap is_ended plays)) p l;
+            sends = λ p l. later.sends p l ∙ step.sends p l;
+            wants = later.wants;
+            ran = later.ran ∙ step.ran;
+            reach = λ plays. later.reach (step.stays plays);
+          }
+        where
+          ends : is_ended now.phase ≡ true → (test : Bool) → is_ended next.phase ≡ test → is_ended next.phase ≡ true
+          ends e true is = is
+          ends e false is = absurd (true≢false (sym e ∙ step.ended is))
+
+  -- what a datagram leaves, the packets of which end there
+  pub record HearsThem (ends : ℕ → ℕ) (now new : Contents) : Type 0 where
+    pub ended : is_ended new.phase ≡ false → is_ended now.phase ≡ false
+    pub least : (p : ℕ) → p < limits.players → got now p ≤ got new p
+    pub own : got new player ≡ got now player
+    pub idle : is_ended now.phase ≡ true → (p : ℕ) → p < limits.players → got new p ≡ got now p
+    pub sends : (p : ℕ) → p < limits.players → next_to new p ≡ next_to now p
+    pub wants : WantsNone new
+    pub ran : new.ran ≡ now.ran
+    pub reach : new.phase ≡ Playing → (p : ℕ) → p < limits.players → ends p ≤ got new p
+
+  -- all of its packets, and once more from the first where the game starts
+  pub all_hears : (packets : List Opened) (now new : Contents) (started : Bool) (tics : ℕ → ℕ)
+      → AreOneGame marking limits settings (at now) → WantsNone now → All IsQuiet packets
+      → (is_ended now.phase ≡ false
+      → ((p : ℕ) → p < limits.players → tics p ≤ got now p) × HaveNoGaps tics packets)
+      → HearsAll packets now new started → HearsThem (ends_of tics packets) now new
+  all_hears packets now new started tics game none all fits (next, first, then) =
+      go started (until_hears packets now next started tics game none all
+      (λ goes_on. let here = fits goes_on in ((λ plays. here.0), here.1)) first) then
+    where
+      go : (test : Bool) → HearsOn (ends_of tics packets) now next test
+          → ByTest test ((again : Bool) × HearsUntil packets next new again) (new ≡ next)
+          → HearsThem (ends_of tics packets) now new
+      go false begun same = record {
+        ended = λ e. begun.ended (ap (λ (n : Contents). is_ended n.phase) (sym same) ∙ e);
+        least = λ p l. let more = begun.least p l in omega (arith, more, ap (λ (n : Contents). got n p) same);
+        own = ap (λ (n : Contents). got n player) same ∙ begun.own;
+        idle = λ e p l. ap (λ (n : Contents). got n p) same ∙ begun.idle e p l;
+        sends = λ p l. ap (λ (n : Contents). next_to n p) same ∙ begun.sends p l;
+        wants = subst WantsNone (sym same) begun.wants;
+        ran = ap (λ (n : Contents). n.ran) same ∙ begun.ran;
+        reach = λ plays p l. elim (begun.plays (ap (λ (n : Contents). n.phase) (sym same) ∙ plays)) [
+          | inl played ↦ let reach = begun.reach played p l in omega (arith, reach, ap (λ (n : Contents). got n p) same)
+          | inr starts ↦ absurd (cc)
+        ];
+      }
+      go true begun then =
+          let at_start = begun.starts refl in
+          let more = until_hears packets next new then.0 tics begun.game begun.wants all (λ goes_on.
+          let here = fits (begun.ended goes_on) in (
+            (λ plays p l. let was = here.0 p l in let up = begun.least p l in omega (arith, was, up)),
+            here.1,
+          )) then.1 in
+          record {
+            ended = λ e. begun.ended (more.ended e);
+            least = λ p l. let one = begun.least p l in let two = more.least p l in omega (arith, one, two);
+            own = more.own ∙ begun.own;
+            idle = λ e. absurd (true≢false (sym e ∙ at_start.1));
+            sends = λ p l. more.sends p l ∙ begun.sends p l;
+            wants = more.wants;
+            ran = more.ran ∙ begun.ran;
+            reach = λ e. more.reach at_start.2;
+          }

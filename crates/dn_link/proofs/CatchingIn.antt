@@ -1,0 +1,547 @@
+-- The links of a game stay caught up where one takes in a datagram.
+use Rattle.std.proofs.Common.{◌≡◌, ◌≢◌, ◌<◌, ◌≤◌, ◌+◌, ◌-◌, ◌&&◌, ℕ, zero, suc, Bool, true, false, List, length, refl, ap, sym, ◌∙◌, subst, arith, Option, Some, None, All, inl, inr}
+use Rattle.std.specs.Prelude.{◌==◌, ◌||◌, if◌then◌else◌, is_some, min, nat_le, nat_lt, not, slice_index, unwrap_or, Result, Ok, Err}
+use Rattle.std.proofs.lemmas.Bool.{and_from, and_parts, and_right, cases_eq, eq-eqb, ne_eqb, leb-true, lt-ltb, ltb-true, true≢false}
+use Rattle.dn_setup.specs.Settings.{Settings}
+use Rattle.dn_machine.specs.Limits.{Limits}
+use Rattle.dn_machine.specs.declared.answers.Phase.TheVariants as phase
+use Rattle.dn_machine.specs.Node.{is_ended, put}
+use Rattle.dn_machine.proofs.Put.{put_at, put_off}
+use Rattle.dn_lockstep.specs.Agreed.{AreAgreed}
+use Rattle.dn_lockstep.specs.Contents.{Contents, end_in}
+use Rattle.dn_lockstep.specs.Marking.{Marking}
+use Rattle.dn_lockstep.specs.OneGame.{AreOneGame}
+use Rattle.dn_lockstep.specs.Rings.{count_of}
+use Rattle.dn_lockstep.specs.Session.{Session, with_lockstep}
+use Rattle.dn_lockstep.specs.Told.{got, made}
+use Rattle.dn_seal.specs.declared.seal.Seal.{Seal}
+use Rattle.dn_seal.specs.Opening.{Sealing}
+use Rattle.dn_open.specs.Sealed.{sealing_of}
+use Rattle.dn_link.specs.declared.bundle.Bundle.{Bundle}
+use Rattle.dn_link.specs.declared.bundle.BundleFault.{BundleFault}
+use Rattle.dn_link.specs.declared.bundle.Identity.{Identity}
+use Rattle.dn_link.specs.declared.presence.Presence.{Presence}
+use Rattle.dn_link.specs.declared.presence.Presence.TheVariants.{Unknown, There, Playing, Different, Away, Left, Forgotten}
+use Rattle.dn_link.specs.declared.received.Received.{Received}
+use Rattle.dn_link.specs.declared.received.Received.TheVariants.{GivenUp, Stranger}
+use Rattle.dn_link.specs.declared.bundle.Message.{Message}
+use Rattle.dn_link.specs.declared.bundle.Message.TheVariants.{Game}
+use Rattle.dn_link.specs.Bundles.{HasReached, IsGenuineDatagram, WasGiven}
+use Rattle.dn_link.specs.CaughtUp.{AreCaughtUp, Brings, HasNoGap, IsCaughtUp, IsInStep, IsInStepTo, IsKeptChain, StayCaughtUp, last_end}
+use Rattle.dn_link.specs.Counting.{has_ended, has_of, held_of, reached, with_end}
+use Rattle.dn_link.specs.Hearing.{ByTest, HearsAll}
+use Rattle.dn_link.specs.Kept.{IsKeptRising, Unacknowledged, acknowledged}
+use Rattle.dn_link.specs.Linked.{IsTakenIn, Linked, PeerState, Receives, ReceivesAs, TakesIn, all_ready, certain, done_with, has_given_up, hears, is_gathering, is_peer, known_by, met, takes}
+use Rattle.dn_link.specs.LinkedGame.{AreLinked, IsLater}
+use Rattle.dn_link.specs.Onward.{next_to}
+use Rattle.dn_link.specs.Paced.{PaceState}
+use Rattle.dn_link.specs.declared.bundle.Relay as relay
+use Rattle.dn_link.specs.Packets.{heard_in, own_in, packets_in}
+use Rattle.dn_link.specs.Presence.{Becomes, Differs, is_fresh, is_there, plays_on, takes_part}
+use Rattle.dn_link.specs.Reading.{IsBundledAs, IsDatagramOf}
+use Rattle.dn_link.specs.Text.{IsBundle, sealed_bytes}
+use Rattle.dn_link.proofs.Arriving.{all_hears}
+use Rattle.dn_link.proofs.Catching.{ends_on, not_yet, relinked, still}
+use Rattle.dn_link.proofs.Chains.{chain_past}
+use Rattle.dn_link.proofs.Genuine.{same_bundle}
+use Rattle.dn_link.proofs.Keeping.{LettersKeep, as_it_is}
+use Rattle.dn_link.proofs.Leaving.{at_most_there}
+use Rattle.dn_link.proofs.Lefts.{unended}
+use Rattle.dn_link.proofs.Linking as base
+use Rattle.dn_link.proofs.Rising.{rises_past}
+use Rattle.dn_link.proofs.Makers.{HaveNoGaps, ends_of, parts_ask, parts_go}
+use Rattle.dn_link.proofs.Senders.{parts_heard}
+
+-- no more is certain than this, unless the peer has left
+at_most : (presence : Presence) (node : Contents) (count bound : ℕ) → ((cause : ℕ) → presence ≢ Left cause)
+    → certain node count ≤ bound → done_with presence node count ≤ bound
+at_most (Left cause) node count bound stays less = absurd (stays cause refl)
+at_most Unknown node count bound stays less = less
+at_most There node count bound stays less = less
+at_most Playing node count bound stays less = less
+at_most (Different identity) node count bound stays less = less
+at_most (Away cause) node count bound stays less = less
+at_most Forgotten node count bound stays less = less
+
+-- by what is there of four players there are no more of any
+held_most : (node : Contents) (player : ℕ) → slice_index (held_of node) player ≤ got node player
+held_most node zero = by (nat_lt 0 node.players)
+  where
+    by : (test : Bool) → (if test then got node 0 else 0) ≤ got node 0
+    by true = omega arith
+    by false = omega arith
+held_most node (suc zero) = by (nat_lt 1 node.players)
+  where
+    by : (test : Bool) → (if test then got node 1 else 0) ≤ got node 1
+    by true = omega arith
+    by false = omega arith
+held_most node (suc (suc zero)) = by (nat_lt 2 node.players)
+  where
+    by : (test : Bool) → (if test then got node 2 else 0) ≤ got node 2
+    by true = omega arith
+    by false = omega arith
+held_most node (suc (suc (suc zero))) = by (nat_lt 3 node.players)
+  where
+    by : (test : Bool) → (if test then got node 3 else 0) ≤ got node 3
+    by true = omega arith
+    by false = omega arith
+held_most node (suc (suc (suc (suc player)))) = omega arith
+
+module _ (letters : LettersKeep) (marking : Marking) (limits : Limits) (settings : Settings) (session : Session)
+    (links : ℕ → Linked) (player : ℕ) (linked : AreLinked marking limits settings session links)
+    (mine : player < limits.players) (agreed : AreAgreed limits settings session.inputs session.locksteps)
+    (were : AreCaughtUp limits links) (new : Linked)
+    (after : AreLinked marking limits settings (with_lockstep session player new.node) (put links player new))
+    (later : IsLater session (with_lockstep session player new.node))
+    (agreed_then : AreAgreed limits settings (with_lockstep session player new.node).inputs
+    (with_lockstep session player new.node).locksteps) where
+  abbrev old : Linked
+  old = links player
+
+  node : old.node ≡ session.locksteps player
+  node = linked.nodes player mine
+
+  own : old.node.me ≡ player
+  own = base.own marking limits settings session links player linked mine
+
+  -- nothing was changed
+  nothing : new ≡ old → StayCaughtUp limits links player new
+  nothing same = still limits links player new mine were (record {
+    others = λ p l n. ap (λ (l : Linked). got l.node p) same;
+    own = omega (arith, ap (λ (l : Linked). got l.node player) same);
+    sends = λ p l. ap (λ (l : Linked). next_to l.node p) same;
+    wants = λ p l. ap (λ (l : Linked). (l.node.peers p).want) same;
+    ran = omega (arith, ap (λ (l : Linked). l.node.ran) same);
+  }) (λ peer. ap (λ (l : Linked). (l.peers peer).kept) same)
+      (λ was. ap (λ (l : Linked). has_ended l.node) same ∙ was)
+
+  module _ (bundle : Bundle) (below : bundle.from < limits.players) (apart : bundle.from ≢ player)
+      (goes : bundle.to ≡ player) (all : All (WasGiven session.given player) (packets_in bundle))
+      (reports : HasReached session.locksteps bundle) (in_step : IsInStep limits links bundle) where
+    abbrev from : ℕ
+    from = bundle.from
+
+    abbrev count : ℕ
+    count = slice_index bundle.counts.got old.node.me
+
+    theirs : (links from).node ≡ session.locksteps from
+    theirs = linked.nodes from below
+
+    -- it has of the player's commands what it reports, or knows the end with them
+    told : count ≤ with_end (got (session.locksteps from) player) (end_in (session.locksteps from) player)
+    told =
+        let n = session.locksteps from in
+        let is = reports.got player (λ e. apart (sym e)) in
+        let same = ap (λ (k : ℕ). slice_index bundle.counts.got k) own in
+        let has : has_of n player ≡ with_end (count_of n.rings player) (end_in n player) =
+        rw (lt-ltb player n.players (omega (arith, mine, agreed.several from below))) refl in
+        omega (arith, is, same, has)
+
+    ends : (end : Option ℕ) → end_in (session.locksteps from) player ≡ end → is_some end ≡ true
+        → is_some (end_in old.node old.node.me) ≡ true
+    ends None is known = absurd (cc)
+    ends (Some end) is known =
+        ap is_some ((λ i. end_in (node i) (own i)) ∙ (agreed.ends from player end below mine is).0)
+
+    -- so this is there
+    certain_there : certain old.node count ≤ got (session.locksteps from) player
+    certain_there =
+        let n = session.locksteps from in
+        at_most_there (is_some (end_in old.node old.node.me)) count (made old.node) (got n player) (end_in n player)
+        told (ends (end_in n player) refl)
+
+    -- what came of the packets
+    record Came : Type 0 where
+      least : (p : ℕ) → p < limits.players → got old.node p ≤ got new.node p
+      own : got new.node player ≡ got old.node player
+      idle : is_ended old.node.phase ≡ true → (p : ℕ) → p < limits.players → got new.node p ≡ got old.node p
+      sends : (p : ℕ) → p < limits.players → next_to new.node p ≡ next_to old.node p
+      wants : (p : ℕ) → p < limits.players → p ≢ player → (new.node.peers p).want ≡ false
+      ran : new.node.ran ≡ old.node.ran
+
+    none : (p : ℕ) → p < limits.players → p ≢ player → (old.node.peers p).want ≡ false
+    none p l n = (were player p mine l n).asks
+
+    unheard : new.node ≡ old.node → Came
+    unheard same = record {
+      least = λ p l. omega (arith, ap (λ (n : Contents). got n p) same);
+      own = ap (λ (n : Contents). got n player) same;
+      idle = λ e p l. ap (λ (n : Contents). got n p) same;
+      sends = λ p l. ap (λ (n : Contents). next_to n p) same;
+      wants = λ p l n. ap (λ (n : Contents). (n.peers p).want) same ∙ none p l n;
+      ran = ap (λ (n : Contents). n.ran) same;
+    }
+
+    -- one that has not ended has not left
+    going : is_ended old.node.phase ≡ false → has_ended old.node ≡ false
+    going e = and_right old.node.played (is_ended old.node.phase) e
+
+    abbrev first : ℕ
+    first = got old.node from
+
+    abbrev IsLast : ℕ → Type 0
+    IsLast last = new.node.phase ≡ phase.Playing → last ≤ got new.node from
+
+    -- what it takes of others has no gap
+    taken_low : (relay : relay.Relay) → takes old relay ≡ true → relay.run.start ≤ got old.node relay.player
+    taken_low relay is =
+        let within = leb-true relay.run.start (slice_index (held_of old.node) relay.player)
+        (and_parts (not (has_given_up old relay.player))
+        (nat_le relay.run.start (slice_index (held_of old.node) relay.player)) is).1 in
+        let most = held_most old.node relay.player in
+        omega (arith, within, most)
+
+    came_heard : (started : Bool) → HearsAll (heard_in (takes old) bundle) old.node new.node started
+        → Came × IsLast (last_end first (own_in bundle))
+    came_heard started heard =
+        let here : is_ended old.node.phase ≡ false → has_ended (links bundle.to).node ≡ false =
+        (λ e. ap (λ (k : ℕ). has_ended (links k).node) goes ∙ going e) in
+        let to : (links bundle.to).node ≡ old.node = ap (λ (k : ℕ). (links k).node) goes in
+        let go : is_ended old.node.phase ≡ false
+        → HaveNoGaps (got old.node) (heard_in (takes old) bundle)
+        × (last_end first (own_in bundle) ≤ ends_of (got old.node) (heard_in (takes old) bundle) from) =
+        (λ e. parts_go (takes old) from (got old.node) taken_low bundle.parts.items (got old.node) first (omega arith)
+        (λ p. omega arith)
+        (subst (λ (n : Contents). HasNoGap (got n from) (own_in bundle)) to (in_step.follows (here e)))) in
+        let them = all_hears letters marking limits settings session player mine (heard_in (takes old) bundle)
+        (session.locksteps player) new.node started (got old.node)
+        (subst (AreOneGame marking limits settings)
+        (sym (as_it_is letters marking limits settings session player)) linked.game)
+        (λ p l n. ap (λ (n : Contents). (n.peers p).want) (sym node) ∙ none p l n)
+        (λ k d l. (
+          parts_heard (has_given_up old) (held_of old.node) from (WasGiven session.given player) bundle.parts.items all k d l,
+          parts_ask (takes old) from (got old.node) taken_low bundle.parts.items in_step.asks k d l,
+        ))
+        (λ e. (
+          (λ p l. omega (arith, ap (λ (n : Contents). got n p) node)),
+          (go (ap (λ (n : Contents). is_ended n.phase) node ∙ e)).0,
+        ))
+        (subst (λ (n : Contents). HearsAll (heard_in (takes old) bundle) n new.node started) node heard) in (
+          record {
+            least = λ p l. let more = them.least p l in omega (arith, more, ap (λ (n : Contents). got n p) node);
+            own = them.own ∙ ap (λ (n : Contents). got n player) (sym node);
+            idle = λ e p l. them.idle (ap (λ (n : Contents). is_ended n.phase) (sym node) ∙ e) p l
+                ∙ ap (λ (n : Contents). got n p) (sym node);
+            sends = λ p l. them.sends p l ∙ ap (λ (n : Contents). next_to n p) (sym node);
+            wants = them.wants;
+            ran = them.ran ∙ ap (λ (n : Contents). n.ran) (sym node);
+          },
+          (λ plays.
+              let goes_on = them.ended (ap is_ended plays) in
+              let last = (go (ap (λ (n : Contents). is_ended n.phase) node ∙ goes_on)).1 in
+              let reach = them.reach plays from below in
+              omega (arith, last, reach)),
+        )
+
+    stays : has_ended old.node ≡ true → has_ended new.node ≡ true
+    stays was = ap has_ended (sym (put_at session.locksteps player player new.node refl))
+        ∙ later.ended player (ap has_ended (sym node) ∙ was)
+
+    module _ (identity : Identity) (fresh : Bool) (presence : Presence) (differs started : Bool)
+        (takes_it : TakesIn identity fresh bundle old new presence differs started) where
+      came : Came
+      came = go differs takes_it.heard
+        where
+          by : (test : Bool) → ByTest test (HearsAll (heard_in (takes old) bundle) old.node new.node started)
+              ((new.node ≡ old.node) × (started ≡ false)) → Came
+          by true heard = (came_heard started heard).0
+          by false same = unheard same.0
+
+          go : (differs : Bool)
+              → ByTest (not differs && hears (met differs bundle presence old) presence)
+              (HearsAll (heard_in (takes old) bundle) old.node new.node started) ((new.node ≡ old.node) × (started ≡ false))
+              → Came
+          go true same = unheard same.0
+          go false heard = by (hears (met false bundle presence old) presence) heard
+
+      -- what a peer that has not ended is known to have by its commands, it has
+      has_reached : (peer : ℕ) → peer < limits.players → peer ≢ player → has_ended (links peer).node ≡ false
+          → got new.node peer ≤ got (links peer).node player + limits.ahead
+      has_reached peer l n goes_on = by (is_ended old.node.phase) refl
+        where
+          pair_was : IsCaughtUp limits player peer old (links peer)
+          pair_was = were player peer mine l n
+
+          now_is : (with_lockstep session player new.node).locksteps player ≡ new.node
+          now_is = put_at session.locksteps player player new.node refl
+
+          theirs_is : (with_lockstep session player new.node).locksteps peer ≡ session.locksteps peer
+          theirs_is = put_off session.locksteps player peer new.node n
+
+          by : (test : Bool) → is_ended old.node.phase ≡ test
+              → got new.node peer ≤ got (links peer).node player + limits.ahead
+          by true e =
+              let same = came.idle e peer l in
+              let there = pair_was.there goes_on in
+              omega (arith, same, there, pair_was.near)
+          by false e =
+              let held = agreed_then.held player peer mine l in
+              let ahead = agreed.ahead peer l in
+              let run = agreed.run peer player l mine in
+              let none : end_in (session.locksteps player) player ≡ None =
+              unended (session.locksteps player) player (agreed.numbers player mine)
+              (ap has_ended (sym node) ∙ going e) in
+              let ran = (session.locksteps peer).ran in
+              let low : min ran (unwrap_or (end_in (session.locksteps player) player) ran) ≡ ran =
+              ap (λ (o : Option ℕ). min ran (unwrap_or o ran)) none ∙ omega arith in
+              omega (
+                arith,
+                held,
+                ahead,
+                run,
+                low,
+                ap (λ (n : Contents). got n peer) now_is,
+                ap made theirs_is,
+                ap (λ (n : Contents). got n player) (linked.nodes peer l),
+              )
+
+      -- of a peer, which sent the datagram or did not, before what was heard acknowledges
+      record IsMid (peer : ℕ) (mid : PeerState) : Type 0 where
+        rising : IsKeptRising mid.kept
+        chain : IsKeptChain mid.kept
+        there : has_ended (links peer).node ≡ false → mid.kept.done ≤ got (links peer).node player
+        more : (old.peers peer).kept.covered ≤ mid.kept.covered
+
+      mid_same : (peer : ℕ) → peer < limits.players → peer ≢ player → (mid : PeerState)
+          → mid.kept ≡ (old.peers peer).kept → IsMid peer mid
+      mid_same peer l n mid same =
+          let was = were player peer mine l n in
+          record {
+            rising = subst IsKeptRising (sym same) was.rising;
+            chain = subst IsKeptChain (sym same) was.chain;
+            there = λ goes_on. let before = was.there goes_on in
+                omega (arith, before, ap (λ (k : Unacknowledged). k.done) same);
+            more = omega (arith, ap (λ (k : Unacknowledged). k.covered) same);
+          }
+
+      mid_known : (test : Bool) → differs ≡ test → IsMid from (known_by test old.node bundle presence (old.peers from))
+      mid_known true is = mid_same from below apart _ refl
+      mid_known false is =
+          let was = were player from mine below apart in
+          record {
+            rising = rises_past _ _ _ (done_with presence old.node count) was.rising;
+            chain = chain_past _ _ _ (done_with presence old.node count) was.rising was.chain;
+            there = λ goes_on.
+                let before = was.there goes_on in
+                let less = at_most presence old.node count (got (links from).node player) (not_left goes_on)
+                (let sure = certain_there in omega (arith, sure, ap (λ (n : Contents). got n player) theirs)) in
+                omega (arith, before, less);
+            more = omega arith;
+          }
+        where
+          not_left : has_ended (links from).node ≡ false → (cause : ℕ) → presence ≢ Left cause
+          not_left goes_on cause left =
+              let here : ((put links player new player).peers from).presence ≡ Left cause =
+              ap (λ (l : Linked). (l.peers from).presence) (put_at links player player new refl)
+              ∙ ap (λ (f : ℕ → PeerState). (f from).presence) takes_it.peers
+              ∙ ap (λ (t : PeerState). t.presence) (put_at old.peers from from _ refl)
+              ∙ known_presence differs ∙ left in
+              let gone = after.left player from cause mine here in
+              true≢false (sym gone ∙ ap has_ended (put_off session.locksteps player from new.node apart ∙ sym theirs)
+              ∙ goes_on)
+            where
+              known_presence : (test : Bool)
+                  → (known_by test old.node bundle presence (old.peers from)).presence ≡ presence
+              known_presence true = refl
+              known_presence false = refl
+
+      mid_of : (peer : ℕ) → peer < limits.players → peer ≢ player
+          → IsMid peer ((met differs bundle presence old).peers peer)
+      mid_of peer l n = elim (cases_eq peer from) [
+        | inl at ↦
+            subst (IsMid peer) (sym (put_at old.peers from peer (known_by differs old.node bundle presence (old.peers from)) at))
+            (subst (λ (k : ℕ). IsMid k (known_by differs old.node bundle presence (old.peers from))) (sym at)
+            (mid_known differs refl))
+        | inr off ↦ mid_same peer l n _ (ap (λ (t : PeerState). t.kept)
+            (put_off old.peers from peer (known_by differs old.node bundle presence (old.peers from)) off))
+      ]
+
+      pub pair : (peer : ℕ) → peer < limits.players → peer ≢ player → IsCaughtUp limits player peer new (links peer)
+      pair peer l n =
+          let was = were player peer mine l n in
+          let mid = mid_of peer l n in
+          let state = (met differs bundle presence old).peers peer in
+          let kept : (new.peers peer).kept ≡ acknowledged state.kept (reached new.node peer) =
+          ap (λ (f : ℕ → PeerState). (f peer).kept) takes_it.peers in
+          let done = ap (λ (k : Unacknowledged). k.done) kept in
+          let covered = ap (λ (k : Unacknowledged). k.covered) kept in
+          let next = came.sends peer l in
+          record {
+            rising = subst IsKeptRising (sym kept) (rises_past _ _ _ (reached new.node peer) mid.rising);
+            chain = subst IsKeptChain (sym kept) (chain_past _ _ _ (reached new.node peer) mid.rising mid.chain);
+            asks = came.wants peer l n;
+            near = let is = reached_is peer l in omega (arith, done, is);
+            there = λ goes_on.
+                let before = mid.there goes_on in
+                let has_it = has_reached peer l n goes_on in
+                let is = reached_is peer l in
+                omega (arith, done, before, has_it, is);
+            next = λ goes_on. let before = was.next goes_on in omega (arith, before, mid.more, covered, next);
+            least = λ goes_on. let before = was.least goes_on in omega (arith, before, next, came.own);
+          }
+        where
+          reached_is : (peer : ℕ) → peer < limits.players → reached new.node peer ≡ got new.node peer - limits.ahead
+          reached_is peer l =
+              let shows = base.shows marking limits settings (with_lockstep session player new.node)
+              (put links player new) player after mine in
+              let now = put_at links player player new refl in
+              let players = ap (λ (l : Linked). l.node.players) (sym now) ∙ shows.whose.players in
+              let ahead = ap (λ (l : Linked). l.node.ahead) (sym now) ∙ shows.whose.ahead in
+              let in_game : nat_lt peer new.node.players ≡ true = lt-ltb peer new.node.players (omega (arith, l, players)) in
+              rw in_game (ap (λ (k : ℕ). got new.node peer - k) ahead)
+
+      pub taken_in : StayCaughtUp limits links player new
+      taken_in = relinked limits links player new mine were pair came.least (omega (arith, came.ran))
+          (λ which l off goes_on. let same = came.sends which l in omega (arith, same)) stays
+
+      -- of one that plays, a player that plays has all of them then
+      pub brings : bundle.message ≡ Game → new.node.phase ≡ phase.Playing
+          → last_end first (own_in bundle) ≤ got new.node from
+      brings game plays = go differs refl takes_it.heard
+        where
+          part : takes_part presence ≡ true
+          part =
+              ap takes_part (subst (λ (m : Message). Becomes identity (old.peers from).gave fresh bundle m
+              (old.peers from).presence presence) game takes_it.becomes) ∙ goes_on (old.peers from).presence
+            where
+              goes_on : (before : Presence) → takes_part (plays_on fresh before) ≡ true
+              goes_on (Left cause) = refl
+              goes_on Forgotten = by fresh
+                where
+                  by : (fresh : Bool) → takes_part (if fresh then Playing else Forgotten) ≡ true
+                  by true = refl
+                  by false = refl
+              goes_on Unknown = refl
+              goes_on There = refl
+              goes_on Playing = refl
+              goes_on (Different identity) = refl
+              goes_on (Away cause) = refl
+
+          alike : differs ≡ false
+          alike = subst (λ (m : Message). Differs identity m presence differs) game takes_it.alike ∙ ap not part
+
+          gathers : (test : Bool) → (is_gathering old.node.phase) ≡ test → new.node ≡ old.node
+              → (not test || (all_ready (met false bundle presence old) && is_there presence)) ≡ false
+              → last_end first (own_in bundle) ≤ got new.node from
+          gathers false is same e = absurd (true≢false e)
+          gathers true is same e = absurd (true≢false (sym is ∙ ap is_gathering (ap (λ (n : Contents). n.phase) (sym same) ∙ plays)))
+
+          by : (test : Bool) → hears (met false bundle presence old) presence ≡ test
+              → ByTest test (HearsAll (heard_in (takes old) bundle) old.node new.node started) ((new.node ≡ old.node) × (started ≡ false))
+              → last_end first (own_in bundle) ≤ got new.node from
+          by true is heard = (came_heard started heard).1 plays
+          by false is same = gathers (is_gathering old.node.phase) refl same.0 is
+
+          go : (test : Bool) → differs ≡ test
+              → ByTest (not test && hears (met test bundle presence old) presence)
+              (HearsAll (heard_in (takes old) bundle) old.node new.node started) ((new.node ≡ old.node) × (started ≡ false))
+              → last_end first (own_in bundle) ≤ got new.node from
+          go true is heard = absurd (true≢false (sym is ∙ alike))
+          go false is heard = by (hears (met false bundle presence old) presence) refl heard
+
+  -- any bytes that were sealed in step
+  module _ (seal : Seal) (identity : Identity) (pace : PaceState) (bytes : List ℕ) (answer : Received)
+      (genuine : IsGenuineDatagram seal session player bytes) (in_step : IsInStepTo seal limits links player bytes)
+    where
+      -- what holds of a bundle that is taken in, and of any other
+      module _ (P : Type 0) (other : new ≡ old → P)
+          (takes : (bundle : Bundle) (below : bundle.from < limits.players) (apart : bundle.from ≢ player)
+          (goes : bundle.to ≡ player) (all : All (WasGiven session.given player) (packets_in bundle))
+          (reached : HasReached session.locksteps bundle) (step : IsInStep limits links bundle)
+          (is : IsDatagramOf (sealing_of seal player) bytes bundle)
+          (presence : Presence) (differs started : Bool)
+          → TakesIn identity (is_fresh (pace.lines bundle.from).newest bundle.number) bundle old new presence differs started
+          → P) where
+        as_bundle : (bundle : Bundle) → IsDatagramOf (sealing_of seal player) bytes bundle
+            → ReceivesAs identity pace (Ok bundle) old new answer → P
+        as_bundle bundle is comes = go (is_peer old.node bundle.from) refl comes
+          where
+            of_peer : is_peer old.node bundle.from ≡ true → (test : Bool)
+                → ByTest test ((answer ≡ GivenUp bundle.from) × (new ≡ old)) (IsTakenIn identity pace bundle old new answer) → P
+            of_peer peer true comes = other comes.1
+            of_peer peer false comes =
+                let both = and_parts (nat_lt bundle.from old.node.players) (not (bundle.from == old.node.me)) peer in
+                let inside = ltb-true bundle.from old.node.players both.0 in
+                let count = (base.shows marking limits settings session links player linked mine).whose.players in
+                let was = genuine bundle is in
+                let same = same_bundle seal bytes bundle was.0 player is was.1 was.2 in
+                let all = subst (λ (b : Bundle). All (WasGiven session.given b.to) (packets_in b)) same was.3 in
+                let reached = subst (HasReached session.locksteps) same was.4 in
+                let step = in_step bundle is in
+                let one = same_bundle seal bytes bundle step.0 player is step.1 step.2 in
+                takes bundle (omega (arith, inside, count))
+                (λ e. true≢false (sym both.1 ∙ ap not (eq-eqb bundle.from old.node.me (e ∙ sym own))))
+                is.to
+                (subst (λ (k : ℕ). All (WasGiven session.given k) (packets_in bundle)) is.to all) reached
+                (subst (IsInStep limits links) one step.3) is comes.0 comes.1 comes.2 comes.4
+
+            go : (test : Bool) → is_peer old.node bundle.from ≡ test → ByTest test
+                (ByTest (has_given_up old bundle.from) ((answer ≡ GivenUp bundle.from) × (new ≡ old))
+                (IsTakenIn identity pace bundle old new answer))
+                ((answer ≡ Stranger bundle.from) × (new ≡ old)) → P
+            go true peer comes = of_peer peer (has_given_up old bundle.from) comes
+            go false peer comes = other comes.1
+
+        by_opened : (opened : Result Bundle BundleFault) → IsBundledAs (sealing_of seal player) bytes opened
+            → ReceivesAs identity pace opened old new answer → P
+        by_opened (Err fault) is comes = other comes.1
+        by_opened (Ok bundle) is comes = as_bundle bundle is comes
+
+        by_received : Receives seal identity pace bytes old new answer → P
+        by_received receives = by_opened receives.0
+            (subst (λ (k : ℕ). IsBundledAs (sealing_of seal k) bytes receives.0) own receives.1) receives.2
+
+      pub received : Receives seal identity pace bytes old new answer → StayCaughtUp limits links player new
+      received = by_received (StayCaughtUp limits links player new) nothing
+          (λ bundle below apart goes all reached step is presence differs started takes.
+          taken_in bundle below apart goes all reached step identity _ presence differs started takes)
+
+      -- a datagram of one that plays brings a player that plays all of its packets
+      pub brought : ((sealing : Sealing) (bundle : Bundle) → 8 ≤ length sealing.seal.game → IsBundle bundle
+          → bundle.to ≡ sealing.me → length (sealed_bytes sealing.seal bundle) ≤ 1200
+          → (read : Result Bundle BundleFault) → IsBundledAs sealing (sealed_bytes sealing.seal bundle) read
+          → read ≡ Ok bundle)
+          → (bundle : Bundle) → IsDatagramOf (sealing_of seal player) bytes bundle → bundle.message ≡ Game
+          → new.node.phase ≡ phase.Playing → (count : ℕ) → Brings count links bundle
+          → Receives seal identity pace bytes old new answer → count ≤ got new.node bundle.from
+      brought read_back bundle is game plays count brings_it receives =
+          let was = genuine bundle is in
+          let same = same_bundle seal bytes bundle was.0 player is was.1 was.2 in
+          let all = subst (λ (b : Bundle). All (WasGiven session.given b.to) (packets_in b)) same was.3 in
+          let reached = subst (HasReached session.locksteps) same was.4 in
+          let in_it = in_step bundle is in
+          let one = same_bundle seal bytes bundle in_it.0 player is in_it.1 in_it.2 in
+          let step = subst (IsInStep limits links) one in_it.3 in
+          let apart : bundle.from ≢ player = (λ e. step.apart (e ∙ sym is.to)) in
+          let peer : is_peer old.node bundle.from ≡ true =
+          and_from (nat_lt bundle.from old.node.players) (not (bundle.from == old.node.me))
+          (lt-ltb bundle.from old.node.players (omega (
+            arith,
+            step.sender,
+            (base.shows marking limits settings session links player linked mine).whose.players,
+          )))
+          (ap not (ne_eqb bundle.from old.node.me (λ e. apart (e ∙ own)))) in
+          let opened : receives.0 ≡ Ok bundle =
+          read_back (sealing_of seal player) bundle is.game is.fits is.to
+          (subst (λ (b : List ℕ). length b ≤ 1200) is.is is.short) receives.0
+          (subst (λ (b : List ℕ). IsBundledAs (sealing_of seal player) b receives.0) is.is
+          (subst (λ (k : ℕ). IsBundledAs (sealing_of seal k) bytes receives.0) own receives.1)) in
+          let comes = subst (λ (r : Result Bundle BundleFault). ReceivesAs identity pace r old new answer) opened receives.2 in
+          let inner = subst (λ (test : Bool). ByTest test
+          (ByTest (has_given_up old bundle.from) ((answer ≡ GivenUp bundle.from) × (new ≡ old))
+          (IsTakenIn identity pace bundle old new answer))
+          ((answer ≡ Stranger bundle.from) × (new ≡ old))) peer comes in
+          let taken : IsTakenIn identity pace bundle old new answer =
+          subst (λ (test : Bool). ByTest test ((answer ≡ GivenUp bundle.from) × (new ≡ old))
+          (IsTakenIn identity pace bundle old new answer)) (linked.whole player mine bundle.from) inner in
+          let last = brings bundle step.sender apart is.to
+          (subst (λ (k : ℕ). All (WasGiven session.given k) (packets_in bundle)) is.to all) reached step identity _
+          taken.0 taken.1 taken.2 taken.4 game plays in
+          let to : links bundle.to ≡ old = ap links is.to in
+          let more = brings_it (ap (λ (l : Linked). has_ended l.node) to ∙ not_ended) in
+          let same_end = ap (λ (l : Linked). last_end (got l.node bundle.from) (own_in bundle)) to in
+          omega (arith, last, more, same_end)
+        where
+          not_ended : has_ended old.node ≡ false
+          not_ended = not_yet (ends_on session (with_lockstep session player new.node) player old.node new.node node refl later)
+              (and_right new.node.played (is_ended new.node.phase) (ap is_ended plays))

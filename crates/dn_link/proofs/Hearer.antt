@@ -1,0 +1,292 @@
+-- What one packet that asks for nothing does to the node that hears it.
+use Rattle.std.proofs.Common.{◌≡◌, ◌≢◌, ◌<◌, ◌≤◌, ◌+◌, ◌-◌, ◌⊎◌, ◌++◌, ℕ, Bool, true, false, length, drop, refl, ap, sym, ◌∙◌, subst, arith, Option, None, inl, inr}
+use Rattle.std.specs.Prelude.{max}
+use Rattle.std.proofs.lemmas.Bool.{cases_eq, true≢false}
+use Rattle.std.proofs.lemmas.List.{length-append, length-drop}
+use Rattle.dn_tic.specs.declared.command.TicCmd.{TicCmd}
+use Rattle.dn_setup.specs.Settings.{Settings}
+use Rattle.dn_machine.specs.declared.answers.Heard.{Heard}
+use Rattle.dn_machine.specs.declared.answers.Phase.{Phase}
+use Rattle.dn_machine.specs.declared.answers.Phase.TheVariants.{Listening, Gathering, Playing, Ended}
+use Rattle.dn_machine.specs.declared.peer.Peer.{Peer}
+use Rattle.dn_machine.specs.Drops as drops
+use Rattle.dn_machine.specs.Limits.{Limits}
+use Rattle.dn_machine.specs.Flight.{SetUp, Play, Exit, Flight, is_exit, end_of}
+use Rattle.dn_machine.specs.Node.{Node, put, made, is_ended}
+use Rattle.dn_machine.specs.Hearing.{after_request, after_exit, left_or, on_commands, on_ended, on_packet, on_packet_in}
+use Rattle.dn_machine.proofs.Put.{put_at, put_off}
+use Rattle.dn_machine.proofs.Calls.{Refused, commands_cases, packet_cases, sender_after}
+
+-- a packet that is asked for nothing leaves what is sent next, and what is wanted
+module _ (limits : Limits) (me : ℕ) (node : Node) (flight : Flight) (silent : flight.request ≡ None)
+    (below : flight.from < limits.players) (apart : flight.from ≢ me) where
+  abbrev from : ℕ
+  from = flight.from
+
+  request_same : (peer : Peer) → ((after_request limits.places (made me node) peer None).resend ≡ peer.resend)
+      × ((after_request limits.places (made me node) peer None).want ≡ peer.want)
+  request_same peer = grind arith
+
+  requested : ((after_request limits.places (made me node) (node.peers from) flight.request).resend ≡ (node.peers from).resend)
+      × ((after_request limits.places (made me node) (node.peers from) flight.request).want ≡ (node.peers from).want)
+  requested = subst (λ (r : Option ℕ). ((after_request limits.places (made me node) (node.peers from) r).resend ≡ (node.peers from).resend)
+      × ((after_request limits.places (made me node) (node.peers from) r).want ≡ (node.peers from).want))
+      (sym silent) (request_same (node.peers from))
+
+  exit_same : (peer : Peer) (exit : Bool) (end : ℕ) → ((after_exit peer exit end).resend ≡ peer.resend)
+      × ((after_exit peer exit end).want ≡ peer.want)
+  exit_same peer true end = (refl, refl)
+  exit_same peer false end = (refl, refl)
+
+  sender_same : ((sender_after limits me node flight).resend ≡ (node.peers from).resend)
+      × ((sender_after limits me node flight).want ≡ (node.peers from).want)
+  sender_same =
+      let ends = exit_same (after_request limits.places (made me node) (node.peers from) flight.request)
+      (is_exit flight.kind) (end_of flight) in
+      (ends.0 ∙ requested.0, ends.1 ∙ requested.1)
+
+  -- nothing is wanted of any player
+  abbrev pub WantsNone : Node → Type 0
+  WantsNone m = (p : ℕ) → p < limits.players → p ≢ me → (m.peers p).want ≡ false
+
+  -- what it leaves: of other players, and of its sender
+  pub record Leaves (end : ℕ) (new : Node) (answer : Heard) : Type 0 where
+    pub starts : answer ≡ Heard.Started
+        → (node.phase ≢ Playing) × (is_ended node.phase ≡ false) × (new.phase ≡ Playing)
+    pub plays : new.phase ≡ Playing → (node.phase ≡ Playing) ⊎ (answer ≡ Heard.Started)
+    pub ended : is_ended new.phase ≡ false → is_ended node.phase ≡ false
+    pub stays : node.phase ≡ Playing → new.phase ≡ Playing
+    pub others : (p : ℕ) → p ≢ from → length (new.held p) ≡ length (node.held p)
+    pub least : length (node.held from) ≤ length (new.held from)
+    pub most : length (new.held from) ≤ max (length (node.held from)) end
+    pub idle : node.phase ≢ Playing → length (new.held from) ≡ length (node.held from)
+    pub next : (p : ℕ) → (new.peers p).resend ≡ (node.peers p).resend
+    pub wants : (node.phase ≡ Playing → flight.start ≤ length (node.held from)) → WantsNone node → WantsNone new
+
+  next_put : (peer : Peer) → peer.resend ≡ (node.peers from).resend → (p : ℕ)
+      → (put node.peers from peer p).resend ≡ (node.peers p).resend
+  next_put peer same p = elim (cases_eq p from) [
+    | inl e ↦ ap (λ (x : Peer). x.resend) (put_at node.peers from p peer e) ∙ same
+        ∙ ap (λ (k : ℕ). (node.peers k).resend) (sym e)
+    | inr n ↦ ap (λ (x : Peer). x.resend) (put_off node.peers from p peer n)
+  ]
+
+  wants_put : (peer : Peer) → peer.want ≡ false → WantsNone node → (p : ℕ) → p < limits.players
+      → p ≢ me → (put node.peers from peer p).want ≡ false
+  wants_put peer none all p l other = elim (cases_eq p from) [
+    | inl e ↦ ap (λ (x : Peer). x.want) (put_at node.peers from p peer e) ∙ none
+    | inr n ↦ ap (λ (x : Peer). x.want) (put_off node.peers from p peer n) ∙ all p l other
+  ]
+
+  no_end : (cause : Phase) → is_ended cause ≡ true → cause ≢ Playing
+  no_end cause is e = true≢false (sym is ∙ ap is_ended e)
+
+  -- the node is as it was, but for a phase that is no end
+  same : (end : ℕ) (answer : Heard) → answer ≢ Heard.Started → Leaves end node answer
+  same end answer not = record {
+    starts = λ e. absurd (not e);
+    plays = λ e. inl e;
+    ended = λ e. e;
+    stays = λ e. e;
+    others = λ p n. refl;
+    least = omega arith;
+    most = omega arith;
+    idle = λ n. refl;
+    next = λ p. refl;
+    wants = λ low all. all;
+  }
+
+  -- a word of its sender
+  pub word_leaves : Leaves (end_of flight) (on_packet limits me node flight).0 (on_packet limits me node flight).1
+  word_leaves = packet_cases limits me node flight (λ (r : Node × Heard). Leaves (end_of flight) r.0 r.1) (record {
+    dropped = λ number why. same (end_of flight) (Heard.Dropped number) (λ e. cc);
+    starts = λ s e k. record {
+      starts = λ x. ((λ y. absurd (clash (sym e ∙ y))), ap is_ended e, refl);
+      plays = λ x. inr refl;
+      ended = λ x. ap is_ended e;
+      stays = λ x. refl;
+      others = λ p n. refl;
+      least = omega arith;
+      most = omega arith;
+      idle = λ n. refl;
+      next = λ p. refl;
+      wants = λ low all. all;
+    };
+    completes = λ word e all. record {
+      starts = λ x. ((λ y. absurd (clash_gathering (sym e ∙ y))), ap is_ended e, refl);
+      plays = λ x. inr refl;
+      ended = λ x. ap is_ended e;
+      stays = λ x. refl;
+      others = λ p n. refl;
+      least = omega arith;
+      most = omega arith;
+      idle = λ n. refl;
+      next = λ p. refl;
+      wants = λ low none. none;
+    };
+    notes = λ word e some. record {
+      starts = λ x. absurd (cc);
+      plays = λ x. inl x;
+      ended = λ x. x;
+      stays = λ x. x;
+      others = λ p n. refl;
+      least = omega arith;
+      most = omega arith;
+      idle = λ n. refl;
+      next = λ p. refl;
+      wants = λ low none. none;
+    };
+    commands = λ playing. record {
+      dropped = λ number why. same (end_of flight) (Heard.Dropped number) (λ e. cc);
+      stale = λ l. record {
+        starts = λ x. absurd (not_left (is_exit flight.kind) Heard.Stale (λ e. cc) x);
+        plays = λ x. inl playing;
+        ended = λ x. x;
+        stays = λ x. x;
+        others = λ p n. refl;
+        least = omega arith;
+        most = omega arith;
+        idle = λ n. refl;
+        next = next_put (sender_after limits me node flight) sender_same.0;
+        wants = λ low none. wants_put (sender_after limits me node flight) (sender_same.1 ∙ none from below apart) none;
+      };
+      gap = λ l. record {
+        starts = λ x. absurd (cc);
+        plays = λ x. inl playing;
+        ended = λ x. x;
+        stays = λ x. x;
+        others = λ p n. refl;
+        least = omega arith;
+        most = omega arith;
+        idle = λ n. refl;
+        next = next_put _ sender_same.0;
+        wants = λ low none. absurd (omega (arith, l, low playing));
+      };
+      takes = λ l m. record {
+        starts = λ x. absurd (not_left (is_exit flight.kind) _ (λ e. cc) x);
+        plays = λ x. inl playing;
+        ended = λ x. x;
+        stays = λ x. x;
+        others = λ p n. ap (length {A = TicCmd}) (put_off node.held from p _ n);
+        least = let at = grown in omega (arith, at, m);
+        most = let at = grown in omega (arith, at, l, m);
+        idle = λ n. absurd (n playing);
+        next = next_put _ sender_same.0;
+        wants = λ low none. wants_put _ refl none;
+      };
+    };
+    requests = λ done. record {
+      starts = λ x. absurd (cc);
+      plays = λ x. inl x;
+      ended = λ x. x;
+      stays = λ x. x;
+      others = λ p n. refl;
+      least = omega arith;
+      most = omega arith;
+      idle = λ n. refl;
+      next = next_put _ requested.0;
+      wants = λ low none. wants_put _ (requested.1 ∙ none from below apart) none;
+    };
+  })
+    where
+      clash : ◌≡◌ {A = Phase} Listening Playing → ⊥
+      clash e = cc
+
+      clash_gathering : ◌≡◌ {A = Phase} Gathering Playing → ⊥
+      clash_gathering e = cc
+
+      not_left : (exit : Bool) (answer : Heard) → answer ≢ Heard.Started → left_or exit answer ≢ Heard.Started
+      not_left true answer other e = cc
+      not_left false answer other e = other e
+
+      grown : length (put node.held from (node.held from ++ drop (length (node.held from) - flight.start) flight.commands) from)
+          ≡ length (node.held from) + (length flight.commands - (length (node.held from) - flight.start))
+      grown = ap (length {A = TicCmd}) (put_at node.held from from _ refl)
+          ∙ length-append (node.held from) (drop (length (node.held from) - flight.start) flight.commands)
+          ∙ ap (λ (n : ℕ). length (node.held from) + n)
+          (length-drop (length (node.held from) - flight.start) flight.commands)
+
+  -- settings
+  pub settings_leave : (settings : Settings) → flight.kind ≡ SetUp settings
+      → Leaves flight.start (on_packet limits me node flight).0 (on_packet limits me node flight).1
+  unfolding on_packet
+  settings_leave settings is = go node.phase refl
+    where
+      clash : ◌≡◌ {A = Phase} Listening Playing → ⊥
+      clash e = cc
+
+      go : (phase : Phase) → node.phase ≡ phase
+          → Leaves flight.start (on_packet_in limits me node flight node.phase flight.kind).0
+          (on_packet_in limits me node flight node.phase flight.kind).1
+      go Listening e = subst (λ (r : Node × Heard). Leaves flight.start r.0 r.1)
+          (λ i. on_packet_in limits me node flight (sym e i) (sym is i)) (record {
+            starts = λ x. ((λ y. absurd (clash (sym e ∙ y))), ap is_ended e, refl);
+            plays = λ x. inr refl;
+            ended = λ x. ap is_ended e;
+            stays = λ x. refl;
+            others = λ p n. refl;
+            least = omega arith;
+            most = omega arith;
+            idle = λ n. refl;
+            next = λ p. refl;
+            wants = λ low all. all;
+          })
+      go Gathering e = subst (λ (r : Node × Heard). Leaves flight.start r.0 r.1)
+          (λ i. on_packet_in limits me node flight (sym e i) (sym is i))
+          (same flight.start (Heard.Dropped drops.out_of_place) (λ e. cc))
+      go Playing e = subst (λ (r : Node × Heard). Leaves flight.start r.0 r.1)
+          (λ i. on_packet_in limits me node flight (sym e i) (sym is i))
+          (same flight.start (Heard.Dropped drops.out_of_place) (λ e. cc))
+      go (Ended cause) e = subst (λ (r : Node × Heard). Leaves flight.start r.0 r.1)
+          (λ i. on_packet_in limits me node flight (sym e i) (sym is i)) (by node.played)
+        where
+          by : (played : Bool) → Leaves flight.start (on_ended limits played me node flight (SetUp settings)).0
+              (on_ended limits played me node flight (SetUp settings)).1
+          by true = same flight.start (Heard.Dropped drops.out_of_place) (λ e. cc)
+          by false = same flight.start (Heard.Dropped drops.not_playing) (λ e. cc)
+
+  -- it is dropped by one that does not play alone
+  abbrev pub IsSpared : Heard → Type 0
+  IsSpared answer = (number : ℕ) → answer ≡ Heard.Dropped number
+      → (number ≡ drops.out_of_place) ⊎ (number ≡ drops.not_playing)
+
+  -- a word that a playing node hears, behind which nothing is missing
+  commands_reach : flight.start ≤ length (node.held from) → IsSpared (on_commands limits me node flight).1
+      → end_of flight ≤ length ((on_commands limits me node flight).0.held from)
+  commands_reach low spared = commands_cases limits me node flight
+      (λ (r : Node × Heard). IsSpared r.1 → end_of flight ≤ length (r.0.held from)) (record {
+        dropped = λ number why fine. absurd (not_so number why (fine number refl));
+        stale = λ l fine. l;
+        gap = λ l fine. absurd (omega (arith, l, low));
+        takes = λ l m fine.
+            let at = ap (length {A = TicCmd}) (put_at node.held from from
+            (node.held from ++ drop (length (node.held from) - flight.start) flight.commands) refl)
+            ∙ length-append (node.held from) (drop (length (node.held from) - flight.start) flight.commands)
+            ∙ ap (λ (n : ℕ). length (node.held from) + n)
+            (length-drop (length (node.held from) - flight.start) flight.commands) in
+            omega (arith, at, l, m);
+      }) spared
+    where
+      not_so : (number : ℕ) → Refused limits me node flight number
+          → (number ≡ drops.out_of_place) ⊎ (number ≡ drops.not_playing) → ⊥
+      not_so number why fine = elim why [
+        | inl over ↦ elim fine [ inl a ↦ absurd (omega (arith, over.0, a)) | inr b ↦ absurd (omega (arith, over.0, b)) ]
+        | inr strange ↦ elim fine [ inl a ↦ absurd (omega (arith, strange.0, a)) | inr b ↦ absurd (omega (arith, strange.0, b)) ]
+      ]
+
+  pub word_reaches : node.phase ≡ Playing → (flight.kind ≡ Play) ⊎ (flight.kind ≡ Exit)
+      → flight.start ≤ length (node.held from) → IsSpared (on_packet limits me node flight).1
+      → end_of flight ≤ length ((on_packet limits me node flight).0.held from)
+  unfolding on_packet
+  word_reaches plays is low spared = elim is [
+    | inl play ↦
+        let step : on_packet_in limits me node flight node.phase flight.kind ≡ on_commands limits me node flight =
+        (λ i. on_packet_in limits me node flight (plays i) (play i)) in
+        subst (λ (r : Node × Heard). end_of flight ≤ length (r.0.held from)) (sym step)
+        (commands_reach low (subst (λ (r : Node × Heard). IsSpared r.1) step spared))
+    | inr exit ↦
+        let step : on_packet_in limits me node flight node.phase flight.kind ≡ on_commands limits me node flight =
+        (λ i. on_packet_in limits me node flight (plays i) (exit i)) in
+        subst (λ (r : Node × Heard). end_of flight ≤ length (r.0.held from)) (sym step)
+        (commands_reach low (subst (λ (r : Node × Heard). IsSpared r.1) step spared))
+  ]

@@ -1,0 +1,208 @@
+-- The commands of third players that are handed on were given, and their packets are in the datagram.
+use Rattle.std.proofs.Common.{◌≡◌, ◌≢◌, ◌<◌, ◌≤◌, ◌+◌, ◌*◌, ◌/◌, ◌%◌, ◌^◌, ℕ, negsuc, List, [], ◌∷◌, ◌++◌, length, map, refl, ap, sym, ◌∙◌, subst, arith, append_assoc, append-nil, Some, None, All}
+use Rattle.std.specs.Prelude.{slice_get}
+use Rattle.std.specs.List.{flat_map}
+use Rattle.std.proofs.Math.Nat.{mod-lt}
+use Rattle.std.proofs.lemmas.List.{length-append}
+use Rattle.std.proofs.lemmas.Grind.{flat_map-append}
+use Rattle.std.proofs.lemmas.List.Elements.{All-nil, All-cons, All-append}
+use Rattle.dn_tic.specs.Command.{IsCommand, command_bytes}
+use Rattle.dn_tic.specs.declared.command.TicCmd.{TicCmd}
+use Rattle.dn_machine.specs.Flight.{Flight}
+use Rattle.dn_machine.specs.Relaying.{packet_of_one}
+use Rattle.dn_lockstep.specs.Contents.{Contents}
+use Rattle.dn_lockstep.specs.Near.{IsFair}
+use Rattle.dn_lockstep.specs.Told.{command_told}
+use Rattle.dn_lockstep.proofs.Keeping.{none_stops}
+use Rattle.dn_seal.specs.declared.opened.Opened.{Opened}
+use Rattle.dn_open.specs.Sealed.{opened_of}
+use Rattle.dn_link.specs.Bundles.{WasGiven}
+use Rattle.byteorder.specs.Endian.{little_bytes}
+use Rattle.dn_packet.specs.Text.{sum_of}
+use Rattle.dn_link.specs.Packets.{opened_from, packets_of, short_body, short_packet, short_packets}
+use Rattle.dn_link.specs.Relays.{AreHandedOn, AreTold, Handed, flights_of, handed_part, run_flights}
+
+-- a packet of one command can be carried
+pub fair_one : (player to tic : ℕ) (command : TicCmd) → player < 4 → IsCommand command
+    → (command.forward ≢ negsuc 127) → IsFair (packet_of_one player to tic command)
+fair_one player to tic command small is no_stop = record {
+  packet = record {
+    flags = omega arith;
+    ask = omega arith;
+    start = mod-lt tic (omega arith);
+    player = omega (arith, small);
+    count = omega arith;
+    commands = All-cons IsCommand command [] is (All-nil IsCommand);
+  };
+  kind = none_stops (command ∷ []) (All-cons (λ (c : TicCmd). c.forward ≢ negsuc 127) command [] no_stop
+      (All-nil (λ (c : TicCmd). c.forward ≢ negsuc 127)));
+}
+
+-- whatever is kept by each packet of a command that is told is kept by all
+module _ (n : Contents) (to : ℕ) (Game : List Flight → Type 0)
+    (one : (given : List Flight) (player tic : ℕ) (command : TicCmd) → Game given → player < n.players
+    → to < n.players → player ≢ to → command_told n player tic ≡ Some command → IsFair (packet_of_one player to tic command)
+    → Game (given ++ packet_of_one player to tic command ∷ [])) where
+  gives_run : (given : List Flight) (player start : ℕ) (commands : List TicCmd) → Game given → player < n.players
+      → to < n.players → player < 4 → player ≢ to → AreTold n player start commands → Game (given ++ run_flights player to start commands)
+  gives_run given player start [] game its there small apart told = subst Game (sym (append-nil given)) game
+  gives_run given player start (command ∷ commands) game its there small apart told =
+      subst Game (append_assoc given (packet_of_one player to start command ∷ [])
+      (run_flights player to (start + 1) commands))
+      (gives_run (given ++ packet_of_one player to start command ∷ []) player (start + 1) commands
+      (one given player start command game its there apart told.0 (fair_one player to start command small told.1 told.2))
+      its there small apart told.3)
+
+  pub gives_all : (given : List Flight) (handed : List Handed) → Game given → AreHandedOn n to handed
+      → Game (given ++ flights_of to handed)
+  gives_all given [] game all = subst Game (sym (append-nil given)) game
+  gives_all given (h ∷ handed) game all =
+      subst Game (append_assoc given (run_flights h.player to h.start h.commands) (flights_of to handed))
+      (gives_all (given ++ run_flights h.player to h.start h.commands) handed
+      (gives_run given h.player h.start h.commands game all.0.player all.0.there all.0.small all.0.third all.0.told) all.1)
+
+-- each of some packets is one of these
+abbrev Each : List Flight → List Flight → Type 0
+Each given [] = Unit {0}
+Each given (flight ∷ flights) = ((which : ℕ) × (slice_get given which ≡ Some flight)) × Each given flights
+
+found_at : {A : Type 0} (xs ys : List A) (x : A) → slice_get (xs ++ x ∷ ys) (length xs) ≡ Some x
+found_at [] ys x = refl
+found_at (z ∷ xs) ys x = found_at xs ys x
+
+each_here : (given flights : List Flight) → Each (given ++ flights) flights
+each_here given [] = tt
+each_here given (flight ∷ flights) = (
+  (length given, found_at given flights flight),
+  subst (λ (all : List Flight). Each all flights) (append_assoc given (flight ∷ []) flights)
+      (each_here (given ++ flight ∷ []) flights),
+)
+
+each_front : (given xs ys : List Flight) → Each given (xs ++ ys) → Each given xs
+each_front given [] ys all = tt
+each_front given (x ∷ xs) ys all = (all.0, each_front given xs ys all.1)
+
+each_back : (given xs ys : List Flight) → Each given (xs ++ ys) → Each given ys
+each_back given [] ys all = all
+each_back given (x ∷ xs) ys all = each_back given xs ys all.1
+
+abbrev spelled : (player tic : ℕ) → List ℕ → Opened
+spelled player tic bytes = record { from = player; start = tic; ask = None; datagram = record { items = bytes } }
+
+none_more : (k : ℕ) → 0 + k ≡ k
+none_more k = omega arith
+
+-- the packet of one command, by its eight bytes
+one_is : (player to tic : ℕ) (command : TicCmd)
+    → opened_from player (short_packet player tic (command_bytes command)) ≡ opened_of (packet_of_one player to tic command)
+one_is player to tic command =
+    let body : List ℕ = short_body player tic (command_bytes command) in
+    sym (ap (λ (k : ℕ). spelled player tic (little_bytes 4 k ++ body)) (none_more (sum_of body)))
+
+run_given : (given : List Flight) (player to start : ℕ) (commands : List TicCmd) → start + length commands ≤ 2 ^ 32
+    → Each given (run_flights player to start commands)
+    → All (WasGiven given to) (short_packets (length commands) player start (flat_map command_bytes commands))
+run_given given player to start [] low each = All-nil (WasGiven given to)
+run_given given player to start (command ∷ commands) low each =
+    let rest : List ℕ = flat_map command_bytes commands in
+    All-cons (WasGiven given to) (opened_from player (short_packet player start (command_bytes command)))
+    (short_packets (length commands) player ((start + 1) % 2 ^ 32) rest)
+    (each.0.0, packet_of_one player to start command, each.0.1, refl, one_is player to start command)
+    (go commands refl (λ below. run_given given player to (start + 1) commands below each.1))
+  where
+    go : (more : List TicCmd) → more ≡ commands
+        → (start + 1 + length commands ≤ 2 ^ 32 → All (WasGiven given to) (short_packets (length commands) player
+        (start + 1) (flat_map command_bytes commands)))
+        → All (WasGiven given to) (short_packets (length commands) player ((start + 1) % 2 ^ 32)
+        (flat_map command_bytes commands))
+    go [] e rest = subst (λ (cs : List TicCmd). All (WasGiven given to) (short_packets (length cs) player
+        ((start + 1) % 2 ^ 32) (flat_map command_bytes cs))) e (All-nil (WasGiven given to))
+    go (c ∷ more) e rest =
+        let long = ap (length {A = TicCmd}) e in
+        let next : start + 1 ≡ (start + 1) % 2 ^ 32 = omega (arith, low, long) in
+        subst (λ (k : ℕ). All (WasGiven given to) (short_packets (length commands) player k
+        (flat_map command_bytes commands))) next
+        (rest (omega (arith, low)))
+
+pub length_commands : (commands : List TicCmd) → length (flat_map command_bytes commands) ≡ 8 * length commands
+length_commands [] = refl
+length_commands (command ∷ commands) = let rest = length_commands commands in omega (arith, rest)
+
+-- what the parts of a datagram stand for was given
+pub parts_given : (n : Contents) (given : List Flight) (from to : ℕ) (handed : List Handed) → AreHandedOn n to handed
+    → Each given (flights_of to handed)
+    → All (WasGiven given to) (flat_map (packets_of from) (map handed_part handed))
+parts_given n given from to [] all each = All-nil (WasGiven given to)
+parts_given n given from to (h ∷ handed) all each =
+    let long = length_commands h.commands in
+    let count : length (flat_map command_bytes h.commands) / 8 ≡ length h.commands = omega (arith, long) in
+    All-append (WasGiven given to) (packets_of from (handed_part h)) (flat_map (packets_of from) (map handed_part handed))
+    (subst (λ (k : ℕ). All (WasGiven given to) (short_packets k h.player h.start (flat_map command_bytes h.commands)))
+    (sym count) (run_given given h.player to h.start h.commands all.0.low
+    (each_front given (run_flights h.player to h.start h.commands) (flights_of to handed) each)))
+    (parts_given n given from to handed all.1
+    (each_back given (run_flights h.player to h.start h.commands) (flights_of to handed) each))
+
+pub all_given : (n : Contents) (given : List Flight) (from to : ℕ) (handed : List Handed) → AreHandedOn n to handed
+    → All (WasGiven (given ++ flights_of to handed) to) (flat_map (packets_of from) (map handed_part handed))
+all_given n given from to handed all =
+    parts_given n (given ++ flights_of to handed) from to handed all (each_here given (flights_of to handed))
+
+-- one command after another is told
+told_more : (n : Contents) (player start : ℕ) (commands : List TicCmd) (command : TicCmd)
+    → AreTold n player start commands → command_told n player (start + length commands) ≡ Some command
+    → IsCommand command → (command.forward ≢ negsuc 127) → AreTold n player start (commands ++ command ∷ [])
+told_more n player start [] command told here is no_stop =
+    let same : start + 0 ≡ start = omega arith in
+    (ap (command_told n player) (sym same) ∙ here, is, no_stop, tt)
+told_more n player start (c ∷ commands) command told here is no_stop =
+    let same : start + 1 + length commands ≡ start + length (c ∷ commands) = omega arith in (
+      told.0,
+      told.1,
+      told.2,
+      told_more n player (start + 1) commands command told.3 (ap (command_told n player) same ∙ here) is no_stop,
+    )
+
+bytes_more : (commands : List TicCmd) (command : TicCmd)
+    → flat_map command_bytes (commands ++ command ∷ []) ≡ flat_map command_bytes commands ++ command_bytes command
+bytes_more commands command =
+    flat_map-append command_bytes commands (command ∷ [])
+    ∙ ap (λ (xs : List ℕ). flat_map command_bytes commands ++ xs) (append-nil (command_bytes command))
+
+-- where the loop over the tics is
+pub record SoFar (n : Contents) (player start done : ℕ) (items : List ℕ) : Type 0 where
+  pub commands : List TicCmd
+  pub bytes : items ≡ flat_map command_bytes commands
+  pub told : AreTold n player start commands
+  pub many : length commands ≡ done
+  pub low : start + done ≤ 2 ^ 32
+
+pub so_begins : (n : Contents) (player start : ℕ) (items : List ℕ) → start < 2 ^ 32 → items ≡ []
+    → SoFar n player start 0 items
+so_begins n player start items low none =
+    record { commands = []; bytes = none; told = tt; many = refl; low = omega (arith, low) }
+
+pub so_goes_on : (n : Contents) (player start done : ℕ) (items new : List ℕ) (command : TicCmd)
+    → SoFar n player start done items → start + done < 2 ^ 32 → command_told n player (start + done) ≡ Some command
+    → IsCommand command → (command.forward ≢ negsuc 127) → new ≡ items ++ command_bytes command
+    → SoFar n player start (done + 1) new
+so_goes_on n player start done items new command so low here is no_stop adds =
+    let long = so.many in
+    record {
+      commands = so.commands ++ command ∷ [];
+      bytes = adds ∙ ap (λ (xs : List ℕ). xs ++ command_bytes command) so.bytes
+          ∙ sym (bytes_more so.commands command);
+      told = told_more n player start so.commands command so.told
+          (ap (λ (k : ℕ). command_told n player (start + k)) long ∙ here) is no_stop;
+      many = length-append so.commands (command ∷ []) ∙ ap (λ (k : ℕ). k + 1) long;
+      low = omega (arith, low);
+    }
+
+pub so_ends : (n : Contents) (player start done most : ℕ) (items : List ℕ) → SoFar n player start done items
+    → done ≤ most
+    → (commands : List TicCmd) × (items ≡ flat_map command_bytes commands) × AreTold n player start commands
+    × (start + length commands ≤ 2 ^ 32) × (length commands ≤ most)
+so_ends n player start done most items so few =
+    let long = so.many in
+    let low = so.low in
+    (so.commands, so.bytes, so.told, omega (arith, long, low), omega (arith, long, few))

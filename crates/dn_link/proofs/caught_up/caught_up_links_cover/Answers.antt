@@ -1,0 +1,19 @@
+use Rattle.dn_link.proofs.CatchingOut.{covered, on_time, two_windows}
+use Rattle.dn_link.proofs.caught_up.caught_up_links_cover.Goals as goal
+
+pub returns-clause-few : goal.returns-clause-few
+returns-clause-few c = λ marking limits settings session links player to linked were mine below apart goes_on.
+    two_windows marking limits settings session links player linked mine
+    (c.locksteps_agree.ensures.agreed marking limits settings session linked.game) were to below apart goes_on
+
+pub returns-clause-in_time : goal.returns-clause-in_time
+returns-clause-in_time c = λ marking limits settings session links player to linked were mine below apart fits goes_on sent.
+    on_time marking limits settings session links player linked mine
+    (c.locksteps_agree.ensures.agreed marking limits settings session linked.game) were to below apart goes_on fits sent
+
+pub returns-clause-covered : goal.returns-clause-covered
+returns-clause-covered c = λ marking limits settings session links player to seal identity pace new bytes linked were four
+    mine below apart goes_on time gives packet took.
+    (covered marking limits settings session links player linked mine
+    (c.locksteps_agree.ensures.agreed marking limits settings session linked.game) were four to below apart seal identity
+    pace new bytes gives (λ plays. time) goes_on).1 packet took

@@ -1,0 +1,97 @@
+use Rattle.std.proofs.Common.{◌≡◌, ◌∙◌, ℕ, refl, ap, arith}
+use Rattle.dn_machine.specs.Building.{on_build}
+use Rattle.dn_machine.specs.Running.{on_run, on_quit}
+use Rattle.dn_lockstep.specs.Contents.{Contents}
+use Rattle.dn_lockstep.specs.Runs.{marks_in, with_row}
+use Rattle.dn_lockstep.specs.Session.{after_packet, after_relays, with_lockstep}
+use Rattle.dn_lockstep.specs.Told.{got}
+use Rattle.dn_link.specs.Counting.{has_ended}
+use Rattle.dn_link.specs.Linked.{Linked, PeerState}
+use Rattle.dn_link.specs.Onward.{next_to}
+use Rattle.dn_link.specs.Relays.{flights_of}
+use Rattle.dn_link.proofs.Catching.{build_quiet, ends_on, quit_quiet, run_quiet, shows_still, still}
+use Rattle.dn_link.proofs.CatchingIn.{received}
+use Rattle.dn_link.proofs.CatchingOut.{given_on_time, was_in_step}
+use Rattle.dn_link.proofs.Forgotten.{forgets, forgets_node}
+use Rattle.dn_link.proofs.Holding.{build_holds, run_holds, quit_holds}
+use Rattle.dn_link.proofs.Linking.{much_by, shows}
+use Rattle.dn_link.proofs.caught_up.links_stay_caught_up.Goals as goal
+
+pub returns-clause-built : goal.returns-clause-built
+returns-clause-built c = λ marking limits settings session links player new input made linked were mine step peers.
+    let m = linked.game.last.nodes player in
+    let r = shows marking limits settings session links player linked mine in
+    let much = much_by marking limits settings session links player linked mine new.node
+    (λ limits me m. on_build limits me m input) (λ answer. made ≡ answer) step.step (build_holds limits player m input) in
+    still limits links player new mine were (shows_still limits links player new mine were m _ r
+    (step.step limits player m r).node (build_quiet limits links player new mine were m input))
+    (λ peer. ap (λ (f : ℕ → PeerState). (f peer).kept) peers) much.1
+
+pub returns-clause-ran : goal.returns-clause-ran
+returns-clause-ran c = λ marking limits settings session links player new marks ran row linked were mine step peers.
+    let m = linked.game.last.nodes player in
+    let r = shows marking limits settings session links player linked mine in
+    let much = much_by marking limits settings session links player linked mine new.node
+    (λ limits me m. with_row limits m (on_run limits m (marks_in marks)))
+    (λ answer. (ran ≡ answer.0) × (row ≡ answer.1)) step.step (run_holds limits player m (marks_in marks)) in
+    still limits links player new mine were (shows_still limits links player new mine were m _ r
+    (step.step limits player m r).node (run_quiet limits links player new mine were m (marks_in marks)))
+    (λ peer. ap (λ (f : ℕ → PeerState). (f peer).kept) peers) much.1
+
+pub returns-clause-quit : goal.returns-clause-quit
+returns-clause-quit c = λ marking limits settings session links player new quit linked were mine step peers.
+    let m = linked.game.last.nodes player in
+    let r = shows marking limits settings session links player linked mine in
+    let much = much_by marking limits settings session links player linked mine new.node
+    (λ limits me m. on_quit m) (λ answer. quit ≡ answer) step.step (quit_holds limits player m) in
+    still limits links player new mine were (shows_still limits links player new mine were m _ r
+    (step.step limits player m r).node (quit_quiet limits links player new mine were m))
+    (λ peer. ap (λ (f : ℕ → PeerState). (f peer).kept) peers) much.1
+
+pub returns-clause-forgot : goal.returns-clause-forgot
+returns-clause-forgot c = λ marking limits settings session links player peer new linked were mine is.
+    let same = ap (λ (l : Linked). l.node) is ∙ forgets_node (links player) peer in
+    still limits links player new mine were (record {
+      others = λ p l n. ap (λ (n : Contents). got n p) same;
+      own = omega (arith, ap (λ (n : Contents). got n player) same);
+      sends = λ p l. ap (λ (n : Contents). next_to n p) same;
+      wants = λ p l. ap (λ (n : Contents). (n.peers p).want) same;
+      ran = omega (arith, ap (λ (n : Contents). n.ran) same);
+    }) (λ other. ap (λ (l : Linked). (l.peers other).kept) is ∙ (forgets (links player) peer other).0)
+    (λ was. ap has_ended same ∙ was)
+
+pub returns-clause-reported : goal.returns-clause-reported
+returns-clause-reported c = λ marking limits settings session links player new linked were mine same peers.
+    still limits links player new mine were (record {
+      others = λ p l n. ap (λ (n : Contents). got n p) same;
+      own = omega (arith, ap (λ (n : Contents). got n player) same);
+      sends = λ p l. ap (λ (n : Contents). next_to n p) same;
+      wants = λ p l. ap (λ (n : Contents). (n.peers p).want) same;
+      ran = omega (arith, ap (λ (n : Contents). n.ran) same);
+    }) (λ other. ap (λ (f : ℕ → PeerState). (f other).kept) peers)
+    (λ was. ap has_ended same ∙ was)
+
+pub returns-clause-gave : goal.returns-clause-gave
+returns-clause-gave c = λ marking limits settings session links player to seal identity pace new bytes linked were four
+    mine below apart fair in_time gives.
+    let agreed = c.locksteps_agree.ensures.agreed marking limits settings session linked.game in
+    let later = c.linked_game_goes_on.ensures.gave marking limits settings session links player to seal identity pace
+    new bytes linked mine fair gives in (
+      was_in_step marking limits settings session links player linked mine agreed were four to below apart seal identity
+          pace new bytes gives in_time,
+      given_on_time marking limits settings session links player linked mine agreed were four to below apart seal
+          identity pace new bytes gives in_time
+          (ends_on session (after_relays (after_packet session player later.0 new.node) (flights_of to later.1)) player
+          (links player).node new.node (linked.nodes player mine) refl later.3.1),
+    )
+
+pub returns-clause-received : goal.returns-clause-received
+returns-clause-received c = λ marking limits settings session links player seal identity pace bytes new answer linked
+    were mine genuine in_step receives.
+    let agreed = c.locksteps_agree.ensures.agreed marking limits settings session linked.game in
+    let later = c.linked_game_goes_on.ensures.received marking limits settings session links player seal identity pace
+    bytes new answer linked mine genuine receives in
+    received c.letters_keep_one_game.ensures marking limits settings session links player linked mine agreed were new
+    later.0 later.1
+    (c.locksteps_agree.ensures.agreed marking limits settings (with_lockstep session player new.node) later.0.game)
+    seal identity pace bytes answer genuine in_step receives

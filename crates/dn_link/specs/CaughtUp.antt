@@ -1,0 +1,105 @@
+-- That the links of a game are caught up: what each keeps for a peer goes on from what the peer has.
+use Rattle.std.specs.Prelude.{◌≡◌, ◌≢◌, ◌<◌, ◌≤◌, ℕ, ◌+◌, ◌-◌, true, false, All, List, [], ◌∷◌, None}
+use Rattle.dn_machine.specs.Limits.{Limits}
+use Rattle.dn_machine.specs.Node.{put}
+use Rattle.dn_machine.specs.Sending.{lag}
+use Rattle.dn_lockstep.specs.Told.{got}
+use Rattle.dn_seal.specs.declared.opened.Opened.{Opened}
+use Rattle.dn_seal.specs.declared.seal.Seal.{Seal}
+use Rattle.dn_open.specs.Sealed.{sealing_of}
+use Rattle.dn_link.specs.declared.bundle.Bundle.{Bundle}
+use Rattle.dn_link.specs.declared.bundle.Carried.{Carried}
+use Rattle.dn_link.specs.Counting.{has_ended}
+use Rattle.dn_link.specs.Kept.{IsKeptRising, Unacknowledged, end_of}
+use Rattle.dn_link.specs.Linked.{Linked}
+use Rattle.dn_link.specs.Onward.{next_to}
+use Rattle.dn_link.specs.Packets.{own_in}
+use Rattle.dn_link.specs.Reading.{IsDatagramOf}
+use Rattle.dn_link.specs.Text.{IsBundle, sealed_bytes}
+
+-- the tic after the last command of a packet that came
+abbrev pub told_end : Opened → ℕ
+told_end packet = end_of (record { start = packet.start; ask = packet.ask; datagram = packet.datagram })
+
+-- they begin at this tic or before, and each where the one before it ends or before
+abbrev pub HasNoGap : ℕ → List Opened → Type 0
+HasNoGap tic [] = Unit {0}
+HasNoGap tic (packet ∷ packets) = (packet.start ≤ tic) × HasNoGap (told_end packet) packets
+
+-- the tic after the last command of the last of them, or this one where there are none
+abbrev pub last_end : ℕ → List Opened → ℕ
+last_end tic [] = tic
+last_end tic (packet ∷ packets) = last_end (told_end packet) packets
+
+-- none of these packets asks for anything; they begin at the first command that the peer still needs or before,
+-- each where the one before it ends or before; and what they cover ends where the last of them does
+abbrev pub IsChain : ℕ → List Carried → ℕ → Type 0
+IsChain done [] covered = covered ≡ done
+IsChain done (packet ∷ packets) covered =
+    (packet.start ≤ done) × (packet.ask ≡ None) × IsChain (end_of packet) packets covered
+
+abbrev pub IsKeptChain : Unacknowledged → Type 0
+IsKeptChain kept = IsChain kept.done kept.packets kept.covered
+
+-- of a player's link and a peer's: what is kept for the peer has no gap; the player asks the peer for nothing
+-- again, and has of the peer's commands at most a window more than the peer has acknowledged of the player's.
+-- And unless the peer has ended: what it has acknowledged it has; the next packet to it goes on from those that
+-- are kept, and begins with none that was not made
+pub record IsCaughtUp (limits : Limits) (player peer : ℕ) (mine theirs : Linked) : Type 0 where
+  pub rising : IsKeptRising (mine.peers peer).kept
+  pub chain : IsKeptChain (mine.peers peer).kept
+  pub asks : (mine.node.peers peer).want ≡ false
+  pub near : got mine.node peer ≤ (mine.peers peer).kept.done + limits.ahead
+  pub there : has_ended theirs.node ≡ false → (mine.peers peer).kept.done ≤ got theirs.node player
+  pub next : has_ended theirs.node ≡ false → next_to mine.node peer ≤ (mine.peers peer).kept.covered
+  pub least : has_ended theirs.node ≡ false → next_to mine.node peer ≤ got mine.node player - lag limits
+
+-- any two of them
+abbrev pub AreCaughtUp : Limits → (ℕ → Linked) → Type 0
+AreCaughtUp limits links =
+    (player peer : ℕ) → player < limits.players → peer < limits.players → peer ≢ player
+    → IsCaughtUp limits player peer (links player) (links peer)
+
+-- a datagram between two players asks for nothing again; and unless its receiver has ended, its sender's
+-- packets have no gap behind what the receiver has of the sender. Of commands that it hands on nothing is said:
+-- those past a gap are not heard
+pub record IsInStep (limits : Limits) (links : ℕ → Linked) (bundle : Bundle) : Type 0 where
+  pub sender : bundle.from < limits.players
+  pub receiver : bundle.to < limits.players
+  pub apart : bundle.from ≢ bundle.to
+  pub asks : All (λ packet. packet.ask ≡ None) (own_in bundle)
+  pub follows : has_ended (links bundle.to).node ≡ false
+      → HasNoGap (got (links bundle.to).node bundle.from) (own_in bundle)
+
+-- the bytes are such a datagram
+abbrev pub WasInStep : Seal → Limits → (ℕ → Linked) → List ℕ → Type 0
+WasInStep seal limits links bytes =
+    (bundle : Bundle) × IsBundle bundle × (bytes ≡ sealed_bytes seal bundle) × IsInStep limits links bundle
+
+-- and so is what a player opens
+abbrev pub IsInStepTo : Seal → Limits → (ℕ → Linked) → ℕ → List ℕ → Type 0
+IsInStepTo seal limits links player bytes =
+    (bundle : Bundle) → IsDatagramOf (sealing_of seal player) bytes bundle → WasInStep seal limits links bytes
+
+-- unless its receiver has ended, the receiver has so many commands of its sender once it has those of the
+-- sender's packets
+abbrev pub Brings : ℕ → (ℕ → Linked) → Bundle → Type 0
+Brings count links bundle =
+    has_ended (links bundle.to).node ≡ false
+    → count ≤ last_end (got (links bundle.to).node bundle.from) (own_in bundle)
+
+-- each player has as many commands of each as before, or more; it has run as many tics, or more; its next packet
+-- to a peer that has not ended begins no earlier; and a player who had ended has ended
+pub record HasGrown (limits : Limits) (old new : ℕ → Linked) : Type 0 where
+  pub got : (player which : ℕ) → player < limits.players → which < limits.players
+      → got (old player).node which ≤ got (new player).node which
+  pub ran : (player : ℕ) → player < limits.players → (old player).node.ran ≤ (new player).node.ran
+  pub sends : (player which : ℕ) → player < limits.players → which < limits.players → which ≢ player
+      → has_ended (old which).node ≡ false → next_to (old player).node which ≤ next_to (new player).node which
+  pub ended : (player : ℕ) → player < limits.players → has_ended (old player).node ≡ true
+      → has_ended (new player).node ≡ true
+
+-- with a new link of a player they are caught up still
+abbrev pub StayCaughtUp : Limits → (ℕ → Linked) → ℕ → Linked → Type 0
+StayCaughtUp limits links player new =
+    AreCaughtUp limits (put links player new) × HasGrown limits links (put links player new)

@@ -1,0 +1,107 @@
+-- Rounds of the links of a game that all play.
+use Rattle.std.specs.Prelude.{◌≡◌, ◌≢◌, ◌<◌, ◌≤◌, ℕ, suc, ◌+◌, ℤ, List, Option, length}
+use Rattle.dn_tic.specs.declared.command.Move.{Move}
+use Rattle.dn_tic.specs.declared.input.Input.{Input}
+use Rattle.dn_setup.specs.Settings.{Settings}
+use Rattle.dn_machine.specs.declared.answers.Made.{Made}
+use Rattle.dn_machine.specs.declared.answers.Phase.TheVariants.{Playing}
+use Rattle.dn_machine.specs.declared.answers.Ran.{Ran}
+use Rattle.dn_machine.specs.Limits.{Limits}
+use Rattle.dn_machine.specs.Running.{on_run}
+use Rattle.dn_lockstep.specs.Commands.{Builds}
+use Rattle.dn_lockstep.specs.Marking.{Marking}
+use Rattle.dn_lockstep.specs.Runs.{RunsBy}
+use Rattle.dn_lockstep.specs.Session.{Session}
+use Rattle.dn_lockstep.specs.Told.{made}
+use Rattle.dn_seal.specs.declared.seal.Seal.{Seal}
+use Rattle.dn_link.specs.declared.bundle.Identity.{Identity}
+use Rattle.dn_link.specs.declared.received.Received.{Received}
+use Rattle.dn_link.specs.Bundles.{IsGenuineDatagram}
+use Rattle.dn_link.specs.CaughtUp.{AreCaughtUp, HasGrown, IsInStepTo}
+use Rattle.dn_link.specs.Linked.{Gives, Linked, Receives}
+use Rattle.dn_link.specs.LinkedGame.{AreLinked}
+use Rattle.dn_link.specs.Onward.{next_to}
+use Rattle.dn_link.specs.Paced.{PaceState}
+use Rattle.dn_link.specs.Text.{parts_bytes}
+
+-- the links of a game from one moment to another, in which all players play. From each moment to the next they
+-- grow, as they do by any calls on them (`links_stay_caught_up`)
+pub record Stretch (marking : Marking) (limits : Limits) (settings : Settings) (last : ℕ) : Type 0 where
+  pub sessions : ℕ → Session
+  pub links : ℕ → ℕ → Linked
+  pub are : (moment : ℕ) → moment ≤ last → AreLinked marking limits settings (sessions moment) (links moment)
+  pub caught_up : (moment : ℕ) → moment ≤ last → AreCaughtUp limits (links moment)
+  pub grows : (moment : ℕ) → moment < last → HasGrown limits (links moment) (links (suc moment))
+  pub plays : (moment player : ℕ) → moment ≤ last → player < limits.players
+      → (links moment player).node.phase ≡ Playing
+
+-- at a moment a player's link is asked for a command
+abbrev pub MakesAt : (ℕ → ℕ → Linked) → ℕ → ℕ → Type 0
+MakesAt links moment player =
+    (input : Input) × (made : Made)
+    × Builds (links moment player).node (links (suc moment) player).node input made
+
+-- it is asked to run a tic, and waits for a player
+abbrev pub WaitsAt : (ℕ → ℕ → Linked) → ℕ → ℕ → Type 0
+WaitsAt links moment player =
+    (marks : List ℤ) × (other : ℕ) × (row : Option (List (Option Move)))
+    × RunsBy marks (links moment player).node (links (suc moment) player).node (λ limits m marks. on_run limits m marks)
+    (λ answer told. (Ran.Waiting other ≡ answer) × (row ≡ told))
+
+-- it gives a peer this datagram, which is no late one, and has room for all that its sender has to give
+pub record GivesAt (seal : Seal) (links : ℕ → ℕ → Linked) (moment player to : ℕ) (bytes : List ℕ) : Type 0 where
+  pub identity : Identity
+  pub pace : PaceState
+  pub gives : Gives seal identity pace to (links moment player) (links (suc moment) player) bytes
+  pub soon : made (links moment player).node ≤ next_to (links moment player).node to + 12
+  pub few : length gives.own < 22
+  pub short : length (parts_bytes gives.own) ≤ 998
+  pub size : length bytes ≤ 1200
+
+-- it takes in these bytes, which were sealed in this game in step
+pub record TakesAt (seal : Seal) (limits : Limits) (sessions : ℕ → Session) (links : ℕ → ℕ → Linked)
+    (moment player : ℕ) (bytes : List ℕ) : Type 0 where
+  pub identity : Identity
+  pub pace : PaceState
+  pub answer : Received
+  pub genuine : IsGenuineDatagram seal (sessions moment) player bytes
+  pub in_step : IsInStepTo seal limits (links moment) player bytes
+  pub takes : Receives seal identity pace bytes (links moment player) (links (suc moment) player) answer
+
+-- in each of its rounds a player's link is asked for a command, and later runs tics until it waits
+pub record AreRounds {marking : Marking} {limits : Limits} {settings : Settings} {last : ℕ}
+    (stretch : Stretch marking limits settings last) (rounds : ℕ) : Type 0 where
+  pub built : ℕ → ℕ → ℕ
+  pub waited : ℕ → ℕ → ℕ
+  pub builds : (round player : ℕ) → round < rounds → player < limits.players
+      → MakesAt stretch.links (built round player) player
+  pub waits : (round player : ℕ) → round < rounds → player < limits.players
+      → WaitsAt stretch.links (waited round player) player
+  pub within : (round player : ℕ) → round < rounds → player < limits.players
+      → (built round player < waited round player) × (waited round player < last)
+  pub later : (round player : ℕ) → suc round < rounds → player < limits.players
+      → waited round player < built (suc round) player
+
+-- of the datagrams that a player gives a peer in its rounds from this one on, one of k rounds is taken in by the
+-- peer before it waits in its round d later
+pub record Arrives {marking : Marking} {limits : Limits} {settings : Settings} {last : ℕ}
+    {stretch : Stretch marking limits settings last} {count : ℕ} (rounds : AreRounds stretch count) (seal : Seal)
+    (k d first player peer : ℕ) : Type 0 where
+  pub round : ℕ
+  pub given : ℕ
+  pub taken : ℕ
+  pub bytes : List ℕ
+  pub from : first ≤ round
+  pub below : round < first + k
+  pub built : rounds.built round player < given
+  pub comes : given < taken
+  pub waited : taken < rounds.waited (round + d) peer
+  pub gives : GivesAt seal stretch.links given player peer bytes
+  pub takes : TakesAt seal limits stretch.sessions stretch.links taken peer bytes
+
+-- the lines let one datagram of any k rounds through, at most d rounds late
+abbrev pub AreFairLines : {marking : Marking} {limits : Limits} {settings : Settings} {last : ℕ}
+    {stretch : Stretch marking limits settings last} {count : ℕ} → AreRounds stretch count → Seal → ℕ → ℕ → Type 0
+AreFairLines {marking} {limits} {settings} {last} {stretch} {count} rounds seal k d =
+    (first player peer : ℕ) → first + k + d ≤ count → player < limits.players → peer < limits.players
+    → peer ≢ player → Arrives rounds seal k d first player peer

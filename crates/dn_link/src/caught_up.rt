@@ -1,0 +1,167 @@
+//! That the links of a game are caught up.
+
+ghost use Rattle.std.specs.Prelude.{◌≡◌, ◌≢◌, ◌<◌, ◌≤◌, ◌+◌, ◌*◌, ℕ, ℤ, Bool, false, List, Option, Some, IfSome, length};
+ghost use Rattle.dn_tic.specs.{declared.command.Move.Move, declared.input.Input.Input};
+ghost use Rattle.dn_setup.specs.Settings.{Settings};
+ghost use Rattle.dn_machine.specs.{declared.answers.Made.Made, declared.answers.Ran.Ran, Game.fresh, Limits.Limits, Node.put, Running.on_run, Running.on_quit, Sending.lag};
+ghost use Rattle.dn_lockstep.specs.{Commands.Builds, Marking.Marking, Near.IsFair, Represents.Represents, Runs.RunsBy, Sent.sent_to, Session.Session, Steps.Steps, Steps.Tells, Told.got, Told.made};
+ghost use Rattle.dn_machine.specs.declared.answers.Phase.TheVariants.{Playing};
+ghost use Rattle.dn_open.specs.Sealed.{sealing_of};
+ghost use Rattle.dn_seal.specs.declared.seal.Seal.{Seal};
+ghost use Rattle.dn_link.specs.{declared.bundle.Bundle.Bundle, declared.bundle.Carried.Carried, declared.bundle.Message.TheVariants.Game, CaughtUp.Brings, CaughtUp.HasGrown, CaughtUp.IsInStep, Kept.end_of, Kept.taken_by, Reading.IsDatagramOf, Text.parts_bytes};
+ghost use Rattle.dn_link.specs.{declared.bundle.Identity.Identity, declared.received.Received.Received, Bundles.IsGenuineDatagram, CaughtUp.AreCaughtUp, CaughtUp.IsInStepTo, CaughtUp.StayCaughtUp, CaughtUp.WasInStep, Counting.has_ended};
+ghost use Rattle.dn_link.specs.{Rounds.AreRounds, Rounds.AreFairLines, Rounds.Stretch};
+ghost use Rattle.dn_link.specs.{Linked.Gives, Linked.Linked, Linked.Receives, Linked.forgotten, Linked.holds_back, LinkedGame.AreLinked, Linking.new_peer, Onward.next_to, Paced.PaceState};
+
+use crate::laws::{bundles_are_read_back, linked_game_goes_on};
+use dn_lockstep::locksteps_agree;
+use dn_open::letters_keep_one_game;
+
+/// New links of the same limits are caught up.
+pub fn links_open_caught_up()
+    ensures { (limits : Limits) (settings : Settings) (links : ℕ → Linked)
+        → ((player : ℕ) → player < limits.players → Represents limits player (links player).node (fresh settings player))
+        → ((player peer : ℕ) → player < limits.players → (links player).peers peer ≡ new_peer)
+        → AreCaughtUp limits links }
+{}
+
+/// And so they stay after each call on one of them, as long as what it opens was sealed in this game before, in
+/// step; what `Link::datagram` gives is in step, unless it comes too late.
+pub fn links_stay_caught_up()
+    ensures built { (marking : Marking) (limits : Limits) (settings : Settings) (session : Session) (links : ℕ → Linked)
+        (player : ℕ) (new : Linked) (input : Input) (made : Made)
+        → AreLinked marking limits settings session links → AreCaughtUp limits links → player < limits.players
+        → Builds (links player).node new.node input made → new.peers ≡ (links player).peers
+        → StayCaughtUp limits links player new }
+    ensures ran { (marking : Marking) (limits : Limits) (settings : Settings) (session : Session) (links : ℕ → Linked)
+        (player : ℕ) (new : Linked) (marks : List ℤ) (ran : Ran) (row : Option (List (Option Move)))
+        → AreLinked marking limits settings session links → AreCaughtUp limits links → player < limits.players
+        → RunsBy marks (links player).node new.node (λ limits m marks. on_run limits m marks)
+        (λ answer told. (ran ≡ answer) × (row ≡ told))
+        → new.peers ≡ (links player).peers → StayCaughtUp limits links player new }
+    ensures quit { (marking : Marking) (limits : Limits) (settings : Settings) (session : Session) (links : ℕ → Linked)
+        (player : ℕ) (new : Linked) (quit : Bool)
+        → AreLinked marking limits settings session links → AreCaughtUp limits links → player < limits.players
+        → Steps (links player).node new.node (λ limits me m. on_quit m) (λ answer. quit ≡ answer)
+        → new.peers ≡ (links player).peers → StayCaughtUp limits links player new }
+    ensures forgot { (marking : Marking) (limits : Limits) (settings : Settings) (session : Session) (links : ℕ → Linked)
+        (player peer : ℕ) (new : Linked)
+        → AreLinked marking limits settings session links → AreCaughtUp limits links → player < limits.players
+        → new ≡ forgotten peer (links player) → StayCaughtUp limits links player new }
+    ensures gave { (marking : Marking) (limits : Limits) (settings : Settings) (session : Session) (links : ℕ → Linked)
+        (player to : ℕ) (seal : Seal) (identity : Identity) (pace : PaceState) (new : Linked) (bytes : List ℕ)
+        → AreLinked marking limits settings session links → AreCaughtUp limits links → limits.players ≤ 4
+        → player < limits.players → to < limits.players → to ≢ player
+        → (holds_back (links player) ≡ false
+        → Tells (links player).node (λ limits me m. IfSome (sent_to to limits me m).1 IsFair))
+        → (has_ended (links to).node ≡ false
+        → made (links player).node ≤ next_to (links player).node to + (links player).node.places)
+        → Gives seal identity pace to (links player) new bytes
+        → WasInStep seal limits (put links player new) bytes × StayCaughtUp limits links player new }
+    ensures received { (marking : Marking) (limits : Limits) (settings : Settings) (session : Session) (links : ℕ → Linked)
+        (player : ℕ) (seal : Seal) (identity : Identity) (pace : PaceState) (bytes : List ℕ) (new : Linked)
+        (answer : Received)
+        → AreLinked marking limits settings session links → AreCaughtUp limits links → player < limits.players
+        → IsGenuineDatagram seal session player bytes → IsInStepTo seal limits links player bytes
+        → Receives seal identity pace bytes (links player) new answer
+        → StayCaughtUp limits links player new }
+    ensures reported { (marking : Marking) (limits : Limits) (settings : Settings) (session : Session) (links : ℕ → Linked)
+        (player : ℕ) (new : Linked)
+        → AreLinked marking limits settings session links → AreCaughtUp limits links → player < limits.players
+        → new.node ≡ (links player).node → new.peers ≡ (links player).peers
+        → StayCaughtUp limits links player new }
+{
+    linked_game_goes_on();
+    locksteps_agree();
+    letters_keep_one_game();
+}
+
+/// So nothing of a peer that has not ended is lost or left out. A player has made at most two windows of
+/// commands that the peer needs still; if the peer has no more of the player's commands than it was given, and
+/// packets repeat none or no window fills what a node keeps, no datagram is a late one, however long none was
+/// given; and of what is given to the peer, all is covered by what is kept for it then.
+pub fn caught_up_links_cover()
+    ensures few { (marking : Marking) (limits : Limits) (settings : Settings) (session : Session) (links : ℕ → Linked)
+        (player to : ℕ)
+        → AreLinked marking limits settings session links → AreCaughtUp limits links
+        → player < limits.players → to < limits.players → to ≢ player → has_ended (links to).node ≡ false
+        → made (links player).node ≤ ((links player).peers to).kept.done + (limits.ahead + limits.ahead) }
+    ensures in_time { (marking : Marking) (limits : Limits) (settings : Settings) (session : Session) (links : ℕ → Linked)
+        (player to : ℕ)
+        → AreLinked marking limits settings session links → AreCaughtUp limits links
+        → player < limits.players → to < limits.players → to ≢ player
+        → limits.ahead + limits.ahead + lag limits ≤ limits.places → has_ended (links to).node ≡ false
+        → got (links to).node player ≤ next_to (links player).node to + lag limits
+        → made (links player).node ≤ next_to (links player).node to + (links player).node.places }
+    ensures covered { (marking : Marking) (limits : Limits) (settings : Settings) (session : Session) (links : ℕ → Linked)
+        (player to : ℕ) (seal : Seal) (identity : Identity) (pace : PaceState) (new : Linked) (bytes : List ℕ)
+        → AreLinked marking limits settings session links → AreCaughtUp limits links → limits.players ≤ 4
+        → player < limits.players → to < limits.players → to ≢ player → has_ended (links to).node ≡ false
+        → made (links player).node ≤ next_to (links player).node to + (links player).node.places
+        → (gives : Gives seal identity pace to (links player) new bytes) (packet : Carried)
+        → taken_by ((links player).peers to).presence gives.given ≡ Some packet
+        → end_of packet ≤ (new.peers to).kept.covered }
+{
+    locksteps_agree();
+}
+
+/// What arrives brings all. Whatever datagram of one that plays comes to a player that plays, whenever it
+/// comes, and however many others did not: the player has then each command that its sender had made when it
+/// gave the datagram. It has room for all, if it has fewer than twenty-two parts of its sender's own, of 998
+/// bytes at most; and its sender had made at most twelve from the tic on from which the peer is to be sent them.
+pub fn links_bring_all()
+    ensures given { (marking : Marking) (limits : Limits) (settings : Settings) (session : Session) (links : ℕ → Linked)
+        (player to : ℕ) (seal : Seal) (identity : Identity) (pace : PaceState) (new : Linked) (bytes : List ℕ)
+        → AreLinked marking limits settings session links → AreCaughtUp limits links
+        → player < limits.players → to < limits.players → to ≢ player
+        → (has_ended (links to).node ≡ false
+        → made (links player).node ≤ next_to (links player).node to + (links player).node.places)
+        → made (links player).node ≤ next_to (links player).node to + 12
+        → (links player).node.phase ≡ Playing
+        → (gives : Gives seal identity pace to (links player) new bytes)
+        → length gives.own < 22 → length (parts_bytes gives.own) ≤ 998
+        → Brings (made (links player).node) (put links player new) gives.bundle }
+    ensures stay { (limits : Limits) (links later : ℕ → Linked) (bundle : Bundle) (count : ℕ)
+        → HasGrown limits links later → IsInStep limits links bundle → Brings count links bundle
+        → IsInStep limits later bundle × Brings count later bundle }
+    ensures brought { (marking : Marking) (limits : Limits) (settings : Settings) (session : Session) (links : ℕ → Linked)
+        (player : ℕ) (seal : Seal) (identity : Identity) (pace : PaceState) (bytes : List ℕ) (new : Linked)
+        (answer : Received) (bundle : Bundle) (count : ℕ)
+        → AreLinked marking limits settings session links → AreCaughtUp limits links → player < limits.players
+        → IsGenuineDatagram seal session player bytes → IsInStepTo seal limits links player bytes
+        → Receives seal identity pace bytes (links player) new answer
+        → IsDatagramOf (sealing_of seal player) bytes bundle → bundle.message ≡ Game → new.node.phase ≡ Playing
+        → Brings count links bundle → count ≤ got new.node bundle.from }
+{
+    linked_game_goes_on();
+    locksteps_agree();
+    bundles_are_read_back();
+    letters_keep_one_game();
+}
+
+/// A game goes on, and at full speed. Let the lines between any two who play let through one of the datagrams
+/// of any k rounds, at most d rounds late; it does not matter which, nor what else comes, or comes again. Then
+/// each player runs a tic more in each k + d rounds than all had run. And where k + d is at most the window,
+/// after r rounds each has run at least r + 1 - (k + d) tics more than all had run at first. A round is a
+/// player's own: one command is asked for, and later tics are run until one is waited for.
+pub fn links_run_on()
+    ensures goes_on { (marking : Marking) (limits : Limits) (settings : Settings) (last : ℕ)
+        (stretch : Stretch marking limits settings last) (count : ℕ) (rounds : AreRounds stretch count) (seal : Seal)
+        (k d first tics round least : ℕ) → 8 ≤ length seal.game → 12 ≤ limits.places → 1 ≤ limits.ahead → 1 ≤ k
+        → AreFairLines rounds seal k d → 1 ≤ tics → first + (k + d) * tics ≡ round + 1 → round < count
+        → ((player : ℕ) → player < limits.players
+        → least ≤ (stretch.links (rounds.built first player) player).node.ran)
+        → (player : ℕ) → player < limits.players
+        → least + tics ≤ (stretch.links (rounds.waited round player) player).node.ran }
+    ensures full_speed { (marking : Marking) (limits : Limits) (settings : Settings) (last : ℕ)
+        (stretch : Stretch marking limits settings last) (count : ℕ) (rounds : AreRounds stretch count) (seal : Seal)
+        (k d round least : ℕ) → 8 ≤ length seal.game → 12 ≤ limits.places → 1 ≤ limits.ahead → 1 ≤ k
+        → AreFairLines rounds seal k d → k + d ≤ limits.ahead → round < count
+        → ((player : ℕ) → player < limits.players
+        → least ≤ (stretch.links (rounds.built 0 player) player).node.ran)
+        → (player : ℕ) → player < limits.players
+        → least + (round + 2) ≤ (stretch.links (rounds.waited round player) player).node.ran + (k + d) }
+{
+    links_bring_all();
+    locksteps_agree();
+}

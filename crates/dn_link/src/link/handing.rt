@@ -1,0 +1,152 @@
+//! What a player hands on to a peer of third players' commands.
+
+use super::Link;
+use crate::bundle::{Part, Relay};
+use crate::counting::held_of;
+use crate::history::Had;
+use crate::relaying::{relay_of, with_relay};
+use arrayvec::ArrayVec;
+
+/// How many commands of a third player a datagram hands on at most.
+const MOST_HANDED: u8 = 24;
+
+impl Link {
+    ghost use Rattle.std.specs.Prelude.{◌≡◌, ◌<◌, ◌≤◌, ◌||◌, All, length, not, slice_index, true, false, IfSome};
+    ghost use Rattle.dn_link.specs.{Linked.has_given_up, Linked.is_peer, Linked.remains, Linking.identity_of, Linking.linked, Linking.seal_of, Handing.HasTwoBehind, Handing.IsHandedFor, Handing.may_hand, Handing.shares_gone};
+    ghost use Rattle.dn_link.specs.{Pacing.pace_of, Text.IsPart, Text.parts_bytes};
+
+    /// Whether a player is not given up, or a peer has reported to have given it up too.
+    fn shares_gone(&self, to: u8, player: u8) -> bool
+        ensures { result ≡ shares_gone (linked self.now) to player }
+    {
+        !self.has_given_up(player) || self.reports_gone(to, player)
+    }
+
+    /// Whether it may hand on commands to a peer: one who is not given up, and has given up all whom this player
+    /// has.
+    fn may_hand(&self, to: u8) -> bool
+        ensures { result ≡ may_hand (linked self.now) to }
+    {
+        !self.has_given_up(to)
+            && self.shares_gone(to, 0)
+            && self.shares_gone(to, 1)
+            && self.shares_gone(to, 2)
+            && self.shares_gone(to, 3)
+    }
+
+    /// How many commands of each player it has.
+    fn had(&self) -> Had {
+        let counts = held_of(self.lockstep());
+        Had { counts }
+    }
+
+    /// How many of each player a peer has reported to have.
+    fn reported_by(&self, player: u8) -> Had
+        requires { player < 4 }
+    {
+        let peer = self.peer(player);
+        Had {
+            counts: [
+                peer.reported_of(0),
+                peer.reported_of(1),
+                peer.reported_of(2),
+                peer.reported_of(3),
+            ],
+        }
+    }
+
+    /// A tick, for what is handed on from here on.
+    pub(super) fn look_back(&mut self)
+        ensures link { linked self.new ≡ linked self.old }
+        ensures pace { pace_of self.new ≡ pace_of self.old }
+        ensures seal { seal_of self.new ≡ seal_of self.old }
+        ensures identity { identity_of self.new ≡ identity_of self.old }
+    {
+        let me = self.me();
+        let had = self.had();
+        let reported = [
+            self.reported_by(0),
+            self.reported_by(1),
+            self.reported_by(2),
+            self.reported_by(3),
+        ];
+        self.overdue.tick(me, had, &reported);
+    }
+
+    /// Whether its own commands come to a peer in time: fewer than a window are not reported. Where they are not,
+    /// what it handed on would come as late, and hold its own up.
+    fn is_in_time(&self, to: u8) -> bool
+        requires { to < 4 }
+    {
+        let reported = self.peer(to).reported_of(self.me());
+        self.made().saturating_sub(reported) < u32::from(self.identity.ahead)
+    }
+
+    /// Whether commands are handed on to a peer at all: one that plays, and may be handed on any, and has this
+    /// player's own in time.
+    fn hands_on(&self, to: u8) -> bool
+        requires { to < 4 }
+        ensures peer { result ≡ true → is_peer (linked self.now).node to ≡ true }
+        ensures may { result ≡ true → may_hand (linked self.now) to ≡ true }
+    {
+        if !self.is_peer(to) {
+            return false;
+        }
+        self.may_hand(to) && self.peer(to).presence.is_playing() && self.is_in_time(to)
+    }
+
+    /// From which on commands of a third player are handed on to a peer, if any are.
+    fn first_handed(&self, to: u8, player: u8) -> Option<u32>
+        requires few { to < 4 }
+        requires third { player < 4 }
+        ensures { IfSome result (λ start. slice_index ((linked self.now).peers to).reported player ≤ start) }
+    {
+        let got = self.lockstep().got(player).unwrap_or(0);
+        let reported = self.peer(to).reported_of(player);
+        self.overdue.handed_from(to, player, reported, got)
+    }
+
+    /// What is handed on of a player to a peer, if anything is.
+    fn hand(&self, to: u8, player: u8) -> Option<Relay>
+        requires peer { to < (linked self.now).node.players }
+        requires few { to < 4 }
+        ensures { IfSome result (IsHandedFor (linked self.now) to player) }
+    {
+        if player == to || !self.remains(player) {
+            return None;
+        }
+        let Some(start) = self.first_handed(to, player) else {
+            return None;
+        };
+        let relay = relay_of(self.lockstep(), player, start, MOST_HANDED);
+        if relay.run.commands.is_empty() {
+            return None;
+        }
+        Some(relay)
+    }
+
+    /// The parts of a datagram to a peer, and behind them what is handed on of each third player, as far as there is
+    /// room. Nothing is but in the first datagram of a tick.
+    pub(super) fn with_handed(
+        &self,
+        to: u8,
+        is_first: bool,
+        own: ArrayVec<Part, 24>,
+    ) -> ArrayVec<Part, 24>
+        requires peer { to < (linked self.now).node.players }
+        requires few { to < 4 }
+        requires fit { All IsPart own.items }
+        requires short { length (parts_bytes own.items) ≤ 1118 }
+        ensures fit { All IsPart result.items }
+        ensures short { length (parts_bytes result.items) ≤ 1118 }
+        ensures behind { HasTwoBehind (linked self.now) to own.items result.items }
+    {
+        if !is_first || !self.hands_on(to) {
+            return own;
+        }
+        let first = with_relay(own, self.hand(to, 0));
+        let second = with_relay(first, self.hand(to, 1));
+        let third = with_relay(second, self.hand(to, 2));
+        with_relay(third, self.hand(to, 3))
+    }
+}

@@ -1,0 +1,203 @@
+//! What a link keeps to decide which commands of third players it hands on.
+
+ghost use Rattle.std.specs.Prelude.{◌≡◌, ◌<◌, ◌≤◌, IfSome, false};
+ghost use Rattle.dn_link.specs.Overdue.{counted_of, four_of, lag_of, is_on, learned_of};
+
+use crate::bundle::Part;
+use crate::history::{Had, History};
+use crate::lag::Lag;
+
+/// How long lags are taken to be at first, in ticks: that of a third player's commands, and the round trip.
+const LAG_AT_FIRST: u8 = 16;
+
+const ROUND_TRIP_AT_FIRST: u8 = 28;
+
+/// What is known of a peer.
+#[derive(Clone, Copy)]
+struct Towards {
+    /// How late it reports the commands of each player; of this player itself that is the round trip.
+    lags: [Lag; 4],
+    /// Whether it was given a datagram since the last tick.
+    given: bool,
+}
+
+/// How long the lag of a player's commands is taken to be at first.
+fn first_lag(me: u8, player: u8) -> Lag {
+    if player == me {
+        Lag::new(ROUND_TRIP_AT_FIRST)
+    } else {
+        Lag::new(LAG_AT_FIRST)
+    }
+}
+
+impl Towards {
+    /// Of which nothing is known, by this player.
+    fn new(me: u8) -> Towards {
+        Towards {
+            lags: [
+                first_lag(me, 0),
+                first_lag(me, 1),
+                first_lag(me, 2),
+                first_lag(me, 3),
+            ],
+            given: false,
+        }
+    }
+
+    /// How late it reports the commands of a player.
+    fn lag(&self, player: u8) -> Lag
+        requires { player < 4 }
+        ensures { result ≡ lag_of self.now.lags player }
+    {
+        self.lags[player as usize]
+    }
+
+    /// The lag of a player's commands once it has reported so many.
+    fn lag_after(&self, history: &History, player: u8, reported: &Had) -> Lag
+        requires { player < 4 }
+        ensures { result ≡ learned_of history.now.ticks.items reported.now self.now.lags player }
+    {
+        let mut lag = self.lag(player);
+        lag.learn(history, player, reported.of(player));
+        lag
+    }
+
+    /// It has reported to have so many commands of each player.
+    fn learn(&self, history: &History, reported: &Had) -> Towards
+        ensures { result.lags ≡ four_of (learned_of history.now.ticks.items reported.now self.now.lags) }
+    {
+        Towards {
+            lags: [
+                self.lag_after(history, 0, reported),
+                self.lag_after(history, 1, reported),
+                self.lag_after(history, 2, reported),
+                self.lag_after(history, 3, reported),
+            ],
+            given: false,
+        }
+    }
+
+    /// Whether commands of a player are handed on to it from here on.
+    fn is_on(&self, history: &History, me: u8, player: u8, reported: &Had) -> bool
+        requires few { me < 4 }
+        requires one { player < 4 }
+        ensures { result ≡ is_on history.now.ticks.items me reported.now self.now.lags player }
+    {
+        let lag = self.lag(player);
+        let round_trip = self.lag(me);
+        lag.is_overdue(history, player, reported.of(player)) || lag.is_slow(&round_trip)
+    }
+
+    /// The lag of a player's commands after a tick.
+    fn counted_down(&self, history: &History, me: u8, player: u8, reported: &Had) -> Lag
+        requires few { me < 4 }
+        requires one { player < 4 }
+        ensures { result ≡ counted_of history.now.ticks.items me reported.now self.now.lags player }
+    {
+        let is_on = self.is_on(history, me, player, reported);
+        let mut lag = self.lag(player);
+        lag.count_down(is_on);
+        lag
+    }
+
+    /// A tick, before which it had reported so many.
+    fn tick(&self, history: &History, me: u8, reported: &Had) -> Towards
+        requires { me < 4 }
+        ensures lags { result.lags ≡ four_of (counted_of history.now.ticks.items me reported.now self.now.lags) }
+        ensures given { result.given ≡ false }
+    {
+        Towards {
+            lags: [
+                self.counted_down(history, me, 0, reported),
+                self.counted_down(history, me, 1, reported),
+                self.counted_down(history, me, 2, reported),
+                self.counted_down(history, me, 3, reported),
+            ],
+            given: false,
+        }
+    }
+}
+
+/// What a link keeps to decide which commands of third players it hands on.
+#[derive(Drop)]
+pub(crate) struct Overdue {
+    history: History,
+    peers: [Towards; 4],
+}
+
+impl Overdue {
+    /// Before the first tick of this player.
+    pub(crate) fn new(me: u8) -> Overdue {
+        Overdue {
+            history: History::new(),
+            peers: [
+                Towards::new(me),
+                Towards::new(me),
+                Towards::new(me),
+                Towards::new(me),
+            ],
+        }
+    }
+
+    /// A tick of this player, at which it has so many commands, and each peer has reported to have so many.
+    pub(crate) fn tick(&mut self, me: u8, had: Had, reported: &[Had; 4])
+        requires { me < 4 }
+    {
+        let learned = [
+            self.peers[0].learn(&self.history, &reported[0]),
+            self.peers[1].learn(&self.history, &reported[1]),
+            self.peers[2].learn(&self.history, &reported[2]),
+            self.peers[3].learn(&self.history, &reported[3]),
+        ];
+        self.history.tick(had);
+        self.peers = [
+            learned[0].tick(&self.history, me, &reported[0]),
+            learned[1].tick(&self.history, me, &reported[1]),
+            learned[2].tick(&self.history, me, &reported[2]),
+            learned[3].tick(&self.history, me, &reported[3]),
+        ];
+    }
+
+    /// A peer is given a datagram. Whether it is the first since the last tick.
+    pub(crate) fn give(&mut self, to: u8) -> bool
+        requires { to < 4 }
+    {
+        let is_first = !self.peers[to as usize].given;
+        self.peers[to as usize].given = true;
+        is_first
+    }
+
+    /// A datagram to a peer hands on what it has of third players among these parts.
+    pub(crate) fn hand(&mut self, to: u8, parts: &[Part])
+        requires { to < 4 }
+    {
+        let mut rest = parts;
+        'parts: while let Some((part, after)) = rest.split_first() {
+            self.hand_part(to, part);
+            rest = after;
+        }
+    }
+
+    /// The same of one part.
+    fn hand_part(&mut self, to: u8, part: &Part)
+        requires { to < 4 }
+    {
+        if let Part::Relay(relay) = part {
+            if relay.player < 4 {
+                self.peers[to as usize].lags[relay.player as usize].hand(&relay.run);
+            }
+        }
+    }
+
+    /// From which on commands of a third player are handed on to a peer, of those that it has not reported, if any
+    /// are.
+    pub(crate) fn handed_from(&self, to: u8, player: u8, reported: u32, got: u32) -> Option<u32>
+        requires peer { to < 4 }
+        requires third { player < 4 }
+        ensures { IfSome result (λ start. reported ≤ start) }
+    {
+        self.peers[to as usize]
+            .lag(player)
+            .handed_from(&self.history, player, reported, got)
+    }
+}

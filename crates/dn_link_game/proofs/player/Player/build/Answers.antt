@@ -1,0 +1,23 @@
+use Rattle.std.proofs.Common.{refl, sym, ap, ◌∙◌, subst}
+use Rattle.dn_tic.specs.declared.input.Input.TheVariants.{Pressed}
+use Rattle.dn_lockstep.specs.Commands.{Builds}
+use Rattle.dn_survivor.specs.Session.{after_build}
+use Rattle.dn_link.specs.Linked.{Linked, surviving_of}
+use Rattle.dn_link.specs.Linking.{linked}
+use Rattle.dn_link_game.specs.Playing.{marking_of}
+use Rattle.dn_link_game.proofs.player.Player.build.Goals as goal
+
+pub returns-clause-goes_on : goal.returns-clause-goes_on
+returns-clause-goes_on g c limits settings session links player mine below is any =
+    let new : Linked = linked c.build.new.self in (
+      after_build session player (Pressed c.args.keys) c.build.result (surviving_of new),
+      refl,
+      λ other apart. refl,
+      c.remaining_links_go_on.ensures.built (marking_of g.W.World.physics) limits settings session links player new
+          (Pressed c.args.keys) c.build.result mine below
+          (subst (λ (l : Linked). Builds l.node new.node (Pressed c.args.keys) c.build.result) (sym is.link)
+          c.build.ensures.step)
+          (c.build.ensures.others ∙ sym (ap (λ (l : Linked). l.others) is.link))
+          (c.build.ensures.peers ∙ sym (ap (λ (l : Linked). l.peers) is.link)),
+      record { link = refl; world = is.world; unbegun = is.unbegun },
+    )

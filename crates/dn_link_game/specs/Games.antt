@@ -1,0 +1,40 @@
+-- What a game of links is: what holds when it opens and after each call. The headline does not speak of this, but
+-- rests on it.
+use Rattle.std.specs.Prelude.{◌≡◌, ℕ, false, All, length}
+use Rattle.arrayvec.specs.ArrayVec.{ArrayVec}
+use Rattle.dn_setup.specs.Settings.{Settings}
+use Rattle.dn_world.specs.Physics.{Physics}
+use Rattle.dn_machine.specs.Limits.{Limits}
+use Rattle.dn_seal.specs.declared.seal.Seal.{Seal}
+use Rattle.dn_survivor.specs.Session.{Session}
+use Rattle.dn_link.specs.Linked.{Linked}
+use Rattle.dn_lockstep.specs.Represents.{Represents}
+use Rattle.dn_machine.specs.Game.{fresh}
+use Rattle.dn_others.specs.Keeping.{nothing_kept}
+use Rattle.dn_link.specs.Linking.{linked, new_peer, seal_of}
+use Rattle.dn_link.specs.RemainingLinks.{AreRemainingLinks, WasSealedIn}
+use Rattle.dn_link_game.specs.Playing.{IsPlayer, marking_of}
+use Rattle.dn_link_game.specs.Headline.{HasPlayer}
+use Rattle.dn_link_game.specs.declared.game.LinkGame.{LinkGame}
+use Rattle.dn_link_game.specs.declared.player.Player.{Player}
+
+-- the links are those of one game in this session, the worlds went on by its rows, all links have this seal,
+-- and what was given was sealed in this session
+pub record IsLinkGame {W S : Type 0} (state : W → S) (physics : Physics S) (limits : Limits) (settings : Settings)
+    (seal : Seal) (session : Session) (g : LinkGame W) : Type 0 where
+  pub links : ℕ → Linked
+  pub game : AreRemainingLinks (marking_of physics) limits settings session links
+  pub places : length g.players.items ≡ limits.players
+  pub players : (i : ℕ) (player : Player W) → HasPlayer g i player
+      → IsPlayer state physics limits settings (session.told i) (links i) player
+  pub seals : (i : ℕ) (player : Player W) → HasPlayer g i player → seal_of player.link ≡ seal
+  pub given : All (λ (bytes : ArrayVec ℕ). WasSealedIn seal session bytes.items) g.given.items
+
+-- a player whose link is new, as `Link::new` returns it, and whose world has not begun
+pub record IsNew {W : Type 0} (limits : Limits) (settings : Settings) (seal : Seal) (me : ℕ) (player : Player W)
+    : Type 0 where
+  pub node : Represents limits me (linked player.link).node (fresh settings me)
+  pub others : (linked player.link).others ≡ nothing_kept
+  pub peers : (peer : ℕ) → (linked player.link).peers peer ≡ new_peer
+  pub unbegun : player.began ≡ false
+  pub sealed : seal_of player.link ≡ seal

@@ -1,0 +1,89 @@
+-- The headline of a game of links, by what the readers of its links return, the inputs that its players' builds
+-- took, and the rows that their runs told. It speaks of no packet and no datagram.
+use Rattle.std.specs.Prelude.{◌≡◌, ◌<◌, ◌||◌, ℕ, ◌+◌, false, Bool, List, Option, Some, take, length, nat_lt, pos, slice_get, get_or, [], None}
+use Rattle.dn_tic.specs.Command.{used}
+use Rattle.dn_tic.specs.Inputs.{made_by}
+use Rattle.dn_tic.specs.declared.command.Move.{Move}
+use Rattle.dn_setup.specs.Settings.{Settings}
+use Rattle.dn_setup.specs.Starts.{start_of}
+use Rattle.dn_world.specs.Physics.{Physics}
+use Rattle.dn_demo.specs.Layout.{long_tics}
+use Rattle.dn_demo.specs.Text.{demo_text}
+use Rattle.dn_machine.specs.Headline.{AgreeWithin, AnyTwo, Shown, ran_by, whole_rows}
+use Rattle.dn_machine.specs.Limits.{Limits}
+use Rattle.dn_machine.specs.Node.{is_ended}
+use Rattle.dn_machine.specs.Worlds.{Inputs}
+use Rattle.dn_lockstep.specs.Demos.{recorded}
+use Rattle.dn_lockstep.specs.OneGame.{world_told}
+use Rattle.dn_lockstep.specs.Rows.{seats_of}
+use Rattle.dn_lockstep.specs.Told.{HasStarted, got}
+use Rattle.dn_survivor.specs.Surviving.{end_settled}
+use Rattle.dn_link.specs.Linked.{has_given_up, surviving_of}
+use Rattle.dn_link.specs.Linking.{linked}
+use Rattle.dn_link_game.specs.Playing.{world_by}
+use Rattle.dn_link_game.specs.declared.game.LinkGame.{LinkGame}
+use Rattle.dn_link_game.specs.declared.player.Player.{Player}
+
+-- a game has this player in this place
+abbrev pub HasPlayer : {W : Type 0} → LinkGame W → ℕ → Player W → Type 0
+HasPlayer g place player = slice_get g.players.items place ≡ Some player
+
+-- a player of a game of these settings shows this: the readers of its link return it, and the rows are those by
+-- which its world was stepped and its demo was written
+pub record Shows {W S : Type 0} (state : W → S) (physics : Physics S) (limits : Limits) (settings : Settings) (me : ℕ)
+    (player : Player W) (shown : Shown ℕ) : Type 0 where
+  pub phase : shown.phase ≡ (linked player.link).node.phase
+  pub ran : ran_by shown ≡ (linked player.link).node.ran
+  pub got : (other : ℕ) → shown.got other ≡ got (linked player.link).node other
+  -- its rings keep as many of the last commands of each player as the limits have places
+  pub places : (linked player.link).node.places ≡ limits.places
+  pub demo : shown.demo ≡ recorded (linked player.link).node
+  -- once its world has begun, it began with the settings' start and was stepped by the rows
+  pub world : player.began ≡ Bool.true → state player.world ≡ world_by physics (world_told limits settings shown.rows)
+  -- its demo is the text of the rows before the first that lacks a player. It is closed once the link ran a row
+  -- that lacks one, or has ended
+  pub rows : HasStarted (linked player.link).node
+      → (linked player.link).node.demo.bytes ≡ demo_text long_tics (start_of settings) me (seats_of limits.players)
+      (whole_rows limits.players shown.rows)
+      (is_ended (linked player.link).node.phase
+      || nat_lt (length (whole_rows limits.players shown.rows)) (linked player.link).node.ran)
+
+-- two players of whom neither has given up the other
+pub record Together {W : Type 0} (g : LinkGame W) (q r : ℕ) : Type 0 where
+  pub one : Player W
+  pub other : Player W
+  pub one_is : HasPlayer g q one
+  pub other_is : HasPlayer g r other
+  pub here : has_given_up (linked one.link) r ≡ false
+  pub there : has_given_up (linked other.link) q ≡ false
+
+-- nobody gave up anybody
+abbrev pub NobodyGone : {W : Type 0} → LinkGame W → Type 0
+NobodyGone {W} g = (i other : ℕ) (player : Player W) → HasPlayer g i player
+    → has_given_up (linked player.link) other ≡ false
+
+-- The players agree, in a window of these limits, where their builds took these inputs and their runs told
+-- these rows.
+pub record HaveAgreed {W S : Type 0} (state : W → S) (physics : Physics S) (limits : Limits) (settings : Settings)
+    (inputs : Inputs) (told : ℕ → List (List (Option Move))) (g : LinkGame W) : Type 0 where
+  pub places : length g.players.items ≡ limits.players
+  pub shown : ℕ → Shown ℕ
+  pub shows : (i : ℕ) (player : Player W) → HasPlayer g i player → Shows state physics limits settings i player (shown i)
+  pub told_is : (i : ℕ) → (shown i).rows ≡ told i
+  -- the headline; that two used the same commands, and what one lacks of the other, of any two of whom neither
+  -- has given up the other
+  pub headline : AgreeWithin limits.ahead (limits.ahead + limits.ahead) limits.places limits.players (Together g) shown
+  -- and all of it of any two players, where nobody gave up anybody
+  pub quiet : NobodyGone g
+      → AgreeWithin limits.ahead (limits.ahead + limits.ahead) limits.places limits.players (AnyTwo limits.players) shown
+  -- a move of a player in a row is the one that the player's inputs make, whoever ran it
+  pub makers : (q p tic : ℕ) (move : Move) → q < limits.players → p < limits.players
+      → get_or (get_or (told q) tic []) p None ≡ Some move
+      → move ≡ used (made_by (take (tic + 1) (inputs p)) (pos 0))
+  -- a player's end is the same for any two who know it and of whom neither has given up the other
+  pub ends : (q r p a b : ℕ) → (two : Together g q r) → p < limits.players
+      → end_settled (surviving_of (linked two.one.link)) p ≡ Some a
+      → end_settled (surviving_of (linked two.other.link)) p ≡ Some b → a ≡ b
+  -- and the worlds of two such players are the same once both have begun and as long as both ran as many tics
+  pub worlds : (q r : ℕ) → (two : Together g q r) → two.one.began ≡ Bool.true → two.other.began ≡ Bool.true
+      → ran_by (shown q) ≡ ran_by (shown r) → state two.one.world ≡ state two.other.world

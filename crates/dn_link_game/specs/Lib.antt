@@ -1,0 +1,5 @@
+pub mod Playing
+pub mod Headline
+pub mod Games
+pub mod Genuine
+pub mod Going
