@@ -16,6 +16,13 @@ fn tick(at: &mut Link) {
     let _ = lean(at);
 }
 
+/// Twenty ticks without a command.
+fn waits(at: &mut Link) {
+    for _ in 0..20 {
+        let _ = lean(at);
+    }
+}
+
 /// How many runs of third players' commands a datagram has.
 fn handed(rt: &impl Abort, to: u8, bytes: &Bytes) -> u32 {
     let bundle = must!(rt; opened(to, bytes.as_slice()));
@@ -95,9 +102,7 @@ fn commands_of_one_who_is_given_up_are_not_taken(ref rt: HostRuntime) {
     let (mut key, mut one, mut two) = playing(rt, rt.alloc());
     make(rt, &mut two, 0);
     meets(rt, &mut two, &mut key);
-    for _ in 0..20 {
-        tick(&mut key);
-    }
+    waits(&mut key);
     same!(rt; give_up(&mut one, 2), GivenUp::Waiting);
     let bytes = datagram(rt, &mut key, 1);
     same!(rt; handed(rt, 1, &bytes), 1);
@@ -154,9 +159,7 @@ fn a_second_datagram_hands_on_nothing(ref rt: HostRuntime) {
     let (mut key, one, mut two) = playing(rt, rt.alloc());
     make(rt, &mut two, 0);
     meets(rt, &mut two, &mut key);
-    for _ in 0..20 {
-        tick(&mut key);
-    }
+    waits(&mut key);
     let to = one.lockstep().me();
     for _ in 0..3 {
         let bytes = datagram(rt, &mut key, to);
