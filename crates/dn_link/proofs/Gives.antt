@@ -168,21 +168,21 @@ module _ (marking : Marking) (limits : Limits) (settings : Settings) (session : 
       → AreOneGame marking limits settings (with_lockstep session player new))
       → (seal : Seal) (identity : Identity) (pace : PaceState) (to : ℕ) (new : Linked) (bytes : List ℕ)
       → (holds_back old ≡ false → Tells old.node (λ limits me m. IfSome (sent_to to limits me m).1 IsFair))
-      → Gives seal identity pace to old new bytes
-      → (flight : Option Flight) × (handed : List Handed) × WasBundled seal (after_all flight new handed to) bytes
-      × AreLinked marking limits settings (after_all flight new handed to) (put links player new)
-      × IsLater session (after_all flight new handed to)
+      → (gives : Gives seal identity pace to old new bytes)
+      → (flight : Option Flight) × WasBundled seal (after_all flight new gives.handed to) bytes
+      × AreLinked marking limits settings (after_all flight new gives.handed to) (put links player new)
+      × IsLater session (after_all flight new gives.handed to)
   gave_to kept_game seal identity pace to new bytes all_fair gives = go (holds_back old) refl gives.step
     where
       go : (test : Bool) → holds_back old ≡ test
           → ByTest test ((new.node ≡ old.node) × (gives.given ≡ None)) (SendsCarried to old.node new.node gives.given)
-          → (flight : Option Flight) × (handed : List Handed) × WasBundled seal (after_all flight new handed to) bytes
-          × AreLinked marking limits settings (after_all flight new handed to) (put links player new)
-          × IsLater session (after_all flight new handed to)
+          → (flight : Option Flight) × WasBundled seal (after_all flight new gives.handed to) bytes
+          × AreLinked marking limits settings (after_all flight new gives.handed to) (put links player new)
+          × IsLater session (after_all flight new gives.handed to)
       go true held step =
           let same = step.0 ∙ node in
           let all = gave_by seal identity pace to new bytes None gives (kept_game new.node same) tt step.1
-          (same_much new.node same) in (None, gives.handed, all.0, all.1, all.2)
+          (same_much new.node same) in (None, all.0, all.1, all.2)
       go false ready step =
           let m = linked.game.last.nodes player in
           let flight : Option Flight = (sent_to to limits player m).1 in
@@ -191,4 +191,4 @@ module _ (marking : Marking) (limits : Limits) (settings : Settings) (session : 
           let all = gave_by seal identity pace to new bytes flight gives
           (gave marking limits settings linked.game player mine to new.node sent.node
           (all_fair ready limits player m shows)) (sent_between limits player m to) sent.answer
-          (has_more new.node much) in (flight, gives.handed, all.0, all.1, all.2)
+          (has_more new.node much) in (flight, all.0, all.1, all.2)

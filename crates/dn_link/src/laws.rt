@@ -14,7 +14,7 @@ ghost use Rattle.dn_open.specs.Sealed.{sealing_of};
 ghost use Rattle.dn_link.specs.{declared.bundle.Bundle.Bundle, declared.bundle.BundleFault.BundleFault, declared.bundle.Identity.Identity, declared.received.Received.Received, Bundles.IsEmpty};
 ghost use Rattle.dn_link.specs.{Bundles.IsGenuineDatagram, Bundles.WasBundled, Bundles.WasGiven, declared.presence.Presence.TheVariants.Forgotten, Counting.has_ended, Presence.has_gone, Linked.Gives};
 ghost use Rattle.dn_link.specs.{Linked.Linked, Linked.Receives, Linked.certain, Linked.forgotten, Linked.holds_back, Linked.may_leave, Linked.never_played, LinkedGame.AreLinked, LinkedGame.IsLater};
-ghost use Rattle.dn_link.specs.{LinkedGame.StayLinked, Linking.new_peer, Hearing.HearsAll, Paced.PaceState, Reading.IsBundledAs, Relays.Handed, Relays.flights_of, Text.IsBundle, Text.sealed_bytes};
+ghost use Rattle.dn_link.specs.{LinkedGame.StayLinked, Linking.new_peer, Hearing.HearsAll, Paced.PaceState, Reading.IsBundledAs, Relays.flights_of, Text.IsBundle, Text.sealed_bytes};
 
 use dn_lockstep::{locksteps_agree, one_game_goes_on, one_game_opens};
 use dn_open::letters_keep_one_game;
@@ -93,11 +93,11 @@ pub fn linked_game_goes_on()
         → AreLinked marking limits settings session links → player < limits.players
         → (holds_back (links player) ≡ false
         → Tells (links player).node (λ limits me m. IfSome (sent_to to limits me m).1 IsFair))
-        → Gives seal identity pace to (links player) new bytes
-        → (flight : Option Flight) × (handed : List Handed)
-        × WasBundled seal (after_relays (after_packet session player flight new.node) (flights_of to handed)) bytes
+        → (gives : Gives seal identity pace to (links player) new bytes)
+        → (flight : Option Flight)
+        × WasBundled seal (after_relays (after_packet session player flight new.node) (flights_of to gives.handed)) bytes
         × StayLinked marking limits settings session links player new
-        (after_relays (after_packet session player flight new.node) (flights_of to handed)) }
+        (after_relays (after_packet session player flight new.node) (flights_of to gives.handed)) }
     ensures received { (marking : Marking) (limits : Limits) (settings : Settings) (session : Session) (links : ℕ → Linked)
         (player : ℕ) (seal : Seal) (identity : Identity) (pace : PaceState) (bytes : List ℕ) (new : Linked)
         (answer : Received)

@@ -18,7 +18,7 @@ ghost use Rattle.dn_link.specs.{declared.bundle.Bundle.Bundle, declared.bundle.B
 ghost use Rattle.dn_link.specs.{Linked.Linked, Linked.Receives, Linked.forgotten, Linked.has_given_up, Linked.holds_back, Linked.remains, Linked.surviving_of, Linking.new_peer, Notices.HearsNotice};
 ghost use Rattle.dn_link.specs.{Notices.is_notice, Notices.notice_for, Paced.PaceState, Reading.IsBundledAs, RemainingLinks.AreRemainingLinks, RemainingLinks.IsGenuineIn, RemainingLinks.KeepsGiven};
 ghost use Rattle.dn_survivor.specs.Session.{after_relays};
-ghost use Rattle.dn_link.specs.Relays.{Handed, flights_of};
+ghost use Rattle.dn_link.specs.Relays.{flights_of};
 ghost use Rattle.dn_link.specs.{RemainingLinks.StayRemaining, RemainingLinks.WasSealedIn, Surviving.GivesUpPeer, Text.IsBundle, Text.sealed_bytes};
 
 use dn_survivor::{remaining_game_opens, survivors_agree};
@@ -92,12 +92,12 @@ pub fn remaining_links_go_on()
         → remains (links player) to ≡ true
         → (holds_back (links player) ≡ false
         → Tells (links player).node (λ limits me m. IfSome (sent_to to limits me m).1 IsFair))
-        → Gives seal identity pace to (links player) new bytes
-        → (packet : Option Flight) × (handed : List Handed)
-        × WasSealedIn seal (after_relays (after_packet session player packet (surviving_of new)) (flights_of to handed))
-        bytes
+        → (gives : Gives seal identity pace to (links player) new bytes)
+        → (packet : Option Flight)
+        × WasSealedIn seal
+        (after_relays (after_packet session player packet (surviving_of new)) (flights_of to gives.handed)) bytes
         × StayRemaining marking limits settings session links player new
-        (after_relays (after_packet session player packet (surviving_of new)) (flights_of to handed)) }
+        (after_relays (after_packet session player packet (surviving_of new)) (flights_of to gives.handed)) }
     ensures told { (marking : Marking) (limits : Limits) (settings : Settings) (session : Session) (links : ℕ → Linked)
         (player to : ℕ) (report : Option Report)
         → AreRemainingLinks marking limits settings session links → player < limits.players

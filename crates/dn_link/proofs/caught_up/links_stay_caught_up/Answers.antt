@@ -81,8 +81,8 @@ returns-clause-gave c = λ marking limits settings session links player to seal 
           pace new bytes gives in_time,
       given_on_time marking limits settings session links player linked mine agreed were four to below apart seal
           identity pace new bytes gives in_time
-          (ends_on session (after_relays (after_packet session player later.0 new.node) (flights_of to later.1)) player
-          (links player).node new.node (linked.nodes player mine) refl later.3.1),
+          (ends_on session (after_relays (after_packet session player later.0 new.node) (flights_of to gives.handed)) player
+          (links player).node new.node (linked.nodes player mine) refl later.2.1),
     )
 
 pub returns-clause-received : goal.returns-clause-received

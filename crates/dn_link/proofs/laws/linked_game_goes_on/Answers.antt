@@ -60,7 +60,7 @@ returns c =
       gave = λ marking limits settings session links player to seal identity pace new bytes linked mine fair gives.
           let sent = gave_to marking limits settings session links player linked mine
           (λ now same. on.kept marking limits settings session player now linked.game same) seal identity pace to new
-          bytes fair gives in (sent.0, sent.1, sent.2, (sent.3, sent.4));
+          bytes fair gives in (sent.0, sent.1, (sent.2, sent.3));
       received = λ marking limits settings session links player seal identity pace bytes new answer linked mine genuine
           receives.
           received marking limits settings session links player linked mine c.letters_keep_one_game.ensures

@@ -32,7 +32,7 @@ pub returns-clause-gave : goal.returns-clause-gave
 returns-clause-gave c = λ marking limits settings session links player to seal identity pace new bytes linked mine stays
     fair gives.
     let sent = gave marking limits settings session links linked player mine seal identity pace to new bytes gives stays
-    fair in (sent.0, gives.handed, sent.1.0, (sent.1.1, sent.1.2))
+    fair in (sent.0, sent.1.0, (sent.1.1, sent.1.2))
 
 pub returns-clause-told : goal.returns-clause-told
 returns-clause-told c = λ marking limits settings session links player to report linked mine.

@@ -26,17 +26,18 @@ pub returns-clause-goes_on : goal.returns-clause-goes_on
 returns-clause-goes_on g c limits settings session links player mine below is any =
     let new : Linked = linked c.datagram.new.self in
     let given = c.in-Some.ensures in
+    let gives = subst (λ (l : Linked). Gives (seal_of c.args.self.now.link) (identity_of c.args.self.now.link)
+    (pace_of c.args.self.now.link) c.args.to l new c.in-Some.bytes.items) (sym is.link) given.gives in
     let on = c.remaining_links_go_on.ensures.gave (marking_of g.W.World.physics) limits settings session links player
     c.args.to (seal_of c.args.self.now.link) (identity_of c.args.self.now.link) (pace_of c.args.self.now.link) new
     c.in-Some.bytes.items mine below
     (ap (λ (l : Linked). remains l c.args.to) is.link ∙ sym given.peer)
     (subst (λ (l : Linked). holds_back l ≡ false
     → Tells l.node (λ limits me m. IfSome (sent_to c.args.to limits me m).1 IsFair)) (sym is.link) given.fair)
-    (subst (λ (l : Linked). Gives (seal_of c.args.self.now.link) (identity_of c.args.self.now.link)
-    (pace_of c.args.self.now.link) c.args.to l new c.in-Some.bytes.items) (sym is.link) given.gives) in (
-      after_relays (after_packet session player on.0 (surviving_of new)) (flights_of c.args.to on.1),
-      ((refl, refl), on.2),
+    gives in (
+      after_relays (after_packet session player on.0 (surviving_of new)) (flights_of c.args.to gives.handed),
+      ((refl, refl), on.1),
       λ other apart. refl,
-      on.3,
+      on.2,
       record { link = refl; world = is.world; unbegun = is.unbegun },
     )
