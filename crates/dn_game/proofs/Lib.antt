@@ -1,3 +1,4 @@
+pub mod Scripts
 pub mod Freshening
 pub mod Answering
 pub mod InputsMade

@@ -1,3 +1,4 @@
+pub mod Scripts
 pub mod Contents
 pub mod Represents
 pub mod Opening

@@ -1,4 +1,4 @@
-//! Tests of `dn_line`, `dn_turn`, `dn_script` and `dn_game`, in a crate of their own, since a crate that has
+//! Tests of `dn_game`, and of lines and turns of `dn_netgame`, in a crate of their own, since a crate that has
 //! tests is proved twice.
 #![tactic(auto)]
 

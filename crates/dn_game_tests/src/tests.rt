@@ -1,13 +1,13 @@
 //! Tests of lines, of turns, and of all nodes of a game.
 
 ghost use Rattle.std.specs.Prelude.{◌≤◌, ◌<◌, IfOk};
-ghost use Rattle.dn_line.specs.Udp.{IsBase};
+ghost use Rattle.dn_netgame.specs.Lines.Udp.{IsBase};
 
 mod game;
 mod line;
 mod turn;
 
-use dn_line::{LineFault, UdpLine};
+use dn_netgame::line::{LineFault, UdpLine};
 use std::alloc::Global;
 use std::net::Net;
 

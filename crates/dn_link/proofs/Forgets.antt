@@ -14,7 +14,7 @@ use Rattle.dn_link.specs.Linked.{Linked, forgotten}
 use Rattle.dn_link.specs.LinkedGame.{AreLinked, IsLater}
 use Rattle.dn_link.proofs.Forgotten.{SameBut, forgets, forgets_left, forgets_node, forgets_others}
 use Rattle.dn_link.proofs.Relinking.{AreGiven, later_by, relinked}
-use Rattle.dn_others.specs.declared.others.Others.{Others}
+use Rattle.dn_survivor.specs.declared.others.Others.{Others}
 use Rattle.dn_link.proofs.Linking as base
 use Rattle.dn_link.proofs.Reported.{at_most}
 

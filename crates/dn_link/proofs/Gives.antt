@@ -42,7 +42,7 @@ use Rattle.dn_link.proofs.Holding.{Holds, holds_same, send_holds}
 use Rattle.dn_link.proofs.Outgoing.{goes_given, stays_kept}
 use Rattle.dn_link.proofs.Kepts.{AreKept}
 use Rattle.dn_link.proofs.Relinking.{found_later, found_on, later_by, relinked}
-use Rattle.dn_others.specs.declared.others.Others.{Others}
+use Rattle.dn_survivor.specs.declared.others.Others.{Others}
 use Rattle.dn_link.proofs.Linking as base
 use Rattle.dn_link.proofs.Reported.{at_most, same_reported, same_presence}
 

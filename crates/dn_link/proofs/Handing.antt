@@ -6,14 +6,14 @@ use Rattle.dn_tic.specs.declared.command.TicCmd.{TicCmd}
 use Rattle.dn_lockstep.specs.Contents.{Contents}
 use Rattle.dn_lockstep.specs.Rings.{get}
 use Rattle.dn_lockstep.specs.Told.{command_told, got}
-use Rattle.dn_others.specs.declared.others.Others.{Others}
+use Rattle.dn_survivor.specs.declared.others.Others.{Others}
 use Rattle.dn_link.specs.declared.bundle.Part.{Part}
 use Rattle.dn_link.specs.declared.bundle.Part.TheVariants.{Relay}
 use Rattle.dn_link.specs.declared.bundle.Relay as relay
 use Rattle.dn_link.specs.Relays.{AreHandedOn, AreLacked, AreTold, Handed, handed_part}
 use Rattle.std.proofs.lemmas.Bool.{and_parts, ltb-true, not-true}
-use Rattle.dn_report.specs.declared.report.Report.{Report}
-use Rattle.dn_others.specs.Keeping.{newest_of}
+use Rattle.dn_survivor.specs.declared.report.Report.{Report}
+use Rattle.dn_survivor.specs.OfOthers.Keeping.{newest_of}
 use Rattle.dn_survivor.specs.Relaying.{MayRelay, told_gone}
 use Rattle.dn_link.specs.Handing.{HasBehind, HasTwoBehind, IsHandedFor, may_hand, shares_gone}
 use Rattle.dn_link.specs.Linked.{Linked, has_given_up, surviving_of}

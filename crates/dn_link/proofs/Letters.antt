@@ -22,8 +22,8 @@ use Rattle.dn_lockstep.specs.Steps.{IsAfter}
 use Rattle.dn_lockstep.specs.Told.{made}
 use Rattle.dn_lockstep.proofs.Counting.{made_is}
 use Rattle.dn_lockstep.proofs.Nearby.{near_from_any, told_by, told_is}
-use Rattle.dn_others.specs.declared.others.Others.{Others}
-use Rattle.dn_others.specs.Keeping.{has}
+use Rattle.dn_survivor.specs.declared.others.Others.{Others}
+use Rattle.dn_survivor.specs.OfOthers.Keeping.{has}
 use Rattle.dn_survivor.specs.OneGame.{AreRemaining}
 use Rattle.dn_survivor.specs.Session.{Session, with_survivor}
 use Rattle.dn_survivor.specs.Surviving.{Surviving, has_given_up}

@@ -1,3 +1,4 @@
+pub mod SealedReports
 pub mod Parts
 pub mod Packets
 pub mod Items

@@ -4,15 +4,15 @@ use Rattle.std.specs.Prelude.{IfSome, Result, Ok, Err, slice_get}
 use Rattle.std.specs.Option.{option_map}
 use Rattle.std.proofs.lemmas.Bool.{cases_eq}
 use Rattle.std.proofs.lemmas.Option.{none-some, same_Some}
-use Rattle.dn_report.specs.declared.report.Report.{Report}
-use Rattle.dn_report.specs.Text.{IsReport}
+use Rattle.dn_survivor.specs.declared.report.Report.{Report}
+use Rattle.dn_survivor.specs.ReportBytes.Text.{IsReport}
 use Rattle.dn_seal.specs.declared.seal.Seal.{Seal}
-use Rattle.dn_notice.specs.declared.fault.ReportDatagramFault.{ReportDatagramFault}
-use Rattle.dn_notice.specs.declared.fault.ReportDatagramFault.TheVariants.{Receiver}
-use Rattle.dn_notice.specs.Opening.{IsOpenedAs, IsReportFrom}
-use Rattle.dn_notice.specs.Text.{sealed_report_bytes}
-use Rattle.dn_notice.proofs.Openings.{one_opening}
-use Rattle.dn_notice.proofs.Sealed.{its_to, of_game}
+use Rattle.dn_link.specs.declared.notice.fault.ReportDatagramFault.{ReportDatagramFault}
+use Rattle.dn_link.specs.declared.notice.fault.ReportDatagramFault.TheVariants.{Receiver}
+use Rattle.dn_link.specs.SealedReports.Opening.{IsOpenedAs, IsReportFrom}
+use Rattle.dn_link.specs.SealedReports.Text.{sealed_report_bytes}
+use Rattle.dn_link.proofs.SealedReports.Openings.{one_opening}
+use Rattle.dn_link.proofs.SealedReports.Sealed.{its_to, of_game}
 use Rattle.dn_open.specs.Sealed.{sealing_of}
 use Rattle.dn_survivor.specs.Session.{Given, Session, after_report, reports_on}
 use Rattle.dn_link.specs.RemainingLinks.{WasSealedIn}

@@ -33,7 +33,7 @@ use Rattle.dn_link.proofs.Keeping.{LettersKeep, all_keeps}
 use Rattle.dn_link.proofs.Growing.{HasAsMuch, all_grows}
 use Rattle.dn_link.proofs.Kepts.{AreKept, met_kept, reached_kept}
 use Rattle.dn_link.proofs.Relinking.{later_by, relinked}
-use Rattle.dn_others.specs.declared.others.Others.{Others}
+use Rattle.dn_survivor.specs.declared.others.Others.{Others}
 use Rattle.dn_link.proofs.Linking as base
 use Rattle.dn_link.proofs.Reported.{at_most, larger_most}
 use Rattle.dn_link.proofs.Genuine.{same_bundle}

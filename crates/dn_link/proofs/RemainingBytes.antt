@@ -3,9 +3,9 @@ use Rattle.std.proofs.Common.{◌≡◌, ℕ, List, ap, arith, inl, inr}
 use Rattle.std.specs.Prelude.{Result, Ok, Err, slice_index}
 use Rattle.dn_survivor.specs.Session.{Session}
 use Rattle.dn_seal.specs.declared.seal.Seal.{Seal}
-use Rattle.dn_notice.specs.declared.fault.ReportDatagramFault.{ReportDatagramFault}
-use Rattle.dn_notice.specs.Opening.{IsOpenedAs}
-use Rattle.dn_notice.proofs.Openings.{one_opening}
+use Rattle.dn_link.specs.declared.notice.fault.ReportDatagramFault.{ReportDatagramFault}
+use Rattle.dn_link.specs.SealedReports.Opening.{IsOpenedAs}
+use Rattle.dn_link.proofs.SealedReports.Openings.{one_opening}
 use Rattle.dn_open.specs.Sealed.{sealing_of}
 use Rattle.dn_link.specs.declared.bundle.Bundle.{Bundle}
 use Rattle.dn_link.specs.declared.bundle.BundleFault.{BundleFault}

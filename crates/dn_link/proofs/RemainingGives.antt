@@ -20,7 +20,7 @@ use Rattle.dn_survivor.specs.Relaying.{MayRelay}
 use Rattle.dn_lockstep.specs.Session.{given_on}
 use Rattle.dn_lockstep.specs.Told.{command_told}
 use Rattle.dn_machine.proofs.Put.{put_at}
-use Rattle.dn_others.specs.declared.others.Others.{Others}
+use Rattle.dn_survivor.specs.declared.others.Others.{Others}
 use Rattle.dn_link.specs.Relays.{Handed, flights_of}
 use Rattle.dn_link.proofs.Relays.{gives_all}
 use Rattle.dn_survivor.specs.Surviving.{Surviving, has_given_up}

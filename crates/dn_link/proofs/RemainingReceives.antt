@@ -1,20 +1,20 @@
 -- What a link takes in, within one game in which players may be given up.
 use Rattle.std.proofs.Common.{◌≡◌, ◌<◌, ℕ, Bool, true, false, List, refl, ap, sym, ◌∙◌, subst, arith, All, Some, inl, inr}
 use Rattle.std.specs.Prelude.{◌&&◌, not, Result, Ok, Err}
-use Rattle.dn_report.specs.declared.report.Report.{Report}
+use Rattle.dn_survivor.specs.declared.report.Report.{Report}
 use Rattle.dn_setup.specs.Settings.{Settings}
 use Rattle.dn_machine.specs.Limits.{Limits}
 use Rattle.dn_machine.specs.Node.{put}
 use Rattle.dn_lockstep.specs.Contents.{Contents}
 use Rattle.dn_lockstep.specs.Marking.{Marking}
-use Rattle.dn_others.specs.declared.others.Others.{Others}
-use Rattle.dn_others.specs.Keeping.{has}
+use Rattle.dn_survivor.specs.declared.others.Others.{Others}
+use Rattle.dn_survivor.specs.OfOthers.Keeping.{has}
 use Rattle.dn_survivor.specs.OneGame.{AreRemaining}
 use Rattle.dn_survivor.specs.Session.{Given, Session, with_survivor}
 use Rattle.dn_survivor.proofs.OneGame as one_game
 use Rattle.dn_seal.specs.declared.seal.Seal.{Seal}
-use Rattle.dn_notice.specs.declared.fault.ReportDatagramFault.{ReportDatagramFault}
-use Rattle.dn_notice.specs.Opening.{IsOpenedAs}
+use Rattle.dn_link.specs.declared.notice.fault.ReportDatagramFault.{ReportDatagramFault}
+use Rattle.dn_link.specs.SealedReports.Opening.{IsOpenedAs}
 use Rattle.dn_open.specs.Sealed.{sealing_of}
 use Rattle.dn_link.specs.declared.bundle.Bundle.{Bundle}
 use Rattle.dn_link.specs.declared.bundle.BundleFault.{BundleFault}

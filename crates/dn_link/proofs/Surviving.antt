@@ -1,7 +1,7 @@
 -- Whose a survivor is stays.
 use Rattle.std.proofs.Common.{◌≡◌, ℕ, Option, Some, None, ap}
-use Rattle.dn_report.specs.declared.report.Report.{Report}
-use Rattle.dn_others.specs.declared.others.Others.{Others}
+use Rattle.dn_survivor.specs.declared.report.Report.{Report}
+use Rattle.dn_survivor.specs.declared.others.Others.{Others}
 use Rattle.dn_survivor.specs.Calls.{GivesUp, GivesUpUnless, HearsReport, HearsReportUnless, refused_give_up, refused_report}
 use Rattle.dn_survivor.specs.Surviving.{Surviving}
 use Rattle.dn_survivor.specs.declared.answers.GivenUp.{GivenUp}

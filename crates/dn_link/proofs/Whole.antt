@@ -1,7 +1,7 @@
 -- Links that have given up nobody.
 use Rattle.std.proofs.Common.{◌≡◌, ℕ, zero, suc, Bool, false, List, refl, ap, ◌∙◌}
-use Rattle.dn_others.specs.Keeping.{has, nothing_kept}
-use Rattle.dn_others.specs.declared.others.Others.{Others}
+use Rattle.dn_survivor.specs.OfOthers.Keeping.{has, nothing_kept}
+use Rattle.dn_survivor.specs.declared.others.Others.{Others}
 use Rattle.dn_link.specs.Linked.{IsWhole, Linked}
 
 -- nobody is given up at first

@@ -1,3 +1,4 @@
+pub mod SealedReports
 pub mod Text
 pub mod Told
 pub mod Reading

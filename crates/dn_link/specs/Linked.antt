@@ -5,8 +5,8 @@ use Rattle.dn_machine.specs.declared.answers.Phase.TheVariants.{Gathering}
 use Rattle.dn_machine.specs.Node.{is_ended, put}
 use Rattle.dn_lockstep.specs.Contents.{Contents, end_in}
 use Rattle.dn_lockstep.specs.Told.{made}
-use Rattle.dn_others.specs.Keeping.{has}
-use Rattle.dn_others.specs.declared.others.Others.{Others}
+use Rattle.dn_survivor.specs.OfOthers.Keeping.{has}
+use Rattle.dn_survivor.specs.declared.others.Others.{Others}
 use Rattle.dn_survivor.specs.Surviving.{Surviving}
 use Rattle.dn_seal.specs.declared.seal.Seal.{Seal}
 use Rattle.dn_open.specs.Sealed.{sealing_of}

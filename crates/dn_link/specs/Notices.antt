@@ -1,10 +1,10 @@
 -- What a link makes of sealed reports.
 use Rattle.std.specs.Prelude.{◌≡◌, ℕ, ◌==◌, Bool, List, get_or, Option, Result, Ok, Err}
 use Rattle.std.specs.Option.{option_map}
-use Rattle.dn_report.specs.declared.report.Report.{Report}
-use Rattle.dn_notice.specs.declared.fault.ReportDatagramFault.{ReportDatagramFault}
-use Rattle.dn_notice.specs.Opening.{IsOpenedAs}
-use Rattle.dn_notice.specs.Text.{sealed_report_bytes}
+use Rattle.dn_survivor.specs.declared.report.Report.{Report}
+use Rattle.dn_link.specs.declared.notice.fault.ReportDatagramFault.{ReportDatagramFault}
+use Rattle.dn_link.specs.SealedReports.Opening.{IsOpenedAs}
+use Rattle.dn_link.specs.SealedReports.Text.{sealed_report_bytes}
 use Rattle.dn_survivor.specs.Calls.{HearsReport}
 use Rattle.dn_survivor.specs.Telling.{report_for}
 use Rattle.dn_survivor.specs.declared.answers.Reported.{Reported}

@@ -1,7 +1,7 @@
 -- What becomes of the peers of a link that gives up a player.
 use Rattle.std.specs.Prelude.{◌≡◌, ℕ, ◌&&◌, Bool, true, false, not, Option, Some, None}
-use Rattle.dn_report.specs.declared.report.Report.{Report}
-use Rattle.dn_others.specs.Keeping.{has, newest_of}
+use Rattle.dn_survivor.specs.declared.report.Report.{Report}
+use Rattle.dn_survivor.specs.OfOthers.Keeping.{has, newest_of}
 use Rattle.dn_survivor.specs.Calls.{GivesUp}
 use Rattle.dn_survivor.specs.Surviving.{Surviving}
 use Rattle.dn_survivor.specs.declared.answers.GivenUp.{GivenUp}

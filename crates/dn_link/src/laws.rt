@@ -8,7 +8,7 @@ ghost use Rattle.dn_machine.specs.{Running.on_run, Running.on_quit};
 ghost use Rattle.dn_lockstep.specs.{Agreed.AreAgreed, Commands.Builds, Contents.Contents, Contents.end_in, Marking.Marking, Near.IsFair, OneGame.AreOneGame, OneGame.world_told, Represents.Represents};
 ghost use Rattle.dn_lockstep.specs.{Runs.RunsBy, Session.Session, Session.after_build, Session.after_packet, Session.after_relays, Session.after_run, Session.opening_session, Session.with_lockstep, Sent.sent_to};
 ghost use Rattle.dn_lockstep.specs.{Steps.Steps, Steps.Tells, Told.got, Told.made};
-ghost use Rattle.dn_others.specs.Keeping.{nothing_kept};
+ghost use Rattle.dn_survivor.specs.OfOthers.Keeping.{nothing_kept};
 ghost use Rattle.dn_seal.specs.{declared.opened.Opened.Opened, declared.seal.Seal.Seal, Opening.Sealing};
 ghost use Rattle.dn_open.specs.Sealed.{sealing_of};
 ghost use Rattle.dn_link.specs.{declared.bundle.Bundle.Bundle, declared.bundle.BundleFault.BundleFault, declared.bundle.Identity.Identity, declared.received.Received.Received, Bundles.IsEmpty};

@@ -15,6 +15,7 @@ mod laws;
 mod leaning;
 mod line;
 mod link;
+pub mod notice;
 mod onward;
 mod overdue;
 mod pace;

@@ -49,7 +49,7 @@ impl Link {
     ghost use Rattle.dn_machine.specs.{Building.on_build, Running.on_quit, Game.fresh};
     ghost use Rattle.dn_lockstep.specs.{Steps.Steps, Contents.whose, Opening.IsAdmittedWithin, Opening.limits_within, Opening.whose_within, Represents.Represents};
     ghost use Rattle.dn_setup.specs.Settings.{Settings as Choice};
-    ghost use Rattle.dn_others.specs.Keeping.{nothing_kept};
+    ghost use Rattle.dn_survivor.specs.OfOthers.Keeping.{nothing_kept};
     ghost use Rattle.dn_link.specs.{Linking.identity_of, Linking.linked, Linking.new_peer, Linking.seal_of, Pace.after_input, Pacing.new_pace, Pacing.pace_of};
     ghost use Rattle.dn_machine.specs.declared.answers.Made.TheVariants as made;
 

@@ -4,7 +4,7 @@ ghost use Rattle.std.specs.Prelude.{◌≡◌};
 ghost use Rattle.dn_link.specs.Linked.{received_of};
 
 use crate::bundle::BundleFault;
-use dn_notice::ReportDatagramFault;
+use crate::notice::ReportDatagramFault;
 use dn_survivor::Reported;
 
 /// What a link makes of bytes that came in.

@@ -10,7 +10,7 @@ use Rattle.dn_survivor.specs.Session.{Session}
 use Rattle.dn_link.specs.Linked.{Linked}
 use Rattle.dn_lockstep.specs.Represents.{Represents}
 use Rattle.dn_machine.specs.Game.{fresh}
-use Rattle.dn_others.specs.Keeping.{nothing_kept}
+use Rattle.dn_survivor.specs.OfOthers.Keeping.{nothing_kept}
 use Rattle.dn_link.specs.Linking.{linked, new_peer, seal_of}
 use Rattle.dn_link.specs.RemainingLinks.{AreRemainingLinks, WasSealedIn}
 use Rattle.dn_link_game.specs.Playing.{IsPlayer, marking_of}

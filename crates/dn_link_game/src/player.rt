@@ -7,9 +7,9 @@ ghost use Rattle.dn_link.specs.{Linked.surviving_of, Linking.linked, Linking.sea
 ghost use Rattle.dn_link_game.specs.Playing.{CatchesUp, GoesOn, GoesOnIf, IsBegun, TakesNothing};
 
 use arrayvec::ArrayVec;
+use dn_link::notice::MAX_SEALED_REPORT;
 use dn_link::{Link, Received, remaining_links_agree, remaining_links_go_on};
 use dn_machine::{Made, Phase, Ran};
-use dn_notice::MAX_SEALED_REPORT;
 use dn_survivor::GivenUp;
 use dn_tic::{Command, Keys, Move};
 use dn_world::World;

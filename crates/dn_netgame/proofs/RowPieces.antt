@@ -9,7 +9,7 @@ use Rattle.dn_world.specs.Plane.{Spots, walking}
 use Rattle.dn_demo.specs.Feeding.{Feeding, Shows, Takes}
 use Rattle.dn_demo.specs.Listed.{AreListed, Lists, TellsFront}
 use Rattle.dn_demo.proofs.Listing.{tells_more, tells_all, rows_of_listed}
-use Rattle.dn_text.specs.RowLines.{row_lines, lines_of_rows}
+use Rattle.dn_netgame.specs.Texts.RowLines.{row_lines, lines_of_rows}
 use Rattle.dn_netgame.specs.DemoShown.{IsDemo}
 use Rattle.dn_netgame.specs.RowsShown.{AreRows, IsRowsShown, ListsWhole, ListsFront}
 use Rattle.dn_netgame.specs.Transfer.{TakesUpTo, AppendsFront}

@@ -3,7 +3,7 @@ use Rattle.std.proofs.Common.{◌≡◌, ℕ, List, Option, Some, subst}
 use Rattle.std.specs.Prelude.{IfSome}
 use Rattle.dn_world.specs.Physics.{Physics}
 use Rattle.dn_node.specs.declared.node.Node.{Node}
-use Rattle.dn_turn.specs.Rounds.{AreSeated}
+use Rattle.dn_netgame.specs.Turning.Rounds.{AreSeated}
 use Rattle.dn_game.specs.declared.config.GameConfig.{GameConfig}
 use Rattle.dn_game.specs.Fresh.{AreFresh}
 use Rattle.dn_game.specs.Opening.{rules_in}

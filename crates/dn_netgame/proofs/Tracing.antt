@@ -6,8 +6,8 @@ use Rattle.dn_machine.specs.declared.events.Done.{Done}
 use Rattle.dn_machine.specs.declared.events.Event.{Event}
 use Rattle.dn_machine.specs.declared.events.Refusal.{Refusal}
 use Rattle.dn_game.specs.Observed.{Observing, ObservesAll}
-use Rattle.dn_script.specs.Written.{event_line, script_text}
-use Rattle.dn_text.specs.TraceLines.{trace_line, trace_lines}
+use Rattle.dn_game.specs.Scripts.Written.{event_line, script_text}
+use Rattle.dn_netgame.specs.Texts.TraceLines.{trace_line, trace_lines}
 use Rattle.dn_netgame.specs.Told.{IsNotLeftOut, AddsTraced, AddsScripted}
 
 -- the lines of events, each behind those before it

@@ -1,12 +1,12 @@
 -- What is printed of the nodes of a game that played over UDP.
 use Rattle.std.specs.Prelude.{◌≡◌, ◌⊎◌, ℕ, ◌-◌, List, [], length, codes}
 use Rattle.dn_world.specs.Plane.{Spots, walking}
-use Rattle.dn_line.specs.Udp.{Ports, UdpSends, UdpPolls}
+use Rattle.dn_netgame.specs.Lines.Udp.{Ports, UdpSends, UdpPolls}
 use Rattle.dn_node.specs.declared.node.Node.{Node}
-use Rattle.dn_turn.specs.Rounds.{Seat, Table, AreSeated, TakeRounds}
+use Rattle.dn_netgame.specs.Turning.Rounds.{Seat, Table, AreSeated, TakeRounds}
 use Rattle.dn_game.specs.declared.config.GameConfig.{GameConfig}
 use Rattle.dn_game.specs.Opening.{config_of}
-use Rattle.dn_text.specs.GameLines.{node_lines}
+use Rattle.dn_netgame.specs.Texts.GameLines.{node_lines}
 use Rattle.dn_netgame.specs.PlayShown.{failures, new_ports, new_seat}
 
 -- the seats of a game's new nodes

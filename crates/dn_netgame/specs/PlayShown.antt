@@ -3,7 +3,7 @@ use Rattle.std.specs.Prelude.{◌≡◌, ◌⊎◌, ℕ, Bool, false, List, code
 use Rattle.dn_setup.specs.Settings.{Settings}
 use Rattle.dn_world.specs.Physics.{Physics}
 use Rattle.dn_world.specs.Plane.{Spots, walking}
-use Rattle.dn_line.specs.Udp.{Ports, UdpSends, UdpPolls}
+use Rattle.dn_netgame.specs.Lines.Udp.{Ports, UdpSends, UdpPolls}
 use Rattle.dn_machine.specs.Game.{fresh}
 use Rattle.dn_machine.specs.Node.{put}
 use Rattle.dn_machine.specs.Running.{on_quit}
@@ -11,10 +11,10 @@ use Rattle.dn_lockstep.specs.declared.config.Config.{Config}
 use Rattle.dn_lockstep.specs.Opening.{limits_in}
 use Rattle.dn_node.specs.Contents.{Contents}
 use Rattle.dn_node.specs.Represents.{Represents}
-use Rattle.dn_turn.specs.Giving.{Sends}
-use Rattle.dn_turn.specs.Hearing.{Polls}
-use Rattle.dn_turn.specs.Rounds.{Seat, Table, TakeRounds, rules_at}
-use Rattle.dn_text.specs.NodeLines.{node_line}
+use Rattle.dn_netgame.specs.Turning.Giving.{Sends}
+use Rattle.dn_netgame.specs.Turning.Hearing.{Polls}
+use Rattle.dn_netgame.specs.Turning.Rounds.{Seat, Table, TakeRounds, rules_at}
+use Rattle.dn_netgame.specs.Texts.NodeLines.{node_line}
 
 -- ports of players that are bound here, and no call has failed
 abbrev pub new_ports : (base first last players : ℕ) → Ports

@@ -3,7 +3,7 @@ use Rattle.std.specs.Prelude.{◌≡◌, ◌≤◌, ◌⊎◌, ℕ, ◌+◌, ◌
 use Rattle.std.specs.Io.KnownBytes.{Appends, Consumes}
 use Rattle.dn_tic.specs.declared.command.Move.{Move}
 use Rattle.dn_demo.specs.Reading.{HasRows}
-use Rattle.dn_text.specs.RowLines.{lines_of_rows}
+use Rattle.dn_netgame.specs.Texts.RowLines.{lines_of_rows}
 use Rattle.dn_netgame.specs.DemoShown.{IsDemo}
 use Rattle.dn_netgame.specs.Transfer.{TakesUpTo, AppendsFront}
 use Rattle.dn_netgame.specs.declared.fault.RunFault.{RunFault}

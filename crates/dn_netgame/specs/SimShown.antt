@@ -4,12 +4,12 @@ use Rattle.dn_world.specs.Plane.{Spots, walking}
 use Rattle.dn_machine.specs.declared.events.Event.{Event}
 use Rattle.dn_game.specs.declared.config.GameConfig.{GameConfig}
 use Rattle.dn_game.specs.declared.played.Played.{Played}
-use Rattle.dn_script.specs.declared.script.ScriptFault.{ScriptFault}
-use Rattle.dn_script.specs.declared.script.ScriptFault.TheVariants.{TooLong, Line, Memory}
+use Rattle.dn_game.specs.declared.script.reading.ScriptFault.{ScriptFault}
+use Rattle.dn_game.specs.declared.script.reading.ScriptFault.TheVariants.{TooLong, Line, Memory}
 use Rattle.dn_game.specs.Opening.{rules_in}
 use Rattle.dn_game.specs.Played.{IsPlayed}
-use Rattle.dn_script.specs.Script.{IsReadAs}
-use Rattle.dn_text.specs.ScriptLines.{bad_line}
+use Rattle.dn_game.specs.Scripts.Script.{IsReadAs}
+use Rattle.dn_netgame.specs.Texts.ScriptLines.{bad_line}
 use Rattle.dn_netgame.specs.Told.{Account}
 
 -- the lines and the exit status are those of a game of this many walkers that has played these events, told in

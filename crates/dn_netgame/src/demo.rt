@@ -7,9 +7,9 @@ ghost use Rattle.dn_netgame.specs.{DemoShown.demo_limit, DemoShown.IsDemo, Shown
 
 use crate::fault::RunFault;
 use crate::feeding::{fed_demo, feed_demo};
+use crate::text::text_of_demo;
 use crate::transfer::print;
 use dn_demo::Feed;
-use dn_text::text_of_demo;
 use dn_world::Walk;
 use std::alloc::Global;
 use std::io::{Read, Write};

@@ -3,20 +3,20 @@
 ghost use Rattle.std.specs.{Prelude.◌≡◌, Prelude.◌++◌, Prelude.[], Prelude.length, Prelude.IfOk, Prelude.IfErr, Prelude.IfSome, Prelude.OnOk, String.string_bytes};
 ghost use Rattle.dn_demo.specs.Recorded.{IsLimit};
 ghost use Rattle.dn_lockstep.specs.Opening.{IsGame};
-ghost use Rattle.dn_line.specs.Udp.{IsBase};
-ghost use Rattle.dn_turn.specs.Rounds.{LeadAll, TakeRounds};
-ghost use Rattle.dn_text.specs.GameLines.{node_lines};
+ghost use Rattle.dn_netgame.specs.Lines.Udp.{IsBase};
+ghost use Rattle.dn_netgame.specs.Turning.Rounds.{LeadAll, TakeRounds};
+ghost use Rattle.dn_netgame.specs.Texts.GameLines.{node_lines};
 ghost use Rattle.dn_netgame.specs.{LoopShown.IsLoop, Shown.PrintsOrFails, declared.fault.RunFault.RunFault};
 
 use crate::fault::RunFault;
 use crate::games::new_walks;
+use crate::line::{Line, UdpLine};
 use crate::netplay::{NO_SOCKET, NetRounds, UNBOUND};
+use crate::text::push_node;
 use crate::transfer::print;
+use crate::turns::rounds;
 use dn_game::{GameConfig, GameFault, nodes_of};
-use dn_line::{Line, UdpLine};
 use dn_node::Node;
-use dn_text::push_node;
-use dn_turn::rounds;
 use dn_world::World;
 use std::alloc::{AllocError, Global};
 use std::io::Write;

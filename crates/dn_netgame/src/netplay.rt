@@ -4,16 +4,16 @@ ghost use Rattle.std.specs.Prelude.{◌≡◌, ◌<◌, length, Err, IfOk, IfErr
 ghost use Rattle.dn_demo.specs.Recorded.{IsLimit};
 ghost use Rattle.dn_node.specs.Contents.{contents};
 ghost use Rattle.dn_lockstep.specs.Opening.{IsGame, IsKeyed};
-ghost use Rattle.dn_line.specs.Udp.{IsBase};
-ghost use Rattle.dn_turn.specs.Rounds.{LeadAll};
+ghost use Rattle.dn_netgame.specs.Lines.Udp.{IsBase};
+ghost use Rattle.dn_netgame.specs.Turning.Rounds.{LeadAll};
 ghost use Rattle.dn_netgame.specs.{PlayShown.PlaysOut, PlayShown.HasEverPlayed, PlayShown.IsPlay, Shown.PrintsOrFails, declared.fault.RunFault.RunFault};
 
 use crate::fault::RunFault;
+use crate::line::{Line, UdpLine};
+use crate::text::push_node;
 use crate::transfer::print;
-use dn_line::{Line, UdpLine};
+use crate::turns::rounds;
 use dn_node::{Config, Node, NodeFault};
-use dn_text::push_node;
-use dn_turn::rounds;
 use dn_world::{Walk, World};
 use std::alloc::Global;
 use std::io::Write;

@@ -4,9 +4,9 @@
 ghost use Rattle.std.specs.{Prelude.◌≡◌, Prelude.[], Prelude.IfOk, String.string_bytes};
 ghost use Rattle.dn_netgame.specs.Told.{Account, IsQuiet, IsTrace, IsScript, AddsTraced, AddsScripted, HasText};
 
+use crate::text::{push_game, push_trace_line};
+use dn_game::script::push_event_line;
 use dn_game::{Done, Event, Nobody, Observer, Played, Refusal};
-use dn_script::push_event_line;
-use dn_text::{push_game, push_trace_line};
 use dn_world::Walk;
 use std::alloc::{AllocError, Global};
 

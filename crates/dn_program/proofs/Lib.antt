@@ -1,2 +1,4 @@
+pub mod OptionValues
+pub mod Keys
 pub mod More
 pub mod Subcommands

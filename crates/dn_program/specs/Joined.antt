@@ -3,8 +3,8 @@ use Rattle.std.specs.Prelude.{◌≡◌, ◌⊎◌, ℕ, codes}
 use Rattle.clap.specs.declared.parser.matches.ArgMatches.{ArgMatches}
 use Rattle.dn_greeting.specs.declared.greeting.Address.{Address}
 use Rattle.dn_host.specs.declared.guest.Guest.{Guest}
-use Rattle.dn_options.specs.Given.{Finds, IsByteOf}
-use Rattle.dn_options.specs.Session.{IsPortOf}
+use Rattle.dn_program.specs.OptionValues.Given.{Finds, IsByteOf}
+use Rattle.dn_program.specs.OptionValues.Session.{IsPortOf}
 
 -- whom a joiner calls, and which seat and how many players it wants, where its options say so
 pub record IsGuestOf (host : Address) (matches : ArgMatches) (guest : Guest) : Type 0 where

@@ -1,3 +1,5 @@
+pub mod OptionValues
+pub mod Keys
 pub mod Arguments
 pub mod Commands
 pub mod Endings

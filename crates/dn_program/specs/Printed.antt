@@ -5,8 +5,8 @@ use Rattle.dn_host.specs.declared.ends.Ending.TheVariants.{Ended, Refused, Hinte
 use Rattle.dn_host.specs.declared.ends.HostFault.{HostFault}
 use Rattle.dn_host.specs.declared.ends.HostFault.TheVariants as host
 use Rattle.dn_host.specs.declared.ends.Outcome.{Outcome}
-use Rattle.dn_key.specs.Fault.{is_refusal}
-use Rattle.dn_key.specs.declared.fault.KeyFault.{KeyFault}
+use Rattle.dn_program.specs.Keys.Fault.{is_refusal}
+use Rattle.dn_program.specs.declared.key.fault.KeyFault.{KeyFault}
 use Rattle.dn_netgame.specs.declared.fault.RunFault.{RunFault}
 use Rattle.dn_netgame.specs.declared.fault.RunFault.TheVariants.{Read, Write, Memory}
 use Rattle.dn_program.specs.Endings.{ending_status}

@@ -6,12 +6,12 @@ use Rattle.dn_game.specs.declared.config.GameConfig.{GameConfig}
 use Rattle.dn_host.specs.declared.host.Hosting.{Hosting}
 use Rattle.dn_host.specs.declared.plan.Plan.{Plan}
 use Rattle.dn_host.specs.declared.udp.Udp.{Udp}
-use Rattle.dn_key.specs.Fault.{IsOfMaking}
-use Rattle.dn_key.specs.Files.{IsRead}
-use Rattle.dn_key.specs.declared.fault.KeyFault.{KeyFault}
+use Rattle.dn_program.specs.Keys.Fault.{IsOfMaking}
+use Rattle.dn_program.specs.Keys.Files.{IsRead}
+use Rattle.dn_program.specs.declared.key.fault.KeyFault.{KeyFault}
 use Rattle.dn_netgame.specs.declared.fault.RunFault.{RunFault}
-use Rattle.dn_options.specs.Session.{IsPaceOf}
-use Rattle.dn_options.specs.declared.session.Pace.{Pace}
+use Rattle.dn_program.specs.OptionValues.Session.{IsPaceOf}
+use Rattle.dn_program.specs.declared.options.session.Pace.{Pace}
 use Rattle.dn_program.specs.Printed.{Answers, key_status}
 use Rattle.dn_program.specs.Status.{broken_off, misused}
 

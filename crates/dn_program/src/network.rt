@@ -6,6 +6,8 @@ ghost use Rattle.dn_program.specs.{Joined.IsGuestOf, Joined.IsOwnPort, Printed.A
 ghost use Rattle.dn_program.specs.{Sessions.IsSecretOf};
 
 use crate::ends::print_session;
+use crate::key::{KEY, KeyFault, make_key, read_key};
+use crate::options::Pace;
 use crate::say::say_line;
 use crate::screen::ErrorScreen;
 use crate::status::{BROKEN_OFF, MISUSED, REFUSED};
@@ -13,9 +15,7 @@ use clap::ArgMatches;
 use dn_game::GameConfig;
 use dn_greeting::{Address, Terms};
 use dn_host::{Guest, Hosting, Plan, Udp, address_of, host_game, join_game};
-use dn_key::{KEY, KeyFault, make_key, read_key};
 use dn_netgame::RunFault;
-use dn_options::Pace;
 use std::net::{Net, ToSocketAddrs};
 use std::random::RandomSource;
 use std::rt::Files;
@@ -43,7 +43,7 @@ pub(crate) fn run_key(
 ) -> Result<u8, RunFault>
     ensures { IsKeyRun (first_value (found_of matches.now) (codes "file")) result }
 {
-    let Some(file) = dn_options::file(matches) else {
+    let Some(file) = crate::options::file(matches) else {
         return Ok(MISUSED);
     };
     match make_key(rt, file) {
@@ -56,7 +56,7 @@ pub(crate) fn run_key(
 fn secret_of(rt: &impl Files, matches: &ArgMatches<'_>) -> Result<Option<[u8; KEY]>, KeyFault>
     ensures { IsSecretOf matches.now result }
 {
-    match dn_options::key(matches) {
+    match crate::options::key(matches) {
         Some(path) => Ok(Some(read_key(rt, path)?)),
         None => Ok(None),
     }
@@ -82,7 +82,7 @@ fn prepared(
 ) -> Result<Result<(Plan, Udp), u8>, RunFault>
     ensures { IsPrepared raw matches.now result }
 {
-    let Some(pace) = dn_options::pace_of(matches) else {
+    let Some(pace) = crate::options::pace_of(matches) else {
         return Ok(Err(MISUSED));
     };
     let secret = match secret_of(rt, matches) {
@@ -120,13 +120,13 @@ pub(crate) fn run_host<R: Print + Eprint + AllocGlobal + Net + Files + RandomSou
     matches: &ArgMatches<'_>,
 ) -> Result<u8, RunFault> {
     let (Some((game, players)), Some(rate), Some(port)) = (
-        dn_options::game(matches),
-        dn_options::rate(matches),
-        dn_options::port(matches),
+        crate::options::game(matches),
+        crate::options::rate(matches),
+        crate::options::port(matches),
     ) else {
         return Ok(MISUSED);
     };
-    let raw = dn_options::raw(matches);
+    let raw = crate::options::raw(matches);
     let (plan, mut wire) = match prepared(rt, raw, port, matches)? {
         Ok(ready) => ready,
         Err(status) => return Ok(status),
@@ -151,8 +151,8 @@ fn guest_of(host: Address, matches: &ArgMatches<'_>) -> Guest
 {
     Guest {
         host,
-        seat: dn_options::me(matches),
-        players: dn_options::players(matches),
+        seat: crate::options::me(matches),
+        players: crate::options::players(matches),
     }
 }
 
@@ -160,7 +160,7 @@ fn guest_of(host: Address, matches: &ArgMatches<'_>) -> Guest
 fn own_port(matches: &ArgMatches<'_>) -> u16
     ensures { IsOwnPort matches.now result }
 {
-    dn_options::port(matches).unwrap_or(0)
+    crate::options::port(matches).unwrap_or(0)
 }
 
 /// Runs `join`, and answers the exit status. With `each_second` it tells each second how the game stands.
@@ -169,10 +169,10 @@ pub(crate) fn run_join<R: Print + Eprint + AllocGlobal + Net + Files + RandomSou
     each_second: bool,
     matches: &ArgMatches<'_>,
 ) -> Result<u8, RunFault> {
-    let Some(address) = dn_options::address(matches) else {
+    let Some(address) = crate::options::address(matches) else {
         return Ok(MISUSED);
     };
-    let raw = dn_options::raw(matches);
+    let raw = crate::options::raw(matches);
     let Some(host) = found(rt, address) else {
         say_line(rt, raw, "address: not found")?;
         return Ok(REFUSED);

@@ -42,7 +42,7 @@ fn run_rows_of(rt: &(impl Input + Print + AllocGlobal)) -> Status {
 
 /// Runs `upgrade`, and answers the exit status.
 fn run_upgrading(rt: &(impl Input + Print + AllocGlobal), matches: &ArgMatches<'_>) -> Status {
-    let Some(limit) = dn_options::limit(matches) else {
+    let Some(limit) = crate::options::limit(matches) else {
         return Ok(MISUSED);
     };
     run_upgrade(rt.alloc(), limit, &mut rt.reader(), &mut io::writer(rt))
@@ -50,11 +50,11 @@ fn run_upgrading(rt: &(impl Input + Print + AllocGlobal), matches: &ArgMatches<'
 
 /// Runs `sim`, and answers the exit status.
 fn run_script(rt: &(impl Input + Print + AllocGlobal), matches: &ArgMatches<'_>) -> Status {
-    let Some((config, players)) = dn_options::game(matches) else {
+    let Some((config, players)) = crate::options::game(matches) else {
         return Ok(MISUSED);
     };
     let (mut input, mut output) = (rt.reader(), io::writer(rt));
-    if dn_options::trace(matches) {
+    if crate::options::trace(matches) {
         tell_sim::<Trace, _, _>(rt.alloc(), config, players, &mut input, &mut output)
     } else {
         tell_sim::<Nobody, _, _>(rt.alloc(), config, players, &mut input, &mut output)
@@ -63,19 +63,19 @@ fn run_script(rt: &(impl Input + Print + AllocGlobal), matches: &ArgMatches<'_>)
 
 /// Runs `storm`, and answers the exit status.
 fn run_schedule(rt: &(impl Print + AllocGlobal), matches: &ArgMatches<'_>) -> Status {
-    let Some((config, players)) = dn_options::game(matches) else {
+    let Some((config, players)) = crate::options::game(matches) else {
         return Ok(MISUSED);
     };
-    let Some((seed, count, calm)) = dn_options::storm(matches) else {
+    let Some((seed, count, calm)) = crate::options::storm(matches) else {
         return Ok(MISUSED);
     };
     let mut output = io::writer(rt);
-    let as_script = dn_options::script(matches);
+    let as_script = crate::options::script(matches);
     let calm = if as_script { None } else { Some(calm) };
     let storm = Storm { seed, count, calm };
     if as_script {
         tell_storm::<Script, _>(rt.alloc(), config, players, storm, &mut output)
-    } else if dn_options::trace(matches) {
+    } else if crate::options::trace(matches) {
         tell_storm::<Trace, _>(rt.alloc(), config, players, storm, &mut output)
     } else {
         tell_storm::<Nobody, _>(rt.alloc(), config, players, storm, &mut output)
@@ -84,10 +84,10 @@ fn run_schedule(rt: &(impl Print + AllocGlobal), matches: &ArgMatches<'_>) -> St
 
 /// Runs `loop`, and answers the exit status.
 fn run_all(rt: &(impl Net + Print + AllocGlobal), matches: &ArgMatches<'_>) -> Status {
-    let Some((config, players)) = dn_options::game(matches) else {
+    let Some((config, players)) = crate::options::game(matches) else {
         return Ok(MISUSED);
     };
-    let Some((seed, count, base)) = dn_options::rounds(matches) else {
+    let Some((seed, count, base)) = crate::options::rounds(matches) else {
         return Ok(MISUSED);
     };
     let mut output = io::writer(rt);
@@ -106,9 +106,9 @@ fn run_all(rt: &(impl Net + Print + AllocGlobal), matches: &ArgMatches<'_>) -> S
 /// Runs `play`, and answers the exit status. The choice of game is player 0's.
 fn run_one(rt: &(impl Net + Print + AllocGlobal), matches: &ArgMatches<'_>) -> Status {
     let (Some((game, players)), Some((seed, count, base)), Some(me)) = (
-        dn_options::game(matches),
-        dn_options::rounds(matches),
-        dn_options::me(matches),
+        crate::options::game(matches),
+        crate::options::rounds(matches),
+        crate::options::me(matches),
     ) else {
         return Ok(MISUSED);
     };
@@ -125,7 +125,7 @@ fn run_one(rt: &(impl Net + Print + AllocGlobal), matches: &ArgMatches<'_>) -> S
         limit: game.limit,
         settings: if me == 0 { Some(game.settings) } else { None },
     };
-    let raw = dn_options::raw(matches);
+    let raw = crate::options::raw(matches);
     let mut output = io::writer(rt);
     run_play(rt, rt.alloc(), config, base, seed, count, raw, &mut output)
 }

@@ -1,4 +1,4 @@
-//! Tests of `dn_text`, `dn_netgame`, `dn_options` and `dn_program`, in a crate of their own, since a crate that
+//! Tests of `dn_netgame` and `dn_program`, in a crate of their own, since a crate that
 //! has tests is proved twice.
 #![tactic(auto)]
 

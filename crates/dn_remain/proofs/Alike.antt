@@ -15,7 +15,7 @@ use Rattle.dn_machine.specs.Hearing.{on_packet}
 use Rattle.dn_machine.specs.Running.{on_quit}
 use Rattle.dn_machine.proofs.Calls.{send_cases, quit_cases, packet_cases}
 use Rattle.dn_machine.proofs.Put.{put_off}
-use Rattle.dn_vanish.specs.Decisions.{on_decision, longest, told}
+use Rattle.dn_remain.specs.Vanished.Decisions.{on_decision, longest, told}
 use Rattle.dn_remain.specs.Seen.{holder_of}
 use Rattle.dn_remain.specs.Wary.{Report, Wary, or_fresh, settled, after_news, noted_gone, with_gone, with_report, on_give_up, on_report}
 use Rattle.dn_remain.proofs.Cases.{news_cases, give_up_cases, report_cases}

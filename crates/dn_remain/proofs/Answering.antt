@@ -6,8 +6,8 @@ use Rattle.std.proofs.lemmas.Bool.{both_ways, cases_Bool, cond-true, true≢fals
 use Rattle.dn_machine.specs.Limits.{Limits}
 use Rattle.dn_machine.specs.Node.{got, ends_of, lowest}
 use Rattle.dn_machine.specs.Drops as drops
-use Rattle.dn_vanish.specs.Calls.{every, is_heard, is_newer}
-use Rattle.dn_vanish.specs.Commands.{seen}
+use Rattle.dn_remain.specs.Vanished.Calls.{every, is_heard, is_newer}
+use Rattle.dn_remain.specs.Vanished.Commands.{seen}
 use Rattle.dn_remain.specs.declared.events.GivenUp.{GivenUp}
 use Rattle.dn_remain.specs.declared.events.Reported.{Reported}
 use Rattle.dn_remain.specs.Wary.{Report, Wary, report_of, newest_seen, can_settle, after_news, with_gone, with_report, is_in_game, on_give_up, on_report, undecided}

@@ -11,12 +11,12 @@ use Rattle.dn_machine.specs.Node.{with_peer, ends_of, got, made, is_ended, has_l
 use Rattle.dn_machine.specs.Game.{Game, with_node}
 use Rattle.dn_machine.specs.Worlds.{Rules}
 use Rattle.dn_machine.proofs.HearKeeps.{exit_is}
-use Rattle.dn_vanish.specs.Node.{Node, put}
-use Rattle.dn_vanish.specs.Commands.{Holder, seen, past_seen}
-use Rattle.dn_vanish.proofs.Invariant.{IsLater, IsKept}
-use Rattle.dn_vanish.proofs.Always.{always}
-use Rattle.dn_vanish.proofs.Handing.{was_seen}
-use Rattle.dn_vanish.proofs.Put.{put_at, put_off, same_functions}
+use Rattle.dn_remain.specs.Vanished.Node.{Node, put}
+use Rattle.dn_remain.specs.Vanished.Commands.{Holder, seen, past_seen}
+use Rattle.dn_remain.proofs.Vanished.Invariant.{IsLater, IsKept}
+use Rattle.dn_remain.proofs.Vanished.Always.{always}
+use Rattle.dn_remain.proofs.Vanished.Handing.{was_seen}
+use Rattle.dn_remain.proofs.Vanished.Put.{put_at, put_off, same_functions}
 use Rattle.dn_remain.specs.Seen.{reached, end_seen, rows_to, holder_of, now_of}
 use Rattle.dn_remain.proofs.Seeing.{same_holder, reached_cases}
 use Rattle.dn_remain.proofs.Known.{IsTold, IsEnd, Follows, IsFit, Went}

@@ -14,8 +14,8 @@ use Rattle.dn_machine.specs.Game.{Game, with_node, own_marks, posted, refused_at
 use Rattle.dn_machine.specs.Node.{Node, put}
 use Rattle.dn_machine.specs.Worlds.{Rules}
 use Rattle.dn_machine.proofs.Games.{passes}
-use Rattle.dn_vanish.specs.Commands.{Holder, seen, past_seen}
-use Rattle.dn_vanish.proofs.Always.{always}
+use Rattle.dn_remain.specs.Vanished.Commands.{Holder, seen, past_seen}
+use Rattle.dn_remain.proofs.Vanished.Always.{always}
 use Rattle.dn_machine.specs.Running.{on_run_but}
 use Rattle.dn_remain.specs.Seen.{now_of}
 use Rattle.dn_remain.specs.Wary.{Report, on_give_up, on_report}

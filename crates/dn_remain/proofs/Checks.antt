@@ -14,12 +14,12 @@ use Rattle.dn_machine.specs.Worlds.{Rules}
 use Rattle.dn_machine.proofs.Calls.{ran_on}
 use Rattle.dn_machine.proofs.Marks.{lowest_none, lowest_none_each, same_passes}
 use Rattle.dn_machine.proofs.Put.{put_at}
-use Rattle.dn_vanish.specs.Node.{is_over}
-use Rattle.dn_vanish.specs.Promise.{lacks_at}
-use Rattle.dn_vanish.specs.Commands.{Holder, Had, seen, past_seen}
-use Rattle.dn_vanish.proofs.Always.{always}
-use Rattle.dn_vanish.proofs.Handing.{was_seen}
-use Rattle.dn_vanish.proofs.Invariant.{IsKept}
+use Rattle.dn_remain.specs.Vanished.Node.{is_over}
+use Rattle.dn_remain.specs.Vanished.Promise.{lacks_at}
+use Rattle.dn_remain.specs.Vanished.Commands.{Holder, Had, seen, past_seen}
+use Rattle.dn_remain.proofs.Vanished.Always.{always}
+use Rattle.dn_remain.proofs.Vanished.Handing.{was_seen}
+use Rattle.dn_remain.proofs.Vanished.Invariant.{IsKept}
 use Rattle.dn_remain.specs.Seen.{end_seen, holder_of, now_of}
 use Rattle.dn_remain.proofs.MakerRows.{mark_is}
 use Rattle.dn_remain.proofs.Known.{Follows, Went}

@@ -8,7 +8,7 @@ use Rattle.dn_machine.specs.Limits.{Limits}
 use Rattle.dn_machine.specs.Node.{Node, held_at, own_mark, lowest, ran}
 use Rattle.dn_machine.specs.Running.{is_awaited, is_off, is_off_but, first_off_but, on_run_but}
 use Rattle.dn_machine.proofs.Marks.{lowest_none_each}
-use Rattle.dn_vanish.proofs.Mild.{cases_Option}
+use Rattle.dn_remain.proofs.Vanished.Mild.{cases_Option}
 use Rattle.dn_remain.proofs.Steady.{lowest_passes}
 
 module _ (limits : Limits) (gone : ℕ → Bool) (node : Node) (marks : ℕ → ℤ) where

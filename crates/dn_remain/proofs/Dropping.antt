@@ -14,9 +14,9 @@ use Rattle.dn_machine.specs.Node.{ends_of, got, is_ended, has_left, lowest}
 use Rattle.dn_machine.specs.Hearing.{is_past_end, is_strange_end, left_or, on_packet}
 use Rattle.dn_machine.specs.Worlds.{Rules}
 use Rattle.dn_machine.proofs.Calls.{Refused, packet_cases}
-use Rattle.dn_vanish.specs.Commands.{Holder, Had, seen, past_seen}
-use Rattle.dn_vanish.proofs.Fitting.{fits}
-use Rattle.dn_vanish.proofs.Handing.{was_seen}
+use Rattle.dn_remain.specs.Vanished.Commands.{Holder, Had, seen, past_seen}
+use Rattle.dn_remain.proofs.Vanished.Fitting.{fits}
+use Rattle.dn_remain.proofs.Vanished.Handing.{was_seen}
 use Rattle.dn_remain.specs.Seen.{end_seen, now_of}
 use Rattle.dn_remain.specs.Remaining.{Remaining, heard_of}
 use Rattle.dn_remain.proofs.Arriving.{end_is, made_it, below_made}

@@ -13,8 +13,8 @@ use Rattle.dn_machine.specs.Limits.{row_of}
 use Rattle.dn_machine.specs.Node.{ran, lacks, lowest}
 use Rattle.dn_machine.specs.Worlds.{Rules, rules_of}
 use Rattle.dn_world.specs.Physics.{Physics}
-use Rattle.dn_vanish.specs.Calls.{every}
-use Rattle.dn_vanish.specs.Decisions.{longest}
+use Rattle.dn_remain.specs.Vanished.Calls.{every}
+use Rattle.dn_remain.specs.Vanished.Decisions.{longest}
 use Rattle.dn_remain.specs.Seen.{rows_to}
 use Rattle.dn_remain.specs.Wary.{on_give_up, on_report}
 use Rattle.dn_remain.specs.Remaining.{Remaining, opening_remaining, after_give_up, after_telling, after_hearing, is_barred, after_event}

@@ -7,10 +7,10 @@ use Rattle.dn_tic.specs.declared.command.TicCmd.{TicCmd}
 use Rattle.dn_machine.specs.Node.{made, ran, is_whole, demo_rows}
 use Rattle.dn_setup.specs.Settings.{Settings}
 use Rattle.dn_machine.specs.Worlds.{Rules}
-use Rattle.dn_vanish.specs.Node.{Was}
-use Rattle.dn_vanish.specs.Promise.{Fits}
-use Rattle.dn_vanish.specs.Commands.{Holder, seen, past_seen}
-use Rattle.dn_vanish.proofs.Handing.{was_seen}
+use Rattle.dn_remain.specs.Vanished.Node.{Was}
+use Rattle.dn_remain.specs.Vanished.Promise.{Fits}
+use Rattle.dn_remain.specs.Vanished.Commands.{Holder, seen, past_seen}
+use Rattle.dn_remain.proofs.Vanished.Handing.{was_seen}
 use Rattle.dn_remain.specs.Seen.{now_of}
 use Rattle.dn_remain.specs.Remaining.{Telling, Remaining}
 use Rattle.dn_remain.specs.Promise.{FitsInPairs}

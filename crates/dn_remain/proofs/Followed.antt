@@ -12,7 +12,7 @@ use Rattle.dn_machine.specs.Game.{Game, own_marks, refused_at, refused, delivere
 use Rattle.dn_machine.specs.Node.{put}
 use Rattle.dn_machine.specs.Worlds.{Rules}
 use Rattle.dn_machine.proofs.Games.{passes}
-use Rattle.dn_vanish.specs.Commands.{Holder, Had}
+use Rattle.dn_remain.specs.Vanished.Commands.{Holder, Had}
 use Rattle.dn_remain.specs.Seen.{now_of}
 use Rattle.dn_remain.specs.Wary.{Report}
 use Rattle.dn_remain.specs.Remaining.{Telling, Remaining, is_barred_flight, is_barred, after_run, after_event}

@@ -7,14 +7,14 @@ use Rattle.dn_machine.specs.Node as machine
 use Rattle.dn_machine.specs.Node.{ends_of, made, is_ended, has_left}
 use Rattle.dn_machine.specs.Game.{Game, with_node}
 use Rattle.dn_machine.specs.Worlds.{Rules}
-use Rattle.dn_vanish.specs.Node.{put}
-use Rattle.dn_vanish.specs.Steps.{Act, Acts, Step, IsRun}
-use Rattle.dn_vanish.specs.Commands.{Holder, seen, past_seen, Had, AreHanded, Handed}
-use Rattle.dn_vanish.proofs.Put.{put_at, put_off}
+use Rattle.dn_remain.specs.Vanished.Node.{put}
+use Rattle.dn_remain.specs.Vanished.Steps.{Act, Acts, Step, IsRun}
+use Rattle.dn_remain.specs.Vanished.Commands.{Holder, seen, past_seen, Had, AreHanded, Handed}
+use Rattle.dn_remain.proofs.Vanished.Put.{put_at, put_off}
 use Rattle.dn_remain.specs.Seen.{end_seen, rows_to, holder_of, now_of, row_had}
 use Rattle.dn_remain.proofs.Rows.{rows_are}
-use Rattle.dn_vanish.proofs.Always.{always}
-use Rattle.dn_vanish.proofs.Invariant.{IsGrown}
+use Rattle.dn_remain.proofs.Vanished.Always.{always}
+use Rattle.dn_remain.proofs.Vanished.Invariant.{IsGrown}
 use Rattle.dn_tic.specs.declared.command.Move.{Move}
 use Rattle.std.proofs.lemmas.List.{length_push}
 use Rattle.dn_remain.proofs.Seeing.{length_rows, moved, seen_put, put_own}

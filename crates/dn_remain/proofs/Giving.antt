@@ -7,14 +7,14 @@ use Rattle.dn_machine.specs.Game.{Game, with_node}
 use Rattle.dn_machine.specs.Node as machine
 use Rattle.dn_machine.specs.Node.{ends_of, made, has_left}
 use Rattle.dn_machine.specs.Worlds.{Rules}
-use Rattle.dn_vanish.specs.Node.{put}
-use Rattle.dn_vanish.specs.Steps.{Act, Acts, Step}
-use Rattle.dn_vanish.specs.Commands.{Holder, seen, past_seen, Had, Handed}
-use Rattle.dn_vanish.proofs.Put.{put_at, put_off, same_functions}
+use Rattle.dn_remain.specs.Vanished.Node.{put}
+use Rattle.dn_remain.specs.Vanished.Steps.{Act, Acts, Step}
+use Rattle.dn_remain.specs.Vanished.Commands.{Holder, seen, past_seen, Had, Handed}
+use Rattle.dn_remain.proofs.Vanished.Put.{put_at, put_off, same_functions}
 use Rattle.dn_remain.specs.Seen.{end_seen, holder_of, now_of, row_had}
 use Rattle.dn_remain.proofs.Rows.{rows_are}
-use Rattle.dn_vanish.proofs.Always.{always}
-use Rattle.dn_vanish.proofs.Invariant.{IsGrown}
+use Rattle.dn_remain.proofs.Vanished.Always.{always}
+use Rattle.dn_remain.proofs.Vanished.Invariant.{IsGrown}
 use Rattle.dn_remain.proofs.Seeing.{length_rows, seen_put}
 use Rattle.dn_remain.proofs.Known.{IsEnd, Follows, told_later}
 

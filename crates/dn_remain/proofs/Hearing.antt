@@ -12,7 +12,7 @@ use Rattle.dn_machine.specs.Worlds.{Rules}
 use Rattle.dn_machine.specs.Hearing.{after_request, on_packet}
 use Rattle.dn_machine.proofs.Calls.{packet_cases, sender_after}
 use Rattle.dn_machine.proofs.Peers.{asked_low, asked_end, flight_low, flight_end}
-use Rattle.dn_vanish.specs.Commands.{Holder}
+use Rattle.dn_remain.specs.Vanished.Commands.{Holder}
 use Rattle.dn_remain.specs.Seen.{reached, holder_of, now_of}
 use Rattle.dn_remain.proofs.Seeing.{same_holder}
 use Rattle.dn_remain.proofs.Known.{IsTold, Follows, Went, IsFit, fit_self, not_left}

@@ -17,7 +17,7 @@ use Rattle.dn_machine.specs.Game.{Game, opening_game, with_node, own_marks, refu
 use Rattle.dn_machine.specs.Runs.{Runs}
 use Rattle.dn_machine.proofs.EachEvent.{leads_keep}
 use Rattle.dn_machine.proofs.Games.{passes}
-use Rattle.dn_vanish.specs.Commands.{Holder}
+use Rattle.dn_remain.specs.Vanished.Commands.{Holder}
 use Rattle.dn_remain.specs.Seen.{rows_to}
 use Rattle.dn_remain.proofs.ButRuns.{nobody_is}
 use Rattle.dn_remain.proofs.Known.{Follows, Went, known_so}

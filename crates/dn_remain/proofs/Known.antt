@@ -8,9 +8,9 @@ use Rattle.dn_machine.specs.Node as machine
 use Rattle.dn_machine.specs.Node.{ends_of, made, is_ended, has_left}
 use Rattle.dn_machine.specs.Game.{Game}
 use Rattle.dn_machine.specs.Worlds.{Rules}
-use Rattle.dn_vanish.specs.Node.{Within}
-use Rattle.dn_vanish.specs.Steps.{IsRun}
-use Rattle.dn_vanish.specs.Commands.{Holder, past_seen, Had, AreHanded}
+use Rattle.dn_remain.specs.Vanished.Node.{Within}
+use Rattle.dn_remain.specs.Vanished.Steps.{IsRun}
+use Rattle.dn_remain.specs.Vanished.Commands.{Holder, past_seen, Had, AreHanded}
 use Rattle.dn_remain.specs.Seen.{holder_of, now_of, row_had}
 use Rattle.dn_machine.specs.Limits.{Limits}
 

@@ -7,13 +7,13 @@ use Rattle.dn_machine.specs.Node as machine
 use Rattle.dn_machine.specs.Node.{ends_of, ran, has_left}
 use Rattle.dn_machine.specs.Game.{Game, with_node}
 use Rattle.dn_machine.specs.Worlds.{Rules}
-use Rattle.dn_vanish.specs.Node.{put, is_over, Within}
-use Rattle.dn_vanish.specs.Steps.{Take, Learn}
-use Rattle.dn_vanish.specs.Commands.{Holder, seen, past_seen, Had}
-use Rattle.dn_vanish.proofs.Invariant.{IsKept}
-use Rattle.dn_vanish.proofs.Always.{always}
-use Rattle.dn_vanish.proofs.Handing.{was_seen}
-use Rattle.dn_vanish.proofs.Put.{put_at, put_off, same_functions}
+use Rattle.dn_remain.specs.Vanished.Node.{put, is_over, Within}
+use Rattle.dn_remain.specs.Vanished.Steps.{Take, Learn}
+use Rattle.dn_remain.specs.Vanished.Commands.{Holder, seen, past_seen, Had}
+use Rattle.dn_remain.proofs.Vanished.Invariant.{IsKept}
+use Rattle.dn_remain.proofs.Vanished.Always.{always}
+use Rattle.dn_remain.proofs.Vanished.Handing.{was_seen}
+use Rattle.dn_remain.proofs.Vanished.Put.{put_at, put_off, same_functions}
 use Rattle.dn_remain.specs.Seen.{reached, end_seen, rows_to, holder_of, now_of}
 use Rattle.dn_remain.proofs.Seeing.{same_node, length_rows, rows_alike, reached_some}
 use Rattle.dn_remain.proofs.Known.{Follows, IsFit, Went}

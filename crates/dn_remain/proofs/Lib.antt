@@ -1,3 +1,4 @@
+pub mod Vanished
 pub mod Pieces
 pub mod Seeing
 pub mod Rows

@@ -10,16 +10,16 @@ use Rattle.dn_machine.specs.Game.{Game}
 use Rattle.dn_machine.specs.Node as machine
 use Rattle.dn_machine.specs.Node.{blank, got, made, held_at, own_mark, lowest}
 use Rattle.dn_machine.specs.Worlds.{Rules, world_after}
-use Rattle.dn_vanish.specs.Node.{Node, Was, is_over, ran}
-use Rattle.dn_vanish.specs.Promise.{Marked, lacks_at}
-use Rattle.dn_vanish.specs.Commands.{Holder, Had, AreHanded, seen, past_seen}
-use Rattle.dn_vanish.specs.Steps.{IsRun}
-use Rattle.dn_vanish.proofs.Always.{always}
-use Rattle.dn_vanish.proofs.Handing.{same_held, was_seen}
-use Rattle.dn_vanish.proofs.Invariant.{IsKept}
-use Rattle.dn_vanish.proofs.Making as commands
-use Rattle.dn_vanish.proofs.Marking.{marked}
-use Rattle.dn_vanish.proofs.Windows.{roomy}
+use Rattle.dn_remain.specs.Vanished.Node.{Node, Was, is_over, ran}
+use Rattle.dn_remain.specs.Vanished.Promise.{Marked, lacks_at}
+use Rattle.dn_remain.specs.Vanished.Commands.{Holder, Had, AreHanded, seen, past_seen}
+use Rattle.dn_remain.specs.Vanished.Steps.{IsRun}
+use Rattle.dn_remain.proofs.Vanished.Always.{always}
+use Rattle.dn_remain.proofs.Vanished.Handing.{same_held, was_seen}
+use Rattle.dn_remain.proofs.Vanished.Invariant.{IsKept}
+use Rattle.dn_remain.proofs.Vanished.Making as commands
+use Rattle.dn_remain.proofs.Vanished.Marking.{marked}
+use Rattle.dn_remain.proofs.Vanished.Windows.{roomy}
 use Rattle.dn_remain.specs.Seen.{reached, end_seen, rows_to, now_of, row_had}
 use Rattle.dn_remain.proofs.Known.{Follows}
 use Rattle.dn_remain.proofs.Marked.{IsMarked, fronts_same, world_same}

@@ -13,10 +13,10 @@ use Rattle.dn_machine.specs.Building.{on_build}
 use Rattle.dn_machine.specs.Worlds.{Rules}
 use Rattle.dn_machine.proofs.Calls.{built, build_cases}
 use Rattle.dn_tic.specs.Inputs.{made_by}
-use Rattle.dn_vanish.specs.Node.{put}
-use Rattle.dn_vanish.specs.Steps.{Make}
-use Rattle.dn_vanish.specs.Commands.{Holder, seen}
-use Rattle.dn_vanish.proofs.Put.{put_at, put_off, same_functions}
+use Rattle.dn_remain.specs.Vanished.Node.{put}
+use Rattle.dn_remain.specs.Vanished.Steps.{Make}
+use Rattle.dn_remain.specs.Vanished.Commands.{Holder, seen}
+use Rattle.dn_remain.proofs.Vanished.Put.{put_at, put_off, same_functions}
 use Rattle.dn_remain.specs.Seen.{reached, end_seen, rows_to, holder_of, now_of}
 use Rattle.dn_remain.proofs.Seeing.{same_node, length_rows}
 use Rattle.dn_remain.proofs.Known.{Follows, Went, fit_self, not_left}

@@ -15,8 +15,8 @@ use Rattle.dn_machine.specs.Node as machine
 use Rattle.dn_machine.specs.Node.{put, ends_of, got, ran, is_ended, has_left}
 use Rattle.dn_machine.specs.Worlds.{Rules}
 use Rattle.dn_machine.proofs.Put.{put_at, put_off, same_functions, slice_get_push}
-use Rattle.dn_vanish.specs.Commands.{Holder, seen, Had}
-use Rattle.dn_vanish.specs.Steps as step
+use Rattle.dn_remain.specs.Vanished.Commands.{Holder, seen, Had}
+use Rattle.dn_remain.specs.Vanished.Steps as step
 use Rattle.dn_remain.specs.Seen.{reached, end_seen, rows_to, holder_of, now_of}
 use Rattle.dn_remain.specs.Wary.{Report, Wary, report_of, after_news, noted_gone, with_gone, is_in_game, with_report, report_to}
 use Rattle.dn_remain.specs.Remaining.{Telling, Remaining, wary_of, with_wary, with_telling}

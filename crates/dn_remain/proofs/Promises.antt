@@ -9,7 +9,7 @@ use Rattle.std.proofs.lemmas.List.Prefix.{front_from_reads}
 use Rattle.dn_machine.specs.Promise.{IsPrefixOf}
 use Rattle.dn_machine.proofs.Demos.{front_each, front_passes, front_short, none_is, seat_is, whole_has}
 use Rattle.dn_machine.proofs.Marks.{lowest_none_each}
-use Rattle.dn_vanish.specs.Node.{is_over}
+use Rattle.dn_remain.specs.Vanished.Node.{is_over}
 use Rattle.std.proofs.lemmas.Option.{same_Some, slice_get-get_or}
 use Rattle.dn_tic.specs.declared.command.TicCmd.{TicCmd}
 use Rattle.dn_tic.specs.declared.command.Move.{Move}
@@ -17,12 +17,12 @@ use Rattle.dn_machine.specs.Node.{blank, held_at, made, own_mark, ran, is_whole,
 use Rattle.dn_setup.specs.Settings.{Settings}
 use Rattle.dn_tic.specs.Inputs.{made_by}
 use Rattle.dn_machine.specs.Worlds.{Rules, world_after}
-use Rattle.dn_vanish.specs.Promise.{Agree, Fits, lacks_at}
-use Rattle.dn_vanish.specs.Commands.{Holder, seen, past_seen}
-use Rattle.dn_vanish.proofs.Always.{always}
-use Rattle.dn_vanish.proofs.Fitting.{fits}
-use Rattle.dn_vanish.proofs.Handing.{handed, same_held}
-use Rattle.dn_vanish.proofs.Promises.{agree}
+use Rattle.dn_remain.specs.Vanished.Promise.{Agree, Fits, lacks_at}
+use Rattle.dn_remain.specs.Vanished.Commands.{Holder, seen, past_seen}
+use Rattle.dn_remain.proofs.Vanished.Always.{always}
+use Rattle.dn_remain.proofs.Vanished.Fitting.{fits}
+use Rattle.dn_remain.proofs.Vanished.Handing.{handed, same_held}
+use Rattle.dn_remain.proofs.Vanished.Promises.{agree}
 use Rattle.dn_remain.specs.Seen.{reached, end_seen, now_of, row_had}
 use Rattle.dn_remain.specs.Remaining.{Remaining}
 use Rattle.dn_remain.specs.Promise.{IsPair, AgreeInPairs}

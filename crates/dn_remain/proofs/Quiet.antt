@@ -12,7 +12,7 @@ use Rattle.dn_machine.specs.Runs.{Runs}
 use Rattle.dn_machine.specs.Worlds.{Rules}
 use Rattle.dn_machine.proofs.Games.{goes_on}
 use Rattle.dn_machine.proofs.Put.{put_at, put_off, same_functions}
-use Rattle.dn_vanish.specs.Decisions.{on_decision, longest, told}
+use Rattle.dn_remain.specs.Vanished.Decisions.{on_decision, longest, told}
 use Rattle.dn_remain.specs.Seen.{holder_of}
 use Rattle.dn_remain.specs.Wary.{Report, Wary, settled, or_fresh, with_gone, with_report, on_give_up, on_report}
 use Rattle.dn_remain.specs.Remaining as remaining

@@ -13,10 +13,10 @@ use Rattle.dn_machine.specs.Node as machine
 use Rattle.dn_machine.specs.Node.{got, put}
 use Rattle.dn_machine.specs.Worlds.{Rules}
 use Rattle.dn_machine.proofs.Put.{put_at, put_off}
-use Rattle.dn_vanish.specs.Commands.{Holder, Had, seen, past_seen}
-use Rattle.dn_vanish.proofs.Always.{always}
-use Rattle.dn_vanish.proofs.Handing.{was_seen}
-use Rattle.dn_vanish.proofs.Invariant.{IsKept}
+use Rattle.dn_remain.specs.Vanished.Commands.{Holder, Had, seen, past_seen}
+use Rattle.dn_remain.proofs.Vanished.Always.{always}
+use Rattle.dn_remain.proofs.Vanished.Handing.{was_seen}
+use Rattle.dn_remain.proofs.Vanished.Invariant.{IsKept}
 use Rattle.dn_remain.specs.Seen.{end_seen, now_of}
 use Rattle.dn_remain.specs.Remaining.{Remaining, opening_remaining}
 use Rattle.dn_remain.specs.RunsRemain.{NextRemain, LeadsRemain, RunsRemain}

@@ -7,8 +7,8 @@ use Rattle.dn_setup.specs.Settings.{Settings}
 use Rattle.dn_machine.specs.Node.{blank}
 use Rattle.dn_machine.specs.Relaying.{relayed, with_relayed}
 use Rattle.dn_machine.specs.Worlds.{Rules}
-use Rattle.dn_vanish.specs.Commands.{Holder, Had}
-use Rattle.dn_vanish.specs.Node.{Within}
+use Rattle.dn_remain.specs.Vanished.Commands.{Holder, Had}
+use Rattle.dn_remain.specs.Vanished.Node.{Within}
 use Rattle.dn_remain.specs.Remaining.{Remaining, opening_remaining}
 use Rattle.dn_remain.specs.Relaying.{CanRelay, RelayEvent, Own, Relay, NextRelayed, LeadsRelayed, RunsRelayed, told_gone}
 use Rattle.dn_remain.specs.RunsRemain.{LeadsRemain, RunsRemain}

@@ -8,7 +8,7 @@ use Rattle.dn_setup.specs.Settings.{Settings}
 use Rattle.dn_machine.specs.declared.events.Refusal.{Refusal}
 use Rattle.dn_machine.specs.Game.{refused_at}
 use Rattle.dn_machine.specs.Worlds.{Rules}
-use Rattle.dn_vanish.specs.Commands.{Holder, Had}
+use Rattle.dn_remain.specs.Vanished.Commands.{Holder, Had}
 use Rattle.dn_remain.specs.Seen.{now_of}
 use Rattle.dn_remain.specs.Wary.{Wary, with_gone, on_give_up, with_report, on_report}
 use Rattle.dn_remain.specs.Remaining as remaining

@@ -9,13 +9,13 @@ use Rattle.dn_tic.specs.declared.command.Move.{Move}
 use Rattle.dn_machine.specs.Limits.{Limits}
 use Rattle.dn_machine.specs.Node.{blank}
 use Rattle.dn_machine.proofs.Truth.{row_of_same}
-use Rattle.dn_vanish.specs.Node.{Node, Was, is_over, ran}
-use Rattle.dn_vanish.specs.Promise.{lacks_at}
-use Rattle.dn_vanish.specs.Steps.{IsRun}
-use Rattle.dn_vanish.specs.Commands.{Holder, seen, past_seen, Had, AreHanded}
-use Rattle.dn_vanish.proofs.Invariant.{IsGrown, IsKept}
-use Rattle.dn_vanish.proofs.Always.{always}
-use Rattle.dn_vanish.proofs.Handing.{same_held, was_seen, row_held}
+use Rattle.dn_remain.specs.Vanished.Node.{Node, Was, is_over, ran}
+use Rattle.dn_remain.specs.Vanished.Promise.{lacks_at}
+use Rattle.dn_remain.specs.Vanished.Steps.{IsRun}
+use Rattle.dn_remain.specs.Vanished.Commands.{Holder, seen, past_seen, Had, AreHanded}
+use Rattle.dn_remain.proofs.Vanished.Invariant.{IsGrown, IsKept}
+use Rattle.dn_remain.proofs.Vanished.Always.{always}
+use Rattle.dn_remain.proofs.Vanished.Handing.{same_held, was_seen, row_held}
 use Rattle.dn_remain.specs.Seen.{row_had}
 
 -- of two states, at whichever nodes, which ran a tic and whose rows lack the same players

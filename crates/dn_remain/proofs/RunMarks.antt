@@ -23,9 +23,9 @@ use Rattle.dn_machine.specs.Worlds.{Rules, mark_in, world_after}
 use Rattle.dn_machine.proofs.Calls.{ended_by, ran_on}
 use Rattle.dn_machine.proofs.Demos.{front_short, front_stops, whole_more}
 use Rattle.dn_machine.proofs.Put.{put_at, put_off}
-use Rattle.dn_vanish.specs.Node.{is_over}
-use Rattle.dn_vanish.specs.Commands.{Holder, Had, seen, past_seen}
-use Rattle.dn_vanish.proofs.Windows.{roomy}
+use Rattle.dn_remain.specs.Vanished.Node.{is_over}
+use Rattle.dn_remain.specs.Vanished.Commands.{Holder, Had, seen, past_seen}
+use Rattle.dn_remain.proofs.Vanished.Windows.{roomy}
 use Rattle.dn_remain.specs.Seen.{end_seen, now_of}
 use Rattle.dn_remain.proofs.ButRuns.{run_but_cases}
 use Rattle.dn_remain.proofs.Checks.{none_off}

@@ -14,12 +14,12 @@ use Rattle.dn_machine.specs.Worlds.{Rules}
 use Rattle.dn_machine.specs.Running.{is_absent, is_awaited, row_held, on_quit, on_run_but}
 use Rattle.dn_machine.proofs.Calls.{ran_on, quit_cases}
 use Rattle.dn_machine.proofs.Marks.{lowest_none_each}
-use Rattle.dn_vanish.specs.Node.{is_over}
-use Rattle.dn_vanish.specs.Steps.{Run, Leave}
-use Rattle.dn_vanish.specs.Commands.{Holder, seen, past_seen}
-use Rattle.dn_vanish.proofs.Invariant.{IsKept}
-use Rattle.dn_vanish.proofs.Always.{always}
-use Rattle.dn_vanish.proofs.Mild.{cases_Option}
+use Rattle.dn_remain.specs.Vanished.Node.{is_over}
+use Rattle.dn_remain.specs.Vanished.Steps.{Run, Leave}
+use Rattle.dn_remain.specs.Vanished.Commands.{Holder, seen, past_seen}
+use Rattle.dn_remain.proofs.Vanished.Invariant.{IsKept}
+use Rattle.dn_remain.proofs.Vanished.Always.{always}
+use Rattle.dn_remain.proofs.Vanished.Mild.{cases_Option}
 use Rattle.dn_remain.specs.Seen.{end_seen, rows_to, holder_of, now_of, row_had}
 use Rattle.dn_machine.proofs.Truth.{row_of_same}
 use Rattle.dn_remain.proofs.Seeing.{same_node, same_holder, length_rows, reached_cases}

@@ -8,9 +8,9 @@ use Rattle.std.proofs.lemmas.Option.{none-some, same_Some}
 use Rattle.dn_tic.specs.declared.command.TicCmd.{TicCmd}
 use Rattle.dn_machine.specs.Node as machine
 use Rattle.dn_machine.specs.Game.{Game, with_node}
-use Rattle.dn_vanish.specs.Node.{Node, put, is_over}
-use Rattle.dn_vanish.specs.Commands.{Holder, seen}
-use Rattle.dn_vanish.proofs.Put.{put_at, put_off, same_functions}
+use Rattle.dn_remain.specs.Vanished.Node.{Node, put, is_over}
+use Rattle.dn_remain.specs.Vanished.Commands.{Holder, seen}
+use Rattle.dn_remain.proofs.Vanished.Put.{put_at, put_off, same_functions}
 use Rattle.dn_remain.specs.Seen.{reached, rows_to, holder_of, now_of}
 
 pub same_node : (a b : Node) → a.got ≡ b.got → a.ends ≡ b.ends → a.gone ≡ b.gone → a.left ≡ b.left

@@ -15,8 +15,8 @@ use Rattle.dn_machine.specs.Sending.{first_sent, last_sent, left_kind, set_up_fl
 use Rattle.dn_machine.specs.Worlds.{Rules}
 use Rattle.dn_machine.proofs.Calls.{send_cases}
 use Rattle.dn_machine.proofs.Put.{slice_get_push}
-use Rattle.dn_vanish.specs.Commands.{Holder}
-use Rattle.dn_vanish.proofs.Put.{put_at, put_off, same_functions}
+use Rattle.dn_remain.specs.Vanished.Commands.{Holder}
+use Rattle.dn_remain.proofs.Vanished.Put.{put_at, put_off, same_functions}
 use Rattle.dn_remain.specs.Seen.{reached, end_seen, rows_to, holder_of, now_of}
 use Rattle.dn_remain.proofs.Pieces.{take_long}
 use Rattle.dn_remain.proofs.Seeing.{same_holder}

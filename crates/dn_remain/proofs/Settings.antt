@@ -16,7 +16,7 @@ use Rattle.dn_machine.specs.Sending.{on_send}
 use Rattle.dn_machine.specs.Game.{Game, opening_game, own_marks, posted, refused_at, refused, delivered, on_event, applied_if, applied, with_node}
 use Rattle.dn_machine.specs.Worlds.{Rules}
 use Rattle.dn_machine.proofs.Put.{put_at, put_off, slice_get_push}
-use Rattle.dn_vanish.specs.Decisions.{on_decision}
+use Rattle.dn_remain.specs.Vanished.Decisions.{on_decision}
 use Rattle.dn_remain.specs.Wary.{Report, Wary, report_of, or_fresh, after_news, with_gone, with_report, on_give_up, on_report}
 use Rattle.dn_remain.specs.Remaining as remaining
 use Rattle.dn_remain.specs.Remaining.{Telling, Remaining, opening_remaining, wary_of, with_wary, unless, with_telling, after_run, after_event}

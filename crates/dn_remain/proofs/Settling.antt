@@ -11,20 +11,20 @@ use Rattle.dn_machine.specs.Game.{Game, with_node}
 use Rattle.dn_machine.specs.Node as machine
 use Rattle.dn_machine.specs.Node.{ends_of, made, has_left}
 use Rattle.dn_machine.specs.Worlds.{Rules}
-use Rattle.dn_vanish.specs.Node.{Node, put, is_over, Was}
-use Rattle.dn_vanish.specs.Reports.{HasHeard, decided}
-use Rattle.dn_vanish.specs.Calls.{is_report_in, is_heard, can_decide, report_or, AreTrue}
-use Rattle.dn_vanish.specs.Steps.{Decide}
-use Rattle.dn_vanish.specs.Commands.{Holder, seen, past_seen, Had}
-use Rattle.dn_vanish.specs.Decisions.{longest, told, on_decision}
-use Rattle.dn_vanish.proofs.Invariant.{IsKept}
-use Rattle.dn_vanish.proofs.Always.{always}
-use Rattle.dn_vanish.proofs.Deciding.{old_ends}
-use Rattle.dn_vanish.proofs.Handing.{was_seen}
-use Rattle.dn_vanish.proofs.Lists.{counts, own_below, pieces}
-use Rattle.dn_vanish.proofs.Mild.{cases_Option}
-use Rattle.dn_vanish.proofs.Put.{same_functions}
-use Rattle.dn_vanish.proofs.Tests.{bounded, every_at, heard_from}
+use Rattle.dn_remain.specs.Vanished.Node.{Node, put, is_over, Was}
+use Rattle.dn_remain.specs.Vanished.Reports.{HasHeard, decided}
+use Rattle.dn_remain.specs.Vanished.Calls.{is_report_in, is_heard, can_decide, report_or, AreTrue}
+use Rattle.dn_remain.specs.Vanished.Steps.{Decide}
+use Rattle.dn_remain.specs.Vanished.Commands.{Holder, seen, past_seen, Had}
+use Rattle.dn_remain.specs.Vanished.Decisions.{longest, told, on_decision}
+use Rattle.dn_remain.proofs.Vanished.Invariant.{IsKept}
+use Rattle.dn_remain.proofs.Vanished.Always.{always}
+use Rattle.dn_remain.proofs.Vanished.Deciding.{old_ends}
+use Rattle.dn_remain.proofs.Vanished.Handing.{was_seen}
+use Rattle.dn_remain.proofs.Vanished.Lists.{counts, own_below, pieces}
+use Rattle.dn_remain.proofs.Vanished.Mild.{cases_Option}
+use Rattle.dn_remain.proofs.Vanished.Put.{same_functions}
+use Rattle.dn_remain.proofs.Vanished.Tests.{bounded, every_at, heard_from}
 use Rattle.dn_remain.specs.Seen.{reached, end_seen, rows_to, holder_of, now_of}
 use Rattle.dn_remain.specs.Wary.{Report, or_fresh, settled}
 use Rattle.dn_remain.proofs.Seeing.{same_holder, length_rows, rows_alike, reached_some}

@@ -13,12 +13,12 @@ use Rattle.dn_machine.specs.Node as machine
 use Rattle.dn_machine.specs.Node.{ends_of, got, is_ended, has_left, lowest}
 use Rattle.dn_machine.specs.Running.{is_over, is_absent, is_awaited, on_run, on_run_but}
 use Rattle.dn_machine.specs.Worlds.{Rules}
-use Rattle.dn_vanish.specs.Calls.{is_newer}
-use Rattle.dn_vanish.specs.Node.{Within}
-use Rattle.dn_vanish.specs.Commands.{Holder, Had, seen, past_seen}
-use Rattle.dn_vanish.proofs.Always.{always}
-use Rattle.dn_vanish.proofs.Handing.{was_seen}
-use Rattle.dn_vanish.proofs.Undecided.{steady}
+use Rattle.dn_remain.specs.Vanished.Calls.{is_newer}
+use Rattle.dn_remain.specs.Vanished.Node.{Within}
+use Rattle.dn_remain.specs.Vanished.Commands.{Holder, Had, seen, past_seen}
+use Rattle.dn_remain.proofs.Vanished.Always.{always}
+use Rattle.dn_remain.proofs.Vanished.Handing.{was_seen}
+use Rattle.dn_remain.proofs.Vanished.Undecided.{steady}
 use Rattle.dn_remain.specs.declared.events.Reported.TheVariants as Reported
 use Rattle.dn_remain.specs.Seen.{now_of}
 use Rattle.dn_remain.specs.Wary.{Report, Wary, newest_seen, can_settle, on_report}

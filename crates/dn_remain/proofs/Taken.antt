@@ -9,14 +9,14 @@ use Rattle.dn_machine.specs.Node.{put, ran, has_left}
 use Rattle.dn_machine.specs.Promise.{IsPrefixOf}
 use Rattle.dn_machine.specs.Worlds.{Rules}
 use Rattle.dn_machine.proofs.Put.{put_at, put_off}
-use Rattle.dn_vanish.specs.Commands.{Holder, Had, seen, past_seen}
-use Rattle.dn_vanish.specs.Decisions.{longest, told, on_decision}
-use Rattle.dn_vanish.proofs.Always.{always}
-use Rattle.dn_vanish.proofs.Catching.{begins}
-use Rattle.dn_vanish.proofs.Fitting.{fits}
-use Rattle.dn_vanish.proofs.Handing.{handed}
-use Rattle.dn_vanish.proofs.Invariant.{IsKept}
-use Rattle.dn_vanish.proofs.Lists.{own_below}
+use Rattle.dn_remain.specs.Vanished.Commands.{Holder, Had, seen, past_seen}
+use Rattle.dn_remain.specs.Vanished.Decisions.{longest, told, on_decision}
+use Rattle.dn_remain.proofs.Vanished.Always.{always}
+use Rattle.dn_remain.proofs.Vanished.Catching.{begins}
+use Rattle.dn_remain.proofs.Vanished.Fitting.{fits}
+use Rattle.dn_remain.proofs.Vanished.Handing.{handed}
+use Rattle.dn_remain.proofs.Vanished.Invariant.{IsKept}
+use Rattle.dn_remain.proofs.Vanished.Lists.{own_below}
 use Rattle.dn_remain.specs.Seen.{end_seen, holder_of, now_of}
 use Rattle.dn_remain.specs.Wary.{Wary, or_fresh, can_settle, settled}
 use Rattle.dn_remain.specs.Remaining.{Remaining, wary_of, with_wary}

@@ -11,11 +11,11 @@ use Rattle.dn_machine.specs.Node as machine
 use Rattle.dn_machine.specs.Node.{with_peer, ends_of, got, made, is_ended, has_left}
 use Rattle.dn_machine.specs.Game.{Game, with_node}
 use Rattle.dn_machine.specs.Worlds.{Rules}
-use Rattle.dn_vanish.specs.Node.{put}
-use Rattle.dn_vanish.specs.Commands.{Holder}
-use Rattle.dn_vanish.proofs.Catching.{begins}
-use Rattle.dn_vanish.proofs.Handing.{handed}
-use Rattle.dn_vanish.proofs.Put.{put_at, put_off}
+use Rattle.dn_remain.specs.Vanished.Node.{put}
+use Rattle.dn_remain.specs.Vanished.Commands.{Holder}
+use Rattle.dn_remain.proofs.Vanished.Catching.{begins}
+use Rattle.dn_remain.proofs.Vanished.Handing.{handed}
+use Rattle.dn_remain.proofs.Vanished.Put.{put_at, put_off}
 use Rattle.dn_remain.specs.Seen.{reached, end_seen, now_of}
 use Rattle.dn_remain.proofs.Pieces.{taken_is}
 use Rattle.dn_remain.proofs.Seeing.{reached_none, reached_cases}

@@ -20,9 +20,9 @@ use Rattle.dn_machine.specs.Node.{Node, got, ran, held_at, lacks, lowest}
 use Rattle.dn_machine.specs.Running.{tic_limit, full_at, is_awaited, row_held, first_off_but, on_run_but}
 use Rattle.dn_machine.specs.Worlds.{Rules, rules_within, world_after}
 use Rattle.dn_machine.proofs.Calls.{ran_on}
-use Rattle.dn_vanish.specs.Calls.{every}
-use Rattle.dn_vanish.specs.Commands.{Holder}
-use Rattle.dn_vanish.specs.Decisions.{longest}
+use Rattle.dn_remain.specs.Vanished.Calls.{every}
+use Rattle.dn_remain.specs.Vanished.Commands.{Holder}
+use Rattle.dn_remain.specs.Vanished.Decisions.{longest}
 use Rattle.dn_remain.specs.Seen.{rows_to}
 use Rattle.dn_remain.specs.Wary.{on_give_up, on_report}
 use Rattle.dn_remain.specs.Remaining.{Remaining, opening_remaining, after_run, after_event}

@@ -1,3 +1,4 @@
+pub mod Vanished
 pub mod Seen
 pub mod Wary
 pub mod Remaining

@@ -14,7 +14,7 @@ use Rattle.dn_machine.specs.Node.{got, made, ran, held_at, has_left, lacks, demo
 use Rattle.dn_machine.specs.Promise.{IsPrefixOf}
 use Rattle.dn_machine.specs.Running.{tic_limit, on_run, on_run_but}
 use Rattle.dn_machine.specs.Worlds.{Rules, world_after}
-use Rattle.dn_vanish.specs.Node.{Within, is_over}
+use Rattle.dn_remain.specs.Vanished.Node.{Within, is_over}
 use Rattle.dn_remain.specs.declared.events.Reported.TheVariants as Reported
 use Rattle.dn_remain.specs.Seen.{end_seen, holder_of, row_had}
 use Rattle.dn_remain.specs.Wary.{Report, on_report, undecided}

@@ -7,7 +7,7 @@ use Rattle.dn_machine.specs.Relaying as machine
 use Rattle.dn_machine.specs.Relaying.{with_relayed}
 use Rattle.dn_machine.specs.Runs.{Path}
 use Rattle.dn_machine.specs.Worlds.{Rules}
-use Rattle.dn_vanish.specs.Node.{Within}
+use Rattle.dn_remain.specs.Vanished.Node.{Within}
 use Rattle.dn_remain.specs.Wary.{Report}
 use Rattle.dn_remain.specs.Remaining.{Remaining, opening_remaining}
 use Rattle.dn_remain.specs.RunsRemain.{NextRemain}

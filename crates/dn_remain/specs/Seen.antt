@@ -1,12 +1,12 @@
--- What `dn_vanish` sees of a node of the machine.
+-- What `dn_remain::vanish` sees of a node of the machine.
 use Rattle.std.specs.Prelude.{ℕ, zero, suc, Bool, List, [], ◌∷◌, ◌++◌, nat_le, if◌then◌else◌, get_or, Option, Some, None}
 use Rattle.dn_tic.specs.declared.command.TicCmd.{TicCmd}
 use Rattle.dn_tic.specs.declared.command.Move.{Move}
 use Rattle.dn_machine.specs.Game.{Game}
 use Rattle.dn_machine.specs.Limits.{Limits, row_of}
 use Rattle.dn_machine.specs.Node.{Node, blank, ends_of, got, ran, has_left}
-use Rattle.dn_vanish.specs.Node.{is_over}
-use Rattle.dn_vanish.specs.Commands.{Holder}
+use Rattle.dn_remain.specs.Vanished.Node.{is_over}
+use Rattle.dn_remain.specs.Vanished.Commands.{Holder}
 
 -- an end counts once all commands before it are there
 abbrev pub reached : ℕ → Option ℕ → Option ℕ

@@ -5,7 +5,7 @@ use Rattle.dn_tic.specs.declared.command.TicCmd.{TicCmd}
 use Rattle.dn_machine.specs.Limits.{Limits}
 use Rattle.dn_machine.specs.Node.{ran}
 use Rattle.dn_machine.specs.Promise.{IsPrefixOf}
-use Rattle.dn_vanish.specs.Decisions.{on_decision}
+use Rattle.dn_remain.specs.Vanished.Decisions.{on_decision}
 use Rattle.dn_remain.specs.Seen.{end_seen}
 use Rattle.dn_remain.specs.Wary.{Wary, report_of, or_fresh}
 use Rattle.dn_remain.specs.Remaining.{Remaining, wary_of}

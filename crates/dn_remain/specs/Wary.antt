@@ -8,10 +8,10 @@ use Rattle.dn_machine.specs.Drops as drops
 use Rattle.dn_machine.specs.Limits.{Limits}
 use Rattle.dn_machine.specs.Node.{Node, put, lowest, has_left}
 use Rattle.dn_machine.specs.Hearing.{on_gathering}
-use Rattle.dn_vanish.specs.Node as counted
-use Rattle.dn_vanish.specs.Calls.{is_heard, can_decide, is_newer}
-use Rattle.dn_vanish.specs.Commands.{Holder, fresh_holder, seen}
-use Rattle.dn_vanish.specs.Decisions.{on_decision}
+use Rattle.dn_remain.specs.Vanished.Node as counted
+use Rattle.dn_remain.specs.Vanished.Calls.{is_heard, can_decide, is_newer}
+use Rattle.dn_remain.specs.Vanished.Commands.{Holder, fresh_holder, seen}
+use Rattle.dn_remain.specs.Vanished.Decisions.{on_decision}
 use Rattle.dn_remain.specs.Seen.{holder_of}
 use Rattle.dn_remain.specs.declared.events.GivenUp.{GivenUp}
 use Rattle.dn_remain.specs.declared.events.Reported.{Reported}

@@ -7,15 +7,15 @@ ghost use Rattle.dn_machine.specs.Drops as drops;
 ghost use Rattle.dn_machine.specs.{declared.events.Event.Event, Game.Game, Limits.Limits, Limits.IsWindow, Limits.vanilla_limits, Node.Node, Node.ends_of, Node.got, Node.held_at, Node.lacks};
 ghost use Rattle.dn_machine.specs.{Node.lowest, Node.ran, Running.is_awaited, Running.is_off, Running.on_run_but, declared.answers.Phase.TheVariants.Playing};
 ghost use Rattle.dn_machine.specs.{declared.answers.Ran.TheVariants.Inconsistent, Promise.Agree, Promise.Fits, Promise.Steady, Runs.Runs, Worlds.rules_of, Worlds.rules_within, Worlds.world_after};
-ghost use Rattle.dn_vanish.specs.{Calls.is_newer, Commands.AreHanded, Commands.Holder, Commands.past_seen, Commands.seen, Steps.IsRun};
+ghost use Rattle.dn_remain.specs.{Vanished.Calls.is_newer, Vanished.Commands.AreHanded, Vanished.Commands.Holder, Vanished.Commands.past_seen, Vanished.Commands.seen, Vanished.Steps.IsRun};
 ghost use Rattle.dn_remain.specs.{Seen.end_seen, Seen.now_of, Wary.Report, Wary.Wary, Wary.is_in_game, Wary.newest_seen, Wary.on_give_up, Wary.on_report, Wary.undecided, Remaining.Remaining};
 ghost use Rattle.dn_remain.specs.{RunsRemain.NobodyGivenUp, RunsRemain.RunsRemain, Promise.AgreeInPairs, Promise.FitsInPairs, Promise.IsPair, Promise.SteadyInPairs, declared.events.GivenUp.GivenUp, Relaying.RelayEvent, Relaying.Own as plain, Relaying.RunsRelayed};
 ghost use Rattle.dn_remain.specs.{declared.events.Reported.Reported, declared.events.RemainEvent.RemainEvent, declared.events.RemainEvent.TheVariants.Own};
 
 use dn_world::World;
 
-/// After every list of events, in any window, what the nodes have is a history of `dn_vanish` in which nobody
-/// is given up: its counts are a run of steps, and its lists are handed on. So all laws of `dn_vanish` hold of
+/// After every list of events, in any window, what the nodes have is a history of `dn_remain::vanish` in which nobody
+/// is given up: its counts are a run of steps, and its lists are handed on. So all laws of `dn_remain::vanish` hold of
 /// them.
 pub fn games_are_histories<W: World>()
     ensures { (limits : Limits) (settings : Settings) (events : List Event) (game : Game)

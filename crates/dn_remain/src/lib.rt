@@ -1,4 +1,4 @@
-//! A game in which players may be given up: the game of `dn_machine`, with the rules of `dn_vanish` for those
+//! A game in which players may be given up: the game of `dn_machine`, with the rules of `dn_remain::vanish` for those
 //! who vanish. No code runs here. `dn_survivor` makes the calls of a node, and `dn_remain_game` and `dn_link`
 //! run it. The definitions stand in `specs/`, to be read in the order of `specs/Lib.antt`.
 //!
@@ -7,7 +7,7 @@
 //! what it has, and hears what was told. A run compares the marks of those whom its node has not given up, and
 //! no others. A game in which nobody is given up is one of the machine's, and every game of the machine is one.
 //!
-//! What is said of reports in `dn_vanish` holds here too: they are true, no side of a split is the right one,
+//! What is said of reports in `dn_remain::vanish` holds here too: they are true, no side of a split is the right one,
 //! and nobody comes back. So what a node decides can be taken (`decisions_can_be_taken`). Not said yet is, of
 //! games in which somebody was given up, that those who remain go on.
 #![tactic(auto)]
@@ -15,6 +15,7 @@
 mod decisions;
 mod events;
 mod laws;
+pub mod vanish;
 
 pub use decisions::decisions_can_be_taken;
 pub use events::{GivenUp, RemainEvent, Reported};

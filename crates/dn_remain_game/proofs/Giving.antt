@@ -1,7 +1,7 @@
 -- A node that gives up a player or hears a report starts and begins its world, or leaves its world as it is.
 use Rattle.std.proofs.Common.{◌≡◌, ◌≢◌, ℕ, Bool, true, false, Some, None, refl, ap, sym, ◌∙◌}
 use Rattle.std.proofs.lemmas.Bool.{cond_both}
-use Rattle.dn_report.specs.declared.report.Report.{Report as Told}
+use Rattle.dn_survivor.specs.declared.report.Report.{Report as Told}
 use Rattle.dn_setup.specs.Gathered.{all_noted}
 use Rattle.dn_setup.specs.Settings.{Settings}
 use Rattle.dn_setup.specs.Starts.{start_of}
@@ -16,7 +16,7 @@ use Rattle.dn_lockstep.specs.Phases.{is_waiting}
 use Rattle.dn_lockstep.specs.Represents as lockstep_to
 use Rattle.dn_lockstep.specs.Rows.{seats_of}
 use Rattle.dn_lockstep.proofs.Moving.{known_by}
-use Rattle.dn_vanish.specs.Decisions.{on_decision}
+use Rattle.dn_remain.specs.Vanished.Decisions.{on_decision}
 use Rattle.dn_remain.specs.Wary.{Report, Wary, after_news, noted_gone, on_give_up, on_report, or_fresh, report_of, settled, with_gone, with_report}
 use Rattle.dn_remain.proofs.Cases.{give_up_cases, news_cases, report_cases}
 use Rattle.dn_survivor.specs.Calls as survivor

@@ -14,7 +14,7 @@ use Rattle.dn_lockstep.specs.declared.lockstep.aiming.Aim.{Aim}
 use Rattle.dn_lockstep.specs.Sent.{sent_to, aim_of, bytes_of}
 use Rattle.dn_lockstep.specs.Steps as lockstep
 use Rattle.dn_lockstep.proofs.Giving.{no_flight, some_flight}
-use Rattle.dn_others.specs.Keeping.{has}
+use Rattle.dn_survivor.specs.OfOthers.Keeping.{has}
 use Rattle.dn_remain.specs.Wary.{Wary}
 use Rattle.dn_survivor.specs.Calls.{sent_unless}
 use Rattle.dn_survivor.proofs.Steps.{stepped}

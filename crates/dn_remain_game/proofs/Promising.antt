@@ -21,7 +21,7 @@ use Rattle.dn_remain.proofs.Fitted.{pairs_fit}
 use Rattle.dn_remain.proofs.Promises.{pairs_agree}
 use Rattle.dn_remain.proofs.Quiet.{quiet}
 use Rattle.dn_remain.proofs.Reached.{IsReached as IsKnown, reached_by}
-use Rattle.dn_vanish.specs.Commands.{Holder}
+use Rattle.dn_remain.specs.Vanished.Commands.{Holder}
 use Rattle.dn_tic.specs.declared.command.TicCmd.{TicCmd}
 use Rattle.dn_remain.proofs.Steady.{pairs_steady}
 use Rattle.dn_survivor.specs.Agreed.{IsPair}

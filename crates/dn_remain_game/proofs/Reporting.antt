@@ -5,13 +5,13 @@ use Rattle.std.specs.Prelude.{◌⊎◌, slice_get, slice_index_or}
 use Rattle.std.specs.Option.{option_map}
 use Rattle.std.proofs.lemmas.List.{length-map, map_push}
 use Rattle.std.proofs.lemmas.Option.{slice_get-map, slice_get_read, slice_get_within}
-use Rattle.dn_report.specs.declared.report.Report.{Report as Told}
+use Rattle.dn_survivor.specs.declared.report.Report.{Report as Told}
 use Rattle.dn_setup.specs.Settings.{Settings}
 use Rattle.dn_world.specs.Physics.{Physics}
 use Rattle.dn_machine.specs.declared.events.Refusal.{Refusal}
 use Rattle.dn_machine.specs.Limits.{Limits}
 use Rattle.dn_machine.specs.Worlds.{Rules, rules_within}
-use Rattle.dn_others.specs.Represents.{AreTold, Tells}
+use Rattle.dn_survivor.specs.OfOthers.Represents.{AreTold, Tells}
 use Rattle.dn_remain.specs.Remaining.{Remaining, Telling as Exact, wary_of}
 use Rattle.dn_remain.specs.Wary.{Report, on_report, report_to}
 use Rattle.dn_remain.specs.declared.events.RemainEvent.{RemainEvent}

@@ -5,7 +5,7 @@ use Rattle.std.proofs.lemmas.Option.{slice_get_read}
 use Rattle.dn_machine.specs.declared.events.Refusal.{Refusal}
 use Rattle.dn_remain.specs.declared.events.RemainEvent.{RemainEvent}
 use Rattle.dn_remain.specs.declared.events.RemainEvent.TheVariants.{Own, GiveUp, Tell, Hear}
-use Rattle.dn_report.specs.declared.report.Report.{Report}
+use Rattle.dn_survivor.specs.declared.report.Report.{Report}
 use Rattle.dn_survivor.specs.Telling.{report_for}
 use Rattle.dn_remain_game.specs.declared.happened.Happened.{Happened}
 use Rattle.dn_remain_game.specs.declared.lived.Lived.{Lived}

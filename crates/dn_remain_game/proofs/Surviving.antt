@@ -4,7 +4,7 @@ use Rattle.std.specs.Prelude.{slice_get, slice_index_or, Option, Result}
 use Rattle.std.proofs.lemmas.Bool.{cases_lt, le-ltb}
 use Rattle.std.proofs.lemmas.List.{get_or-set_same, length-set}
 use Rattle.std.proofs.lemmas.Option.{same_Some, slice_get-get_or, slice_get_read}
-use Rattle.dn_report.specs.declared.report.Report.{Report as Told}
+use Rattle.dn_survivor.specs.declared.report.Report.{Report as Told}
 use Rattle.dn_machine.specs.declared.events.Refusal.{Refusal}
 use Rattle.dn_remain.specs.declared.events.RemainEvent.{RemainEvent}
 use Rattle.dn_remain.specs.declared.events.RemainEvent.TheVariants.{Own, GiveUp, Tell, Hear}

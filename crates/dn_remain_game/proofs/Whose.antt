@@ -4,7 +4,7 @@ use Rattle.std.specs.Prelude.{slice_index_or}
 use Rattle.std.proofs.Math.Seq.{map-set_same}
 use Rattle.dn_machine.specs.Drops as drops
 use Rattle.dn_machine.specs.declared.answers.Heard.{Heard}
-use Rattle.dn_report.specs.declared.report.Report.{Report}
+use Rattle.dn_survivor.specs.declared.report.Report.{Report}
 use Rattle.dn_lockstep.specs.Contents.{whose}
 use Rattle.dn_lockstep.specs.Hearing.{HearsAny, Spares}
 use Rattle.dn_survivor.specs.Calls.{GivesUp, GivesUpUnless, HearsReport, HearsReportUnless, refused_give_up, refused_report}

@@ -8,7 +8,7 @@ use Rattle.dn_packet.specs.Read.{IsReadAs}
 use Rattle.dn_packet.specs.Text.{text}
 use Rattle.dn_setup.specs.Settings.{Settings}
 use Rattle.dn_setup.specs.declared.setup.SetupFault.{SetupFault}
-use Rattle.dn_report.specs.declared.report.Report.{Report}
+use Rattle.dn_survivor.specs.declared.report.Report.{Report}
 use Rattle.dn_tic.specs.declared.input.Input.{Input}
 use Rattle.dn_world.specs.Physics.{Physics}
 use Rattle.dn_machine.specs.declared.answers.Heard.{Heard}
@@ -27,7 +27,7 @@ use Rattle.dn_lockstep.specs.Received.{received, IsTold}
 use Rattle.dn_lockstep.specs.Sent.{aim_of, bytes_of}
 use Rattle.dn_lockstep.specs.Settling.{is_no_peer}
 use Rattle.dn_lockstep.specs.Told.{HasStarted, made}
-use Rattle.dn_others.specs.Represents as others
+use Rattle.dn_survivor.specs.OfOthers.Represents as others
 use Rattle.dn_remain.specs.Wary.{Report as Held, Wary, can_settle, is_in_game, on_give_up, on_report, with_gone, with_report}
 use Rattle.dn_survivor.specs.declared.answers.GivenUp.{GivenUp}
 use Rattle.dn_survivor.specs.declared.answers.Reported.{Reported}

@@ -4,7 +4,7 @@ ghost use Rattle.std.specs.{Prelude.◌≡◌, Prelude.◌<◌, Prelude.◌≤�
 ghost use Rattle.dn_remain_game.specs.Room.{grown};
 
 use arrayvec::ArrayVec;
-use dn_report::{Report, Tail};
+use dn_survivor::report::{Report, Tail};
 use std::alloc::AllocError;
 
 /// A report that was told. It stays where it is, however often it is heard.

@@ -4,7 +4,7 @@ use Rattle.dn_machine.specs.Limits.{Limits}
 use Rattle.dn_machine.specs.Node as machine
 use Rattle.dn_lockstep.specs.Contents.{Contents}
 use Rattle.dn_lockstep.specs.Steps.{IsAfter, Steps}
-use Rattle.dn_others.specs.declared.others.Others.{Others}
+use Rattle.dn_survivor.specs.declared.others.Others.{Others}
 use Rattle.dn_survivor.specs.declared.answers.Ends.{Ends}
 use Rattle.dn_survivor.specs.Ending.{settled_below, settled_with}
 

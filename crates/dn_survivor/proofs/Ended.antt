@@ -15,11 +15,11 @@ use Rattle.dn_machine.specs.Node as machine
 use Rattle.dn_machine.specs.Node.{put, ends_of, got, made, has_left}
 use Rattle.dn_machine.specs.Worlds.{Rules}
 use Rattle.dn_machine.proofs.Put.{put_at, put_off}
-use Rattle.dn_vanish.specs.Commands.{Holder, Had, seen, past_seen}
-use Rattle.dn_vanish.specs.Node as counted
-use Rattle.dn_vanish.proofs.Always.{always}
-use Rattle.dn_vanish.proofs.Handing.{was_seen}
-use Rattle.dn_vanish.proofs.Invariant.{IsKept, IsLater}
+use Rattle.dn_remain.specs.Vanished.Commands.{Holder, Had, seen, past_seen}
+use Rattle.dn_remain.specs.Vanished.Node as counted
+use Rattle.dn_remain.proofs.Vanished.Always.{always}
+use Rattle.dn_remain.proofs.Vanished.Handing.{was_seen}
+use Rattle.dn_remain.proofs.Vanished.Invariant.{IsKept, IsLater}
 use Rattle.dn_remain.specs.Seen.{now_of}
 use Rattle.dn_remain.specs.Wary.{Report, Wary, on_give_up, on_report}
 use Rattle.dn_remain.specs.Remaining as remaining

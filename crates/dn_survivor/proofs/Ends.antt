@@ -15,15 +15,15 @@ use Rattle.dn_lockstep.specs.declared.lockstep.settling.Settled.{Settled}
 use Rattle.dn_lockstep.specs.Phases.{is_listening}
 use Rattle.dn_lockstep.specs.Settling.{is_no_peer, is_other_end, on_settle}
 use Rattle.dn_lockstep.proofs.Turns.{in_turn}
-use Rattle.dn_vanish.specs.Calls.{can_decide}
-use Rattle.dn_vanish.specs.Commands.{Holder, fresh_holder, seen}
-use Rattle.dn_vanish.specs.Decisions.{on_decision}
-use Rattle.dn_vanish.specs.Reports.{decided_end}
-use Rattle.dn_others.specs.declared.others.Others.{Others}
-use Rattle.dn_others.specs.Keeping.{commands_of, first_of, has, nodes_of, own_of, told_of}
-use Rattle.dn_others.specs.Represents as others
-use Rattle.dn_others.proofs.Agreeing as agreeing
-use Rattle.dn_others.proofs.Catching.{Suffices, suffices}
+use Rattle.dn_remain.specs.Vanished.Calls.{can_decide}
+use Rattle.dn_remain.specs.Vanished.Commands.{Holder, fresh_holder, seen}
+use Rattle.dn_remain.specs.Vanished.Decisions.{on_decision}
+use Rattle.dn_remain.specs.Vanished.Reports.{decided_end}
+use Rattle.dn_survivor.specs.declared.others.Others.{Others}
+use Rattle.dn_survivor.specs.OfOthers.Keeping.{commands_of, first_of, has, nodes_of, own_of, told_of}
+use Rattle.dn_survivor.specs.OfOthers.Represents as others
+use Rattle.dn_survivor.proofs.OfOthers.Agreeing as agreeing
+use Rattle.dn_survivor.proofs.OfOthers.Catching.{Suffices, suffices}
 use Rattle.dn_remain.specs.Taking.{commands_decided}
 use Rattle.dn_remain.specs.Wary.{Report, Wary, can_settle, is_in_game, or_fresh, report_of, settled}
 use Rattle.dn_survivor.specs.declared.answers.Ends.{Ends}
@@ -80,7 +80,7 @@ module _ (limits : Limits) (me : ℕ) (kept : Others) (wary : Wary) (mine : me <
   abbrev commands : ℕ → List TicCmd
   commands = commands_decided limits me wary
 
-  -- what was told, in the words of `dn_others`
+  -- what was told, in the words of `dn_survivor::others`
   abbrev lists : ℕ → Holder TicCmd
   lists o = unwrap_or (wary.newest o) fresh_holder
 

@@ -1,3 +1,5 @@
+pub mod OfOthers
+pub mod ReportBytes
 pub mod Lists
 pub mod Lowest
 pub mod Chains

@@ -4,8 +4,8 @@ use Rattle.std.proofs.lemmas.Bool.{cases_eq}
 use Rattle.std.specs.Option.{IfSome}
 use Rattle.dn_machine.specs.Node.{lowest}
 use Rattle.dn_lockstep.proofs.Lowest.{lowest_found}
-use Rattle.dn_vanish.specs.Calls.{every}
-use Rattle.dn_vanish.proofs.Tests.{every_at}
+use Rattle.dn_remain.specs.Vanished.Calls.{every}
+use Rattle.dn_remain.proofs.Vanished.Tests.{every_at}
 
 pub lowest_none : (bound : ℕ) (test : ℕ → Bool) → ((p : ℕ) → p < bound → test p ≡ false)
     → lowest bound test ≡ None

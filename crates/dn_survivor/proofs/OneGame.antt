@@ -8,7 +8,7 @@ use Rattle.dn_tic.specs.declared.command.Move.{Move}
 use Rattle.dn_tic.specs.declared.command.TicCmd.{TicCmd}
 use Rattle.dn_tic.specs.declared.input.Input.{Input}
 use Rattle.dn_tic.specs.declared.input.Input.TheVariants.{Pressed, Given as Handed}
-use Rattle.dn_report.specs.declared.report.Report.{Report as Told}
+use Rattle.dn_survivor.specs.declared.report.Report.{Report as Told}
 use Rattle.dn_setup.specs.Settings.{Settings}
 use Rattle.dn_machine.specs.Drops as drops
 use Rattle.dn_machine.specs.declared.answers.Heard.{Heard}
@@ -46,9 +46,9 @@ use Rattle.dn_lockstep.specs.Told.{made, command_told}
 use Rattle.dn_lockstep.proofs.Counting.{got_is}
 use Rattle.dn_lockstep.proofs.OneGame.{IsQuiet, Rows, build_inputs, build_rows, fair_on, hear_quiet, not_past, own_is, quit_quiet, send_quiet, sent_between}
 use Rattle.dn_lockstep.proofs.Running.{but_same, but_tells, kept_same}
-use Rattle.dn_others.specs.Keeping.{nothing_kept}
-use Rattle.dn_others.specs.Represents as others
-use Rattle.dn_vanish.specs.Commands.{Holder}
+use Rattle.dn_survivor.specs.OfOthers.Keeping.{nothing_kept}
+use Rattle.dn_survivor.specs.OfOthers.Represents as others
+use Rattle.dn_remain.specs.Vanished.Commands.{Holder}
 use Rattle.dn_remain.specs.Remaining.{Remaining, Telling, wary_of, with_wary, with_telling, unless, after_event, after_hearing, after_run, after_telling, is_barred, is_barred_flight, opening_remaining}
 use Rattle.dn_remain.specs.RunsRemain.{NextRemain}
 use Rattle.dn_remain.specs.Relaying as relaying

@@ -34,7 +34,7 @@ use Rattle.dn_lockstep.proofs.DemosAgreeing.{begun_or, commands_prefix, prefix_s
 use Rattle.dn_lockstep.proofs.Replaying.{read_back}
 use Rattle.dn_lockstep.proofs.Seats.{seats_whole}
 use Rattle.dn_lockstep.proofs.Shown
-use Rattle.dn_vanish.specs.Commands.{Holder}
+use Rattle.dn_remain.specs.Vanished.Commands.{Holder}
 use Rattle.dn_remain.specs.Promise as pairs
 use Rattle.dn_remain.specs.Promise.{AgreeInPairs, FitsInPairs, SteadyInPairs}
 use Rattle.dn_remain.specs.Remaining.{Remaining, wary_of}
@@ -46,7 +46,7 @@ use Rattle.dn_remain.proofs.Promises.{pairs_agree}
 use Rattle.dn_remain.proofs.Reached.{IsReached}
 use Rattle.dn_remain.proofs.Seeing.{reached_cases, reached_some}
 use Rattle.dn_remain.proofs.Steady.{pairs_steady}
-use Rattle.dn_others.specs.Keeping.{count_told}
+use Rattle.dn_survivor.specs.OfOthers.Keeping.{count_told}
 use Rattle.dn_survivor.specs.Agreed.{AreAgreedInPairs, FitInPairs, IsPair, move_told, row_without}
 use Rattle.dn_survivor.specs.Demos.{DemosAgreeInPairs, is_closed, rows_whole}
 use Rattle.dn_survivor.specs.OneGame.{AreRemaining}

@@ -6,7 +6,7 @@ use Rattle.std.proofs.lemmas.Bool.{both_ways, cases_Bool, cases_eq, cond_both, e
 use Rattle.std.proofs.lemmas.List.{get_or-set_other}
 use Rattle.std.proofs.lemmas.Option.{same_Some}
 use Rattle.dn_tic.specs.declared.command.TicCmd.{TicCmd}
-use Rattle.dn_report.specs.declared.report.Report.{Report}
+use Rattle.dn_survivor.specs.declared.report.Report.{Report}
 use Rattle.dn_machine.specs.Drops as drops
 use Rattle.dn_setup.specs.Gathered.{all_noted}
 use Rattle.dn_machine.specs.declared.answers.Heard.{Heard}
@@ -20,13 +20,13 @@ use Rattle.dn_lockstep.specs.Phases.{is_listening}
 use Rattle.dn_lockstep.specs.Represents as lockstep
 use Rattle.dn_lockstep.specs.Rings.{is_stop}
 use Rattle.dn_lockstep.specs.Settling.{has_gap, is_no_peer, is_other_end, missing, on_excuse, on_settle, refused_end, settled_unless}
-use Rattle.dn_vanish.specs.Calls.{can_decide}
-use Rattle.dn_vanish.specs.Reports.{share}
-use Rattle.dn_vanish.proofs.Put.{highest_bounds}
-use Rattle.dn_others.specs.declared.hearing.Reported as noted
-use Rattle.dn_others.specs.declared.others.Others.{Others}
-use Rattle.dn_others.specs.Hearing.{reported_as, with_newest}
-use Rattle.dn_others.specs.Keeping.{commands_of, first_of, has, nodes_of, own_of, told_of}
+use Rattle.dn_remain.specs.Vanished.Calls.{can_decide}
+use Rattle.dn_remain.specs.Vanished.Reports.{share}
+use Rattle.dn_remain.proofs.Vanished.Put.{highest_bounds}
+use Rattle.dn_survivor.specs.declared.others.hearing.Reported as noted
+use Rattle.dn_survivor.specs.declared.others.Others.{Others}
+use Rattle.dn_survivor.specs.OfOthers.Hearing.{reported_as, with_newest}
+use Rattle.dn_survivor.specs.OfOthers.Keeping.{commands_of, first_of, has, nodes_of, own_of, told_of}
 use Rattle.dn_remain.specs.Wary.{is_in_game, noted_gone}
 use Rattle.dn_survivor.specs.declared.answers.Ends.{Ends}
 use Rattle.dn_survivor.specs.declared.answers.GivenUp.{GivenUp}

@@ -5,8 +5,8 @@ use Rattle.std.specs.List.{filter_map, range_with_len}
 use Rattle.std.specs.Option.{is_some, option_or}
 use Rattle.std.proofs.lemmas.Bool.{cases_Bool, cases_eq, cases_lt, eq-eqb, ne_eqb, lt-ltb}
 use Rattle.dn_ring.specs.Ring.{Ring}
-use Rattle.dn_report.specs.declared.report.Tail.{Tail}
-use Rattle.dn_report.specs.Text.{AreInOrder, AreTold, IsTail}
+use Rattle.dn_survivor.specs.declared.report.Tail.{Tail}
+use Rattle.dn_survivor.specs.ReportBytes.Text.{AreInOrder, AreTold, IsTail}
 use Rattle.dn_machine.specs.Limits.{Limits}
 use Rattle.dn_machine.specs.Node as machine
 use Rattle.dn_machine.specs.Node.{got, held_at, is_ended, lowest}
@@ -16,11 +16,11 @@ use Rattle.dn_lockstep.specs.Rings.{count_of, get, ring_of}
 use Rattle.dn_lockstep.specs.Settling.{is_no_peer}
 use Rattle.dn_lockstep.specs.Told.{command_told}
 use Rattle.dn_lockstep.proofs.Keeping.{get_within}
-use Rattle.dn_vanish.specs.Decisions.{last_of}
-use Rattle.dn_others.specs.Hearing.{tells_either}
-use Rattle.dn_others.specs.Keeping.{count_told, has, last_told}
-use Rattle.dn_others.specs.Represents.{Tells}
-use Rattle.dn_others.specs.Represents as others
+use Rattle.dn_remain.specs.Vanished.Decisions.{last_of}
+use Rattle.dn_survivor.specs.OfOthers.Hearing.{tells_either}
+use Rattle.dn_survivor.specs.OfOthers.Keeping.{count_told, has, last_told}
+use Rattle.dn_survivor.specs.OfOthers.Represents.{Tells}
+use Rattle.dn_survivor.specs.OfOthers.Represents as others
 use Rattle.dn_remain.specs.Wary.{Wary, has_gone, report_of, report_to}
 use Rattle.dn_survivor.specs.Represents.{Represents}
 use Rattle.dn_survivor.specs.Surviving as now

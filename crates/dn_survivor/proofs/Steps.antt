@@ -11,13 +11,13 @@ use Rattle.dn_machine.specs.declared.answers.Phase.{Phase}
 use Rattle.dn_machine.specs.declared.answers.Phase.TheVariants.{Listening, Gathering, Playing, Ended}
 use Rattle.dn_lockstep.specs.Runs.{RunsBy, marks_in, row_told}
 use Rattle.dn_lockstep.specs.Represents as lockstep
-use Rattle.dn_vanish.specs.Calls.{is_heard}
-use Rattle.dn_vanish.specs.Commands.{seen}
-use Rattle.dn_others.specs.declared.others.Others.{Others}
-use Rattle.dn_others.specs.Keeping.{nodes_of, nothing_kept, own_of}
-use Rattle.dn_others.specs.Represents as others
-use Rattle.dn_others.proofs.Agreeing as agreeing
-use Rattle.dn_others.proofs.Keeping.{first}
+use Rattle.dn_remain.specs.Vanished.Calls.{is_heard}
+use Rattle.dn_remain.specs.Vanished.Commands.{seen}
+use Rattle.dn_survivor.specs.declared.others.Others.{Others}
+use Rattle.dn_survivor.specs.OfOthers.Keeping.{nodes_of, nothing_kept, own_of}
+use Rattle.dn_survivor.specs.OfOthers.Represents as others
+use Rattle.dn_survivor.proofs.OfOthers.Agreeing as agreeing
+use Rattle.dn_survivor.proofs.OfOthers.Keeping.{first}
 use Rattle.dn_remain.specs.Wary.{Wary, report_of, undecided}
 use Rattle.dn_survivor.specs.Calls.{undecided_in}
 use Rattle.dn_survivor.specs.Represents.{Represents, nobody_gone}

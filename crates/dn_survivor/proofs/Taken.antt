@@ -21,15 +21,15 @@ use Rattle.dn_machine.proofs.Put.{put_at, put_off}
 use Rattle.dn_lockstep.specs.Rings.{is_stop}
 use Rattle.dn_lockstep.specs.Settling.{is_other_end}
 use Rattle.dn_lockstep.proofs.Keeping.{none_stops}
-use Rattle.dn_vanish.specs.Calls.{every, is_heard, is_report, is_within_at}
-use Rattle.dn_vanish.specs.Commands.{Holder, IsPrefixOf, seen, past_seen}
-use Rattle.dn_vanish.specs.Node as counted
-use Rattle.dn_vanish.proofs.Always.{always}
-use Rattle.dn_vanish.proofs.Fitting.{fits}
-use Rattle.dn_vanish.proofs.Handing.{handed, was_seen}
-use Rattle.dn_vanish.proofs.Invariant.{IsKept}
-use Rattle.dn_vanish.proofs.Tests.{every_at}
-use Rattle.dn_others.specs.Represents.{AreWithin}
+use Rattle.dn_remain.specs.Vanished.Calls.{every, is_heard, is_report, is_within_at}
+use Rattle.dn_remain.specs.Vanished.Commands.{Holder, IsPrefixOf, seen, past_seen}
+use Rattle.dn_remain.specs.Vanished.Node as counted
+use Rattle.dn_remain.proofs.Vanished.Always.{always}
+use Rattle.dn_remain.proofs.Vanished.Fitting.{fits}
+use Rattle.dn_remain.proofs.Vanished.Handing.{handed, was_seen}
+use Rattle.dn_remain.proofs.Vanished.Invariant.{IsKept}
+use Rattle.dn_remain.proofs.Vanished.Tests.{every_at}
+use Rattle.dn_survivor.specs.OfOthers.Represents.{AreWithin}
 use Rattle.dn_remain.specs.Seen.{end_seen, now_of, reached}
 use Rattle.dn_remain.specs.Taking.{CanBeTaken, commands_decided}
 use Rattle.dn_remain.specs.Wary.{Report, Wary, can_settle, newest_seen, report_of}

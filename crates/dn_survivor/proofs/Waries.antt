@@ -2,7 +2,7 @@
 use Rattle.std.proofs.Common.{◌≡◌, ◌≢◌, ◌<◌, ◌≤◌, ℕ, Bool, true, false, refl, sym, ap, subst, ◌∙◌, arith, inl, inr, Option, Some, None}
 use Rattle.std.specs.Prelude.{not, if◌then◌else◌}
 use Rattle.std.proofs.lemmas.Bool.{cases_Bool, cases_eq, cond_both, true≢false}
-use Rattle.dn_report.specs.declared.report.Report.{Report as Told}
+use Rattle.dn_survivor.specs.declared.report.Report.{Report as Told}
 use Rattle.dn_setup.specs.Gathered.{all_noted}
 use Rattle.dn_machine.specs.Drops as drops
 use Rattle.dn_machine.specs.declared.answers.Phase.{Phase}
@@ -15,16 +15,16 @@ use Rattle.dn_machine.proofs.Put.{put_off}
 use Rattle.dn_lockstep.specs.Represents as lockstep
 use Rattle.dn_lockstep.specs.Settling.{is_no_peer, on_excuse, on_excuse_in}
 use Rattle.dn_lockstep.specs.Steps.{IsAfter, Steps}
-use Rattle.dn_vanish.specs.Calls.{is_newer}
-use Rattle.dn_vanish.specs.Commands.{seen}
-use Rattle.dn_others.specs.declared.others.Others.{Others}
-use Rattle.dn_others.specs.declared.hearing.Reported as noted
-use Rattle.dn_others.specs.Keeping.{has}
-use Rattle.dn_others.specs.Hearing.{reported_as, with_newest}
-use Rattle.dn_others.specs.Represents as others
-use Rattle.dn_others.specs.Represents.{Tells}
-use Rattle.dn_others.proofs.Agreeing as agreeing
-use Rattle.dn_others.proofs.Keeping as keeping
+use Rattle.dn_remain.specs.Vanished.Calls.{is_newer}
+use Rattle.dn_remain.specs.Vanished.Commands.{seen}
+use Rattle.dn_survivor.specs.declared.others.Others.{Others}
+use Rattle.dn_survivor.specs.declared.others.hearing.Reported as noted
+use Rattle.dn_survivor.specs.OfOthers.Keeping.{has}
+use Rattle.dn_survivor.specs.OfOthers.Hearing.{reported_as, with_newest}
+use Rattle.dn_survivor.specs.OfOthers.Represents as others
+use Rattle.dn_survivor.specs.OfOthers.Represents.{Tells}
+use Rattle.dn_survivor.proofs.OfOthers.Agreeing as agreeing
+use Rattle.dn_survivor.proofs.OfOthers.Keeping as keeping
 use Rattle.dn_remain.specs.declared.events.GivenUp as remain_given
 use Rattle.dn_remain.specs.declared.events.Reported as remain_reported
 use Rattle.dn_remain.specs.Wary.{Report, Wary, after_news, can_settle, is_in_game, newest_seen, noted_gone, on_give_up, on_report, with_gone, with_report}

@@ -14,7 +14,7 @@ use Rattle.dn_machine.specs.Running.{is_over, tic_limit}
 use Rattle.dn_machine.specs.Worlds.{Inputs}
 use Rattle.dn_lockstep.specs.Contents.{end_in}
 use Rattle.dn_lockstep.specs.Told.{HasStarted, command_told, got, made}
-use Rattle.dn_others.specs.Keeping.{count_told}
+use Rattle.dn_survivor.specs.OfOthers.Keeping.{count_told}
 use Rattle.dn_survivor.specs.Session.{Given, Session}
 use Rattle.dn_survivor.specs.Surviving.{Surviving, end_settled, has_given_up}
 

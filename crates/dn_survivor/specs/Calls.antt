@@ -1,6 +1,6 @@
 -- What the calls of a survivor do that are not those of a lockstep.
 use Rattle.std.specs.Prelude.{◌≡◌, ℕ, true, not, slice_set, if◌then◌else◌, Option, Some, None}
-use Rattle.dn_report.specs.declared.report.Report.{Report}
+use Rattle.dn_survivor.specs.declared.report.Report.{Report}
 use Rattle.dn_machine.specs.Drops as drops
 use Rattle.dn_machine.specs.Limits.{Limits}
 use Rattle.dn_machine.specs.Flight.{Flight}
@@ -9,12 +9,12 @@ use Rattle.dn_machine.specs.Node.{lowest}
 use Rattle.dn_lockstep.specs.Sent.{sent_to}
 use Rattle.dn_lockstep.specs.Settling.{is_no_peer, on_excuse}
 use Rattle.dn_lockstep.specs.Steps.{Steps}
-use Rattle.dn_vanish.specs.Calls.{is_heard}
+use Rattle.dn_remain.specs.Vanished.Calls.{is_heard}
 use Rattle.dn_remain.specs.Wary.{is_in_game}
-use Rattle.dn_others.specs.declared.others.Others.{Others}
-use Rattle.dn_others.specs.declared.hearing.Reported as others
-use Rattle.dn_others.specs.Keeping.{has, nodes_of, own_of}
-use Rattle.dn_others.specs.Hearing.{reported_as, with_newest}
+use Rattle.dn_survivor.specs.declared.others.Others.{Others}
+use Rattle.dn_survivor.specs.declared.others.hearing.Reported as others
+use Rattle.dn_survivor.specs.OfOthers.Keeping.{has, nodes_of, own_of}
+use Rattle.dn_survivor.specs.OfOthers.Hearing.{reported_as, with_newest}
 use Rattle.dn_survivor.specs.declared.answers.Ends.{Ends}
 use Rattle.dn_survivor.specs.declared.answers.GivenUp.{GivenUp}
 use Rattle.dn_survivor.specs.declared.answers.Reported.{Reported}

@@ -5,10 +5,10 @@ use Rattle.dn_machine.specs.Node as machine
 use Rattle.dn_machine.specs.Node.{got}
 use Rattle.dn_lockstep.specs.Settling.{on_settle}
 use Rattle.dn_lockstep.specs.declared.lockstep.settling.Settled.{Settled}
-use Rattle.dn_vanish.specs.Calls.{can_decide}
-use Rattle.dn_vanish.specs.Reports.{decided_end}
-use Rattle.dn_others.specs.declared.others.Others.{Others}
-use Rattle.dn_others.specs.Keeping.{commands_of, first_of, has, nodes_of, own_of, told_of}
+use Rattle.dn_remain.specs.Vanished.Calls.{can_decide}
+use Rattle.dn_remain.specs.Vanished.Reports.{decided_end}
+use Rattle.dn_survivor.specs.declared.others.Others.{Others}
+use Rattle.dn_survivor.specs.OfOthers.Keeping.{commands_of, first_of, has, nodes_of, own_of, told_of}
 use Rattle.dn_survivor.specs.declared.answers.Ends.{Ends}
 
 -- where the commands of a player end, by what is kept of the others and those that the node has

@@ -1,3 +1,5 @@
+pub mod OfOthers
+pub mod ReportBytes
 pub mod Surviving
 pub mod Lending
 pub mod Ending

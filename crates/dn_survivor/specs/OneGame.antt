@@ -8,7 +8,7 @@ use Rattle.dn_lockstep.specs.Marking.{Marking}
 use Rattle.dn_lockstep.specs.Near.{IsFair}
 use Rattle.dn_lockstep.specs.OneGame.{IsAimedAs, beside}
 use Rattle.dn_lockstep.specs.Sent.{bytes_of}
-use Rattle.dn_others.specs.Represents as others
+use Rattle.dn_survivor.specs.OfOthers.Represents as others
 use Rattle.dn_remain.specs.Remaining.{Remaining, Telling, wary_of}
 use Rattle.dn_remain.specs.Relaying.{RelayEvent, RunsRelayed}
 use Rattle.dn_survivor.specs.Represents.{Represents}

@@ -1,7 +1,7 @@
 -- When a survivor may hand on to another the commands that it has of third players.
 use Rattle.std.specs.Prelude.{◌≡◌, ◌<◌, ℕ, Bool, true, false, Option, Some, None}
-use Rattle.dn_report.specs.declared.report.Report.{Report}
-use Rattle.dn_others.specs.Keeping.{has, newest_of}
+use Rattle.dn_survivor.specs.declared.report.Report.{Report}
+use Rattle.dn_survivor.specs.OfOthers.Keeping.{has, newest_of}
 use Rattle.dn_survivor.specs.Surviving.{Surviving, has_given_up}
 
 -- whom another has given up, as far as its newest report tells

@@ -5,9 +5,9 @@ ghost use Rattle.dn_survivor.specs.{Calls.given_up_as, Calls.reported_by, Calls.
 ghost use Rattle.dn_survivor.specs.declared.answers.GivenUp.TheVariants as GivenUp;
 ghost use Rattle.dn_survivor.specs.declared.answers.Reported.TheVariants as Reported;
 
+use crate::others::Reported as Noted;
 use dn_lockstep::Settled;
 use dn_machine::Dropped;
-use dn_others::Reported as Noted;
 
 /// What has become of the ends of those who are given up.
 #[derive(Clone, Copy)]

@@ -4,7 +4,7 @@ ghost use Rattle.std.specs.{Prelude.◌≡◌, Prelude.◌≢◌, Prelude.◌<�
 ghost use Rattle.std.specs.{Prelude.get_or, Prelude.pos, Prelude.slice_get, Option.option_map, Prelude.IfSome};
 ghost use Rattle.dn_tic.specs.{declared.command.Move.Move, declared.input.Input.Input};
 ghost use Rattle.dn_setup.specs.Settings.{Settings};
-ghost use Rattle.dn_report.specs.declared.report.Report.{Report};
+ghost use Rattle.dn_survivor.specs.declared.report.Report.{Report};
 ghost use Rattle.dn_machine.specs.Drops as drops;
 ghost use Rattle.dn_machine.specs.{declared.answers.Heard.Heard, declared.answers.Made.Made, declared.answers.Ran.Ran, Building.on_build, Flight.Flight, Flight.is_near, Game.fresh, Limits.Limits};
 ghost use Rattle.dn_machine.specs.{Limits.IsWindow, Running.is_over, Running.on_quit, Running.on_run_but};
@@ -15,7 +15,7 @@ ghost use Rattle.dn_machine.specs.Relaying.{packet_of_one};
 ghost use Rattle.dn_survivor.specs.{Relaying.MayRelay, Session.after_relays};
 ghost use Rattle.dn_lockstep.specs.{Steps.Tells, Told.made, Told.command_told};
 ghost use Rattle.dn_lockstep.specs.Represents as lockstep;
-ghost use Rattle.dn_others.specs.Keeping.{nothing_kept};
+ghost use Rattle.dn_survivor.specs.OfOthers.Keeping.{nothing_kept};
 ghost use Rattle.dn_survivor.specs.{Calls.GivesUp, Calls.HearsReport, Calls.sent_unless, OneGame.AreRemaining, OneGame.IsGivenAs, Session.Given, Session.Session, Session.after_build};
 ghost use Rattle.dn_survivor.specs.{Session.after_packet, Session.after_report, Session.after_run, Session.opening_session, Session.with_survivor, Surviving.Surviving, Surviving.has_given_up};
 ghost use Rattle.dn_survivor.specs.{Telling.report_for, declared.answers.GivenUp.GivenUp, declared.answers.Reported.Reported};

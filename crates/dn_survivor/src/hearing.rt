@@ -1,9 +1,9 @@
 //! How a survivor hears packets and reports.
 
 use crate::answers::{Reported, reported_by, unkept};
+use crate::report::Report;
 use crate::survivor::Survivor;
 use dn_machine::{Dropped, Heard};
-use dn_report::Report;
 
 impl Survivor {
     ghost use Rattle.std.specs.Prelude.{◌≡◌, ℕ, true, false};

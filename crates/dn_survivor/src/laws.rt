@@ -2,12 +2,12 @@
 
 ghost use Rattle.std.specs.Prelude.{◌≡◌, ◌≢◌, ◌<◌, ◌≤◌, ◌⊎◌, ℕ, ℤ, true, false, List, Option};
 ghost use Rattle.dn_tic.specs.declared.command.Move.{Move};
-ghost use Rattle.dn_report.specs.declared.report.Report.{Report};
+ghost use Rattle.dn_survivor.specs.declared.report.Report.{Report};
 ghost use Rattle.dn_machine.specs.{declared.answers.Ran.Ran, declared.answers.Phase.TheVariants.Gathering, declared.answers.Phase.TheVariants.Playing, Limits.Limits, Running.on_run_but};
 ghost use Rattle.dn_machine.specs.Node as machine;
 ghost use Rattle.dn_lockstep.specs.Represents as lockstep;
 ghost use Rattle.dn_lockstep.specs.{Runs.RunsBy, Runs.marks_in, Runs.row_told, Settling.is_no_peer, declared.lockstep.settling.Settled.Settled};
-ghost use Rattle.dn_others.specs.{Keeping.nothing_kept, Represents.AreTold, Represents.Tells};
+ghost use Rattle.dn_survivor.specs.{OfOthers.Keeping.nothing_kept, OfOthers.Represents.AreTold, OfOthers.Represents.Tells};
 ghost use Rattle.dn_remain.specs.{Wary.Report as Held, Wary.Wary, Wary.can_settle, Wary.is_in_game, Wary.on_give_up, Wary.on_report, Wary.report_to, Wary.undecided, Wary.with_gone, Wary.with_report};
 ghost use Rattle.dn_survivor.specs.{Calls.GivesUp, Calls.HearsReport, Calls.undecided_in, Ending.IsRefusal, Represents.CanTakeAll, Represents.Represents, Represents.given_up_is};
 ghost use Rattle.dn_survivor.specs.{Represents.nobody_gone, Represents.reported_is, Surviving.Surviving, Surviving.has_given_up, Telling.report_for, declared.answers.GivenUp.GivenUp};

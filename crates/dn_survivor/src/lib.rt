@@ -17,7 +17,9 @@ mod giving;
 mod hearing;
 mod laws;
 mod lending;
+pub mod others;
 mod playing;
+pub mod report;
 mod survivor;
 mod telling;
 

@@ -3,9 +3,9 @@
 ghost use Rattle.std.specs.{Prelude.◌≡◌, Prelude.◌<◌, Prelude.◌&&◌, Prelude.◌||◌, Prelude.not, Prelude.Some, Prelude.IfOk, Prelude.is_some, Prelude.true, Option.option_map};
 ghost use Rattle.dn_lockstep.specs.Opening.{IsAdmittedWithin, limits_within, whose_within};
 
+use crate::others::Others;
 use dn_lockstep::{Config, Lockstep, NodeFault};
 use dn_machine::Phase;
-use dn_others::Others;
 use std::alloc::Global;
 
 /// A lockstep of which players may be given up, and what its player keeps of the others for that.
@@ -19,7 +19,7 @@ impl Survivor {
     ghost use Rattle.dn_setup.specs.Settings.{Settings as Choice};
     ghost use Rattle.dn_machine.specs.Game.{fresh};
     ghost use Rattle.dn_lockstep.specs.{Contents.contents, Contents.whose, Represents.Represents, Settling.is_no_peer};
-    ghost use Rattle.dn_others.specs.Keeping.{nothing_kept};
+    ghost use Rattle.dn_survivor.specs.OfOthers.Keeping.{nothing_kept};
     ghost use Rattle.dn_remain.specs.Wary.{is_in_game};
     ghost use Rattle.dn_survivor.specs.{Surviving.surviving, Surviving.has_given_up, Surviving.has_gone, Surviving.has_left, Surviving.has_settled, Surviving.is_unsettled, Calls.undecided_in};
     ghost use Rattle.dn_survivor.specs.{Calls.unsettled_in};

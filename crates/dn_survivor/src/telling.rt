@@ -3,9 +3,9 @@
 ghost use Rattle.std.specs.{Prelude.◌≡◌, Prelude.◌≢◌, Prelude.◌<◌, Prelude.◌≤◌, Prelude.◌+◌, Prelude.◌++◌, Prelude.length, Prelude.All, Prelude.IfSome, Option.option_to_list};
 ghost use Rattle.dn_tic.specs.Command.{IsCommand};
 
+use crate::report::{MAX_TOLD, Report, TAIL_COMMANDS, Tail};
 use crate::survivor::Survivor;
 use arrayvec::ArrayVec;
-use dn_report::{MAX_TOLD, Report, TAIL_COMMANDS, Tail};
 use dn_tic::TicCmd;
 
 /// Appends one thing more, if there is one.
@@ -36,7 +36,7 @@ fn set_of(set: [bool; 4]) -> [bool; 4]
 }
 
 impl Survivor {
-    ghost use Rattle.dn_report.specs.Text.{AreTold, IsReport, IsTail};
+    ghost use Rattle.dn_survivor.specs.ReportBytes.Text.{AreTold, IsReport, IsTail};
     ghost use Rattle.dn_survivor.specs.{Surviving.surviving, Telling.last_in, Telling.report_for, Telling.tails_in, Telling.told_in};
 
     /// The last commands of a player, as many as the lockstep keeps.

@@ -6,7 +6,7 @@ use Rattle.dn_demo.specs.declared.demo.DemoFault.{DemoFault}
 use Rattle.dn_lockstep.specs.declared.config.NodeFault.{NodeFault}
 use Rattle.dn_lockstep.specs.declared.lockstep.settling.Settled.{Settled}
 use Rattle.dn_seal.specs.declared.opened.SealFault.{SealFault}
-use Rattle.dn_notice.specs.declared.fault.ReportDatagramFault.{ReportDatagramFault}
+use Rattle.dn_link.specs.declared.notice.fault.ReportDatagramFault.{ReportDatagramFault}
 use Rattle.dn_survivor.specs.declared.answers.Reported.{Reported}
 use Rattle.dn_link.specs.declared.bundle.BundleFault.{BundleFault}
 

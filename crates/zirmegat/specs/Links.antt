@@ -13,7 +13,7 @@ use Rattle.dn_machine.specs.declared.answers.Ran.{Ran}
 use Rattle.dn_machine.specs.Building.{on_build}
 use Rattle.dn_tic.specs.declared.input.Input.{Input}
 use Rattle.dn_tic.specs.declared.command.Move.{Move}
-use Rattle.dn_others.specs.Keeping.{nothing_kept}
+use Rattle.dn_survivor.specs.OfOthers.Keeping.{nothing_kept}
 use Rattle.dn_survivor.specs.declared.answers.GivenUp.{GivenUp}
 use Rattle.dn_seal.specs.declared.seal.Seal.{Seal}
 use Rattle.dn_link.specs.declared.link.Link.{Link}

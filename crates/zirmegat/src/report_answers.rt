@@ -4,7 +4,7 @@ ghost use Rattle.std.specs.Prelude.{◌≡◌};
 ghost use Rattle.zirmegat.specs.Codes.{notice_code, reported_code};
 
 use crate::give_up_answers::settled_code;
-use dn_notice::ReportDatagramFault;
+use dn_link::notice::ReportDatagramFault;
 use dn_survivor::Reported;
 
 /// What became of a report; one that is dropped is told by the number of the drop.

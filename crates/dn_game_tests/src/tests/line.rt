@@ -3,7 +3,7 @@
 mod hubs;
 mod ports;
 
-use dn_line::Datagram;
+use dn_netgame::line::Datagram;
 use dn_shared_tests::same;
 use std::process::Abort;
 

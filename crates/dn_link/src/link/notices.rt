@@ -4,9 +4,9 @@ ghost use Rattle.std.specs.Prelude.{◌≡◌};
 ghost use Rattle.dn_link.specs.Notices.{is_notice};
 
 use super::Link;
+use crate::notice::{KIND, MAX_SEALED_REPORT, open_report, seal_report};
 use crate::received::Received;
 use arrayvec::ArrayVec;
-use dn_notice::{KIND, MAX_SEALED_REPORT, open_report, seal_report};
 
 /// Whether bytes are of the kind of reports.
 pub(super) fn is_notice(bytes: &[u8]) -> bool
@@ -20,7 +20,7 @@ pub(super) fn is_notice(bytes: &[u8]) -> bool
 
 impl Link {
     ghost use Rattle.std.specs.{Prelude.ℕ, Prelude.IfSome, Option.option_map};
-    ghost use Rattle.dn_report.specs.Text.{IsReport};
+    ghost use Rattle.dn_survivor.specs.ReportBytes.Text.{IsReport};
     ghost use Rattle.dn_survivor.specs.Telling.{report_for};
     ghost use Rattle.dn_survivor.specs.declared.answers.Reported.TheVariants as reported;
     ghost use Rattle.dn_link.specs.declared.received.Received.TheVariants as received;

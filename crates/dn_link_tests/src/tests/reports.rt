@@ -3,8 +3,8 @@
 use super::calls::{give_up, receive, refused, reports_gone};
 use super::surviving::{both_give_up, vanishes};
 use arrayvec::ArrayVec;
+use dn_link::notice::{MAX_SEALED_REPORT, ReportDatagramFault};
 use dn_link::{Link, Received};
-use dn_notice::{MAX_SEALED_REPORT, ReportDatagramFault};
 use dn_shared_tests::{holds, same};
 use dn_survivor::{GivenUp, Reported};
 use std::process::Abort;

@@ -13,7 +13,7 @@ use arrayvec::ArrayVec;
 use dn_lockstep::Aim;
 use dn_machine::{Heard, Made, Phase, Ran};
 use dn_packet::MAX_DATAGRAM;
-use dn_report::Report;
+use dn_survivor::report::Report;
 use dn_survivor::{GivenUp, Reported};
 use dn_tic::{Command, Keys};
 use dn_world::World;

@@ -1,7 +1,7 @@
 //! Tests of queues in memory.
 
 use super::{came, rising};
-use dn_line::{HubFault, Line, LineFault, MemoryHub};
+use dn_netgame::line::{HubFault, Line, LineFault, MemoryHub};
 use dn_shared_tests::{granted, must, same};
 
 #[test]

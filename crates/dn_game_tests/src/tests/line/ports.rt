@@ -2,7 +2,7 @@
 
 use super::{came, rising};
 use crate::tests::free_line;
-use dn_line::{Datagram, Line, LineFault, UdpLine, is_base};
+use dn_netgame::line::{Datagram, Line, LineFault, UdpLine, is_base};
 use dn_shared_tests::{granted, holds, list, must, same};
 
 /// How many polls are made for a datagram that is on its way.

@@ -3,11 +3,11 @@
 ghost use Rattle.std.specs.Prelude.{◌≡◌};
 
 use super::{one_game, pair};
-use dn_line::{Datagram, Line, LineFault, MemoryHub};
+use dn_netgame::line::{Datagram, Line, LineFault, MemoryHub};
+use dn_netgame::turns::turn;
 use dn_node::Node;
 use dn_shared_tests::{holds, must, same};
 use dn_tic::Keys;
-use dn_turn::turn;
 use dn_world::Walk;
 
 /// A line in memory that fails one of the calls made for one player, and passes nothing on in it.

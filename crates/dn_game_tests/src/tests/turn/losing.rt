@@ -1,9 +1,9 @@
 //! Tests of a line that loses datagrams and says nothing of it.
 
 use super::{one_game, pair};
-use dn_line::{Datagram, Line, LineFault, MemoryHub};
+use dn_netgame::line::{Datagram, Line, LineFault, MemoryHub};
+use dn_netgame::turns::rounds;
 use dn_shared_tests::{holds, must, same};
-use dn_turn::rounds;
 
 /// A line in memory that loses one of every `lost_of` datagrams, and answers that it was sent.
 #[derive(Drop)]

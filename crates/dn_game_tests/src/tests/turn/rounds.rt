@@ -2,12 +2,12 @@
 
 use super::pair;
 use crate::tests::free_line;
-use dn_line::MemoryHub;
 use dn_machine::Made;
+use dn_netgame::line::MemoryHub;
+use dn_netgame::turns::{Turned, round_with, rounds, turn, turn_with};
 use dn_node::Node;
 use dn_shared_tests::{holds, must, rows, same};
 use dn_tic::{Command, Input, Keys};
-use dn_turn::{Turned, round_with, rounds, turn, turn_with};
 use dn_world::Walk;
 use std::process::Abort;
 

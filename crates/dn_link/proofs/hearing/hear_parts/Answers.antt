@@ -4,7 +4,7 @@ use Rattle.std.specs.List.{flat_map}
 use Rattle.dn_lockstep.specs.Contents.{Contents, contents}
 use Rattle.dn_link.specs.declared.bundle.Part.{Part}
 use Rattle.dn_link.specs.declared.bundle.Relay as relay
-use Rattle.dn_others.specs.Keeping.{has}
+use Rattle.dn_survivor.specs.OfOthers.Keeping.{has}
 use Rattle.dn_link.specs.Hearing.{HearsUntil}
 use Rattle.dn_link.specs.Packets.{heard_of, takes_relay}
 use Rattle.dn_link.proofs.Hearings.{LeadsOn, parts_go_on, parts_stop}

@@ -7,7 +7,7 @@ use Rattle.dn_lockstep.specs.OneGame.{world_told}
 use Rattle.dn_lockstep.specs.Session.{after_build, after_run, with_lockstep}
 use Rattle.dn_lockstep.specs.Runs.{RunsBy, marks_in, with_row}
 use Rattle.dn_lockstep.specs.Steps.{Steps}
-use Rattle.dn_others.specs.declared.others.Others.{Others}
+use Rattle.dn_survivor.specs.declared.others.Others.{Others}
 use Rattle.dn_link.proofs.Growing.{HasAsMuch, as_much}
 use Rattle.dn_link.proofs.Holding.{build_holds, run_holds, quit_holds}
 use Rattle.dn_link.proofs.Forgets.{forgot}

@@ -5,7 +5,7 @@ use Rattle.dn_link.proofs.RemainingGives.{gave}
 use Rattle.dn_link.proofs.RemainingReceives.{received}
 use Rattle.std.proofs.Common.{ap, sym, ◌∙◌}
 use Rattle.std.specs.Option.{option_map}
-use Rattle.dn_notice.specs.Text.{sealed_report_bytes}
+use Rattle.dn_link.specs.SealedReports.Text.{sealed_report_bytes}
 use Rattle.dn_link.proofs.remaining.remaining_links_go_on.Goals as goal
 
 pub returns-clause-built : goal.returns-clause-built

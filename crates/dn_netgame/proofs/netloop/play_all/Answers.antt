@@ -1,8 +1,8 @@
 use Rattle.std.proofs.Common.{◌≡◌, inr, ℕ, List, length, refl, ap, sym, ◌∙◌, subst}
 use Rattle.dn_world.specs.Plane.{Spots, walking}
-use Rattle.dn_line.specs.Udp.{Ports, UdpSends, UdpPolls}
+use Rattle.dn_netgame.specs.Lines.Udp.{Ports, UdpSends, UdpPolls}
 use Rattle.dn_node.specs.declared.node.Node.{Node}
-use Rattle.dn_turn.specs.Rounds.{AreSeated, TakeRounds}
+use Rattle.dn_netgame.specs.Turning.Rounds.{AreSeated, TakeRounds}
 use Rattle.dn_netgame.specs.LoopShown.{new_seats, HavePlayed}
 use Rattle.dn_netgame.specs.PlayShown.{failures}
 use Rattle.dn_netgame.proofs.Together.{together}

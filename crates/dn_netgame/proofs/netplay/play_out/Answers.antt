@@ -6,8 +6,8 @@ use Rattle.dn_machine.specs.Running.{on_quit}
 use Rattle.dn_node.specs.declared.node.Node.{Node}
 use Rattle.dn_node.specs.Contents.{contents}
 use Rattle.dn_node.specs.Represents.{Represents}
-use Rattle.dn_turn.specs.Rounds.{Seat, TakeRounds, rules_at}
-use Rattle.dn_turn.proofs.Places.{seated_with}
+use Rattle.dn_netgame.specs.Turning.Rounds.{Seat, TakeRounds, rules_at}
+use Rattle.dn_netgame.proofs.Turning.Places.{seated_with}
 use Rattle.dn_netgame.specs.PlayShown.{with_quit}
 use Rattle.dn_netgame.proofs.netplay.play_out.Goals as goal
 

@@ -2,7 +2,7 @@ use Rattle.std.proofs.Common.{rules, ◌≡◌, ◌++◌, ℕ, List, [], sym, su
 use Rattle.std.specs.String.{string_bytes}
 use Rattle.std.specs.Io.KnownBytes.{Appends, Consumes}
 use Rattle.std.proofs.KnownBytes.{Appends-trans}
-use Rattle.dn_text.specs.RowLines.{lines_of_rows}
+use Rattle.dn_netgame.specs.Texts.RowLines.{lines_of_rows}
 use Rattle.dn_netgame.specs.RowsShown.{ListsWhole}
 use Rattle.dn_netgame.specs.Transfer.{AppendsFront}
 use Rattle.dn_netgame.specs.declared.fault.RunFault.TheVariants.{Write}

@@ -4,11 +4,11 @@ ghost use Rattle.std.specs.Prelude.{◌≡◌, IfOk};
 
 use arrayvec::ArrayVec;
 use dn_game::GameConfig;
+use dn_netgame::text::push_node;
 use dn_node::{Config, Node};
 use dn_packet::{Packet, encode};
 use dn_setup::{Settings, SettingsFault};
 use dn_shared_tests::{must, same};
-use dn_text::push_node;
 use dn_tic::{Keys, TicCmd};
 use dn_world::Walk;
 

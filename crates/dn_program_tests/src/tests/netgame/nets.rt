@@ -1,11 +1,11 @@
 //! Nodes over ports of this machine that are free.
 
 ghost use Rattle.std.specs.Prelude.{◌≤◌, ◌<◌, IfOk};
-ghost use Rattle.dn_line.specs.Udp.{IsBase};
+ghost use Rattle.dn_netgame.specs.Lines.Udp.{IsBase};
 
 use super::games::{DEFAULT_LIMIT, rules};
 use super::streams::{NEVER, Sink};
-use dn_line::{LineFault, UdpLine};
+use dn_netgame::line::{LineFault, UdpLine};
 use dn_netgame::{RunFault, run_loop, run_play};
 use dn_node::Config;
 use dn_setup::{Settings, SettingsFault};

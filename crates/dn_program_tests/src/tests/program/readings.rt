@@ -1,14 +1,14 @@
 //! What is made of the options: each value and each flag is that of its own word.
 
 use dn_game::GameConfig;
-use dn_options::Pace;
 use dn_program::matches_of;
+use dn_program::options::Pace;
 use dn_shared_tests::{holds, must, same};
 use std::alloc::Global;
 use std::process::Abort;
 use std::test::Fail;
 
-/// What each reader of `dn_options` makes of one line.
+/// What each reader of the options makes of one line.
 #[derive(Clone, Copy, Drop)]
 struct Options {
     limit: Option<u32>,
@@ -57,17 +57,17 @@ fn read(alloc: Global, line: &str) -> Result<Option<Options>, Fail> {
     let Some((_, given)) = matches.subcommand() else {
         return Ok(None);
     };
-    let game = match dn_options::game(given) {
+    let game = match dn_program::options::game(given) {
         Some((config, players)) => Some((players, numbers(&config), flags(&config))),
         None => None,
     };
     Ok(Some(Options {
-        limit: dn_options::limit(given),
+        limit: dn_program::options::limit(given),
         game,
-        storm: dn_options::storm(given),
-        rounds: dn_options::rounds(given),
-        me: dn_options::me(given),
-        raw: dn_options::raw(given),
+        storm: dn_program::options::storm(given),
+        rounds: dn_program::options::rounds(given),
+        me: dn_program::options::me(given),
+        raw: dn_program::options::raw(given),
     }))
 }
 
@@ -152,10 +152,10 @@ fn session(alloc: Global, line: &str) -> Result<Option<Session>, Fail> {
         return Ok(None);
     };
     Ok(Some((
-        dn_options::pace_of(given),
-        dn_options::rate(given),
-        dn_options::port(given),
-        dn_options::players(given),
+        dn_program::options::pace_of(given),
+        dn_program::options::rate(given),
+        dn_program::options::port(given),
+        dn_program::options::players(given),
     )))
 }
 

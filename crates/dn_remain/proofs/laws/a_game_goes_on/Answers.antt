@@ -7,8 +7,8 @@ use Rattle.dn_machine.specs.Game.{applied, opening_game}
 use Rattle.dn_machine.specs.Limits.{row_of}
 use Rattle.dn_machine.specs.Node.{lowest}
 use Rattle.dn_machine.specs.Running.{on_run_but}
-use Rattle.dn_vanish.specs.Calls.{every}
-use Rattle.dn_vanish.specs.Decisions.{longest}
+use Rattle.dn_remain.specs.Vanished.Calls.{every}
+use Rattle.dn_remain.specs.Vanished.Decisions.{longest}
 use Rattle.dn_remain.specs.Remaining.{opening_remaining}
 use Rattle.dn_remain.specs.Seen.{rows_to}
 use Rattle.dn_remain.specs.Wary.{on_give_up, on_report}

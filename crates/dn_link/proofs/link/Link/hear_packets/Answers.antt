@@ -1,7 +1,7 @@
 use Rattle.std.proofs.Common.{ap, sym, ◌∙◌, subst}
 use Rattle.dn_lockstep.specs.Contents.{Contents, contents}
-use Rattle.dn_others.specs.declared.others.Others.{Others}
-use Rattle.dn_others.specs.Keeping.{has}
+use Rattle.dn_survivor.specs.declared.others.Others.{Others}
+use Rattle.dn_survivor.specs.OfOthers.Keeping.{has}
 use Rattle.dn_link.specs.Counting.{held_of}
 use Rattle.dn_link.specs.Hearing.{HearsAll}
 use Rattle.dn_link.specs.Packets.{heard_in, takes_relay}

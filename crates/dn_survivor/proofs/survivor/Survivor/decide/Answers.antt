@@ -5,8 +5,8 @@ use Rattle.dn_machine.specs.Node as machine
 use Rattle.dn_lockstep.specs.Contents.{contents}
 use Rattle.dn_lockstep.specs.Steps.{IsAfter}
 use Rattle.dn_lockstep.proofs.After.{steps}
-use Rattle.dn_vanish.specs.Calls.{can_decide}
-use Rattle.dn_others.specs.Keeping.{nodes_of, own_of}
+use Rattle.dn_remain.specs.Vanished.Calls.{can_decide}
+use Rattle.dn_survivor.specs.OfOthers.Keeping.{nodes_of, own_of}
 use Rattle.dn_survivor.specs.Ending.{decided_by, settled_below}
 use Rattle.dn_survivor.specs.declared.answers.Ends.{Ends}
 use Rattle.dn_survivor.proofs.survivor.Survivor.decide.Goals as goal

@@ -4,7 +4,7 @@ use Rattle.dn_lockstep.specs.Contents.{contents}
 use Rattle.dn_lockstep.specs.Settling.{on_excuse}
 use Rattle.dn_lockstep.specs.Steps.{Steps}
 use Rattle.dn_lockstep.proofs.After.{steps}
-use Rattle.dn_others.specs.declared.others.Others.{Others}
+use Rattle.dn_survivor.specs.declared.others.Others.{Others}
 use Rattle.dn_survivor.specs.Calls.{GivesUpUnless, given_up_as, refused_give_up, with_gone}
 use Rattle.dn_survivor.specs.Ending.{decided_by}
 use Rattle.dn_survivor.specs.Surviving.{surviving}

@@ -4,10 +4,10 @@ use Rattle.std.proofs.lemmas.Option.{none-some}
 use Rattle.dn_lockstep.specs.Settling.{is_no_peer}
 use Rattle.dn_lockstep.specs.Steps.{Steps}
 use Rattle.dn_lockstep.proofs.After.{steps}
-use Rattle.dn_others.specs.declared.others.Others.{Others}
-use Rattle.dn_others.specs.declared.hearing.Reported as noted
-use Rattle.dn_others.specs.Hearing.{reported_as}
-use Rattle.dn_others.specs.Keeping.{has}
+use Rattle.dn_survivor.specs.declared.others.Others.{Others}
+use Rattle.dn_survivor.specs.declared.others.hearing.Reported as noted
+use Rattle.dn_survivor.specs.OfOthers.Hearing.{reported_as}
+use Rattle.dn_survivor.specs.OfOthers.Keeping.{has}
 use Rattle.dn_remain.specs.Wary.{is_in_game}
 use Rattle.dn_survivor.specs.Calls.{HearsReportUnless, reported_by, refused_report, unkept}
 use Rattle.dn_survivor.specs.Ending.{decided_by}

@@ -7,8 +7,8 @@ use Rattle.dn_machine.specs.Node as machine
 use Rattle.dn_lockstep.specs.Near.{IsFair}
 use Rattle.dn_lockstep.specs.Sent.{sent_to}
 use Rattle.dn_lockstep.proofs.After.{steps, after}
-use Rattle.dn_others.specs.declared.others.Others.{Others}
-use Rattle.dn_others.specs.Keeping.{has}
+use Rattle.dn_survivor.specs.declared.others.Others.{Others}
+use Rattle.dn_survivor.specs.OfOthers.Keeping.{has}
 use Rattle.dn_survivor.specs.Calls.{sent_unless}
 use Rattle.dn_survivor.proofs.survivor.Survivor.packet.Goals as goal
 

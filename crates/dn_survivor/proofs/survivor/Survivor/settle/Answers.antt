@@ -7,8 +7,8 @@ use Rattle.dn_lockstep.specs.declared.lockstep.settling.Settled.{Settled}
 use Rattle.dn_lockstep.specs.Steps.{IsAfter}
 use Rattle.dn_lockstep.proofs.After.{steps}
 use Rattle.dn_lockstep.proofs.Counting.{got_is}
-use Rattle.dn_vanish.specs.Reports.{decided_end}
-use Rattle.dn_others.specs.Keeping.{commands_of, first_of, own_of, told_of}
+use Rattle.dn_remain.specs.Vanished.Reports.{decided_end}
+use Rattle.dn_survivor.specs.OfOthers.Keeping.{commands_of, first_of, own_of, told_of}
 use Rattle.dn_survivor.specs.Ending.{end_by}
 use Rattle.dn_survivor.proofs.survivor.Survivor.settle.Goals as goal
 

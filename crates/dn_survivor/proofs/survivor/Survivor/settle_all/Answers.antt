@@ -3,7 +3,7 @@ use Rattle.dn_machine.specs.Node as machine
 use Rattle.dn_lockstep.specs.Contents.{Whose, contents}
 use Rattle.dn_lockstep.specs.Steps.{IsAfter, Steps}
 use Rattle.dn_lockstep.proofs.After.{after, steps}
-use Rattle.dn_others.specs.declared.others.Others.{Others}
+use Rattle.dn_survivor.specs.declared.others.Others.{Others}
 use Rattle.dn_survivor.specs.Ending.{settled_below, settled_with}
 use Rattle.dn_survivor.specs.Surviving.{Surviving, has_given_up}
 use Rattle.dn_survivor.specs.declared.answers.Ends.{Ends}

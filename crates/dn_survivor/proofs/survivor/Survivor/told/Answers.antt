@@ -3,8 +3,8 @@ use Rattle.std.specs.Prelude.{Option}
 use Rattle.std.specs.List.{filter_map, range_with_len}
 use Rattle.std.specs.Option.{option_to_list}
 use Rattle.std.proofs.lemmas.List.{length-append}
-use Rattle.dn_report.specs.declared.report.Tail.{Tail}
-use Rattle.dn_report.specs.Text.{IsTail}
+use Rattle.dn_survivor.specs.declared.report.Tail.{Tail}
+use Rattle.dn_survivor.specs.ReportBytes.Text.{IsTail}
 use Rattle.dn_lockstep.specs.Contents.{contents}
 use Rattle.dn_survivor.specs.Telling.{told_in}
 use Rattle.dn_survivor.proofs.Lists.{all_more, none_of, picks_more}

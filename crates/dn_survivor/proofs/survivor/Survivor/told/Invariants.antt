@@ -1,6 +1,6 @@
 use Rattle.std.proofs.Common.{◌≡◌}
 use Rattle.std.specs.Prelude.{All}
-use Rattle.dn_report.specs.Text.{IsTail}
+use Rattle.dn_survivor.specs.ReportBytes.Text.{IsTail}
 use Rattle.std.specs.List.{filter_map, range_with_len}
 use Rattle.dn_lockstep.specs.Contents.{contents}
 use Rattle.dn_survivor.specs.Telling.{told_in}

@@ -1,0 +1,37 @@
+-- One letter more of the keys.
+use Rattle.std.proofs.Common.{◌≡◌, ◌<◌, ◌+◌, ℕ, Bool, true, eqb, cond, List, [], ◌∷◌, ◌++◌, get_or, take, append_assoc, refl, sym, ap, ◌∙◌}
+use Rattle.std.specs.Prelude.{nat_lt}
+use Rattle.std.specs.Int.{bit_at}
+use Rattle.std.proofs.lemmas.Bool.{agree_below_at}
+use borrow.Author.Tests.{ltb-true}
+use Rattle.std.proofs.lemmas.List.Elements.{filter_more}
+use Rattle.dn_game.specs.Scripts.Words.{letters, place_in_letters}
+use Rattle.dn_game.specs.Scripts.Written.{is_down_at, letters_down}
+use Rattle.dn_game.proofs.Scripts.Keys.{letter_found}
+
+pub letter_small : (place : ℕ) → place < 18 → get_or letters place 0 < 128
+letter_small place h =
+    ltb-true _ _ (agree_below_at (λ k. nat_lt (get_or letters k 0) 128) (λ k. true) 18 place refl h)
+
+module _ (keys place : ℕ) (within : place < 18) where
+  passes : ℕ → Bool
+  passes letter = is_down_at keys (place_in_letters letter)
+
+  -- the letter at the place, if its bit is set
+  abbrev pub letter_if : Bool → List ℕ
+  letter_if set = cond set (get_or letters place 0 ∷ []) []
+
+  next : letters_down keys (take (place + 1) letters)
+      ≡ letters_down keys (take place letters) ++ letter_if (eqb (bit_at keys place) 1)
+  unfolding passes
+  next = filter_more passes letters place 0 within
+      ∙ ap (λ b. letters_down keys (take place letters) ++ letter_if b)
+      (ap (is_down_at keys) (letter_found place within))
+
+  pub letter_more : (old text new : List ℕ) → text ≡ old ++ letters_down keys (take place letters)
+      → new ≡ text ++ letter_if (eqb (bit_at keys place) 1)
+      → new ≡ old ++ letters_down keys (take (place + 1) letters)
+  letter_more old text new so put =
+      put ∙ ap (λ (t : List ℕ). t ++ letter_if (eqb (bit_at keys place) 1)) so
+      ∙ append_assoc old (letters_down keys (take place letters)) (letter_if (eqb (bit_at keys place) 1))
+      ∙ ap (λ (t : List ℕ). old ++ t) (sym next)

@@ -1,7 +1,0 @@
-use Rattle.std.proofs.Common.{refl}
-use Rattle.dn_others.proofs.Agreeing.{ends}
-use Rattle.dn_others.proofs.laws.ends_agree.Goals as goal
-
-pub returns : goal.returns
-returns c = λ players places me player others holder newest r below apart given.
-    ends players places me others holder.gone newest r holder refl player below apart given

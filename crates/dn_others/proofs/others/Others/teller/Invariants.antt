@@ -1,9 +1,0 @@
-use Rattle.std.proofs.Common.{◌≡◌, ◌<◌}
-use Rattle.dn_others.specs.Keeping.{count_by, largest_at}
-use Rattle.dn_others.proofs.others.Others.teller.Given as goal
-
-abbrev pub invariant-loop-teller : goal.invariant-loop-teller
-invariant-loop-teller l = record {
-  best : l.best ≡ largest_at l.teller (count_by l.fn.me l.fn.self l.fn.player);
-  four : l.best < 4;
-}

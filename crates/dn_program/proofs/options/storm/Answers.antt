@@ -1,0 +1,18 @@
+use Rattle.std.proofs.Common.{rules}
+use Rattle.dn_program.proofs.OptionValues.Finding.{finds_none}
+use Rattle.dn_program.proofs.options.storm.Goals as goal
+
+pub returns-in_err-seed : goal.returns-in_err-seed
+returns-in_err-seed c =
+    finds_none c.value.result c.from_residual.result c.value.ensures (search rules) (search rules)
+    (λ storm given. (_, given.seed))
+
+pub returns-in_err-count : goal.returns-in_err-count
+returns-in_err-count c =
+    finds_none c.value-2.result c.from_residual-in_err-count.result c.value-2.ensures (search rules) (search rules)
+    (λ storm given. (_, given.count))
+
+pub returns-in_err-calm : goal.returns-in_err-calm
+returns-in_err-calm c =
+    finds_none c.value-3.result c.from_residual-in_err-calm.result c.value-3.ensures (search rules) (search rules)
+    (λ storm given. (_, given.calm))

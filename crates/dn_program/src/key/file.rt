@@ -1,0 +1,104 @@
+//! The file of a key.
+
+ghost use Rattle.std.specs.{Prelude.◌≡◌, Prelude.◌≤◌, Prelude.length, Prelude.take, Prelude.true, Prelude.IfOk, Prelude.IfErr, Prelude.IfSome, Prelude.OnOk, Fs.asks_create_new, Io.KnownBytes.Appends};
+ghost use Rattle.dn_program.specs.{Keys.Fault.IsOfMaking, Keys.Files.IsRead, Keys.Files.IsReadOf, Keys.Text.key_text};
+ghost use Rattle.dn_program.specs.declared.key.fault.KeyFault.TheVariants as fault;
+
+use crate::key::fault::KeyFault;
+use crate::key::text::{KEY, KEY_TEXT, key_in, text_of_key};
+use std::fs;
+use std::fs::{File, OpenOptions};
+use std::io::{ErrorKind, Read, Write};
+use std::os::unix::fs::OpenOptionsExt;
+use std::random::RandomSource;
+use std::rt::Files;
+
+/// Reads and writes for the owner alone.
+const OWNER_ONLY: u32 = 0o600;
+
+/// Fills the room from the front, up to the end of the file. Returns how many bytes came.
+fn fill<R: Read>(file: &mut R, room: &mut [u8]) -> Result<usize, KeyFault>
+    ensures count { IfOk result (λ count. count ≤ length room.new) }
+    ensures bytes { IfOk result (λ count. IfSome (R.remaining file.old)
+        (λ bytes. take count room.new ≡ take (length room.old) bytes)) }
+    ensures fault { IfErr result (λ found. found ≡ fault.Read) }
+{
+    let mut filled = 0;
+    while filled < room.len() {
+        match file.read(&mut room[filled..]) {
+            Ok(0) => break,
+            Ok(count) => filled += count,
+            Err(_) => return Err(KeyFault::Read),
+        }
+    }
+    Ok(filled)
+}
+
+/// The key whose text an open file has, of which no more is read than shows whether it is too long.
+fn key_of<R: Read>(file: &mut R) -> Result<[u8; KEY], KeyFault>
+    ensures reads { IsRead result }
+    ensures bytes { IfSome (R.remaining file.old) (λ bytes. IsReadOf bytes result) }
+{
+    let mut room = [0; KEY_TEXT + 1];
+    let count = fill(file, &mut room)?;
+    key_in(&room[..count])
+}
+
+/// The key that a file has, never that of zeros.
+pub fn read_key<R: Files>(rt: &R, path: &str) -> Result<[u8; KEY], KeyFault>
+    ensures { IsRead result }
+{
+    match fs::open(rt, path) {
+        Ok(mut file) => key_of(&mut file),
+        Err(_) => Err(KeyFault::Read),
+    }
+}
+
+/// How the file of a key is made: only where none is, and for its owner alone.
+fn making() -> OpenOptions
+    ensures { asks_create_new result ≡ true }
+{
+    let mut options = File::options();
+    options.mode(OWNER_ONLY);
+    options.write(true).create_new(true);
+    options
+}
+
+/// Makes a file that only its owner can read, where none is.
+fn make_file<R: Files>(rt: &R, path: &str) -> Result<R::File, KeyFault>
+    ensures { IfErr result IsOfMaking }
+{
+    match making().open(rt, path) {
+        Ok(file) => Ok(file),
+        Err(error) if error.kind() == ErrorKind::AlreadyExists => Err(KeyFault::Exists),
+        Err(_) => Err(KeyFault::Make),
+    }
+}
+
+/// Writes the text of a key to an open file.
+fn put_key<W: Write>(file: &mut W, key: &[u8; KEY]) -> Result<(), KeyFault>
+    ensures written { OnOk result (Appends (W.contents file.old) (W.contents file.new) (key_text key.now)) }
+    ensures fault { IfErr result (λ found. found ≡ fault.Write) }
+{
+    match file.write_all(&text_of_key(key)) {
+        Ok(()) => Ok(()),
+        Err(_) => Err(KeyFault::Write),
+    }
+}
+
+/// Makes a key of the system's random bytes, and a file of it that only its owner can read. A file that is
+/// there stays as it is; one that could not be written whole is removed, if it can be.
+pub fn make_key<R: Files + RandomSource>(rt: &R, path: &str) -> Result<(), KeyFault>
+    ensures { IfErr result IsOfMaking }
+{
+    let mut key = [0; KEY];
+    if rt.fill_bytes(&mut key).is_err() {
+        return Err(KeyFault::Random);
+    }
+    let mut file = make_file(rt, path)?;
+    let written = put_key(&mut file, &key);
+    if written.is_err() {
+        let _ = fs::remove_file(rt, path);
+    }
+    written
+}

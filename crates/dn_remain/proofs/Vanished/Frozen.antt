@@ -1,0 +1,51 @@
+-- Of a player whom a node has given up nothing changes but by a decision.
+use Rattle.std.proofs.Common.{◌≡◌, ℕ, refl, sym, ◌∙◌, ap, inl, List, [], ◌∷◌}
+use Rattle.std.specs.Prelude.{true, false, Some}
+use Rattle.std.proofs.lemmas.Bool.{both_ways}
+use Rattle.dn_remain.specs.Vanished.Node.{Node, now}
+use Rattle.dn_remain.specs.Vanished.Steps.{Act, Make, Take, Learn, Run, GiveUp, Leave, Decide, Acts, Step, IsRun}
+use Rattle.dn_remain.proofs.Vanished.Put.{put_at, put_off}
+use Rattle.dn_remain.proofs.Vanished.Invariant.{IsKept}
+use Rattle.dn_remain.proofs.Vanished.Always.{always}
+
+-- what is asked of the new state
+abbrev IsFrozenAt : Node → Node → ℕ → Type 0
+IsFrozenAt node new p = (new.got p ≡ node.got p) × (new.ends p ≡ node.ends p)
+
+module _ (players ahead : ℕ) (nodes : ℕ → Node) (older : List (ℕ → Node)) (q : ℕ)
+    (kept : IsKept players (nodes ∷ older)) (p : ℕ) (t : (nodes q).gone p ≡ true) where
+  -- who is not given up is another
+  off : (a : ℕ) → (nodes q).gone a ≡ false → (p ≡ a → ⊥)
+  off a f e = both_ways ((nodes q).gone a) f (ap (nodes q).gone (sym e) ∙ t)
+
+  frozen_new : (act : Act) (new : Node) → Acts players ahead (nodes ∷ older) q act new → (act ≡ Decide → ⊥)
+      → IsFrozenAt (nodes q) new p
+  frozen_new Make new a f = (
+    ap (λ (n : Node). n.got p) a.1 ∙ put_off (nodes q).got q p _ (off q ((kept.sound q (nodes q) (inl refl)).own)),
+    ap (λ (n : Node). n.ends p) a.1,
+  )
+  frozen_new Take new a f = (
+    ap (λ (n : Node). n.got p) a.8 ∙ put_off (nodes q).got a.0 p a.1 (off a.0 a.5),
+    ap (λ (n : Node). n.ends p) a.8,
+  )
+  frozen_new Learn new a f =
+      let n = off a.0 a.2 in (
+        ap (λ (m : Node). m.got p) a.5 ∙ put_off (nodes q).got a.0 p ((nodes a.0).got a.0) n,
+        ap (λ (m : Node). m.ends p) a.5 ∙ put_off (nodes q).ends a.0 p (Some ((nodes a.0).got a.0)) n,
+      )
+  frozen_new Run new a f = (ap (λ (n : Node). n.got p) a.1, ap (λ (n : Node). n.ends p) a.1)
+  frozen_new GiveUp new a f = (ap (λ (n : Node). n.got p) a.3, ap (λ (n : Node). n.ends p) a.3)
+  frozen_new Leave new a f = (ap (λ (n : Node). n.got p) a, ap (λ (n : Node). n.ends p) a)
+  frozen_new Decide new a f = absurd (f refl)
+
+pub frozen : (players ahead : ℕ) (history : List (ℕ → Node)) (next : ℕ → Node) (p : ℕ)
+    → IsRun players ahead history → (step : Step players ahead history next) → (step.act ≡ Decide → ⊥)
+    → (now history step.q).gone p ≡ true
+    → ((next step.q).got p ≡ (now history step.q).got p) × ((next step.q).ends p ≡ (now history step.q).ends p)
+frozen players ahead [] next p run step f t = absurd run
+frozen players ahead (nodes ∷ older) next p run step f t =
+    let at : next step.q ≡ step.new =
+    ap (λ (n : ℕ → Node). n step.q) step.next_is ∙ put_at nodes step.q step.q step.new refl in
+    let k = frozen_new players ahead nodes older step.q (always players ahead (nodes ∷ older) run) p t step.act step.new
+    step.acts f in
+    (ap (λ (n : Node). n.got p) at ∙ k.0, ap (λ (n : Node). n.ends p) at ∙ k.1)

@@ -1,0 +1,146 @@
+-- Lists that are handed on piece by piece are fronts of their makers' lists.
+use Rattle.std.proofs.Common.{◌≡◌, ℕ, ◌<◌, zero, suc, refl, sym, ◌∙◌, ap, subst, arith, inl, inr, List, [], ◌∷◌, ◌++◌, append_assoc, length, take, drop}
+use Rattle.std.specs.Prelude.{◌⊎◌, false, slice_get}
+use Rattle.std.proofs.lemmas.Bool.{cases_eq}
+use Rattle.std.proofs.lemmas.List.{take-append-drop}
+use Rattle.dn_remain.specs.Vanished.Node.{put, Was}
+use Rattle.dn_remain.specs.Vanished.Promise.{lacks_at}
+use Rattle.dn_remain.specs.Vanished.Steps.{IsRun}
+use Rattle.dn_remain.specs.Vanished.Commands.{Holder, seen, past_seen, holders, Had, AreHanded, IsPrefixOf}
+use Rattle.dn_remain.proofs.Vanished.Put.{put_at, put_off}
+use Rattle.dn_remain.proofs.Vanished.Always.{always}
+use Rattle.dn_remain.proofs.Vanished.Promises.{agree}
+
+append_none : {C : Type 0} (xs : List C) → xs ++ [] ≡ xs
+append_none [] = refl
+append_none {C} (x ∷ xs) = ap (λ (ws : List C). x ∷ ws) (append_none xs)
+
+pub front_self : {C : Type 0} (xs ys : List C) → xs ≡ ys → IsPrefixOf xs ys
+front_self xs ys e = ([], append_none xs ∙ e)
+
+pub front_joined : {C : Type 0} (xs ys zs : List C) → IsPrefixOf xs ys → IsPrefixOf ys zs → IsPrefixOf xs zs
+front_joined {C} xs ys zs h k = (
+  h.0 ++ k.0,
+  sym (append_assoc xs h.0 k.0) ∙ (ap (λ (ws : List C). ws ++ k.0) h.1 ∙ k.1),
+)
+
+-- what stands in a front stands in the whole
+front_get : {C : Type 0} (xs rest : List C) (i : ℕ) → i < length xs → slice_get (xs ++ rest) i ≡ slice_get xs i
+front_get [] rest i l = absurd (omega arith)
+front_get (x ∷ xs) rest zero l = refl
+front_get (x ∷ xs) rest (suc i) l = front_get xs rest i (omega arith)
+
+module _ {C : Type 0} where
+  module _ (nodes : ℕ → Holder C) (older : List (ℕ → Holder C)) (q : ℕ) (new : Holder C)
+      (own : (new.held q ≡ (nodes q).held q) ⊎ ((command : C) × (new.held q ≡ (nodes q).held q ++ command ∷ [])))
+      (others : (p : ℕ) → (p ≡ q → ⊥) → (new.held p ≡ (nodes q).held p)
+      ⊎ ((r : ℕ) × (w : Holder C) × (end : ℕ) × Had (nodes ∷ older) r w × (new.held p ≡ take end (w.held p))))
+      (fronts : (x p : ℕ) (u : Holder C) → Had (nodes ∷ older) x u → IsPrefixOf (u.held p) ((nodes p).held p)) where
+    -- makers' lists only grow
+    maker_grows : (p : ℕ) → IsPrefixOf ((nodes p).held p) ((put nodes q new p).held p)
+    maker_grows p = elim (cases_eq p q) [
+      | inr n ↦ front_self _ _ (ap (λ (h : Holder C). h.held p) (sym (put_off nodes q p new n)))
+      | inl e ↦
+          let a : (put nodes q new p).held p ≡ new.held q =
+          ap (λ (h : Holder C). h.held p) (put_at nodes q p new e) ∙ ap new.held e in
+          let b : (nodes p).held p ≡ (nodes q).held q = ap (λ (i : ℕ). (nodes i).held i) e in
+          elim own [
+            | inl o ↦ front_self _ _ (b ∙ (sym o ∙ sym a))
+            | inr o ↦ (o.0 ∷ [], ap (λ (ws : List C). ws ++ o.0 ∷ []) b ∙ (sym o.1 ∙ sym a))
+          ]
+    ]
+
+    old_front : (x p : ℕ) (u : Holder C) → Had (nodes ∷ older) x u → IsPrefixOf (u.held p) ((put nodes q new p).held p)
+    old_front x p u w = front_joined _ _ _ (fronts x p u w) (maker_grows p)
+
+    new_front : (p : ℕ) → IsPrefixOf (new.held p) ((put nodes q new p).held p)
+    new_front p = elim (cases_eq p q) [
+      | inl e ↦ front_self _ _ (sym (ap (λ (h : Holder C). h.held p) (put_at nodes q p new e)))
+      | inr n ↦ elim (others p n) [
+        | inl o ↦ front_joined _ _ _ (front_self (new.held p) ((nodes q).held p) o) (old_front q p (nodes q) (inl refl))
+        | inr o ↦
+            let piece : IsPrefixOf (new.held p) (o.1.held p) = (
+              drop o.2 (o.1.held p),
+              ap (λ (ws : List C). ws ++ drop o.2 (o.1.held p)) o.4 ∙ take-append-drop o.2 (o.1.held p),
+            ) in
+            front_joined _ _ _ piece (old_front o.0 p o.1 o.3)
+      ]
+    ]
+
+    pub fronts_after : (x p : ℕ) (u : Holder C) → Had (put nodes q new ∷ nodes ∷ older) x u
+        → IsPrefixOf (u.held p) ((put nodes q new p).held p)
+    fronts_after x p u w = elim w [
+      | inr o ↦ old_front x p u o
+      | inl e ↦ elim (cases_eq x q) [
+        | inl d ↦ subst (λ (h : Holder C). IsPrefixOf (h.held p) ((put nodes q new p).held p))
+            (sym (e ∙ put_at nodes q x new d)) (new_front p)
+        | inr n ↦ old_front x p u (inl (e ∙ put_off nodes q x new n))
+      ]
+    ]
+
+  -- every list is a prefix of its maker's
+  pub handed : (history : List (ℕ → Holder C)) → AreHanded history → (x p : ℕ) (u : Holder C) → Had history x u
+      → IsPrefixOf (u.held p) ((holders history p).held p)
+  handed [] h x p u w = absurd w
+  handed (nodes ∷ []) h x p u w = elim w [
+    | inr n ↦ absurd n
+    | inl e ↦ (
+      (nodes p).held p,
+      ap (λ (ws : List C). ws ++ (nodes p).held p) (ap (λ (s : Holder C). s.held p) e ∙ h x p),
+    )
+  ]
+  handed (next ∷ (nodes ∷ older)) h x p u w =
+      let step = h.0 in
+      let n = step.next_is in
+      let at : Had (put nodes step.q step.new ∷ nodes ∷ older) x u =
+      subst (λ (s : ℕ → Holder C). Had (s ∷ nodes ∷ older) x u) n w in
+      subst (λ (s : ℕ → Holder C). IsPrefixOf (u.held p) ((s p).held p)) (sym n)
+      (fronts_after nodes older step.q step.new step.own step.others
+      (λ y r v t. handed (nodes ∷ older) h.1 y r v t) x p u at)
+
+  -- so two lists of one player have the same command where both have one
+  pub same_held : (history : List (ℕ → Holder C)) → AreHanded history → (x z p tic : ℕ) (u v : Holder C)
+      → Had history x u → Had history z v → tic < length (u.held p) → tic < length (v.held p)
+      → slice_get (u.held p) tic ≡ slice_get (v.held p) tic
+  same_held history h x z p tic u v w y a b =
+      let c = handed history h x p u w in
+      let d = handed history h z p v y in
+      sym (front_get (u.held p) c.0 tic a) ∙ (ap (λ (ws : List C). slice_get ws tic) (c.1 ∙ sym d.1)
+      ∙ front_get (v.held p) d.0 tic b)
+
+  pub was_seen : (history : List (ℕ → Holder C)) (x : ℕ) (u : Holder C) → Had history x u
+      → Was (past_seen history) x (seen u)
+  was_seen [] x u w = absurd w
+  was_seen (nodes ∷ older) x u w = elim w [
+    | inl e ↦ inl (ap (λ (h : Holder C). seen h) e)
+    | inr o ↦ inr (was_seen older x u o)
+  ]
+
+  module _ (players ahead : ℕ) (history : List (ℕ → Holder C)) (h : AreHanded history)
+      (run : IsRun players ahead (past_seen history)) where
+    -- whom the row of a tic does not lack, of that player there is a command
+    pub row_held : (x p tic : ℕ) (u : Holder C) → p < players → Had history x u → tic < length u.rows
+        → lacks_at (seen u) tic p ≡ false → tic < length (u.held p)
+    row_held x p tic u l w i t =
+        (agree players (past_seen history) (always players ahead (past_seen history) run)).rows_held x p tic (seen u)
+        (was_seen history x u w) l i t
+
+    -- across a split too
+    pub shared : (x z p tic : ℕ) (u v : Holder C) → p < players → Had history x u → Had history z v
+        → tic < length u.rows → tic < length v.rows → lacks_at (seen u) tic p ≡ false
+        → lacks_at (seen v) tic p ≡ false
+        → (tic < length (u.held p)) × (slice_get (u.held p) tic ≡ slice_get (v.held p) tic)
+    shared x z p tic u v l w y i j s t =
+        let a = row_held x p tic u l w i s in
+        (a, same_held history h x z p tic u v w y a (row_held z p tic v l y j t))
+
+    pub same_commands : (x z p tic : ℕ) (u v : Holder C)
+        → x < players → z < players → p < players → (x ≡ z → ⊥) → Had history x u → Had history z v
+        → u.gone z ≡ false → v.gone x ≡ false → tic < length u.rows → tic < length v.rows
+        → (lacks_at (seen u) tic p ≡ lacks_at (seen v) tic p)
+        × (lacks_at (seen u) tic p ≡ false
+        → (tic < length (u.held p)) × (slice_get (u.held p) tic ≡ slice_get (v.held p) tic))
+    same_commands x z p tic u v l m i n w y f g j k =
+        let same = (agree players (past_seen history) (always players ahead (past_seen history) run)).rows_same
+        x z p tic (seen u) (seen v) l m i n (was_seen history x u w) (was_seen history z v y) f g j k in
+        (same, λ t. shared x z p tic u v i w y j k t (sym same ∙ t))

@@ -1,6 +1,0 @@
-use Rattle.std.proofs.Common.{length}
-use Rattle.dn_script.proofs.Events.{HaveRead}
-use Rattle.dn_script.proofs.script.read_script.Given as goal
-
-abbrev pub invariant-loop-line : goal.invariant-loop-line
-invariant-loop-line l = HaveRead l.text (length l.yielded) l.number l.events.items

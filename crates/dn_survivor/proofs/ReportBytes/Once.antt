@@ -1,0 +1,127 @@
+-- Bytes are read as one thing.
+use Rattle.std.proofs.Common.{◌≡◌, ◌<◌, ◌≤◌, ◌+◌, ℕ, suc, List, [], ◌∷◌, ◌++◌, length, drop, All, refl, ap, sym, ◌∙◌, arith, append-nil, subst, Option, Some, None, Result, Ok, Err, inl, inr}
+use Rattle.std.specs.List.{flat_map}
+use Rattle.std.proofs.lemmas.Bool.{eq-eqb, ne_eqb}
+use Rattle.std.proofs.lemmas.List.{append_assoc}
+use Rattle.std.proofs.lemmas.List.Elements.{All-head, All-tail}
+use Rattle.std.proofs.lemmas.Option.{same_Some, none-some}
+use Rattle.dn_survivor.specs.declared.report.Report.{Report}
+use Rattle.dn_survivor.specs.declared.report.Tail.{Tail}
+use Rattle.dn_survivor.specs.declared.report.ReportFault.{ReportFault}
+use Rattle.dn_survivor.specs.ReportBytes.Text.{first_byte, tail_bytes, report_bytes, AreInOrder, AreTold, IsReport, IsTail}
+use Rattle.dn_survivor.specs.ReportBytes.Read.{fault_at, first_fault, free_bits, next_after, HasFault, IsReadAs}
+use Rattle.dn_survivor.proofs.ReportBytes.Bits.{none_free, same_first}
+use Rattle.dn_survivor.proofs.ReportBytes.Tails.{clean, same_tail, stands}
+
+-- what stands behind these players: this fault, or nothing
+record Ends (before least : ℕ) (rest : List ℕ) (end : Option ReportFault) : Type 0 where
+  is : fault_at before least rest ≡ end
+  none : end ≡ None → rest ≡ []
+
+-- behind so many players these can be told
+record Begins (before least : ℕ) (told : List Tail) : Type 0 where
+  few : before + length told ≤ 2
+  order : AreInOrder least told
+  tails : All IsTail told
+
+others : (before least : ℕ) (t : Tail) (told : List Tail) → Begins before least (t ∷ told)
+    → Begins (before + 1) (suc t.player) told
+others before least t told begins =
+    record { few = omega (arith, begins.few); order = begins.order.1; tails = All-tail IsTail t told begins.tails }
+
+-- where a player's bytes stand, no end does
+not_both : (before least : ℕ) (tail : Tail) (rest bytes : List ℕ) (end : Option ReportFault) → IsTail tail → before < 2
+    → least ≤ tail.player → bytes ≡ tail_bytes tail ++ rest → Ends before least bytes end → ⊥
+not_both before least tail rest bytes end is few order e ends =
+    let first = clean before least (tail_bytes tail ++ rest) (stands before least tail rest is few order) in
+    let nothing = ends.none (sym ends.is ∙ ap (fault_at before least) e ∙ first) in
+    let long : length bytes ≡ length (tail_bytes tail ++ rest) = ap (length {A = ℕ}) e in
+    let short : length bytes ≡ 0 = ap (length {A = ℕ}) nothing in
+    absurd (omega (arith, long, short))
+
+-- players, and what stands behind theirs, are found again in the bytes
+once : (before least : ℕ) (a b : List Tail) (r s : List ℕ) (o p : Option ReportFault)
+    → Begins before least a → Begins before least b
+    → flat_map tail_bytes a ++ r ≡ flat_map tail_bytes b ++ s
+    → (n m : ℕ) → n ≡ before + length a → m ≡ before + length b
+    → Ends n (next_after least a) r o → Ends m (next_after least b) s p
+    → (a ≡ b) × (o ≡ p)
+once before least [] [] r s o p ha hb e n m hn hm x y =
+    let same : n ≡ m = hn ∙ sym hm in
+    (refl, sym x.is ∙ (λ i. fault_at (same i) least (e i)) ∙ y.is)
+once before least [] (u ∷ b) r s o p ha hb e n m hn hm x y =
+    absurd (not_both n least u (flat_map tail_bytes b ++ s) r o (All-head IsTail u b hb.tails)
+    (omega (arith, hn, hb.few)) hb.order.0 (e ∙ append_assoc (tail_bytes u) (flat_map tail_bytes b) s) x)
+once before least (t ∷ a) [] r s o p ha hb e n m hn hm x y =
+    absurd (not_both m least t (flat_map tail_bytes a ++ r) s p (All-head IsTail t a ha.tails)
+    (omega (arith, hm, ha.few)) ha.order.0 (sym e ∙ append_assoc (tail_bytes t) (flat_map tail_bytes a) r) y)
+once before least (t ∷ a) (u ∷ b) r s o p ha hb e n m hn hm x y =
+    let one = same_tail t u (flat_map tail_bytes a ++ r) (flat_map tail_bytes b ++ s) (All-head IsTail t a ha.tails)
+    (All-head IsTail u b hb.tails)
+    (sym (append_assoc (tail_bytes t) (flat_map tail_bytes a) r) ∙ e
+    ∙ append_assoc (tail_bytes u) (flat_map tail_bytes b) s) in
+    let same : u ≡ t = sym one.0 in
+    let more = subst (λ (v : Tail). Begins (before + 1) (suc v.player) b) same (others before least u b hb) in
+    let end = subst (λ (v : Tail). Ends m (next_after (suc v.player) b) s p) same y in
+    let rest = once (before + 1) (suc t.player) a b r s o p (others before least t a ha) more one.1 n m
+    (omega (arith, hn)) (omega (arith, hm)) x end in
+    (λ i. one.0 i ∷ rest.0 i, rest.1)
+
+begin : (told : List Tail) → AreTold told → Begins 0 0 told
+begin told are = record { few = omega (arith, are.few); order = are.order; tails = are.tails }
+
+nothing : (before least : ℕ) → Ends before least [] None
+unfolding fault_at
+nothing before least = record { is = refl; none = λ e. refl }
+
+fault : (before least : ℕ) (rest : List ℕ) (f : ReportFault) → fault_at before least rest ≡ Some f
+    → Ends before least rest (Some f)
+fault before least rest f is = record { is = is; none = λ e. absurd (none-some f (sym e)) }
+
+same_told : (a b : List Tail) → AreTold a → AreTold b → flat_map tail_bytes a ≡ flat_map tail_bytes b → a ≡ b
+same_told a b ha hb e =
+    (once 0 0 a b [] [] None None (begin a ha) (begin b hb)
+    (append-nil (flat_map tail_bytes a) ∙ e ∙ sym (append-nil (flat_map tail_bytes b))) (length a) (length b)
+    (omega arith) (omega arith) (nothing _ _) (nothing _ _)).0
+
+-- each report has its own bytes
+pub same_report : (p q : Report) → IsReport p → IsReport q → report_bytes p ≡ report_bytes q → p ≡ q
+same_report p q hp hq e =
+    let first : first_byte p ≡ first_byte q = cc in
+    let behind : flat_map tail_bytes p.told.items ≡ flat_map tail_bytes q.told.items = cc in
+    let bits = same_first p.gone q.gone p.left q.left hp.four hq.four first in
+    let told = same_told p.told.items q.told.items hp.told hq.told behind in
+    λ i. record { gone = bits.0 i; left = bits.1 i; told = record { items = told i } }
+
+-- a report's bytes have no fault
+no_first : (p : Report) → IsReport p → first_fault (report_bytes p) ≡ None
+no_first p is =
+    let some = ne_eqb (length (report_bytes p)) 0 (λ e. absurd (omega (arith, e))) in
+    let none = eq-eqb (free_bits (report_bytes p)) 0 (none_free p.gone p.left is.four) in
+    rw (some, none) refl
+
+no_fault : (p : Report) (f : ReportFault) → IsReport p → HasFault (flat_map tail_bytes p.told.items) f → ⊥
+no_fault p f is (told, rest, are, e, has) =
+    none-some f (once 0 0 p.told.items told [] rest None (Some f) (begin p.told.items is.told) (begin told are)
+    (append-nil (flat_map tail_bytes p.told.items) ∙ e) (length p.told.items) (length told) (omega arith) (omega arith) (nothing _ _)
+    (fault _ _ rest f has)).1
+
+same_fault : (bytes : List ℕ) (f g : ReportFault) → HasFault bytes f → HasFault bytes g → f ≡ g
+same_fault bytes f g (a, r, ha, d, hf) (b, s, hb, e, hg) =
+    same_Some f g (once 0 0 a b r s (Some f) (Some g) (begin a ha) (begin b hb) (sym d ∙ e) (length a) (length b)
+    (omega arith) (omega arith) (fault _ _ r f hf) (fault _ _ s g hg)).1
+
+not_both_ways : (bytes : List ℕ) (p : Report) (f : ReportFault) → IsReadAs bytes (Ok p) → IsReadAs bytes (Err f) → ⊥
+not_both_ways bytes p f (is, e) (inl first) = none-some f (sym (no_first p is) ∙ ap first_fault (sym e) ∙ first)
+not_both_ways bytes p f (is, e) (inr (none, has)) =
+    no_fault p f is (subst (λ (bs : List ℕ). HasFault (drop 1 bs) f) e has)
+
+-- bytes are read as one thing
+pub one_reading : (bytes : List ℕ) (a b : Result Report ReportFault) → IsReadAs bytes a → IsReadAs bytes b → a ≡ b
+one_reading bytes (Ok p) (Ok q) x y = ap Ok (same_report p q x.0 y.0 (sym x.1 ∙ y.1))
+one_reading bytes (Ok p) (Err g) x y = absurd (not_both_ways bytes p g x y)
+one_reading bytes (Err f) (Ok q) x y = absurd (not_both_ways bytes q f y x)
+one_reading bytes (Err f) (Err g) (inl x) (inl y) = ap Err (same_Some f g (sym x ∙ y))
+one_reading bytes (Err f) (Err g) (inl x) (inr y) = absurd (none-some f (sym y.0 ∙ x))
+one_reading bytes (Err f) (Err g) (inr x) (inl y) = absurd (none-some g (sym x.0 ∙ y))
+one_reading bytes (Err f) (Err g) (inr x) (inr y) = ap Err (same_fault (drop 1 bytes) f g x.1 y.1)

@@ -1,7 +1,0 @@
--- Commands agree where lists are handed on.
-use Rattle.dn_vanish.proofs.Handing.{same_commands}
-use Rattle.dn_vanish.proofs.commands.commands_agree.Goals as goal
-
-pub returns : goal.returns
-returns g c players ahead history x z p tic u v h run l m i n w y f k a b =
-    same_commands players ahead history h run x z p tic u v l m i n w y f k a b
