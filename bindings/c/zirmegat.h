@@ -22,9 +22,9 @@
  *     all.
  *   - Pointers are valid and aligned for what they point to, and not NULL, even if a length is 0. Memory that
  *     a call writes overlaps nothing else that the call is given.
- *   - A handle (zmg_lockstep, zmg_sealed_lockstep, zmg_link, zmg_demo) is ZMG_LOCKSTEP_NONE,
- *     ZMG_SEALED_LOCKSTEP_NONE, ZMG_LINK_NONE or ZMG_DEMO_NONE at first, and then as the library left it. You
- *     may move it in memory; if you copy it, use only one of the copies.
+ *   - A handle (zmg_lockstep, zmg_link, zmg_demo) is ZMG_LOCKSTEP_NONE, ZMG_LINK_NONE or ZMG_DEMO_NONE at
+ *     first, and then as the library left it. You may move it in memory; if you copy it, use only one of the
+ *     copies.
  *   - Only one thread at a time uses a handle. A handle may pass from one thread to another if something
  *     orders the calls of the first before those of the second: a lock, or a thread's start or end. Different
  *     threads may use different handles at once.
@@ -33,23 +33,23 @@
  *     blocks that another thread allocated. malloc and realloc align a block to each power of two up to 16
  *     that divides its size: for 24 bytes, to 8.
  *   - zmg_lockstep_receive is given datagrams of this game as zmg_lockstep_packet returned them, each with the
- *     number of its sender, and only those for this player; and none that is old, as described there. A sealed
- *     lockstep and a link take care of all of this themselves.
+ *     number of its sender, and only those for this player; and none that is old, as described there. A link
+ *     takes care of all of this itself.
  *   - zmg_lockstep_run is given the marks of the caller's own world. That world began with
  *     zmg_lockstep_settings and the players 0 to zmg_lockstep_players - 1 when zmg_lockstep_receive returned
  *     ZMG_RECEIVE_STARTED. It was stepped by every row that zmg_lockstep_run returned, and by nothing else.
  *     Its marks follow from its state alone (no clock, no random numbers but the world's own, no pointers).
  * The library checks every number and every byte itself. A handle that holds nothing may be passed to every
  * call. Those that make something in a handle do so in this one too. Of the others build, give and run return
- * NOT_PLAYING; zmg_lockstep_receive and zmg_sealed_lockstep_receive ZMG_RECEIVE_DROPPED with
- * ZMG_DROP_NOT_PLAYING; zmg_link_receive ZMG_LINK_RECEIVE_UNOPENED with reason 0; zmg_link_catch_up
- * ZMG_BUILD_NONE_OWED; zmg_link_give_up ZMG_GIVE_UP_NOT_PLAYING; every other call on locksteps and links
- * ZMG_PHASE_NONE or 0; every other call on demos ZMG_DEMO_NO_READER or 0.
+ * NOT_PLAYING; zmg_lockstep_receive ZMG_RECEIVE_DROPPED with ZMG_DROP_NOT_PLAYING; zmg_link_receive
+ * ZMG_LINK_RECEIVE_UNOPENED with reason 0; zmg_link_catch_up ZMG_BUILD_NONE_OWED; zmg_link_give_up
+ * ZMG_GIVE_UP_NOT_PLAYING; every other call on locksteps and links ZMG_PHASE_NONE or 0; every other call on
+ * demos ZMG_DEMO_NO_READER or 0.
  *
  * Most codes carry the name of a call that returns them: ZMG_RUN_ are those of zmg_lockstep_run. ZMG_DEMO_ are
  * those of the calls on demos. ZMG_DROP_ says why zmg_lockstep_receive or zmg_packet_decode refused a datagram,
- * ZMG_SEAL_ why a sealed lockstep did not take bytes for an envelope, and ZMG_BUNDLE_ why a link did not take
- * them for a datagram. The names and numbers of this header do not change. New ones may be added.
+ * and ZMG_BUNDLE_ why a link did not take bytes for one. The names and numbers of this header do not change.
+ * New ones may be added.
  */
 #ifndef ZIRMEGAT_H
 #define ZIRMEGAT_H
@@ -102,9 +102,9 @@ typedef struct zmg_config {
 } zmg_config;
 
 /* What the calls return that make a lockstep or a link: the first fault, or ZMG_NEW_OK. Player 0's settings
- * are checked first, then the window, then the rest; calls that take a secret check it before all else.
+ * are checked first, then the window, then the rest; zmg_link_new checks its secret before all else.
  * ZMG_NEW_BAD_KEY is never returned, ZMG_NEW_BAD_AHEAD only by calls with a window, and ZMG_NEW_BAD_SECRET
- * only by zmg_sealed_lockstep_new and zmg_link_new. */
+ * only by zmg_link_new. */
 #define ZMG_NEW_OK 0u
 #define ZMG_NEW_BAD_PLAYERS 1u    /* not 2 to 4 players */
 #define ZMG_NEW_BAD_ME 2u         /* me is not below players */
@@ -362,118 +362,30 @@ size_t zmg_lockstep_demo_length(zmg_lockstep *node);
  * zmg_lockstep_free. */
 size_t zmg_lockstep_demo(zmg_lockstep *node, size_t from, uint8_t *out, size_t room);
 
-/* ---- A sealed lockstep -------------------------------------------------------------------------------- */
+/* ---- A link -------------------------------------------------------------------------------------------- */
 
-/* A lockstep and its seal, for an untrusted network: a sealed node. Its packets go out in envelopes: the
- * datagram, its sender, its receiver and its full tic numbers, under a tag that only the players of the game
- * can make (HMAC-SHA-256, of which 16 bytes are sent). Any bytes may come in, from anywhere and at any time.
- * Bytes that are not an envelope to this player in this game are dropped, and so is an old envelope:
- * zmg_lockstep_aim and a table of senders are not needed. As long as nobody without the secret makes a tag,
- * the games of the nodes agree, whatever the network loses, repeats, reorders, delays, alters, forges or gives
+/* A node for an untrusted network, which seals what it sends and takes care of delivery, pace and the lobby. It
+ * keeps packets with new commands until the peer has acknowledged them, and gives each peer one datagram a tick
+ * with everything that is kept for the peer, as far as it fits: commands of a lost datagram are in the next
+ * one, and nobody has to ask for them. A datagram is sealed: it has its sender, its receiver and full tic
+ * numbers, under a tag that only the players of the game can make (HMAC-SHA-256, of which 16 bytes are sent).
+ * Any bytes may come in, from anywhere and at any time. Those that are not a datagram to this player in this
+ * game are dropped, so no table of senders is needed. As long as nobody without the secret makes a tag, the
+ * games of the links agree, whatever the network loses, repeats, reorders, delays, alters, forges or gives
  * another sender. Instead of what zmg_lockstep_receive requires, the caller owes:
  *   - Delivery. If nothing gets through, the game waits, and nothing worse happens.
- *   - One node. A player makes one node in a game: no second one with the same number, and none that goes on
- *     from a copy of memory. All its packets come from zmg_sealed_lockstep_packet: a player who seals packets
- *     other than by these calls can send the others different commands.
+ *   - One link of a player at a time: no second one once the first has been given the settings, and none that
+ *     goes on from a copy of memory. All that is sealed comes from zmg_link_datagram and zmg_link_report: a
+ *     player who seals datagrams other than by these calls can send the others different commands.
  *   - One number for each game. Player 0's machine draws sixteen random bytes and sends them to the others.
  *     The number need not be secret, but each player must get the one that was drawn: whoever can hand a
  *     player an old number can replay that old game to the player. Send it over a channel that nobody can
- *     alter. If a number is used again, the packets of the old game open in the new one.
+ *     alter. If a number is used again, the datagrams of the old game open in the new one.
  *   - A secret that is kept: 32 random bytes, known to the players alone and used for nothing else. Whoever
- *     has it can send as any player, and whoever records an envelope can try guesses against it.
+ *     has it can send as any player, and whoever records a datagram can try guesses against it.
  * Nothing is encrypted: whoever sees the line can read commands and chat. Keys are not wiped from memory. The
- * marks of zmg_sealed_lockstep_run are owed as those of zmg_lockstep_run are.
- *
- * The calls do and return what those of a lockstep do, with the same structs and codes; but there is no aim,
- * and packet and receive are the ones described here. A call on a handle that holds no sealed lockstep
- * returns what it returns on a handle that holds no lockstep. */
-typedef struct zmg_sealed_lockstep {
-    uint8_t live;
-    void *at;
-} zmg_sealed_lockstep;
-#define ZMG_SEALED_LOCKSTEP_NONE { 0, NULL }
-
-/* The sizes in bytes of a secret and of a game's number. */
-#define ZMG_SECRET_SIZE 32
-#define ZMG_NUMBER_SIZE 16
-
-/* Makes a sealed lockstep in the handle, with a window of `ahead` commands: ZMG_MOST_AHEAD is that of
- * zmg_lockstep_new. game: the game's number. All players of a game have the same secret, number and window.
- * Returns ZMG_NEW_BAD_SECRET if all bytes of the secret are 0, as in a buffer that was never filled; else
- * returns what zmg_lockstep_new_within returns. Neither the secret nor the number is kept by reference. */
-uint32_t zmg_sealed_lockstep_new(zmg_sealed_lockstep *node, const zmg_config *config, uint8_t ahead,
-    const uint8_t secret[ZMG_SECRET_SIZE], const uint8_t game[ZMG_NUMBER_SIZE]);
-
-/* The same for an open game, whose players share no secret. Its envelopes say so: a sealed lockstep of
- * zmg_sealed_lockstep_new opens none of them, and this one opens none of that one's. Damaged packets, old
- * packets, and packets of other games or to other players are dropped all the same; but whoever knows the
- * number can send as any player. Returns what zmg_lockstep_new_within returns. */
-uint32_t zmg_sealed_lockstep_new_open(zmg_sealed_lockstep *node, const zmg_config *config, uint8_t ahead,
-    const uint8_t game[ZMG_NUMBER_SIZE]);
-
-void zmg_sealed_lockstep_free(zmg_sealed_lockstep *node);
-zmg_made zmg_sealed_lockstep_build(zmg_sealed_lockstep *node, uint32_t keys);
-zmg_made zmg_sealed_lockstep_give(zmg_sealed_lockstep *node, const zmg_command *command);
-uint32_t zmg_sealed_lockstep_can_build(zmg_sealed_lockstep *node);
-zmg_known_command zmg_sealed_lockstep_command(zmg_sealed_lockstep *node, uint8_t player, uint32_t tic);
-zmg_ran zmg_sealed_lockstep_run(zmg_sealed_lockstep *node, const int16_t marks[4], zmg_move row[4]);
-uint32_t zmg_sealed_lockstep_quit(zmg_sealed_lockstep *node);
-
-/* How many bytes of room zmg_sealed_lockstep_packet needs (an envelope has no more), and how many bytes an
- * envelope has besides its datagram. */
-#define ZMG_MAX_ENVELOPE 141u
-#define ZMG_ENVELOPE_OVERHEAD 37u
-
-/* Writes the next packet to player `to`, in its envelope, to the front of out, and returns how many bytes the
- * envelope has. The packet then counts as sent. Returns 0, and leaves the node and out as they were, if
- * room is below ZMG_MAX_ENVELOPE or if there is no packet, as for zmg_lockstep_packet. */
-size_t zmg_sealed_lockstep_packet(zmg_sealed_lockstep *node, uint8_t to, uint8_t *out, size_t room);
-
-/* Further codes of zmg_heard, which only zmg_sealed_lockstep_receive returns. With each of them nothing
- * changed. */
-#define ZMG_RECEIVE_UNOPENED 7u /* not an envelope to this player in this game; number: see ZMG_SEAL_ */
-#define ZMG_RECEIVE_LATE 8u     /* its start or ask lies more than 64 tics from what the node has made */
-#define ZMG_RECEIVE_UNLIKE 9u   /* the datagram's own player, start or ask byte or request flag contradicts
-                                 * the envelope (of set-up none is compared): its sender did not make it with
-                                 * zmg_sealed_lockstep_packet */
-
-/* Why bytes are not an envelope: the first of these that holds. */
-#define ZMG_SEAL_SHORT 1u    /* fewer than 37 bytes */
-#define ZMG_SEAL_LONG 2u     /* more than ZMG_MAX_ENVELOPE */
-#define ZMG_SEAL_SUITE 3u    /* another suite, such as that of an open game where this one has a secret; or
-                              * not an envelope at all */
-#define ZMG_SEAL_KIND 4u     /* it has something other than one datagram in it */
-#define ZMG_SEAL_GAME 5u     /* another game's number: its first eight bytes differ */
-#define ZMG_SEAL_RECEIVER 6u /* to another player */
-#define ZMG_SEAL_TAG 7u      /* altered or forged, or the secrets or the last eight bytes of the numbers
-                              * differ */
-#define ZMG_SEAL_REQUEST 8u  /* byte 16 is neither 0 nor 1, or there is an ask tic without a request */
-
-/* Takes in any bytes, whoever sent them. ZMG_RECEIVE_STARTED to ZMG_RECEIVE_DROPPED are as for
- * zmg_lockstep_receive. In an envelope that was opened, byte 10 is the number of the sender. */
-zmg_heard zmg_sealed_lockstep_receive(zmg_sealed_lockstep *node, const uint8_t *bytes, size_t length);
-
-zmg_phase zmg_sealed_lockstep_phase(zmg_sealed_lockstep *node);
-uint32_t zmg_sealed_lockstep_me(zmg_sealed_lockstep *node);
-uint32_t zmg_sealed_lockstep_players(zmg_sealed_lockstep *node);
-uint32_t zmg_sealed_lockstep_made(zmg_sealed_lockstep *node);
-uint32_t zmg_sealed_lockstep_ran(zmg_sealed_lockstep *node);
-zmg_number zmg_sealed_lockstep_got(zmg_sealed_lockstep *node, uint8_t player);
-zmg_number zmg_sealed_lockstep_end(zmg_sealed_lockstep *node, uint8_t player);
-zmg_known_settings zmg_sealed_lockstep_settings(zmg_sealed_lockstep *node);
-size_t zmg_sealed_lockstep_demo_length(zmg_sealed_lockstep *node);
-size_t zmg_sealed_lockstep_demo(zmg_sealed_lockstep *node, size_t from, uint8_t *out, size_t room);
-
-/* ---- A link -------------------------------------------------------------------------------------------- */
-
-/* A sealed node that also takes care of delivery, pace and the lobby. It keeps packets with new commands until
- * the peer has acknowledged them, and gives each peer one sealed datagram a tick with everything that is kept
- * for the peer, as far as it fits: commands of a lost datagram are in the next one, and nobody has to ask for
- * them. As with a sealed lockstep, datagrams may be lost, repeated, reordered, delayed, altered or forged, and
- * the same is owed: that something gets through, one link of a player at a time, and no second one once the
- * first has been given the settings; one number for each game, a secret that is kept, and the marks of
- * zmg_link_run. A link and a sealed lockstep do not open each other's bytes: either all players of a game have
- * links, or none has.
+ * marks of zmg_link_run are owed as those of zmg_lockstep_run are. A link and a lockstep do not read each
+ * other's datagrams: either all players of a game have links, or none has.
  *
  *     a tick, 35 times a second by the caller's own clock, from the start: so the players find each other:
  *         zmg_link_build(&link, keys);  or zmg_link_give
@@ -508,15 +420,20 @@ typedef struct zmg_link {
 } zmg_link;
 #define ZMG_LINK_NONE { 0, NULL }
 
+/* The sizes in bytes of a secret and of a game's number. */
+#define ZMG_SECRET_SIZE 32
+#define ZMG_NUMBER_SIZE 16
+
 /* How many bytes the engine adds to a link's identity. */
 #define ZMG_HOST_SIZE 16u
 
-/* Makes a link in the handle, with a window of `ahead` commands. game: the game's number, sixteen random
- * bytes. All players of a game have the same secret and number. host: what else must be the same for all
- * players, such as a digest of the engine's version, files and options. A player whose players, extra, limit,
- * window or host differ takes no part: see zmg_link_presence. Returns what zmg_sealed_lockstep_new returns. A
- * link that the handle holds is freed first. All memory is allocated here. If the call returns anything but
- * ZMG_NEW_OK, the handle holds no link. Nothing is kept by reference. */
+/* Makes a link in the handle, with a window of `ahead` commands: ZMG_MOST_AHEAD is that of zmg_lockstep_new.
+ * game: the game's number, sixteen random bytes. All players of a game have the same secret and number. host:
+ * what else must be the same for all players, such as a digest of the engine's version, files and options. A
+ * player whose players, extra, limit, window or host differ takes no part: see zmg_link_presence. Returns
+ * ZMG_NEW_BAD_SECRET if all bytes of the secret are 0, as in a buffer that was never filled; else returns what
+ * zmg_lockstep_new_within returns. A link that the handle holds is freed first. All memory is allocated here.
+ * If the call returns anything but ZMG_NEW_OK, the handle holds no link. Nothing is kept by reference. */
 uint32_t zmg_link_new(zmg_link *link, const zmg_config *config, uint8_t ahead,
     const uint8_t secret[ZMG_SECRET_SIZE], const uint8_t game[ZMG_NUMBER_SIZE],
     const uint8_t host[ZMG_HOST_SIZE]);
@@ -586,7 +503,7 @@ size_t zmg_link_datagram(zmg_link *link, uint8_t to, uint8_t *out, size_t room);
 #define ZMG_BUNDLE_SHORT 1u    /* fewer than 60 bytes */
 #define ZMG_BUNDLE_LONG 2u     /* more than ZMG_LINK_SIZE */
 #define ZMG_BUNDLE_SUITE 3u    /* another suite, or not a sealed datagram at all */
-#define ZMG_BUNDLE_KIND 4u     /* it is not a link's datagram, but an envelope of a sealed lockstep, say */
+#define ZMG_BUNDLE_KIND 4u     /* sealed, but not a link's datagram: a greeting of a host, say */
 #define ZMG_BUNDLE_GAME 5u     /* another game's number: its first eight bytes differ */
 #define ZMG_BUNDLE_RECEIVER 6u /* to another player */
 #define ZMG_BUNDLE_TAG 7u      /* altered or forged, or the secrets or the last eight bytes of the numbers

@@ -1,13 +1,13 @@
-/* What it costs to seal a packet and to open an envelope, beside OpenSSL's HMAC-SHA-256 of the same bytes.
+/* What the datagrams of a link cost, beside OpenSSL's HMAC-SHA-256 of the same bytes.
  *
  *     seals time ROUNDS           the calls below in turn, ROUNDS times, 200 of each: nanoseconds of a call
- *     seals count CALL COMMANDS N a call N times, for packets of so many commands, 1 or 12
+ *     seals count CALL COMMANDS N a call N times, for datagrams of so many commands, 1 or 12
  *
- * turn: two nodes make so many commands each, give a packet, hear the other's and run the tics. receive: a node hears
- * a packet that it has heard before. sealed_turn, sealed_receive: the same of sealed nodes. So opening is what
- * sealed_receive costs more than receive, and sealing half of what sealed_turn costs more than turn, less opening.
- * hmac: HMAC in one call. prepared: an EVP_MAC that has taken the key already, as a sealed node's hashers have. Both
- * are of the bytes under the envelope's tag, and must come to that tag. Needs OpenSSL 3. */
+ * give: a link gives a datagram with so many commands that are not acknowledged. repeated: a link hears one that it
+ * has heard before. forged: one with another tag. stray: one of another game. hmac: HMAC in one call. prepared: an
+ * EVP_MAC that has taken the key already, as a link's hashers have. Both are of the bytes under the datagram's tag,
+ * and must come to that tag. turn: two nodes make so many commands each, give a packet, hear the other's and run the
+ * tics. link_turn: the same of links. Needs OpenSSL 3. */
 #define _POSIX_C_SOURCE 199309L
 #include "zirmegat.h"
 #include <openssl/core_names.h>
@@ -18,17 +18,17 @@
 #include <string.h>
 #include <time.h>
 
-enum { TAG = 16, BATCH = 200, MOST_ROUNDS = 500 };
+enum { TAG = 16, GAME = 2, BATCH = 200, MOST_ROUNDS = 500 };
 
 static const char LABEL[] = "zirmegat game key 1";
 
-static uint8_t secret[ZMG_SECRET_SIZE], number[ZMG_NUMBER_SIZE], key[32];
-static uint8_t envelope[ZMG_MAX_ENVELOPE], code[32];
+static uint8_t secret[ZMG_SECRET_SIZE], number[ZMG_NUMBER_SIZE], host[ZMG_HOST_SIZE], key[32];
+static uint8_t datagram[ZMG_LINK_SIZE], forged[ZMG_LINK_SIZE], stray[ZMG_LINK_SIZE], code[32];
 static size_t length;
 static unsigned commands;
 /* those that take turns, and those that stay where they are */
-static zmg_lockstep going[2], still[2];
-static zmg_sealed_lockstep sealed_going[2], sealed_still[2];
+static zmg_lockstep nodes[2];
+static zmg_link going[2], still[2];
 static EVP_MAC_CTX *prepared;
 
 static void must(int holds, const char *what) {
@@ -39,75 +39,77 @@ static void must(int holds, const char *what) {
 
 /* ---- The calls ---- */
 
-static size_t call_receive(void) {
-    return zmg_lockstep_receive(&still[1], 0, envelope + 21, length - ZMG_ENVELOPE_OVERHEAD).code;
+static size_t call_give(void) {
+    static uint8_t out[ZMG_LINK_SIZE];
+    return zmg_link_datagram(&still[0], 1, out, sizeof out);
 }
 
-static size_t call_sealed_receive(void) {
-    return zmg_sealed_lockstep_receive(&sealed_still[1], envelope, length).code;
-}
+static size_t call_repeated(void) { return zmg_link_receive(&still[1], datagram, length).code; }
 
-static size_t call_turn(void) {
-    static const int16_t marks[4];
-    uint8_t bytes[2][ZMG_PACKET_SIZE];
-    size_t n[2];
-    uint32_t ran = 0;
-    zmg_move row[4];
-    for (uint8_t me = 0; me < 2; me++) {
-        for (unsigned k = 0; k < commands; k++) zmg_lockstep_build(&going[me], ZMG_KEY_FORWARD);
-        n[me] = zmg_lockstep_packet(&going[me], 1 - me, bytes[me], sizeof bytes[me]);
-    }
-    for (uint8_t me = 0; me < 2; me++) {
-        zmg_lockstep_receive(&going[me], 1 - me, bytes[1 - me], n[1 - me]);
-        for (unsigned k = 0; k < commands; k++)
-            ran += zmg_lockstep_run(&going[me], marks, row).code == ZMG_RUN_RAN;
-    }
-    return ran == 2 * commands ? n[0] : 0;
-}
+static size_t call_forged(void) { return zmg_link_receive(&still[1], forged, length).reason; }
 
-static size_t call_sealed_turn(void) {
-    static const int16_t marks[4];
-    uint8_t bytes[2][ZMG_MAX_ENVELOPE];
-    size_t n[2];
-    uint32_t ran = 0;
-    zmg_move row[4];
-    for (uint8_t me = 0; me < 2; me++) {
-        for (unsigned k = 0; k < commands; k++) zmg_sealed_lockstep_build(&sealed_going[me], ZMG_KEY_FORWARD);
-        n[me] = zmg_sealed_lockstep_packet(&sealed_going[me], 1 - me, bytes[me], sizeof bytes[me]);
-    }
-    for (uint8_t me = 0; me < 2; me++) {
-        zmg_sealed_lockstep_receive(&sealed_going[me], bytes[1 - me], n[1 - me]);
-        for (unsigned k = 0; k < commands; k++)
-            ran += zmg_sealed_lockstep_run(&sealed_going[me], marks, row).code == ZMG_RUN_RAN;
-    }
-    return ran == 2 * commands ? n[0] : 0;
-}
+static size_t call_stray(void) { return zmg_link_receive(&still[1], stray, length).reason; }
 
 static size_t call_hmac(void) {
     unsigned n = 0;
-    HMAC(EVP_sha256(), key, sizeof key, envelope, length - TAG, code, &n);
+    HMAC(EVP_sha256(), key, sizeof key, datagram, length - TAG, code, &n);
     return n;
 }
 
 static size_t call_prepared(void) {
     size_t n = 0;
     EVP_MAC_init(prepared, NULL, 0, NULL);
-    EVP_MAC_update(prepared, envelope, length - TAG);
+    EVP_MAC_update(prepared, datagram, length - TAG);
     EVP_MAC_final(prepared, code, &n, sizeof code);
     return n;
 }
 
-enum { RECEIVE, SEALED_RECEIVE, TURN, SEALED_TURN, ONCE, PREPARED, CALLS };
+static size_t call_turn(void) {
+    static const int16_t marks[4];
+    uint8_t bytes[2][ZMG_PACKET_SIZE];
+    size_t n[2], ran = 0;
+    zmg_move row[4];
+    for (uint8_t me = 0; me < 2; me++) {
+        for (unsigned k = 0; k < commands; k++) zmg_lockstep_build(&nodes[me], ZMG_KEY_FORWARD);
+        n[me] = zmg_lockstep_packet(&nodes[me], 1 - me, bytes[me], sizeof bytes[me]);
+    }
+    for (uint8_t me = 0; me < 2; me++) {
+        zmg_lockstep_receive(&nodes[me], 1 - me, bytes[1 - me], n[1 - me]);
+        for (unsigned k = 0; k < commands; k++)
+            ran += zmg_lockstep_run(&nodes[me], marks, row).code == ZMG_RUN_RAN;
+    }
+    return ran;
+}
+
+static size_t call_link_turn(void) {
+    static const int16_t marks[4];
+    uint8_t bytes[2][ZMG_LINK_SIZE];
+    size_t n[2], ran = 0;
+    zmg_move row[4];
+    for (uint8_t me = 0; me < 2; me++) {
+        for (unsigned k = 0; k < commands; k++) zmg_link_build(&going[me], ZMG_KEY_FORWARD);
+        zmg_link_lean(&going[me]);
+        n[me] = zmg_link_datagram(&going[me], 1 - me, bytes[me], sizeof bytes[me]);
+    }
+    for (uint8_t me = 0; me < 2; me++) {
+        zmg_link_receive(&going[me], bytes[1 - me], n[1 - me]);
+        for (unsigned k = 0; k < commands; k++)
+            ran += zmg_link_run(&going[me], marks, row).code == ZMG_RUN_RAN;
+    }
+    return ran;
+}
+
+enum { GIVE, REPEATED, FORGED, STRAY, ONCE, PREPARED, TURN, LINK_TURN, CALLS };
 
 static const struct {
     const char *name;
     size_t (*call)(void);
 } calls[CALLS] = {
-    { "receive", call_receive }, { "sealed_receive", call_sealed_receive }, { "turn", call_turn },
-    { "sealed_turn", call_sealed_turn }, { "hmac", call_hmac }, { "prepared", call_prepared },
+    { "give", call_give }, { "repeated", call_repeated }, { "forged", call_forged }, { "stray", call_stray },
+    { "hmac", call_hmac }, { "prepared", call_prepared }, { "turn", call_turn }, { "link_turn", call_link_turn },
 };
 
-/* ---- Nodes and keys ---- */
+/* ---- Games and keys ---- */
 
 /* The game's key, as docs/PROTOCOL.md derives it. */
 static void prepare(void) {
@@ -123,59 +125,76 @@ static void prepare(void) {
     must(prepared && EVP_MAC_init(prepared, key, sizeof key, params), "there is an HMAC");
 }
 
-static void greet(zmg_lockstep *plain, zmg_sealed_lockstep *sealed) {
-    uint8_t bytes[ZMG_MAX_ENVELOPE];
+static zmg_config config_of(uint8_t me) {
+    zmg_config c = { 1 << 24, 2, me, 0, { 3, 1, 0, 0, 1, 7 } };
+    return c;
+}
+
+static void begin_nodes(void) {
+    uint8_t bytes[ZMG_PACKET_SIZE];
     for (uint8_t me = 0; me < 2; me++) {
-        zmg_config c = { 1 << 24, 2, me, 0, { 3, 1, 0, 0, 1, 7 } };
-        must(zmg_lockstep_new_within(&plain[me], &c, ZMG_WIDEST_AHEAD) == ZMG_NEW_OK, "a node");
-        must(zmg_sealed_lockstep_new(&sealed[me], &c, ZMG_WIDEST_AHEAD, secret, number) == ZMG_NEW_OK,
-            "a sealed node");
+        zmg_config c = config_of(me);
+        must(zmg_lockstep_new_within(&nodes[me], &c, ZMG_WIDEST_AHEAD) == ZMG_NEW_OK, "a node");
     }
     for (uint8_t me = 0; me < 2; me++) {
-        size_t n = zmg_lockstep_packet(&plain[me], 1 - me, bytes, sizeof bytes);
-        must(zmg_lockstep_receive(&plain[1 - me], me, bytes, n).code == ZMG_RECEIVE_STARTED, "started");
-        n = zmg_sealed_lockstep_packet(&sealed[me], 1 - me, bytes, sizeof bytes);
-        zmg_heard heard = zmg_sealed_lockstep_receive(&sealed[1 - me], bytes, n);
-        must(heard.code == ZMG_RECEIVE_STARTED, "started, sealed");
+        size_t n = zmg_lockstep_packet(&nodes[me], 1 - me, bytes, sizeof bytes);
+        must(zmg_lockstep_receive(&nodes[1 - me], me, bytes, n).code == ZMG_RECEIVE_STARTED, "started");
     }
 }
 
-/* Games that have begun. Of those that stay, player 1 has heard a packet of player 0 with all commands. */
+static zmg_received pass(zmg_link *links, uint8_t from) {
+    length = zmg_link_datagram(&links[from], 1 - from, datagram, sizeof datagram);
+    return zmg_link_receive(&links[1 - from], datagram, length);
+}
+
+static void begin_links(zmg_link *links) {
+    for (uint8_t me = 0; me < 2; me++) {
+        zmg_config c = config_of(me);
+        must(zmg_link_new(&links[me], &c, ZMG_WIDEST_AHEAD, secret, number, host) == ZMG_NEW_OK, "a link");
+    }
+    pass(links, 1);
+    must(pass(links, 0).started && pass(links, 1).started, "started, with links");
+}
+
+/* Games that have begun. Of the links that stay, player 1 has heard a datagram of player 0 with all commands, each
+ * of which was given in a packet of its own, and has acknowledged none. */
 static void play(void) {
-    uint8_t bytes[ZMG_PACKET_SIZE];
-    greet(going, sealed_going);
-    greet(still, sealed_still);
+    begin_nodes();
+    begin_links(going);
+    begin_links(still);
     for (unsigned k = 0; k < commands; k++) {
-        zmg_lockstep_build(&still[0], ZMG_KEY_FORWARD);
-        zmg_sealed_lockstep_build(&sealed_still[0], ZMG_KEY_FORWARD);
+        zmg_link_build(&still[0], ZMG_KEY_FORWARD);
+        length = zmg_link_datagram(&still[0], 1, datagram, sizeof datagram);
     }
-    length = zmg_sealed_lockstep_packet(&sealed_still[0], 1, envelope, sizeof envelope);
-    must(length == ZMG_ENVELOPE_OVERHEAD + 8 + 8 * commands, "the envelope has all commands");
-    must(zmg_lockstep_packet(&still[0], 1, bytes, sizeof bytes) == length - ZMG_ENVELOPE_OVERHEAD
-        && memcmp(envelope + 21, bytes, length - ZMG_ENVELOPE_OVERHEAD) == 0, "and the packet of the node");
-    must(call_receive() == ZMG_RECEIVE_TAKEN && call_sealed_receive() == ZMG_RECEIVE_TAKEN, "taken");
-    for (int k = 0; k < 2; k++) {
-        must(call_receive() == ZMG_RECEIVE_STALE && call_sealed_receive() == ZMG_RECEIVE_STALE, "stale");
-        must(call_sealed_turn() == length && call_turn() == length - ZMG_ENVELOPE_OVERHEAD, "a whole turn");
+    must(length == 65 + 8 * commands, "the datagram has all commands");
+    memcpy(forged, datagram, length);
+    forged[length - 1] ^= 1;
+    memcpy(stray, datagram, length);
+    stray[GAME] ^= 1;
+    must(call_repeated() == ZMG_LINK_RECEIVE_HEARD && zmg_link_got(&still[1], 0).value == commands, "heard");
+    for (unsigned k = 0; k < 2; k++) {
+        must(call_give() == length && call_repeated() == ZMG_LINK_RECEIVE_HEARD, "given and heard again");
+        must(call_forged() == ZMG_BUNDLE_TAG && call_stray() == ZMG_BUNDLE_GAME, "not opened");
+        must(call_turn() == 2 * commands && call_link_turn() == 2 * commands, "whole turns");
     }
+    must(zmg_link_line(&still[1], 0).repeated == 2, "repeated");
     for (int k = ONCE; k <= PREPARED; k++) {
         memset(code, 0, sizeof code);
-        must(calls[k].call() == 32 && memcmp(code, envelope + length - TAG, TAG) == 0, "OpenSSL's tag");
+        must(calls[k].call() == 32 && memcmp(code, datagram + length - TAG, TAG) == 0, "OpenSSL's tag");
     }
 }
 
 static void give_up(void) {
     for (unsigned k = 0; k < 2; k++) {
-        zmg_lockstep_free(&going[k]);
-        zmg_lockstep_free(&still[k]);
-        zmg_sealed_lockstep_free(&sealed_going[k]);
-        zmg_sealed_lockstep_free(&sealed_still[k]);
+        zmg_lockstep_free(&nodes[k]);
+        zmg_link_free(&going[k]);
+        zmg_link_free(&still[k]);
     }
 }
 
 /* ---- Times ---- */
 
-static double times[CALLS + 2][MOST_ROUNDS];
+static double times[CALLS][MOST_ROUNDS];
 static volatile size_t kept;
 
 static double batch(size_t (*call)(void)) {
@@ -197,13 +216,9 @@ static double median(double *of, int count) {
 }
 
 static void time_all(int rounds) {
-    for (int r = 0; r < rounds; r++) {
+    for (int r = 0; r < rounds; r++)
         for (int k = 0; k < CALLS; k++) times[k][r] = batch(calls[k].call);
-        times[CALLS + 1][r] = times[SEALED_RECEIVE][r] - times[RECEIVE][r];
-        times[CALLS][r] = (times[SEALED_TURN][r] - times[TURN][r]) / 2 - times[CALLS + 1][r];
-    }
-    printf("    sealing %.0f ns, opening %.0f ns", median(times[CALLS], rounds), median(times[CALLS + 1], rounds));
-    for (int k = 0; k < CALLS; k++) printf("; %s %.0f", calls[k].name, median(times[k], rounds));
+    for (int k = 0; k < CALLS; k++) printf("%s %s %.0f ns", k ? ";" : "   ", calls[k].name, median(times[k], rounds));
     printf("\n");
 }
 
@@ -216,7 +231,7 @@ int main(int argc, char **argv) {
         must(0 < rounds && rounds <= MOST_ROUNDS, "rounds are 1 to 500");
         for (commands = 1; commands <= 12; commands += 11) {
             play();
-            printf("an envelope of %zu bytes\n", length);
+            printf("a datagram of %zu bytes\n", length);
             time_all(rounds);
             give_up();
         }

@@ -4,7 +4,7 @@
  *
  * Each node has a twin, which is given the same calls and must answer the same. After each call the counts
  * of a node must not have fallen, and now and then its demo is read and must have the rows that the node
- * told. The twin of a sealed node is not sealed: it is given the datagrams of the envelopes that were heard. */
+ * told. */
 #include "chance.h"
 #include "failing.h"
 #include "must.h"
@@ -24,16 +24,12 @@ typedef struct seen {
 
 static zmg_lockstep nodes[NODES], twins[NODES];
 static seen seens[NODES];
-/* two players of a game with a secret, whose twins are nodes that are not sealed */
-static zmg_sealed_lockstep sealed[2];
-static zmg_lockstep plain[2];
 static zmg_demo demos[DEMOS];
 static uint8_t bytes[BYTES], out[BYTES], again[BYTES];
 static unsigned long calls, answers[32][16];
 
 /* The highest answer of each call that has codes. */
-static const uint32_t highest[32] = { 10, 0, 2, 2, 6, 4, 4, 104, 5, 9, 7, 9, 1, 1, 4, 1, 1, 1, 1, 0, 0, 1, 1,
-    8, 8, 141 };
+static const uint32_t highest[32] = { 10, 0, 2, 2, 6, 4, 4, 104, 5, 9, 7, 9, 1, 1, 4, 1, 1, 1, 1, 0, 0, 1, 1 };
 
 static void tell_where(FILE *out) { fprintf(out, "after %lu calls", calls); }
 
@@ -378,84 +374,11 @@ static void read_node(unsigned k) {
     calls += 10;
 }
 
-static void seal(void) {
-    zmg_config c = { 3000, 2, 0, 0, { 1, 0, 0, 0, 1, 1 } };
-    uint8_t secret[ZMG_SECRET_SIZE], number[ZMG_NUMBER_SIZE];
-    uint8_t ahead = (uint8_t)(1 + below(ZMG_WIDEST_AHEAD));
-    int is_open = below(4) == 0;
-    for (unsigned k = 0; k < ZMG_SECRET_SIZE; k++) secret[k] = byte();
-    for (unsigned k = 0; k < ZMG_NUMBER_SIZE; k++) number[k] = byte();
-    for (c.me = 0; c.me < 2; c.me++) {
-        uint32_t code = is_open ? zmg_sealed_lockstep_new_open(&sealed[c.me], &c, ahead, number)
-            : zmg_sealed_lockstep_new(&sealed[c.me], &c, ahead, secret, number);
-        uint32_t twin = zmg_lockstep_new_within(&plain[c.me], &c, ahead);
-        MUST(code == ZMG_NEW_OK || code == ZMG_NEW_NO_MEMORY);
-        if (code != ZMG_NEW_OK || twin != ZMG_NEW_OK) {
-            zmg_sealed_lockstep_free(&sealed[c.me]);
-            zmg_lockstep_free(&plain[c.me]);
-        }
-    }
-}
-
-/* Where bytes were heard as an envelope, its twin hears the datagram in it. */
-static uint32_t unseal(unsigned k, const uint8_t *text, size_t length) {
-    zmg_heard heard = zmg_sealed_lockstep_receive(&sealed[k], text, length);
-    count(23, heard.code);
-    if (heard.code == ZMG_RECEIVE_UNOPENED) {
-        MUST(1 <= count(24, heard.number));
-    } else if (heard.code < ZMG_RECEIVE_UNOPENED && zmg_lockstep_phase(&plain[k]).code != ZMG_PHASE_NONE) {
-        zmg_heard twin = zmg_lockstep_receive(&plain[k], text[10], text + 21, length - ZMG_ENVELOPE_OVERHEAD);
-        MUST(heard.code == twin.code && heard.number == twin.number);
-    }
-    return heard.code;
-}
-
-/* A call on a sealed node, which answers as its twin, and on what it sends, altered or not. */
-static void sealed_call(unsigned k) {
-    int16_t marks[4] = { 0, 0, 0, 0 };
-    zmg_move row[4], twin_row[4];
-    zmg_ran ran, twin;
-    uint8_t to = (uint8_t)(below(8) ? 1 - k : below(5));
-    uint32_t keys = draw();
-    size_t n;
-    zmg_made made = zmg_sealed_lockstep_build(&sealed[k], keys);
-    zmg_made twin_made = zmg_lockstep_build(&plain[k], keys);
-    MUST(made.code == twin_made.code && made.tic == twin_made.tic);
-    MUST(zmg_sealed_lockstep_can_build(&sealed[k]) == zmg_lockstep_can_build(&plain[k]));
-    n = zmg_sealed_lockstep_packet(&sealed[k], to, out, ZMG_MAX_ENVELOPE + below(9));
-    count(25, (uint32_t)n);
-    MUST(zmg_lockstep_packet(&plain[k], to, again, sizeof again) == (n ? n - ZMG_ENVELOPE_OVERHEAD : 0));
-    MUST(n == 0 || memcmp(out + 21, again, n - ZMG_ENVELOPE_OVERHEAD) == 0);
-    if (n && below(3) == 0) {
-        uint32_t at = below((uint32_t)n);
-        out[at] ^= (uint8_t)(1u << below(8));
-        MUST(zmg_sealed_lockstep_phase(&sealed[1 - k]).code == ZMG_PHASE_NONE
-            || unseal(1 - k, out, n) == ZMG_RECEIVE_UNOPENED);
-    } else if (n) {
-        unseal(1 - k, out, n);
-    }
-    n = below(160);
-    fill(bytes, n);
-    if (zmg_sealed_lockstep_phase(&sealed[k]).code != ZMG_PHASE_NONE)
-        MUST(unseal(k, bytes, n) == ZMG_RECEIVE_UNOPENED);
-    if (below(500) == 0) marks[k] = (int16_t)draw();
-    memset(row, 0xAA, sizeof row);
-    memcpy(twin_row, row, sizeof row);
-    ran = zmg_sealed_lockstep_run(&sealed[k], marks, row);
-    twin = zmg_lockstep_run(&plain[k], marks, twin_row);
-    MUST(ran.code == twin.code && ran.tic == twin.tic && memcmp(row, twin_row, sizeof row) == 0);
-    MUST(zmg_sealed_lockstep_ran(&sealed[k]) == zmg_lockstep_ran(&plain[k]));
-    n = zmg_sealed_lockstep_demo(&sealed[k], 0, bytes, BYTES);
-    MUST(n == zmg_lockstep_demo(&plain[k], 0, again, BYTES) && memcmp(bytes, again, n) == 0);
-    if (below(2000) == 0) MUST(zmg_sealed_lockstep_quit(&sealed[k]) == zmg_lockstep_quit(&plain[k]));
-    calls += 9;
-}
-
 static void any_call(void) {
     size_t n = below(120);
     unsigned k = any_node();
     calls++;
-    switch (below(28)) {
+    switch (below(25)) {
     case 0: if (below(20) == 0) new_node(k); break;
     case 1: if (below(40) == 0) give_up(k); break;
     case 2: if (below(40) == 0) quit(k); break;
@@ -471,8 +394,6 @@ static void any_call(void) {
     case 10: if (below(30) == 0) pair(); break;
     case 11: if (below(20) == 0) replay(k); break;
     case 12: give(k); break;
-    case 13: if (below(500) == 0) seal(); break;
-    case 14: case 15: sealed_call(below(2)); break;
     default: tic();
     }
 }
@@ -482,10 +403,8 @@ int main(int argc, char **argv) {
     if (argc > 2) begin_chance(argv[2]);
     if (argc > 3) fail_every(strtoul(argv[3], NULL, 10));
     pair();
-    seal();
     while (calls < wanted) any_call();
     for (unsigned k = 0; k < NODES; k++) { replay(k); give_up(k); give_up(k); }
-    for (unsigned k = 0; k < 2; k++) { zmg_sealed_lockstep_free(&sealed[k]); zmg_lockstep_free(&plain[k]); }
     for (unsigned k = 0; k < DEMOS; k++) { zmg_demo_free(&demos[k]); zmg_demo_free(&demos[k]); }
     MUST(blocks_held() == 0);
     printf("%lu calls\n", calls);

@@ -16,7 +16,6 @@
 
 static void sizes(void) {
     IS(sizeof(zmg_lockstep), 2 * sizeof(void *));
-    IS(sizeof(zmg_sealed_lockstep), 2 * sizeof(void *));
     IS(sizeof(zmg_link), 2 * sizeof(void *));
     IS(sizeof(zmg_demo), 2 * sizeof(void *));
     IS(sizeof(zmg_settings), 6);
@@ -45,8 +44,6 @@ static void sizes(void) {
 static void offsets(void) {
     IS(offsetof(zmg_lockstep, live), 0);
     IS(offsetof(zmg_lockstep, at), sizeof(size_t));
-    IS(offsetof(zmg_sealed_lockstep, live), 0);
-    IS(offsetof(zmg_sealed_lockstep, at), sizeof(size_t));
     IS(offsetof(zmg_link, live), 0);
     IS(offsetof(zmg_link, at), sizeof(size_t));
     IS(offsetof(zmg_received, code), 0);
@@ -540,137 +537,9 @@ static void packets(void) {
     IS(zmg_packet_encode(&packet, bytes, sizeof bytes), 0);
 }
 
-/* A demo of version 109, with players 0 and 2, one tic, a command of a cut tic, and two bytes behind the
- * marker. */
-static zmg_sealed_lockstep sealed_key = ZMG_SEALED_LOCKSTEP_NONE, sealed_other = ZMG_SEALED_LOCKSTEP_NONE;
+static zmg_link key_link = ZMG_LINK_NONE, other_link = ZMG_LINK_NONE;
 static uint8_t secret[ZMG_SECRET_SIZE] = { 1, 2, 3 }, number[ZMG_NUMBER_SIZE] = { 4, 5, 6 },
     host[ZMG_HOST_SIZE] = { 7, 8, 9 };
-
-static size_t envelope(zmg_sealed_lockstep *from, uint8_t to) {
-    return zmg_sealed_lockstep_packet(from, to, bytes, ZMG_MAX_ENVELOPE);
-}
-
-static zmg_heard open_by(zmg_sealed_lockstep *to, size_t length) {
-    return zmg_sealed_lockstep_receive(to, bytes, length);
-}
-
-static void unopened(size_t length, uint32_t why) {
-    zmg_heard heard = open_by(&sealed_other, length);
-    IS(heard.code, ZMG_RECEIVE_UNOPENED);
-    IS(heard.number, why);
-}
-
-/* A handle that holds nothing answers as a node that does not play. */
-static void no_sealed_node(void) {
-    zmg_move row[4];
-    zmg_command c = { 0, 0, 0, 0, 0, 0 };
-    IS(zmg_sealed_lockstep_phase(&sealed_key).code, ZMG_PHASE_NONE);
-    IS(zmg_sealed_lockstep_build(&sealed_key, 0).code, ZMG_BUILD_NOT_PLAYING);
-    IS(zmg_sealed_lockstep_give(&sealed_key, &c).code, ZMG_BUILD_NOT_PLAYING);
-    IS(zmg_sealed_lockstep_can_build(&sealed_key), 0);
-    IS(zmg_sealed_lockstep_run(&sealed_key, no_marks, row).code, ZMG_RUN_NOT_PLAYING);
-    IS(open_by(&sealed_key, 0).code, ZMG_RECEIVE_DROPPED);
-    IS(open_by(&sealed_key, 0).number, ZMG_DROP_NOT_PLAYING);
-    IS(zmg_sealed_lockstep_quit(&sealed_key), 0);
-    IS(envelope(&sealed_key, 1), 0);
-    IS(zmg_sealed_lockstep_settings(&sealed_key).known, 0);
-    IS(zmg_sealed_lockstep_demo_length(&sealed_key), 0);
-    zmg_sealed_lockstep_free(&sealed_key);
-}
-
-static void sealed_tic(void) {
-    zmg_move row[4];
-    zmg_sealed_lockstep_build(&sealed_key, ZMG_KEY_FORWARD);
-    zmg_sealed_lockstep_build(&sealed_other, 0);
-    IS(open_by(&sealed_other, envelope(&sealed_key, 1)).code, ZMG_RECEIVE_TAKEN);
-    IS(open_by(&sealed_key, envelope(&sealed_other, 0)).code, ZMG_RECEIVE_TAKEN);
-    IS(zmg_sealed_lockstep_run(&sealed_key, no_marks, row).code, ZMG_RUN_RAN);
-    IS(row[0].forward, 25);
-    IS(zmg_sealed_lockstep_run(&sealed_other, no_marks, row).code, ZMG_RUN_RAN);
-}
-
-/* A secret of zeros is refused before all, and gives up what the handle held; one with any other byte is not. */
-static void unset_secrets(const zmg_config *c) {
-    uint8_t zeros[ZMG_SECRET_SIZE] = { 0 };
-    IS(zmg_sealed_lockstep_new(&sealed_key, c, ZMG_MOST_AHEAD, secret, number), ZMG_NEW_OK);
-    IS(zmg_sealed_lockstep_new(&sealed_key, c, 0, zeros, number), ZMG_NEW_BAD_SECRET);
-    IS(zmg_sealed_lockstep_phase(&sealed_key).code, ZMG_PHASE_NONE);
-    for (unsigned k = 0; k < sizeof zeros; k++) {
-        zeros[k] = 1;
-        IS(zmg_sealed_lockstep_new(&sealed_key, c, 0, zeros, number), ZMG_NEW_BAD_AHEAD);
-        zeros[k] = 0;
-    }
-}
-
-/* An envelope with each of its parts altered, one that is old, and one of an open game. */
-static void seals(void) {
-    static const uint8_t places[] = { 0, 1, 2, 9, 11, 10, 12, 16, 20, 21, 28, 44 };
-    static const uint32_t faults[] = { ZMG_SEAL_SUITE, ZMG_SEAL_KIND, ZMG_SEAL_GAME, ZMG_SEAL_GAME,
-        ZMG_SEAL_RECEIVER, ZMG_SEAL_TAG, ZMG_SEAL_TAG, ZMG_SEAL_TAG, ZMG_SEAL_TAG, ZMG_SEAL_TAG,
-        ZMG_SEAL_TAG, ZMG_SEAL_TAG };
-    uint8_t old[ZMG_MAX_ENVELOPE];
-    zmg_config c = config_of(0);
-    size_t n;
-    no_sealed_node();
-    c.settings.map = 0;
-    IS(zmg_sealed_lockstep_new(&sealed_key, &c, 0, secret, number), ZMG_NEW_BAD_MAP);
-    c = config_of(2);
-    IS(zmg_sealed_lockstep_new_open(&sealed_key, &c, 0, number), ZMG_NEW_BAD_AHEAD);
-    IS(zmg_sealed_lockstep_new(&sealed_key, &c, ZMG_WIDEST_AHEAD, secret, number), ZMG_NEW_BAD_ME);
-    c = config_of(0);
-    unset_secrets(&c);
-    IS(zmg_sealed_lockstep_new(&sealed_key, &c, ZMG_MOST_AHEAD, secret, number), ZMG_NEW_OK);
-    IS(zmg_sealed_lockstep_phase(&sealed_key).code, ZMG_PHASE_GATHERING);
-    IS(zmg_sealed_lockstep_settings(&sealed_key).settings.map, 9);
-    IS(zmg_sealed_lockstep_packet(&sealed_key, 1, bytes, ZMG_MAX_ENVELOPE - 1), 0);
-    c.me = 1;
-    IS(zmg_sealed_lockstep_new_open(&sealed_other, &c, ZMG_MOST_AHEAD, number), ZMG_NEW_OK);
-    n = envelope(&sealed_key, 1);
-    IS(n, ZMG_ENVELOPE_OVERHEAD + 8);
-    unopened(n, ZMG_SEAL_SUITE);
-    IS(zmg_sealed_lockstep_new(&sealed_other, &c, ZMG_MOST_AHEAD, secret, number), ZMG_NEW_OK);
-    unopened(ZMG_ENVELOPE_OVERHEAD - 1, ZMG_SEAL_SHORT);
-    unopened(ZMG_MAX_ENVELOPE + 1, ZMG_SEAL_LONG);
-    unopened(n - 1, ZMG_SEAL_TAG);
-    for (unsigned k = 0; k < sizeof places; k++) {
-        bytes[places[k]] ^= 64;
-        unopened(n, faults[k]);
-        bytes[places[k]] ^= 64;
-    }
-    IS(open_by(&sealed_key, n).number, ZMG_SEAL_RECEIVER);
-    IS(open_by(&sealed_other, n).code, ZMG_RECEIVE_STARTED);
-    IS(open_by(&sealed_key, envelope(&sealed_other, 0)).code, ZMG_RECEIVE_STARTED);
-    for (int k = 0; k < 66; k++) {
-        if (k == 1) {
-            n = envelope(&sealed_other, 0);
-            memcpy(old, bytes, n);
-            IS(old[12], 1); /* the start: what was sent is not sent again */
-        }
-        sealed_tic();
-    }
-    IS(zmg_sealed_lockstep_made(&sealed_key), 66);
-    IS(zmg_sealed_lockstep_ran(&sealed_other), 66);
-    IS(zmg_sealed_lockstep_got(&sealed_key, 1).value, 66);
-    IS(zmg_sealed_lockstep_me(&sealed_other), 1);
-    IS(zmg_sealed_lockstep_players(&sealed_other), 2);
-    IS(zmg_sealed_lockstep_end(&sealed_other, 0).known, 0);
-    IS(zmg_sealed_lockstep_command(&sealed_other, 0, 65).command.forward, 25);
-    IS(zmg_sealed_lockstep_demo_length(&sealed_key), 13 + 66 * 10);
-    memcpy(bytes, old, n);
-    IS(open_by(&sealed_key, n).code, ZMG_RECEIVE_LATE);
-    IS(open_by(&sealed_key, n).number, 0);
-    IS(zmg_sealed_lockstep_quit(&sealed_key), 1);
-    IS(zmg_sealed_lockstep_quit(&sealed_key), 0);
-    IS(zmg_sealed_lockstep_phase(&sealed_key).cause, ZMG_CAUSE_QUIT);
-    IS(zmg_sealed_lockstep_demo(&sealed_key, 13 + 66 * 10, bytes, sizeof bytes), 1);
-    IS(bytes[0], 0x80);
-    IS(open_by(&sealed_other, envelope(&sealed_key, 1)).code, ZMG_RECEIVE_LEFT);
-    IS(zmg_sealed_lockstep_end(&sealed_other, 0).value, 66);
-    zmg_sealed_lockstep_free(&sealed_key);
-    zmg_sealed_lockstep_free(&sealed_other);
-}
-
-static zmg_link key_link = ZMG_LINK_NONE, other_link = ZMG_LINK_NONE;
 
 static size_t datagram(zmg_link *from, uint8_t to) {
     return zmg_link_datagram(from, to, bytes, sizeof bytes);
@@ -862,24 +731,72 @@ static void owed(void) {
     IS(zmg_link_catch_up(&key_link).code, ZMG_BUILD_NONE_OWED);
 }
 
+/* A secret of zeros is refused before all, and gives up what the handle held; one with any other byte is not. */
+static void unset_secrets(const zmg_config *c) {
+    uint8_t zeros[ZMG_SECRET_SIZE] = { 0 };
+    IS(zmg_link_new(&key_link, c, ZMG_MOST_AHEAD, secret, number, host), ZMG_NEW_OK);
+    IS(zmg_link_new(&key_link, c, 0, zeros, number, host), ZMG_NEW_BAD_SECRET);
+    IS(zmg_link_phase(&key_link).code, ZMG_PHASE_NONE);
+    for (unsigned k = 0; k < sizeof zeros; k++) {
+        zeros[k] = 1;
+        IS(zmg_link_new(&key_link, c, 0, zeros, number, host), ZMG_NEW_BAD_AHEAD);
+        zeros[k] = 0;
+    }
+}
+
+static void link_tic(void) {
+    zmg_move row[4];
+    IS(zmg_link_build(&key_link, ZMG_KEY_FORWARD).code, ZMG_BUILD_MADE);
+    IS(zmg_link_build(&other_link, 0).code, ZMG_BUILD_MADE);
+    IS(heard_by(&other_link, &key_link).code, ZMG_LINK_RECEIVE_HEARD);
+    IS(heard_by(&key_link, &other_link).code, ZMG_LINK_RECEIVE_HEARD);
+    IS(zmg_link_run(&key_link, no_marks, row).code, ZMG_RUN_RAN);
+    IS(row[0].forward, 25);
+    IS(zmg_link_run(&other_link, no_marks, row).code, ZMG_RUN_RAN);
+}
+
+/* What links tell of a game of 66 tics, at whose end player 0 leaves. */
+static void link_tics(void) {
+    zmg_config c = config_of(0);
+    IS(zmg_link_new(&key_link, &c, ZMG_MOST_AHEAD, secret, number, host), ZMG_NEW_OK);
+    c = config_of(1);
+    IS(zmg_link_new(&other_link, &c, ZMG_MOST_AHEAD, secret, number, host), ZMG_NEW_OK);
+    heard_by(&key_link, &other_link);
+    IS(heard_by(&other_link, &key_link).started, 1);
+    IS(heard_by(&key_link, &other_link).started, 1);
+    for (int k = 0; k < 66; k++) link_tic();
+    IS(zmg_link_made(&key_link), 66);
+    IS(zmg_link_ran(&other_link), 66);
+    IS(zmg_link_got(&key_link, 1).value, 66);
+    IS(zmg_link_me(&other_link), 1);
+    IS(zmg_link_players(&other_link), 2);
+    IS(zmg_link_end(&other_link, 0).known, 0);
+    IS(zmg_link_command(&other_link, 0, 65).command.forward, 25);
+    IS(zmg_link_demo_length(&key_link), 13 + 66 * 10);
+    IS(zmg_link_quit(&key_link), 1);
+    IS(zmg_link_quit(&key_link), 0);
+    IS(zmg_link_phase(&key_link).cause, ZMG_CAUSE_QUIT);
+    IS(zmg_link_demo(&key_link, 13 + 66 * 10, bytes, sizeof bytes), 1);
+    IS(bytes[0], 0x80);
+    IS(heard_by(&other_link, &key_link).code, ZMG_LINK_RECEIVE_HEARD);
+    IS(zmg_link_end(&other_link, 0).value, 66);
+}
+
 /* A datagram with each of its parts altered, and one of a player that the game has not. */
 static void links(void) {
     static const uint8_t places[] = { 0, 1, 2, 9, 11, 10, 12, 16, 17, 18, 42, 59 };
     static const uint32_t faults[] = { ZMG_BUNDLE_SUITE, ZMG_BUNDLE_KIND, ZMG_BUNDLE_GAME, ZMG_BUNDLE_GAME,
         ZMG_BUNDLE_RECEIVER, ZMG_BUNDLE_TAG, ZMG_BUNDLE_TAG, ZMG_BUNDLE_TAG, ZMG_BUNDLE_TAG, ZMG_BUNDLE_TAG,
         ZMG_BUNDLE_TAG, ZMG_BUNDLE_TAG };
-    uint8_t zeros[ZMG_SECRET_SIZE] = { 0 };
     zmg_config c = config_of(0);
     zmg_received received;
     size_t n;
     no_link();
-    IS(zmg_link_new(&key_link, &c, ZMG_MOST_AHEAD, secret, number, host), ZMG_NEW_OK);
-    IS(zmg_link_new(&key_link, &c, 0, zeros, number, host), ZMG_NEW_BAD_SECRET);
-    IS(zmg_link_phase(&key_link).code, ZMG_PHASE_NONE);
-    IS(zmg_link_new(&key_link, &c, 0, secret, number, host), ZMG_NEW_BAD_AHEAD);
+    unset_secrets(&c);
     c.settings.map = 0;
     IS(zmg_link_new(&key_link, &c, 0, secret, number, host), ZMG_NEW_BAD_MAP);
     c = config_of(2);
+    IS(zmg_link_new(&key_link, &c, 0, secret, number, host), ZMG_NEW_BAD_AHEAD);
     IS(zmg_link_new(&key_link, &c, ZMG_WIDEST_AHEAD, secret, number, host), ZMG_NEW_BAD_ME);
     c.players = 3;
     IS(zmg_link_new(&key_link, &c, ZMG_MOST_AHEAD, secret, number, host), ZMG_NEW_OK);
@@ -904,6 +821,12 @@ static void links(void) {
         no_datagram(n, faults[k]);
         bytes[places[k]] ^= 64;
     }
+    bytes[0] = 2; /* a game without a secret */
+    no_datagram(n, ZMG_BUNDLE_SUITE);
+    bytes[0] = bytes[1] = 1; /* one packet in an envelope */
+    no_datagram(n, ZMG_BUNDLE_KIND);
+    bytes[1] = 2;
+    IS(zmg_link_receive(&key_link, bytes, n).reason, ZMG_BUNDLE_RECEIVER);
     received = zmg_link_receive(&other_link, bytes, n);
     IS(received.code, ZMG_LINK_RECEIVE_HEARD);
     IS(received.reason, 0);
@@ -920,6 +843,9 @@ static void links(void) {
     owed();
     zmg_link_free(&key_link);
     zmg_link_free(&other_link);
+    link_tics();
+    zmg_link_free(&key_link);
+    zmg_link_free(&other_link);
     presences();
     zmg_link_free(&key_link);
     zmg_link_free(&other_link);
@@ -930,6 +856,8 @@ static void links(void) {
     IS(zmg_link_phase(&key_link).code, ZMG_PHASE_NONE);
 }
 
+/* A demo of version 109, with players 0 and 2, one tic, a command of a cut tic, and two bytes behind the
+ * marker. */
 static void demos(void) {
     static const uint8_t old[] = { 109, 4, 2, 5, 1, 6, 7, 8, 2, 1, 0, 1, 0, 10, 20, 30, 40, 0xf6, 1, 0x80, 3,
         9, 9, 9, 9, 0x80, 1, 2 };
@@ -1026,9 +954,6 @@ static void no_memory(void) {
     IS(blocks_held(), 0);
     ASKS(2, zmg_lockstep_new(&key, &c), ZMG_NEW_NO_MEMORY,
         zmg_lockstep_phase(&key).code == ZMG_PHASE_NONE && blocks_held() == 0);
-    ASKS(2, zmg_sealed_lockstep_new(&sealed_key, &c, ZMG_MOST_AHEAD, secret, number), ZMG_NEW_NO_MEMORY,
-        zmg_sealed_lockstep_phase(&sealed_key).code == ZMG_PHASE_NONE);
-    zmg_sealed_lockstep_free(&sealed_key);
     ASKS(2, zmg_link_new(&key_link, &c, ZMG_MOST_AHEAD, secret, number, host), ZMG_NEW_NO_MEMORY,
         zmg_link_phase(&key_link).code == ZMG_PHASE_NONE);
     zmg_link_free(&key_link);
@@ -1060,7 +985,6 @@ int main(void) {
     drops();
     ends();
     packets();
-    seals();
     links();
     demos();
     no_memory();

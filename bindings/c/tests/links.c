@@ -1,11 +1,12 @@
-/* Games of two to four links on an untrusted network: `links [GAMES [SEED]]`. Players come one after another,
- * stop for a while, and quit at any time, also before the start, where others take their places; some games end
- * with a full demo. The network loses, repeats and reorders datagrams, holds some back for 500 turns, alters,
- * cuts, forges, names other senders, and brings datagrams to players that they are not for, and those of another
- * game and of who is no player of this one. All who run a tic must run it by the same row, all who tell where a
- * player ends must tell the same, all demos must be the same as far as they go, nobody may wait for ever, and who
- * has quit must be told that it may leave, and not before the others have all of its commands. C99 and C++. Ends
- * with status 0, or names the line that failed. */
+/* Games of two to four links on an untrusted network: `links [GAMES [SEED]]`. Players come one after
+ * another, stop for a while, and quit at any time, also before the start, where others take their places;
+ * some games end with a full demo. The network loses, repeats and reorders datagrams, holds some back for
+ * 500 turns, alters, cuts, forges, names other senders, and brings datagrams to players that they are not
+ * for, those of another game and of who is no player of this one, and those that were on the way when the
+ * game before ended, which may have had the same secret. All who run a tic must run it by the same row, all
+ * who tell where a player ends must tell the same, all demos must be the same as far as they go, nobody may
+ * wait for ever, and who has quit must be told that it may leave, and not before the others have all of its
+ * commands. C99 and C++. Ends with status 0, or names the line that failed. */
 #include "agreed.h"
 #include "chance.h"
 #include "due.h"
@@ -45,7 +46,7 @@ static player all[NODES];
 static uint8_t secret[ZMG_SECRET_SIZE], number[ZMG_NUMBER_SIZE], host[ZMG_HOST_SIZE], ahead;
 static uint32_t limit;
 static unsigned long games, heard, unopened[16], strangers, full, caught_up, seconds, alone, replaced,
-    given_up, early;
+    given_up, early, carried;
 
 static void tell_where(FILE *out) { fprintf(out, "in game %lu at turn %u", games, (unsigned)now); }
 
@@ -64,9 +65,31 @@ static void make_strangers(void) {
     other[ZMG_SECRET_SIZE - 1] ^= 1;
     make(FORGER, 0, players, other, number);
     memcpy(other, number, ZMG_NUMBER_SIZE);
-    other[0] ^= 1;
+    /* in the half that a datagram has, or in the other */
+    other[below(2) ? 0 : ZMG_NUMBER_SIZE - 1] ^= 1;
     make(OTHER_GAME, 0, players, secret, other);
     if (players < NODES) make(OUTSIDER, NODES - 1, NODES, secret, number);
+}
+
+/* What is still on the way when a game ends: how much. */
+static uint32_t take_all(flight *left) {
+    uint32_t count = 0;
+    for (uint32_t turn = 0; turn < SPAN; turn++)
+        for (uint32_t k = due[turn]; k;) k = take_due(k, &left[count++]);
+    return count;
+}
+
+/* It comes in the next game, to any player and at any time. */
+static void carry_over(void) {
+    static flight left[FLIGHTS];
+    uint32_t count = take_all(left);
+    carried += count;
+    clear_line();
+    for (uint32_t k = 0; k < count; k++) {
+        left[k].changed = 1;
+        left[k].to = (uint8_t)below(players);
+        post(&left[k], below(HELD));
+    }
 }
 
 static void open_game(void) {
@@ -80,11 +103,11 @@ static void open_game(void) {
     slowest = 1 + below(20);
     now = 0;
     begin_agreement(&common);
-    fill(secret, sizeof secret);
+    if (games == 0 || below(2)) fill(secret, sizeof secret);
     fill(number, sizeof number);
     fill(host, sizeof host);
     memset(all, 0, sizeof all);
-    clear_line();
+    carry_over();
     for (uint32_t p = 0; p < players; p++) {
         all[p].comes = below(3) ? 0 : below(LATEST);
         all[p].quits = late + below(LAST);
@@ -418,14 +441,14 @@ int main(int argc, char **argv) {
     if (argc > 2) begin_chance(argv[2]);
     while (games < count) game();
     printf("%lu games: heard %lu, strangers %lu, full %lu, caught up %lu, second %lu, alone %lu, replaced %lu,"
-        " given up %lu, without a command %lu\nunopened",
-        games, heard, strangers, full, caught_up, seconds, alone, replaced, given_up, early);
+        " given up %lu, without a command %lu, carried over %lu\nunopened",
+        games, heard, strangers, full, caught_up, seconds, alone, replaced, given_up, early, carried);
     for (unsigned k = 1; k < 16; k++) printf(" %lu", unopened[k]);
     printf("\n");
     if (games < 100) return 0;
     /* in so many games all of it comes */
     MUST(unopened[ZMG_BUNDLE_TAG] > 0 && unopened[ZMG_BUNDLE_RECEIVER] > 0 && unopened[ZMG_BUNDLE_GAME] > 0);
     MUST(strangers > 0 && full > 0 && caught_up > 0 && seconds > 0 && alone > 0);
-    MUST(replaced > 0 && given_up > 0 && early > 0);
+    MUST(replaced > 0 && given_up > 0 && early > 0 && carried > 0);
     return 0;
 }

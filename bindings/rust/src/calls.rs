@@ -1,4 +1,4 @@
-//! The calls that locksteps, sealed locksteps and links share, and the calls of nodes with a world.
+//! The calls that locksteps and links share, and the calls of nodes with a world.
 
 /// The calls of a lockstep of this type, through the library's calls of these names.
 macro_rules! lockstep_calls {

@@ -61,27 +61,27 @@
 //!
 //! A node needs its datagrams as they were sent, the number of their sender, and none that is old:
 //! [`Lockstep::receive`] has the rules. On a network that nobody vouches for, such as the internet, a
-//! [`SealedNode`] takes care of this itself: its packets go out in envelopes under a [`Seal`], and
-//! [`SealedNode::receive`] takes in any bytes. A [`LinkNode`] also takes care of delivery, pace and the
-//! lobby: each of its datagrams has what is kept for the peer, as far as it fits.
+//! [`LinkNode`] takes care of this itself: its datagrams are sealed under a secret that the players share, and
+//! [`LinkNode::receive`] takes in any bytes. It also takes care of delivery, pace and the lobby: each of its
+//! datagrams has what is kept for the peer, as far as it fits.
 //!
 //! What the caller owes:
 //!
 //! - Each player of a game has one node, made once. [`Config::players`], [`Config::extra`], [`Config::limit`]
 //!   and the window are the same for all.
-//! - Every world keeps to what [`World`] requires. An engine that steps its own world, over a [`Lockstep`],
-//!   [`SealedLockstep`] or [`Link`], passes the marks of that world to `run`.
+//! - Every world keeps to what [`World`] requires. An engine that steps its own world, over a [`Lockstep`] or
+//!   [`Link`], passes the marks of that world to `run`.
 //! - No call is made from a signal handler, or from a forked child of a process with threads.
 //!
 //! The crate opens nothing, never waits, and prints nothing. `new` and `within` allocate all memory of a node
 //! or link; of the later calls on it only `demo` allocates, for the copy that it returns. Readers of demos,
-//! [`upgrade`] and [`Packet`] allocate their own. A [`Lockstep`], [`Node`], [`SealedLockstep`], [`SealedNode`],
-//! [`Link`], [`LinkNode`], [`Reader`] or [`Demo`] may pass to another thread, but only one thread at a time
-//! uses it. The types are not `Sync`; they are `Send`, a node with a world if the world is.
+//! [`upgrade`] and [`Packet`] allocate their own. A [`Lockstep`], [`Node`], [`Link`], [`LinkNode`], [`Reader`]
+//! or [`Demo`] may pass to another thread, but only one thread at a time uses it. The types are not `Sync`;
+//! they are `Send`, a node with a world if the world is.
 //!
 //! A later library may return codes that this crate has no name for. Each enum that is made from a code holds
-//! such a code in its variant `Unknown`; in [`Arrived`] it is the one of [`Heard`]. So no unknown code is
-//! taken for a known one, and none makes the program panic.
+//! such a code in its variant `Unknown`. So no unknown code is taken for a known one, and none makes the
+//! program panic.
 //!
 //! The library below this crate is proved, except for what docs/PROMISES.md lists as trusted. The crate
 //! itself is not proved. It passes references as pointers, turns numbers into enums, and calls the [`World`]
@@ -99,7 +99,6 @@ mod lockstep;
 mod node;
 mod packet;
 mod raw;
-mod sealed;
 mod surviving;
 mod values;
 
@@ -111,11 +110,10 @@ pub use link::{
 pub use lockstep::{Datagram, Lockstep, NodeError};
 pub use node::{Node, World};
 pub use packet::{Command, Packet, PacketError, EXIT, KILL, RETRANSMIT, SETUP};
-pub use sealed::{Envelope, Seal, SealedLockstep, SealedNode};
 pub use surviving::{GivenUp, Reported, SettleError};
 pub use values::{
-    Aim, Arrived, Cause, Config, Dropped, Heard, Keys, Made, Move, Phase, Ran, SealError, Settings,
-    Start, MOST_AHEAD, WIDEST_AHEAD,
+    Aim, Cause, Config, Dropped, Heard, Keys, Made, Move, Phase, Ran, Settings, Start, MOST_AHEAD,
+    WIDEST_AHEAD,
 };
 
 /// Returns the version of the library that is linked: 65,536 times the first number, plus the second.

@@ -1,4 +1,4 @@
-//! A link, a sealed node that also takes care of delivery, pace and the lobby; and a node with one.
+//! A link, which seals what it sends and takes care of delivery, pace and the lobby; and a node with one.
 
 use crate::calls::{lockstep_calls, node_calls};
 use crate::given::given_bytes;
@@ -13,17 +13,35 @@ use std::fmt;
 /// One player's link without a world. [`LinkNode`] keeps a world in step by itself, and its documentation
 /// has an engine's loop.
 ///
-/// A link keeps packets with new commands until the peer has acknowledged them, and gives each peer one sealed
+/// A link keeps packets with new commands until the peer has acknowledged them, and gives each peer one
 /// datagram a tick with everything that is kept for the peer, as far as it fits: commands of a lost datagram
-/// are in the next one, and nobody has to ask for them. Datagrams may be lost, repeated, reordered, delayed,
-/// altered or forged, and any bytes may come in, from anywhere and at any time. Before the game the datagrams
-/// show who is there. Player 0 gives its settings once all others are.
+/// are in the next one, and nobody has to ask for them. Before the game the datagrams show who is there. Player
+/// 0 gives its settings once all others are.
 ///
-/// The caller owes what it owes for a [`SealedLockstep`](crate::SealedLockstep): that something gets through,
-/// one link of a player at a time, and no second one once the first has been given the settings; one number for
-/// each game, a secret that is kept, and the marks of [`run`](Link::run). A link and a sealed lockstep do not
-/// open each other's bytes: either all players of a game have links, or none has.
+/// A datagram is sealed: it has its sender, its receiver and full tic numbers, under a tag that only the
+/// players of the game can make (HMAC-SHA-256, of which 16 bytes are sent). Any bytes may come in, from
+/// anywhere and at any time. Those that are not a datagram to this player in this game are dropped.
 ///
+/// As long as nobody without the secret makes a tag, the games of the links agree, whatever the network loses,
+/// repeats, reorders, delays, alters, forges or gives another sender. Instead of what
+/// [`Lockstep::receive`](crate::Lockstep::receive) requires, the caller owes:
+///
+/// - Delivery. If nothing gets through, the game waits, and nothing worse happens.
+/// - One link of a player at a time: no second one once the first has been given the settings, and none that
+///   goes on from a copy of memory. All that is sealed comes from [`datagram`](Link::datagram) and
+///   [`report`](Link::report): a player who seals datagrams other than by these calls can send the others
+///   different commands.
+/// - One number for each game: 16 random bytes, drawn anew on player 0's machine and sent to the others. It
+///   need not be secret, but each player must get the one that was drawn: whoever can hand a player an old
+///   number can replay that old game to the player. Send it over a channel that nobody can alter. If a number
+///   is used again, the datagrams of the old game open in the new one.
+/// - A secret that is kept: 32 random bytes, known to the players alone and used for nothing else. Whoever has
+///   it can send as any player, and whoever records a datagram can try guesses against it.
+///
+/// The marks of [`run`](Link::run) are owed as those of a lockstep are. A link and a lockstep do not read each
+/// other's datagrams: either all players of a game have links, or none has.
+///
+/// Nothing is encrypted: whoever sees the line can read commands and chat. Keys are not wiped from memory.
 /// Dropping a link frees its memory. It may pass to another thread, but only one thread at a time uses it.
 pub struct Link(raw::Held);
 
@@ -31,14 +49,12 @@ impl Link {
     /// Makes a link with a window of `ahead` commands, as in [`Lockstep::within`](crate::Lockstep::within). All
     /// its memory is allocated here; of the later calls on it only [`demo`](Link::demo) allocates.
     ///
-    /// All players of a game have the same secret and game. `secret`: 32 random bytes, known to the players
-    /// alone and used for nothing else. `game`: the game's number, 16 random bytes that are drawn anew for
-    /// each game. Both are as in [`Seal`](crate::Seal). `host`: what else must be the same for all players,
-    /// such as a digest of the engine's version, files and options. A player whose players, extra, limit,
-    /// window or host differs takes no part: see [`Presence::Different`].
+    /// `game`: the game's number. All players of a game have the same secret and number. `host`: what else must
+    /// be the same for all players, such as a digest of the engine's version, files and options. A player whose
+    /// players, extra, limit, window or host differs takes no part: see [`Presence::Different`].
     ///
-    /// Returns [`NodeError::Secret`] if all bytes of the secret are 0; else what
-    /// [`Lockstep::within`](crate::Lockstep::within) returns.
+    /// Returns [`NodeError::Secret`] if all bytes of the secret are 0, as in a buffer that was never filled;
+    /// else what [`Lockstep::within`](crate::Lockstep::within) returns.
     pub fn new(
         config: Config,
         ahead: u8,
@@ -269,9 +285,9 @@ pub enum BundleError {
     Short,
     /// There are more than 1,200 bytes.
     Long,
-    /// They are of another suite, such as that of an open game, or not a sealed datagram at all.
+    /// They are of another suite, or not a sealed datagram at all.
     Suite,
-    /// They are not a link's datagram, but an envelope of a sealed lockstep, say.
+    /// They are sealed, but not a link's datagram: a greeting of a host, say.
     Kind,
     /// They have another game's number: its first eight bytes differ.
     Game,

@@ -19,8 +19,8 @@ pub trait World {
     fn step(&mut self, moves: &[Option<Move>; 4]);
 
     /// Returns a player's consistency mark, which follows from the world's state alone. Doom's is the low 16
-    /// bits of the player's x. [`Node`], [`SealedNode`](crate::SealedNode) and
-    /// [`LinkNode`](crate::LinkNode) call it only while the game runs, for the players of the game.
+    /// bits of the player's x. [`Node`] and [`LinkNode`](crate::LinkNode) call it only while the game runs,
+    /// for the players of the game.
     fn mark(&self, player: usize) -> i16;
 }
 

@@ -226,49 +226,6 @@ extern "C" {
     pub fn zmg_lockstep_settings(node: *mut Handle) -> KnownSettings;
     pub fn zmg_lockstep_demo_length(node: *mut Handle) -> usize;
     pub fn zmg_lockstep_demo(node: *mut Handle, from: usize, out: *mut u8, room: usize) -> usize;
-    pub fn zmg_sealed_lockstep_new(
-        node: *mut Handle,
-        config: *const Config,
-        ahead: u8,
-        secret: *const u8,
-        game: *const u8,
-    ) -> u32;
-    pub fn zmg_sealed_lockstep_new_open(
-        node: *mut Handle,
-        config: *const Config,
-        ahead: u8,
-        game: *const u8,
-    ) -> u32;
-    pub fn zmg_sealed_lockstep_packet(
-        node: *mut Handle,
-        to: u8,
-        out: *mut u8,
-        room: usize,
-    ) -> usize;
-    pub fn zmg_sealed_lockstep_receive(node: *mut Handle, bytes: *const u8, length: usize)
-        -> Coded;
-    pub fn zmg_sealed_lockstep_free(node: *mut Handle);
-    pub fn zmg_sealed_lockstep_build(node: *mut Handle, keys: u32) -> Coded;
-    pub fn zmg_sealed_lockstep_give(node: *mut Handle, command: *const Command) -> Coded;
-    pub fn zmg_sealed_lockstep_can_build(node: *mut Handle) -> u32;
-    pub fn zmg_sealed_lockstep_command(node: *mut Handle, player: u8, tic: u32) -> KnownCommand;
-    pub fn zmg_sealed_lockstep_run(node: *mut Handle, marks: *const i16, row: *mut Move) -> Ran;
-    pub fn zmg_sealed_lockstep_quit(node: *mut Handle) -> u32;
-    pub fn zmg_sealed_lockstep_phase(node: *mut Handle) -> Phase;
-    pub fn zmg_sealed_lockstep_me(node: *mut Handle) -> u32;
-    pub fn zmg_sealed_lockstep_players(node: *mut Handle) -> u32;
-    pub fn zmg_sealed_lockstep_made(node: *mut Handle) -> u32;
-    pub fn zmg_sealed_lockstep_ran(node: *mut Handle) -> u32;
-    pub fn zmg_sealed_lockstep_got(node: *mut Handle, player: u8) -> Number;
-    pub fn zmg_sealed_lockstep_end(node: *mut Handle, player: u8) -> Number;
-    pub fn zmg_sealed_lockstep_settings(node: *mut Handle) -> KnownSettings;
-    pub fn zmg_sealed_lockstep_demo_length(node: *mut Handle) -> usize;
-    pub fn zmg_sealed_lockstep_demo(
-        node: *mut Handle,
-        from: usize,
-        out: *mut u8,
-        room: usize,
-    ) -> usize;
     pub fn zmg_link_new(
         link: *mut Handle,
         config: *const Config,

@@ -6,7 +6,6 @@ use core::mem::{offset_of, size_of};
 mod codes;
 mod header;
 mod link;
-mod sealed;
 mod sharing;
 
 #[derive(Default, Debug, PartialEq, Clone)]

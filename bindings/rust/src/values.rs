@@ -263,47 +263,6 @@ pub enum Heard {
     Unknown(u32),
 }
 
-/// Why bytes are not an envelope to this player in this game: the first of these that holds.
-#[derive(Clone, Copy, Debug, PartialEq, Eq)]
-#[non_exhaustive]
-pub enum SealError {
-    /// There are fewer than 37 bytes.
-    Short,
-    /// There are more than 141 bytes.
-    Long,
-    /// They are of another suite, such as that of an open game where this one has a secret; or they are not
-    /// an envelope at all.
-    Suite,
-    /// They have something other than one datagram in them.
-    Kind,
-    /// They have another game's number: its first eight bytes differ.
-    Game,
-    /// They are to another player.
-    Receiver,
-    /// They were altered or forged, or the secrets or the last eight bytes of the numbers differ.
-    Tag,
-    /// Byte 16 is neither 0 nor 1, or there is an ask tic without a request.
-    Request,
-    /// A code that this crate has no name for.
-    Unknown(u32),
-}
-
-/// What became of bytes at a sealed lockstep, or at a node with one.
-#[derive(Clone, Copy, Debug, PartialEq, Eq)]
-#[non_exhaustive]
-pub enum Arrived {
-    /// They were an envelope. This is what became of its datagram.
-    Heard(Heard),
-    /// They are not an envelope to this player in this game. Nothing changed.
-    Unopened(SealError),
-    /// The envelope's start or ask lies more than 64 tics from what the node has made. Nothing changed.
-    Late,
-    /// The datagram's own player, start or ask byte or request flag contradicts the envelope (of set-up none
-    /// is compared): its sender did not make it with [`SealedLockstep::packet`](crate::SealedLockstep::packet).
-    /// Nothing changed.
-    Unlike,
-}
-
 /// What `run` returns.
 #[derive(Clone, Copy, Debug, PartialEq, Eq)]
 #[non_exhaustive]
@@ -413,29 +372,6 @@ pub(crate) fn heard(raw: raw::Coded) -> Heard {
         5 => Heard::Noted,
         6 => Heard::Dropped(dropped(raw.number)),
         code => Heard::Unknown(code),
-    }
-}
-
-fn seal_error(number: u32) -> SealError {
-    match number {
-        1 => SealError::Short,
-        2 => SealError::Long,
-        3 => SealError::Suite,
-        4 => SealError::Kind,
-        5 => SealError::Game,
-        6 => SealError::Receiver,
-        7 => SealError::Tag,
-        8 => SealError::Request,
-        code => SealError::Unknown(code),
-    }
-}
-
-pub(crate) fn arrived(raw: raw::Coded) -> Arrived {
-    match raw.code {
-        7 => Arrived::Unopened(seal_error(raw.number)),
-        8 => Arrived::Late,
-        9 => Arrived::Unlike,
-        _ => Arrived::Heard(heard(raw)),
     }
 }
 

@@ -4,8 +4,8 @@
 use std::alloc::{GlobalAlloc, Layout, System};
 use std::cell::Cell;
 use zirmegat::{
-    upgrade, Config, DemoError, Keys, Link, Lockstep, NodeError, Reader, Seal, SealedLockstep,
-    Settings, UpgradeError, MOST_AHEAD,
+    upgrade, Config, DemoError, Keys, Link, Lockstep, NodeError, Reader, Settings, UpgradeError,
+    MOST_AHEAD,
 };
 
 mod failing {
@@ -105,9 +105,6 @@ fn refused_memory_is_told_and_given_back() {
     let demo = demo();
     let node = || Lockstep::new(Config::other(2, 1));
     assert_eq!(refused(NodeError::Memory, node), 2);
-    let seal = Seal::Open { game: [1; 16] };
-    let sealed = || SealedLockstep::new(Config::other(2, 1), seal);
-    assert_eq!(refused(NodeError::Memory, sealed), 2);
     let link = || {
         Link::new(
             Config::other(2, 1),

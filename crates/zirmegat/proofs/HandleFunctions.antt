@@ -39,7 +39,7 @@ use Rattle.std.specs.declared.alloc.Global.{Global}
 use Rattle.zirmegat.specs.Held.{held, owned}
 use Rattle.zirmegat.specs.contracts.loose.Loose as loose
 use Rattle.zirmegat.proofs.Values.{runs_at, both, loose_in, loose_out, loose_good}
-use Rattle.zirmegat.proofs.Node.{Z, LZ, g}
+use Rattle.zirmegat.proofs.Allocator.{Z, LZ, g}
 use Rattle.zirmegat.proofs.Handles.{Handle, word, handle_type, row, handle_out, handle_in, shown_in, live_out}
 
 -- `K` says which handle. Each function has its signature, its clauses and its code as Rattle makes them.

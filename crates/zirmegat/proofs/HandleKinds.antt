@@ -1,11 +1,9 @@
--- The four handles: of a node, of a sealed node, of a link, and of a reader of a demo.
+-- The three handles: of a node, of a link, and of a reader of a demo.
 use Rattle.std.proofs.Common.{refl}
 use Rattle.dn_lockstep.specs.contracts.lockstep.Lockstep as lockstep
-use Rattle.dn_open.specs.contracts.sealed.SealedLockstep as sealed_lockstep
 use Rattle.dn_link.specs.contracts.link.Link as the_link
 use Rattle.zirmegat.specs.contracts.reader.DemoReader as reader
 use Rattle.zirmegat.specs.contracts.handle.LockstepHandle as node
-use Rattle.zirmegat.specs.contracts.sealed_handle.SealedHandle as sealed
 use Rattle.zirmegat.specs.contracts.link_handle.LinkHandle as link
 use Rattle.zirmegat.specs.contracts.demo_handle.DemoHandle as demo
 use Rattle.zirmegat.proofs.Handles.{Handle}
@@ -29,17 +27,6 @@ demo_handle = record {
   at = λ h. h.at;
   value = λ h. h.reader;
   make = λ b p n. record { live = b; at = p; reader = n };
-  made = λ b p n. (refl, refl, refl);
-}
-
-abbrev pub sealed_handle : Handle sealed_lockstep.the_row
-sealed_handle = record {
-  name = sealed.struct.name;
-  struct = sealed.the_row;
-  live = λ h. h.live;
-  at = λ h. h.at;
-  value = λ h. h.node;
-  make = λ b p n. record { live = b; at = p; node = n };
   made = λ b p n. (refl, refl, refl);
 }
 

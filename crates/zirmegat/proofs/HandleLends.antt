@@ -36,7 +36,7 @@ use Rattle.std.proofs.VecSteps.Shapes.{after}
 use Rattle.std.specs.declared.alloc.Global.{Global}
 use Rattle.zirmegat.specs.Held.{held, owned}
 use Rattle.zirmegat.proofs.Handles.{Handle, word, handle_type, row, handle_out, handle_in, live_out}
-use Rattle.zirmegat.proofs.Node.{g}
+use Rattle.zirmegat.proofs.Allocator.{g}
 
 module _ {N : RattleType} (one : One N.mir) (K : Handle N) where
   abbrev H : RattleType

@@ -2,7 +2,7 @@ pub mod Handles
 pub mod HandleFunctions
 pub mod HandleKinds
 pub mod HandleLends
-pub mod Node
+pub mod Allocator
 pub mod Values
 pub mod Calling
 pub mod Opening

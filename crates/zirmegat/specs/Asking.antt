@@ -1,6 +1,8 @@
 -- What the calls that move a game on answer, whatever the handle holds.
-use Rattle.std.specs.Prelude.{◌≡◌, ℕ, Bool, List, Option}
+use Rattle.std.specs.Prelude.{◌≡◌, ℕ, Bool, List, Option, Some, None}
+use Rattle.arrayvec.specs.ArrayVec.{ArrayVec}
 use Rattle.dn_tic.specs.declared.command.Move.{Move}
+use Rattle.dn_packet.specs.Written.{IsWritten}
 use Rattle.dn_setup.specs.Starts.{bit}
 use Rattle.dn_machine.specs.declared.answers.Made.{Made}
 use Rattle.dn_machine.specs.declared.answers.Ran.{Ran}
@@ -31,6 +33,11 @@ AnswersRan Step old new row written answer =
     Calls old new (λ n k. (ran : Ran) × (moves : List (Option Move)) × (answer ≡ ran_told ran)
     × (written ≡ row_told_over row (told_by ran moves)) × Step n k ran (told_by ran moves))
     ((answer ≡ ran_told Ran.NotPlaying) × (written ≡ row))
+
+-- bytes are written to the front of a room, or none are, and the room stays as it was
+abbrev pub IsPut : Option (ArrayVec ℕ) → List ℕ → List ℕ → ℕ → Type 0
+IsPut (Some bytes) room written count = IsWritten bytes.items room written count
+IsPut None room written count = (count ≡ 0) × (written ≡ room)
 
 -- the step writes so many bytes to the front of a room, or none
 abbrev pub AnswersPut : {A : Type 0} → (List ℕ → List ℕ → ℕ → A → A → Type 0) → Option A → Option A

@@ -5,7 +5,6 @@ use Rattle.dn_packet.specs.declared.packet.PacketFault.{PacketFault}
 use Rattle.dn_demo.specs.declared.demo.DemoFault.{DemoFault}
 use Rattle.dn_lockstep.specs.declared.config.NodeFault.{NodeFault}
 use Rattle.dn_lockstep.specs.declared.lockstep.settling.Settled.{Settled}
-use Rattle.dn_seal.specs.declared.opened.SealFault.{SealFault}
 use Rattle.dn_link.specs.declared.notice.fault.ReportDatagramFault.{ReportDatagramFault}
 use Rattle.dn_survivor.specs.declared.answers.Reported.{Reported}
 use Rattle.dn_link.specs.declared.bundle.BundleFault.{BundleFault}
@@ -32,17 +31,6 @@ packet_code PacketFault.Short = 1
 packet_code PacketFault.Many = 2
 packet_code PacketFault.Length = 3
 packet_code PacketFault.Sum = 4
-
--- why bytes are no envelope
-abbrev pub seal_code : SealFault → ℕ
-seal_code SealFault.Short = 1
-seal_code SealFault.Long = 2
-seal_code SealFault.Suite = 3
-seal_code SealFault.Kind = 4
-seal_code SealFault.Game = 5
-seal_code SealFault.Receiver = 6
-seal_code SealFault.Tag = 7
-seal_code SealFault.Request = 8
 
 -- why bytes are no datagram of a link
 abbrev pub bundle_code : BundleFault → ℕ

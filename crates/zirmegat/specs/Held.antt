@@ -8,8 +8,6 @@ use Rattle.std.specs.contracts.impls.GlobalAllocator.TheImpl.{ghosts}
 use Rattle.std.specs.Box.Ownership.{box_owns}
 use Rattle.dn_lockstep.specs.declared.lockstep.Lockstep.{Lockstep}
 use Rattle.dn_lockstep.specs.contracts.lockstep.Lockstep as lockstep
-use Rattle.dn_open.specs.declared.sealed.SealedLockstep.{SealedLockstep}
-use Rattle.dn_open.specs.contracts.sealed.SealedLockstep as sealed
 use Rattle.dn_link.specs.declared.link.Link.{Link}
 use Rattle.dn_link.specs.contracts.link.Link as link
 use Rattle.zirmegat.specs.declared.reader.DemoReader.{DemoReader}
@@ -30,9 +28,6 @@ held_lockstep = held lockstep.the_row
 
 abbrev pub held_reader : Bool → Ptr → Option DemoReader → Fml
 held_reader = held reader.the_row
-
-abbrev pub held_sealed : Bool → Ptr → Option SealedLockstep → Fml
-held_sealed = held sealed.the_row
 
 abbrev pub held_link : Bool → Ptr → Option Link → Fml
 held_link = held link.the_row

@@ -5,10 +5,6 @@ use Rattle.dn_lockstep.specs.declared.lockstep.Lockstep.{Lockstep}
 use Rattle.dn_lockstep.specs.contracts.lockstep.Lockstep as lockstep
 use Rattle.zirmegat.specs.declared.handle.LockstepHandle.{LockstepHandle}
 use Rattle.zirmegat.specs.contracts.handle.LockstepHandle as handle
-use Rattle.dn_open.specs.declared.sealed.SealedLockstep.{SealedLockstep}
-use Rattle.dn_open.specs.contracts.sealed.SealedLockstep as sealed
-use Rattle.zirmegat.specs.declared.sealed_handle.SealedHandle.{SealedHandle}
-use Rattle.zirmegat.specs.contracts.sealed_handle.SealedHandle as sealed_handle
 use Rattle.dn_link.specs.declared.link.Link.{Link}
 use Rattle.dn_link.specs.contracts.link.Link as link
 use Rattle.zirmegat.specs.declared.link_handle.LinkHandle.{LinkHandle}
@@ -25,18 +21,6 @@ lends_lockstep h r = Lends handle.the_row lockstep.the_row h r (with_node h.now)
 -- the same where a node is lent, and else the handle stays as it is
 abbrev pub lends_held : MutBor LockstepHandle → Option (MutBor Lockstep) → Fml
 lends_held h r = LendsIf handle.the_row lockstep.the_row h r (with_node h.now) h.now
-
--- the handle of a sealed node with another one
-abbrev pub with_sealed : SealedHandle → SealedLockstep → SealedHandle
-with_sealed h node = record h { node = Some node }
-
--- once the borrow ends, the handle has the sealed node that it shows last
-abbrev pub lends_sealed : MutBor SealedHandle → MutBor SealedLockstep → Fml
-lends_sealed h r = Lends sealed_handle.the_row sealed.the_row h r (with_sealed h.now)
-
--- the same where one is lent, and else the handle stays as it is
-abbrev pub lends_held_sealed : MutBor SealedHandle → Option (MutBor SealedLockstep) → Fml
-lends_held_sealed h r = LendsIf sealed_handle.the_row sealed.the_row h r (with_sealed h.now) h.now
 
 -- the handle with another link
 abbrev pub with_link : LinkHandle → Link → LinkHandle

@@ -10,6 +10,5 @@ pub mod Fields
 pub mod Commands
 pub mod Upgrading
 pub mod Demos
-pub mod Sealed
 pub mod Links
 pub mod Surviving

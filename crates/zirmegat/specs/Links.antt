@@ -38,7 +38,7 @@ use Rattle.zirmegat.specs.declared.link_handle.LinkHandle.{LinkHandle}
 use Rattle.zirmegat.specs.Answers.{made_told}
 use Rattle.zirmegat.specs.Going.{Builds, Runs, RunsBut}
 use Rattle.zirmegat.specs.Opening.{OpensWithin}
-use Rattle.zirmegat.specs.Sealed.{IsPut}
+use Rattle.zirmegat.specs.Asking.{IsPut}
 use Rattle.zirmegat.specs.Codes.{bundle_code, notice_code, reported_code}
 
 -- a link, what it keeps for its pace, and what it has in common with the others of its game

@@ -1,11 +1,9 @@
 //! What the calls that move a game on answer, as plain numbers.
 
 ghost use Rattle.std.specs.Prelude.{◌≡◌};
-ghost use Rattle.zirmegat.specs.{Codes.seal_code, Answers.made_told, Answers.heard_told, Answers.ran_told, Answers.move_told, Sealed.arrived_told};
+ghost use Rattle.zirmegat.specs.{Answers.made_told, Answers.heard_told, Answers.ran_told, Answers.move_told};
 
 use dn_lockstep::{Heard, Made, Ran};
-use dn_open::Arrived;
-use dn_seal::SealFault;
 use dn_tic::Move;
 
 /// What a build answers: 0 where the command of `tic` was made, 1 where as many wait to be run as the window
@@ -34,14 +32,13 @@ impl MadeAnswer {
 /// What a node returns for a datagram: 0 if it has started, 1 if it took `number` new commands, 2 if no command
 /// was new, 3 if earlier commands are missing, 4 if the sender has left and all its commands are here, 5 if a
 /// gathering node noted the sender, or if the node has ended, 6 if it dropped the datagram, for the reason
-/// `number`. A sealed node also returns 7 for bytes that are not an envelope to it, for the fault `number`, 8
-/// for one that is too old, and 9 for one whose datagram contradicts it.
+/// `number`.
 #[repr(C)]
 #[derive(Clone, Copy, Debug, PartialEq, Eq)]
 pub struct HeardAnswer {
-    /// 0 to 9, as above.
+    /// 0 to 6, as above.
     pub code: u32,
-    /// How many commands were new, or the number of the drop or of the fault.
+    /// How many commands were new, or the number of the drop.
     pub number: u32,
 }
 
@@ -59,34 +56,6 @@ impl HeardAnswer {
             Heard::Dropped(number) => (6, u32::from(number)),
         };
         HeardAnswer { code, number }
-    }
-
-    pub(crate) fn arrived(arrived: Arrived) -> HeardAnswer
-        ensures { result ≡ arrived_told arrived }
-    {
-        let (code, number) = match arrived {
-            Arrived::Heard(heard) => return HeardAnswer::of(heard),
-            Arrived::Unopened(fault) => (7, seal_code(fault)),
-            Arrived::Late => (8, 0),
-            Arrived::Unlike => (9, 0),
-        };
-        HeardAnswer { code, number }
-    }
-}
-
-/// Why bytes are no envelope.
-fn seal_code(fault: SealFault) -> u32
-    ensures { result ≡ seal_code fault }
-{
-    match fault {
-        SealFault::Short => 1,
-        SealFault::Long => 2,
-        SealFault::Suite => 3,
-        SealFault::Kind => 4,
-        SealFault::Game => 5,
-        SealFault::Receiver => 6,
-        SealFault::Tag => 7,
-        SealFault::Request => 8,
     }
 }
 

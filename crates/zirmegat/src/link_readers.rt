@@ -20,7 +20,7 @@ use crate::{bytes, reading};
 pub extern "C" fn zmg_link_me(link: &mut LinkHandle) -> u32
     ensures { Reads (link_of link.old) (link_of link.new) (λ n. result ≡ n.link.node.me) (result ≡ 0) }
 {
-    ask!(link, held => u32::from(reading::me(held)), 0)
+    ask!(link, held => u32::from(held.lockstep().me()), 0)
 }
 
 /// How many players the game has.
@@ -28,7 +28,7 @@ pub extern "C" fn zmg_link_me(link: &mut LinkHandle) -> u32
 pub extern "C" fn zmg_link_players(link: &mut LinkHandle) -> u32
     ensures { Reads (link_of link.old) (link_of link.new) (λ n. result ≡ n.link.node.players) (result ≡ 0) }
 {
-    ask!(link, held => u32::from(reading::players(held)), 0)
+    ask!(link, held => u32::from(held.lockstep().players()), 0)
 }
 
 /// Where it stands.
@@ -37,7 +37,7 @@ pub extern "C" fn zmg_link_phase(link: &mut LinkHandle) -> PhaseAnswer
     ensures { Reads (link_of link.old) (link_of link.new)
         (λ n. result ≡ phase_told n.link.node.phase) (result ≡ phase_at 0 0 (pos 0) (pos 0) 0) }
 {
-    ask!(link, held => PhaseAnswer::of(reading::phase(held)), PhaseAnswer::NONE)
+    ask!(link, held => PhaseAnswer::of(held.lockstep().phase()), PhaseAnswer::NONE)
 }
 
 /// How many commands it built.
@@ -53,7 +53,7 @@ pub extern "C" fn zmg_link_made(link: &mut LinkHandle) -> u32
 pub extern "C" fn zmg_link_ran(link: &mut LinkHandle) -> u32
     ensures { Reads (link_of link.old) (link_of link.new) (λ n. result ≡ n.link.node.ran) (result ≡ 0) }
 {
-    ask!(link, held => reading::ran(held), 0)
+    ask!(link, held => held.lockstep().ran(), 0)
 }
 
 /// How many commands it has of a player, where the game has the player.
@@ -81,7 +81,7 @@ pub extern "C" fn zmg_link_settings(link: &mut LinkHandle) -> KnownSettings
     ensures { Reads (link_of link.old) (link_of link.new)
         (λ n. result ≡ settings_told n.link.node.settings) (result ≡ settings_told None) }
 {
-    ask!(link, held => KnownSettings::of(reading::settings(held)), KnownSettings::of(None))
+    ask!(link, held => KnownSettings::of(held.lockstep().settings()), KnownSettings::of(None))
 }
 
 /// How many bytes its demo has so far.
@@ -89,7 +89,7 @@ pub extern "C" fn zmg_link_settings(link: &mut LinkHandle) -> KnownSettings
 pub extern "C" fn zmg_link_demo_length(link: &mut LinkHandle) -> usize
     ensures { Reads (link_of link.old) (link_of link.new) (λ n. result ≡ length n.link.node.demo.bytes) (result ≡ 0) }
 {
-    ask!(link, held => reading::demo(held).len(), 0)
+    ask!(link, held => held.lockstep().demo().len(), 0)
 }
 
 /// Copies its demo so far from this byte on, as many bytes as there is room for, and answers how many.
@@ -99,7 +99,7 @@ pub extern "C" fn zmg_link_demo(link: &mut LinkHandle, from: usize, out: &mut [u
         (λ n. IsWritten (take (length out.old) (drop from n.link.node.demo.bytes)) out.old out.new result)
         ((result ≡ 0) × (out.new ≡ out.old)) }
 {
-    ask!(link, held => bytes::write_from(reading::demo(held), from, out), 0)
+    ask!(link, held => bytes::write_from(held.lockstep().demo(), from, out), 0)
 }
 
 /// As `zmg_lockstep_can_build`.

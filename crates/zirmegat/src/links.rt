@@ -1,6 +1,6 @@
 //! Making links, and giving them up.
 
-ghost use Rattle.std.specs.Prelude.{◌≡◌, ◌≢◌, ℕ, None, IfOk};
+ghost use Rattle.std.specs.Prelude.{◌≡◌, ◌≢◌, ℕ, None, IfOk, IsTrue, ◌↔◌};
 ghost use Rattle.dn_lockstep.specs.{Contents.whose, Opening.IsAdmittedWithin, Opening.whose_within};
 ghost use Rattle.dn_seal.specs.{Keys.no_secret, Sealing.sealed_with, declared.suite.Suite.TheVariants.Secret};
 ghost use Rattle.dn_survivor.specs.OfOthers.Keeping.{nothing_kept};
@@ -9,7 +9,6 @@ ghost use Rattle.zirmegat.specs.{Links.OpensLink, Links.link_of, Opening.IsFresh
 
 use crate::config::{NodeConfig, fault_code, settings_code};
 use crate::link_handle::LinkHandle;
-use crate::sealed_locksteps::{SharedSecret, is_unset};
 use dn_link::Link;
 use dn_lockstep::{Config, NodeFault};
 use dn_seal::Seal;
@@ -70,8 +69,19 @@ fn open(
     }
 }
 
+/// The secret that the players of a game share.
+type SharedSecret = [u8; 32];
+
+/// Whether a secret was never set: whether it is all zeros.
+fn is_unset(secret: &SharedSecret) -> bool
+    ensures { IsTrue result ↔ (secret.now ≡ no_secret) }
+{
+    *secret == [0; 32]
+}
+
 /// Makes a link in the handle, in a window of `ahead` commands, of the game that has this number and whose
-/// players share this secret and what the host adds to its identity. Answers as `zmg_sealed_lockstep_new`.
+/// players share this secret and what the host adds to its identity. Answers 11 where the secret is all zeros,
+/// before it looks at anything else, and else as `zmg_lockstep_new_within`.
 #[unsafe(no_mangle)]
 pub extern "C" fn zmg_link_new(
     alloc: Global,

@@ -97,29 +97,29 @@ fn drops_are_named_as_in_the_header() {
 }
 
 #[test]
-fn unopened_envelopes_are_named_as_in_the_header() {
-    let faults: Vec<_> = codes("ZMG_SEAL_");
-    assert!(faults.len() >= 8);
+fn unopened_datagrams_are_named_as_in_the_header() {
+    let of = |code, reason| {
+        link::received(raw::Received {
+            code,
+            reason,
+            player: 3,
+            started: 1,
+        })
+    };
+    let faults: Vec<_> = codes("ZMG_BUNDLE_");
+    assert!(faults.len() >= 9);
     for (name, number) in &faults {
-        let Arrived::Unopened(fault) = values::arrived(coded(7, *number)) else {
+        let Received::Unopened(fault) = of(2, *number) else {
             panic!("{name} is none");
         };
         assert_eq!(format!("{fault:?}"), *name);
+        assert_eq!(of(6, *number), Received::Unreported(fault));
     }
     let next = faults.len() as u32 + 1;
     for number in [0, next].into_iter().chain(STRANGE) {
-        let unopened = Arrived::Unopened(SealError::Unknown(number));
-        assert_eq!(values::arrived(coded(7, number)), unopened);
-    }
-}
-
-#[test]
-fn codes_of_arrivals_have_their_names() {
-    assert_eq!(values::arrived(coded(8, 0)), Arrived::Late);
-    assert_eq!(values::arrived(coded(9, 0)), Arrived::Unlike);
-    for code in (0..7).chain([10]).chain(STRANGE) {
-        let heard = values::heard(coded(code, 7));
-        assert_eq!(values::arrived(coded(code, 7)), Arrived::Heard(heard));
+        let fault = BundleError::Unknown(number);
+        assert_eq!(of(2, number), Received::Unopened(fault));
+        assert_eq!(of(6, number), Received::Unreported(fault));
     }
 }
 

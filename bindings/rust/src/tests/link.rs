@@ -67,6 +67,103 @@ fn links_agree_and_leave() {
     panic!("the game does not go on");
 }
 
+fn nodes(ahead: u8) -> (LinkNode<Sum>, LinkNode<Sum>) {
+    let of = |config| LinkNode::new(config, ahead, &SECRET, &GAME, &HOST, Sum::default()).unwrap();
+    (of(Config::key(2, settings())), of(Config::other(2, 1)))
+}
+
+fn is_refused(received: Received) -> bool {
+    matches!(received, Received::Unopened(_) | Received::Unreported(_))
+}
+
+/// Alters each bit of a datagram in turn, and cuts it at each place: none of them opens.
+fn damaged(node: &mut LinkNode<Sum>, datagram: &[u8]) {
+    for bit in 0..datagram.len() * 8 {
+        let mut altered = datagram.to_vec();
+        altered[bit / 8] ^= 1 << (bit % 8);
+        assert!(is_refused(node.receive(&altered)));
+    }
+    for length in 0..datagram.len() {
+        assert!(is_refused(node.receive(&datagram[..length])));
+    }
+}
+
+/// The network loses some datagrams, repeats others, and brings some again many rounds later.
+#[test]
+fn players_of_links_agree_whatever_comes() {
+    for ahead in [1, MOST_AHEAD, WIDEST_AHEAD] {
+        let (mut key, mut other) = nodes(ahead);
+        let mut old: Vec<LinkDatagram> = Vec::new();
+        for round in 0u32.. {
+            if key.ran() >= 200 && other.ran() >= 200 {
+                break;
+            }
+            assert!(round < 10_000, "the game does not go on");
+            key.build(Keys(round * 977));
+            other.build(Keys(round * 331));
+            let (one, two) = (key.datagram(1).unwrap(), other.datagram(0).unwrap());
+            if round % 3 != 0 {
+                other.receive(&one);
+                other.receive(&one);
+            }
+            if round % 5 != 0 {
+                key.receive(&two);
+            }
+            if round == 20 {
+                damaged(&mut other, &one);
+                damaged(&mut key, &two);
+            }
+            let to_another = Received::Unopened(BundleError::Receiver);
+            assert_eq!(key.receive(&one), to_another);
+            for datagram in &old {
+                let node = if datagram[11] == 0 {
+                    &mut key
+                } else {
+                    &mut other
+                };
+                node.receive(datagram);
+            }
+            if round % 40 == 0 {
+                old.extend([one, two]);
+            }
+            key.run_all();
+            other.run_all();
+        }
+        let (here, there) = (key.line(1).unwrap(), other.line(0).unwrap());
+        assert!(here.too_old > 0 && there.too_old > 0 && there.repeated > 0);
+        assert!(key.quit());
+        other.receive(&key.datagram(1).unwrap());
+        other.run_all();
+        let tics = key.ran().min(other.ran()) as usize;
+        assert_eq!(
+            key.demo()[13..13 + tics * 10],
+            other.demo()[13..13 + tics * 10]
+        );
+        assert_eq!((key.players(), other.me()), (2, 1));
+    }
+}
+
+/// Datagrams of another secret or number do not open.
+#[test]
+fn other_games_do_not_open() {
+    let (_, mut other) = pair();
+    let mut number = GAME;
+    // in the half of the number that a datagram does not have
+    number[15] ^= 1;
+    for (secret, game, why) in [
+        ([8; 32], GAME, BundleError::Tag),
+        (SECRET, [0; 16], BundleError::Game),
+        (SECRET, number, BundleError::Tag),
+    ] {
+        let config = Config::key(2, settings());
+        let mut key = Link::new(config, MOST_AHEAD, &secret, &game, &HOST).unwrap();
+        let datagram = key.datagram(1).unwrap();
+        assert_eq!(other.receive(&datagram), Received::Unopened(why));
+        assert_eq!(other.presence(0), Presence::Unheard);
+    }
+    assert_eq!(format!("{other:?}"), "Link");
+}
+
 /// Bytes that are no datagram, and links that cannot be made.
 #[test]
 fn other_bytes_are_not_taken_in() {
@@ -76,10 +173,7 @@ fn other_bytes_are_not_taken_in() {
     for bit in 0..datagram.len() * 8 {
         let mut altered = datagram.to_vec();
         altered[bit / 8] ^= 1 << (bit % 8);
-        assert!(matches!(
-            other.receive(&altered),
-            Received::Unopened(_) | Received::Unreported(_)
-        ));
+        assert!(is_refused(other.receive(&altered)));
     }
     assert_eq!(
         other.receive(&datagram[..59]),
@@ -99,7 +193,10 @@ fn other_bytes_are_not_taken_in() {
     let refused =
         |ahead, secret| Link::new(Config::other(2, 1), ahead, &secret, &GAME, &HOST).err();
     assert_eq!(refused(WIDEST_AHEAD + 1, SECRET), Some(NodeError::Ahead));
-    assert_eq!(refused(MOST_AHEAD, [0; 32]), Some(NodeError::Secret));
+    let mut unset = [0; 32];
+    assert_eq!(refused(0, unset), Some(NodeError::Secret));
+    unset[31] = 1;
+    assert_eq!(refused(0, unset), Some(NodeError::Ahead));
 }
 
 /// Each code has its name, and codes that no header has are kept.
@@ -357,8 +454,7 @@ fn holes_ask_for_a_second_datagram() {
 /// A player of a link begins its world and steps it, and goes to another thread.
 #[test]
 fn players_of_links_agree() {
-    let of = |config| LinkNode::new(config, 1, &SECRET, &GAME, &HOST, Sum::default()).unwrap();
-    let (mut key, mut other) = (of(Config::key(2, settings())), of(Config::other(2, 1)));
+    let (mut key, mut other) = nodes(1);
     key.receive(&other.datagram(0).unwrap());
     for round in 0..50 {
         key.build(Keys(round * 977));
@@ -384,4 +480,28 @@ fn players_of_links_agree() {
     key.forget(1);
     assert_eq!(key.presence(1), Presence::Forgotten);
     assert!(key.may_leave() && key.unacknowledged() == 0);
+}
+
+/// A node with a link goes to another thread, and calls that read take a shared reference.
+#[test]
+fn players_of_links_go_to_other_threads() {
+    let (mut key, mut other) = nodes(MOST_AHEAD);
+    key.receive(&other.datagram(0).unwrap());
+    other.receive(&key.datagram(1).unwrap());
+    key.receive(&other.datagram(0).unwrap());
+    let key = std::thread::spawn(move || {
+        key.build(Keys::FORWARD);
+        key
+    })
+    .join()
+    .unwrap();
+    let (one, two) = (&key, &key);
+    assert_eq!((one.made(), two.ran()), (1, 0));
+    assert_eq!(
+        (one.phase(), two.settings()),
+        (Phase::Playing, other.settings())
+    );
+    assert_eq!(one.command(0, 0).map(|command| command.forward), Some(25));
+    assert_eq!((one.got(1), two.end(1)), (Some(0), None));
+    assert!(one.can_build());
 }

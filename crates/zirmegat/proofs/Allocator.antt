@@ -1,18 +1,10 @@
--- The rows of a node of a game, of a sealed node and of the allocator.
+-- The row of the allocator, its laws and its ghosts.
 use denote.RattleType.{RattleType}
 use denote.Param.Laws.{Laws}
 use Rattle.std.specs.declared.alloc.Allocator.{Ghosts}
 use Rattle.std.specs.contracts.alloc.Global as heap
 use Rattle.std.proofs.alloc.Global.TheLaws as heap_laws
 use Rattle.std.specs.contracts.impls.GlobalAllocator.TheImpl as impl
-use Rattle.dn_lockstep.specs.contracts.lockstep.Lockstep as lockstep
-use Rattle.dn_open.specs.contracts.sealed.SealedLockstep as sealed
-
-abbrev pub N : RattleType
-N = lockstep.the_row
-
-abbrev pub S : RattleType
-S = sealed.the_row
 
 abbrev pub Z : RattleType
 Z = heap.the_row
