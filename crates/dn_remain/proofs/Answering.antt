@@ -1,16 +1,16 @@
 -- What the answers to a give-up and to a report tell.
-use Rattle.std.proofs.Common.{◌≡◌, ℕ, zero, suc, refl, sym, ◌∙◌, ap, subst, arith, inl, inr}
+use Rattle.std.proofs.Common.{◌≡◌, ℕ, zero, suc, refl, ◌∙◌, ap, arith, inl, inr}
 use Rattle.std.specs.Prelude.{Bool, true, false, not, ◌&&◌, if◌then◌else◌, Option, Some, None}
 use Rattle.std.specs.Option.{option_or}
 use Rattle.std.proofs.lemmas.Bool.{both_ways, cases_Bool, cond-true, true≢false}
 use Rattle.dn_machine.specs.Limits.{Limits}
 use Rattle.dn_machine.specs.Node.{got, ends_of, lowest}
 use Rattle.dn_machine.specs.Drops as drops
-use Rattle.dn_remain.specs.Vanished.Calls.{every, is_heard, is_newer}
+use Rattle.dn_remain.specs.Vanished.Calls.{every, is_newer}
 use Rattle.dn_remain.specs.Vanished.Commands.{seen}
 use Rattle.dn_remain.specs.declared.events.GivenUp.{GivenUp}
 use Rattle.dn_remain.specs.declared.events.Reported.{Reported}
-use Rattle.dn_remain.specs.Wary.{Report, Wary, report_of, newest_seen, can_settle, after_news, with_gone, with_report, is_in_game, on_give_up, on_report, undecided}
+use Rattle.dn_remain.specs.Wary.{Report, Wary, newest_seen, can_settle, after_news, with_gone, with_report, is_in_game, on_give_up, on_report, undecided}
 
 module _ (limits : Limits) (me : ℕ) (wary : Wary) where
   -- it knows the ends of all whom it has given up, and has the commands before them
@@ -87,38 +87,27 @@ lowest_fails (suc bound) test h = elim (cases_Bool (test bound)) [
 -- whose report is missing
 pub missing : (limits : Limits) (me : ℕ) (wary next : Wary) → next ≡ wary → can_settle limits me wary ≡ false
     → (r : ℕ) × (undecided limits me next ≡ Some r)
-missing limits me wary next is cannot =
-    let k = lowest_fails limits.players
-    (is_heard limits.players me (seen (report_of wary)) (newest_seen wary)) cannot in
-    (k.0, ap (λ (w : Wary). undecided limits me w) is ∙ k.1)
+missing limits me wary next is cannot = grind (arith, lowest_fails)
 
 pub waits : (limits : Limits) (me : ℕ) (wary : Wary) (player : ℕ)
     → (on_give_up limits me wary player).1 ≡ GivenUp.Waiting
     → (r : ℕ) × (undecided limits me (on_give_up limits me wary player).0 ≡ Some r)
-waits limits me wary player h =
-    let k = give_up_waits limits me wary player h in missing limits me (with_gone limits wary player) _ k.0 k.1
+waits limits me wary player h = grind (arith, give_up_waits, missing)
 
 pub waits_on : (limits : Limits) (me : ℕ) (wary : Wary) (from : ℕ) (report : Report)
     → (on_report limits me wary from report).1 ≡ Reported.Kept
     → (r : ℕ) × (undecided limits me (on_report limits me wary from report).0 ≡ Some r)
-waits_on limits me wary from report h =
-    let k = report_waits limits me wary from report h in missing limits me (with_report wary from report) _ k.0 k.1
+waits_on limits me wary from report h = grind (arith, report_waits, missing)
 
 pub decides_on : (limits : Limits) (me : ℕ) (wary : Wary) (from : ℕ) (report : Report)
     → (on_report limits me wary from report).1 ≡ Reported.Decided → (p : ℕ)
     → (on_report limits me wary from report).0.gone p ≡ true
     → ends_of (on_report limits me wary from report).0.node p
     ≡ Some (got (on_report limits me wary from report).0.node p)
-decides_on limits me wary from report h p gone =
-    let k = report_decides limits me wary from report h in
-    subst (λ (w : Wary). ends_of w.node p ≡ Some (got w.node p)) (sym k.0)
-    (settled_at limits me (with_report wary from report) p k.1 (sym (ap (λ (w : Wary). w.gone p) k.0) ∙ gone))
+decides_on limits me wary from report h p gone = grind (arith, report_decides, settled_at)
 
 pub decides : (limits : Limits) (me : ℕ) (wary : Wary) (player : ℕ)
     → (on_give_up limits me wary player).1 ≡ GivenUp.Decided → (p : ℕ)
     → (on_give_up limits me wary player).0.gone p ≡ true
     → ends_of (on_give_up limits me wary player).0.node p ≡ Some (got (on_give_up limits me wary player).0.node p)
-decides limits me wary player h p gone =
-    let k = give_up_decides limits me wary player h in
-    subst (λ (w : Wary). ends_of w.node p ≡ Some (got w.node p)) (sym k.0)
-    (settled_at limits me (with_gone limits wary player) p k.1 (sym (ap (λ (w : Wary). w.gone p) k.0) ∙ gone))
+decides limits me wary player h p gone = grind (arith, give_up_decides, settled_at)

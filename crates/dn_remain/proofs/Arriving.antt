@@ -1,29 +1,30 @@
 -- A packet that comes to a node: what is known of it, and of the peer that is kept.
-use Rattle.std.proofs.Common.{◌≡◌, ℕ, ◌<◌, ◌≤◌, refl, sym, ◌∙◌, ap, subst, arith, inl, inr, List, ◌∷◌, length, cond}
+use Rattle.std.proofs.Common.{◌≡◌, ℕ, ◌<◌, ◌≤◌, refl, sym, ◌∙◌, ap, arith, inl, inr, List, ◌∷◌, length, cond}
 use Rattle.std.specs.Prelude.{Bool, true, false, Option, Some, None}
-use Rattle.std.proofs.lemmas.Bool.{cases_eq, cases_Bool, cond-true, cond-false}
+use Rattle.std.proofs.lemmas.Bool.{cond-true, cond-false}
 use Rattle.std.proofs.lemmas.Option.{same_Some}
 use Rattle.dn_tic.specs.declared.command.TicCmd.{TicCmd}
 use Rattle.dn_machine.specs.declared.peer.Peer.{Peer}
 use Rattle.dn_machine.specs.Flight.{Flight, is_exit, end_of}
 use Rattle.dn_machine.specs.Node as machine
-use Rattle.dn_machine.specs.Node.{with_peer, ends_of, got, made, is_ended, has_left}
+use Rattle.dn_machine.specs.Node.{with_peer, ends_of, got, made}
 use Rattle.dn_machine.specs.Game.{Game, with_node}
 use Rattle.dn_machine.specs.Worlds.{Rules}
 use Rattle.dn_machine.proofs.HearKeeps.{exit_is}
-use Rattle.dn_remain.specs.Vanished.Node.{Node, put}
+use Rattle.dn_machine.proofs.Put.{put_off, same_functions}
+use Rattle.dn_remain.specs.Vanished.Node.{Node}
 use Rattle.dn_remain.specs.Vanished.Commands.{Holder, seen, past_seen}
 use Rattle.dn_remain.proofs.Vanished.Invariant.{IsLater, IsKept}
 use Rattle.dn_remain.proofs.Vanished.Always.{always}
 use Rattle.dn_remain.proofs.Vanished.Handing.{was_seen}
-use Rattle.dn_remain.proofs.Vanished.Put.{put_at, put_off, same_functions}
 use Rattle.dn_remain.specs.Seen.{reached, end_seen, rows_to, holder_of, now_of}
+use Rattle.dn_remain.proofs.Vanished.Put.{at_put}
 use Rattle.dn_remain.proofs.Seeing.{same_holder, reached_cases}
 use Rattle.dn_remain.proofs.Known.{IsTold, IsEnd, Follows, IsFit, Went}
 use Rattle.dn_remain.proofs.Following.{stays}
 
-module _ {S : Type 0} (known : ℕ → Holder TicCmd → Type 0) (rules : Rules S) (game : Game) (gone : ℕ → ℕ → Bool) (older : List (ℕ → Holder TicCmd))
-    (follows : Follows known rules game gone older) (flight : Flight)
+module _ {S : Type 0} {known : ℕ → Holder TicCmd → Type 0} {rules : Rules S} {game : Game} {gone : ℕ → ℕ → Bool} {older : List (ℕ → Holder TicCmd)}
+    (follows : Follows known rules game gone older) {flight : Flight}
     (told : IsTold rules.players (now_of game gone ∷ older) flight)
     (open_from : gone flight.to flight.from ≡ false) where
   kept : IsKept rules.players (past_seen (now_of game gone ∷ older))
@@ -71,40 +72,25 @@ module _ {S : Type 0} (known : ℕ → Holder TicCmd → Type 0) (rules : Rules 
   pub end_known : (peer : Peer)
       → peer.end ≡ cond (is_exit flight.kind) (Some (end_of flight)) (ends_of (game.nodes flight.to) flight.from)
       → (e : ℕ) → peer.end ≡ Some e → IsEnd game.nodes gone flight.to flight.from e
-  end_known peer t e s = elim (cases_Bool (is_exit flight.kind)) [
-    | inl x ↦ subst (λ (i : ℕ). IsEnd game.nodes gone flight.to flight.from i)
-        (same_Some (end_of flight) e (sym (t ∙ cond-true (is_exit flight.kind) _ _ x) ∙ s)) (end_is x)
-    | inr f ↦ follows.ends flight.to flight.from e (sym (t ∙ cond-false (is_exit flight.kind) _ _ f) ∙ s) open_from
-  ]
+  end_known peer t e s = grind (arith, IsEnd, same_Some, cond-true, end_is, cond-false)
 
-  pub fit_peer : (new : machine.Node) (peer : Peer)
-      → ((p : ℕ) → new.peers p ≡ put (game.nodes flight.to).peers flight.from peer p)
-      → new.held flight.to ≡ (game.nodes flight.to).held flight.to → new.rows ≡ (game.nodes flight.to).rows → peer.resend ≤ made flight.to (game.nodes flight.to)
+  pub fit_peer : (held : ℕ → List TicCmd) (peer : Peer) → held flight.to ≡ (game.nodes flight.to).held flight.to
+      → peer.resend ≤ made flight.to (game.nodes flight.to)
       → ((e : ℕ) → peer.end ≡ Some e → IsEnd game.nodes gone flight.to flight.from e)
-      → IsFit rules.limits game.nodes gone flight.to new
-  fit_peer new peer at held ran low is = record {
-    rows = inl ran;
-    ends = λ p e s f. elim (cases_eq p flight.from) [
-      | inl d ↦ subst (λ (i : ℕ). IsEnd game.nodes gone flight.to i e) (sym d)
-          (is e (sym (ap (λ (o : Peer). o.end) (at p ∙ put_at (game.nodes flight.to).peers flight.from p peer d)) ∙ s))
-      | inr n ↦ follows.ends flight.to p e
-          (sym (ap (λ (o : Peer). o.end) (at p ∙ put_off (game.nodes flight.to).peers flight.from p peer n)) ∙ s) f
-    ];
-    endless = ap (λ (o : Peer). o.end) (at flight.to
-        ∙ put_off (game.nodes flight.to).peers flight.from flight.to peer (λ e. told.apart (sym e)))
-        ∙ follows.endless flight.to;
-    resend = λ to.
-        let c = ap (length {A = TicCmd}) held in
-        elim (cases_eq to flight.from) [
-          | inl d ↦
-              let a = ap (λ (o : Peer). o.resend) (at to ∙ put_at (game.nodes flight.to).peers flight.from to peer d) in
-              omega arith
-          | inr n ↦
-              let a = ap (λ (o : Peer). o.resend) (at to ∙ put_off (game.nodes flight.to).peers flight.from to peer n) in
-              let b = follows.resend flight.to to in
-              omega arith
-        ];
-  }
+      → IsFit rules.limits game.nodes gone flight.to (gone flight.to)
+      (record (with_peer (game.nodes flight.to) flight.from peer) { held = held })
+  fit_peer held peer same low is =
+      let peers : ℕ → Peer = (game.nodes flight.to).peers in
+      let c = ap (length {A = TicCmd}) same in
+      record {
+        rows = inl refl;
+        ends = λ p e. at_put (λ p o. o.end ≡ Some e → gone flight.to p ≡ false → IsEnd game.nodes gone flight.to p e)
+            peers flight.from peer (λ s f. is e s) (λ p n. follows.ends flight.to p e) p;
+        endless = ap (λ (o : Peer). o.end) (put_off peers flight.from flight.to peer (λ e. told.apart (sym e)))
+            ∙ follows.endless flight.to;
+        resend = at_put (λ to o. o.resend ≤ length (held flight.to)) peers flight.from peer (omega arith)
+            (λ to n. let b = follows.resend flight.to to in omega arith);
+      }
 
   -- a peer is kept with which nothing else is seen
   pub quiet : (peer : Peer) → peer.resend ≤ made flight.to (game.nodes flight.to)
@@ -112,18 +98,12 @@ module _ {S : Type 0} (known : ℕ → Holder TicCmd → Type 0) (rules : Rules 
       → reached (got (game.nodes flight.to) flight.from) peer.end ≡ end_seen (game.nodes flight.to) flight.from
       → Went known rules (with_node game flight.to (with_peer (game.nodes flight.to) flight.from peer)) gone
   quiet peer low is same =
-      let ends : end_seen (with_peer (game.nodes flight.to) flight.from peer) ≡ end_seen (game.nodes flight.to) =
-      same_functions (λ p. elim (cases_eq p flight.from) [
-        | inl e ↦ ap (λ (o : Peer). reached (got (game.nodes flight.to) p) o.end)
-            (put_at (game.nodes flight.to).peers flight.from p peer e)
-            ∙ (ap (λ (i : ℕ). reached (got (game.nodes flight.to) i) peer.end) e
-            ∙ (same ∙ ap (end_seen (game.nodes flight.to)) (sym e)))
-        | inr n ↦ ap (λ (o : Peer). reached (got (game.nodes flight.to) p) o.end)
-            (put_off (game.nodes flight.to).peers flight.from p peer n)
-      ]) in (
+      let new : machine.Node = with_peer (game.nodes flight.to) flight.from peer in
+      let ends : end_seen new ≡ end_seen (game.nodes flight.to) =
+      same_functions (at_put (λ p o. reached (got (game.nodes flight.to) p) o.end ≡ end_seen (game.nodes flight.to) p)
+      (game.nodes flight.to).peers flight.from peer same (λ p n. refl)) in (
         older,
-        stays known rules game gone older follows flight.to (with_peer (game.nodes flight.to) flight.from peer)
-            (fit_peer (with_peer (game.nodes flight.to) flight.from peer) peer (λ p. refl) refl refl low is)
-            (same_holder (holder_of (with_peer (game.nodes flight.to) flight.from peer) (gone flight.to)) _ refl ends
-            refl refl (ap (λ (e : ℕ → Option ℕ). rows_to e (machine.ran (game.nodes flight.to))) ends)),
+        stays follows flight.to new (fit_peer (game.nodes flight.to).held peer refl low is)
+            (same_holder (holder_of new (gone flight.to)) _ refl ends refl refl
+            (ap (λ (e : ℕ → Option ℕ). rows_to e (machine.ran (game.nodes flight.to))) ends)),
       )

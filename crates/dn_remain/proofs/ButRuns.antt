@@ -13,7 +13,7 @@ use Rattle.dn_machine.proofs.Put.{same_functions}
 use Rattle.dn_machine.specs.declared.events.Event.{Event}
 use Rattle.dn_machine.specs.declared.events.Event.TheVariants.{Build, Give, Send, Deliver, Run, Quit, Stop}
 use Rattle.dn_machine.specs.declared.events.Refusal.{Refusal}
-use Rattle.dn_machine.specs.Game.{Game, with_node, own_marks, refused_at, applied_if, applied}
+use Rattle.dn_machine.specs.Game.{Game, refused_at, applied_if, applied}
 use Rattle.dn_machine.specs.Runs.{Next}
 use Rattle.dn_machine.specs.Worlds.{Rules}
 use Rattle.dn_remain.specs.Remaining.{Remaining, after_run, after_event}
@@ -69,9 +69,7 @@ module _ {S : Type 0} (rules : Rules S) (all : Remaining) (nobody : NobodyGivenU
   run_of : (node : ℕ) (o : Option Refusal) → after_run rules all node o ≡ (applied_if rules all.game
       (Run node) o).0
   run_of node (Some refusal) = refl
-  run_of node None = ap (λ (r : Node × Ran). with_node all.game node r.0)
-      (nobody_is rules.limits (all.gone node) (all.game.nodes node) (own_marks rules (all.game.nodes node))
-      (nobody node))
+  run_of node None = grind (arith, nobody_is)
 
   event_is : (event : Event) → after_event rules all event ≡ (applied rules all.game event).0
   unfolding applied

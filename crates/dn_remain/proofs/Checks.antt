@@ -1,20 +1,19 @@
 -- A mark that is compared is that of the node's own world; so a run finds none that is off.
-use Rattle.std.proofs.Common.{◌≡◌, ℕ, ◌+◌, ◌-◌, ◌<◌, ◌≤◌, refl, sym, ◌∙◌, ap, arith, inl, inr, pos, leb, ltb, List, ◌∷◌, length}
-use Rattle.std.specs.Prelude.{◌⊎◌, ◌&&◌, Bool, false, not, Option, None}
-use Rattle.std.proofs.lemmas.Bool.{cases_Bool, cond_both, cond-false, and_left, and_right, le-ltb, leb-false, ltb-true}
+use Rattle.std.proofs.Common.{◌≡◌, ℕ, ◌+◌, ◌-◌, ◌<◌, ◌≤◌, refl, sym, ◌∙◌, ap, arith, inl, pos, leb, ltb, List, ◌∷◌, length}
+use Rattle.std.specs.Prelude.{◌⊎◌, ◌&&◌, Bool, false, not, None}
+use Rattle.std.proofs.lemmas.Bool.{cond_both, cond-false, and_left, and_right, le-ltb, leb-false, ltb-true}
 use Rattle.std.proofs.lemmas.List.{length_push}
 use Rattle.dn_tic.specs.declared.command.TicCmd.{TicCmd}
 use Rattle.dn_setup.specs.Settings.{Settings}
 use Rattle.dn_machine.specs.declared.answers.Phase.TheVariants.{Playing}
 use Rattle.dn_machine.specs.Game.{Game, with_node}
 use Rattle.dn_machine.specs.Node as machine
-use Rattle.dn_machine.specs.Node.{blank, got, made, held_at, own_mark, lowest}
-use Rattle.dn_machine.specs.Running.{is_absent, is_awaited, is_off, first_off, is_off_but, first_off_but}
+use Rattle.dn_machine.specs.Node.{got, held_at, own_mark, lowest}
+use Rattle.dn_machine.specs.Running.{is_absent, is_awaited, is_off, first_off, first_off_but, is_over}
 use Rattle.dn_machine.specs.Worlds.{Rules}
 use Rattle.dn_machine.proofs.Calls.{ran_on}
 use Rattle.dn_machine.proofs.Marks.{lowest_none, lowest_none_each, same_passes}
 use Rattle.dn_machine.proofs.Put.{put_at}
-use Rattle.dn_remain.specs.Vanished.Node.{is_over}
 use Rattle.dn_remain.specs.Vanished.Promise.{lacks_at}
 use Rattle.dn_remain.specs.Vanished.Commands.{Holder, Had, seen, past_seen}
 use Rattle.dn_remain.proofs.Vanished.Always.{always}
@@ -98,25 +97,12 @@ module _ {S : Type 0} (rules : Rules S) (settings : Settings) (game : Game) (gon
   -- so none is off of what is compared
   off_none : (p : ℕ) → p < rules.players → 12 < tic → (gone q p ≡ false) ⊎ (rules.ahead + rules.ahead ≤ 12)
       → is_off (game.nodes q) p ≡ false
-  off_none p l late compared = elim (cases_Bool (is_absent (game.nodes q) p)) [
-    | inl absent ↦ and_left (not (is_absent (game.nodes q) p)) _ (ap not absent)
-    | inr here ↦ and_right (not (is_absent (game.nodes q) p)) _ (same_passes _ _
-        (mark_fits p l here late compared))
-  ]
+  off_none p l late compared = grind (arith, and_left, and_right, same_passes, mark_fits)
 
   -- so none is found
   pub none_off : first_off_but rules.limits (gone q) (game.nodes q) ≡ None
-  none_off = cond_both (ltb 12 tic) _ _ (λ (o : Option ℕ). o ≡ None)
-      (λ late. lowest_none rules.players (is_off_but (gone q) (game.nodes q)) (λ p l. elim (cases_Bool
-      (gone q p)) [
-        | inl given ↦ and_left (not (gone q p)) _ (ap not given)
-        | inr here ↦ and_right (not (gone q p)) _ (off_none p l (ltb-true 12 tic late) (inl here))
-      ]))
-      (λ early. refl)
+  none_off = grind (arith, cond_both, ltb, tic, lowest_none, and_left, and_right, off_none, ltb-true)
 
   -- of all players in narrow windows
   pub none_off_at_all : rules.ahead + rules.ahead ≤ 12 → first_off rules.limits (game.nodes q) ≡ None
-  none_off_at_all narrow = cond_both (ltb 12 tic) _ _ (λ (o : Option ℕ). o ≡ None)
-      (λ late. lowest_none rules.players (is_off (game.nodes q)) (λ p l. off_none p l (ltb-true 12 tic late)
-      (inr narrow)))
-      (λ early. refl)
+  none_off_at_all narrow = grind (arith, cond_both, ltb, tic, lowest_none, off_none, ltb-true)

@@ -45,7 +45,4 @@ module _ (limits : Limits) (gone : ℕ → Bool) (node : Node) (marks : ℕ → 
   pub spared : (player : ℕ) (was should : ℤ)
       → (on_run_but limits gone node marks).1 ≡ Inconsistent player was should
       → (gone player ≡ false) × (is_off node player ≡ true)
-  spared player was should h =
-      let parts = and_parts (not (gone player)) (is_off node player)
-      (lowest_passes limits.players (is_off_but gone node) player (found player was should h)) in
-      (not-true (gone player) parts.0, parts.1)
+  spared player was should h = grind (arith, and_parts, lowest_passes, found, not-true)

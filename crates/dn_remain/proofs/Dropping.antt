@@ -1,6 +1,6 @@
 -- A packet of one who is not given up is no overrun, and ends where it can.
-use Rattle.std.proofs.Common.{◌≡◌, ◌≢◌, ℕ, ◌+◌, ◌≤◌, eqb, ltb, refl, sym, ◌∙◌, ap, subst, arith, inl, inr, List, ◌∷◌, length}
-use Rattle.std.specs.Prelude.{◌⊎◌, Bool, true, false, not, Option, Some, None, slice_get}
+use Rattle.std.proofs.Common.{◌≡◌, ◌≢◌, ℕ, ◌+◌, ◌≤◌, ltb, refl, sym, ap, subst, arith, inl, inr, List, ◌∷◌, length}
+use Rattle.std.specs.Prelude.{◌⊎◌, Bool, true, false, Option, Some, None, slice_get}
 use Rattle.std.proofs.lemmas.Bool.{both_ways, eq-eqb, le-ltb, or_cases, and_parts, true≢false}
 use Rattle.dn_tic.specs.declared.command.TicCmd.{TicCmd}
 use Rattle.dn_setup.specs.Settings.{Settings}
@@ -10,7 +10,7 @@ use Rattle.dn_machine.specs.Drops as drops
 use Rattle.dn_machine.specs.Flight.{Flight, is_exit, end_of}
 use Rattle.dn_machine.specs.Limits.{Limits, IsWindow}
 use Rattle.dn_machine.specs.Node as machine
-use Rattle.dn_machine.specs.Node.{ends_of, got, is_ended, has_left, lowest}
+use Rattle.dn_machine.specs.Node.{ends_of, got, is_ended, has_left}
 use Rattle.dn_machine.specs.Hearing.{is_past_end, is_strange_end, left_or, on_packet}
 use Rattle.dn_machine.specs.Worlds.{Rules}
 use Rattle.dn_machine.proofs.Calls.{Refused, packet_cases}
@@ -66,8 +66,7 @@ module _ {S : Type 0} (rules : Rules S) (settings : Settings) (all : Remaining) 
 
     last_is : is_exit flight.kind ≡ true → end_of flight ≡ length
         ((all.game.nodes flight.from).held flight.from)
-    last_is x = (end_is (Had (now_of all.game all.gone ∷ older)) rules all.game all.gone older follows flight
-        told open_from x).3
+    last_is x = (end_is follows told open_from x).3
 
     known_is : (e : ℕ) → ends_of (all.game.nodes flight.to) flight.from ≡ Some e
         → e ≡ length ((all.game.nodes flight.from).held flight.from)
@@ -79,15 +78,9 @@ module _ {S : Type 0} (rules : Rules S) (settings : Settings) (all : Remaining) 
     not_past (Some known) e past = elim (or_cases _ _ past) [
       | inl over ↦
           let a = known_is known e in
-          let b = made_it (Had (now_of all.game all.gone ∷ older)) rules all.game all.gone older follows flight
-          told open_from in
+          let b = made_it follows told open_from in
           both_ways _ (le-ltb known (end_of flight) (omega arith)) over
-      | inr other ↦
-          let parts = and_parts (is_exit flight.kind) (not (eqb (end_of flight) known)) other in
-          let a = last_is parts.0 in
-          let b = known_is known e in
-          let same : end_of flight ≡ known = omega arith in
-          true≢false (sym parts.1 ∙ ap not (eq-eqb (end_of flight) known same))
+      | inr other ↦ grind (arith, and_parts, last_is, known_is, true≢false, eq-eqb)
     ]
 
     not_strange : is_strange_end (is_exit flight.kind) (got (all.game.nodes flight.to) flight.from)
@@ -97,8 +90,7 @@ module _ {S : Type 0} (rules : Rules S) (settings : Settings) (all : Remaining) 
           let parts = and_parts (is_exit flight.kind) (ltb (end_of flight) (got
           (all.game.nodes flight.to) flight.from)) early in
           let a = last_is parts.0 in
-          let b = below_made (Had (now_of all.game all.gone ∷ older)) rules all.game all.gone older follows
-          flight told open_from in
+          let b = below_made follows told open_from in
           both_ways _ (le-ltb (end_of flight) (got (all.game.nodes flight.to) flight.from)
           (omega arith)) parts.1
       | inr past ↦ not_past (ends_of (all.game.nodes flight.to) flight.from) refl past

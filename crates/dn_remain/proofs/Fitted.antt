@@ -45,8 +45,7 @@ module _ {S : Type 0} (rules : Rules S) (settings : Settings) (all : Remaining) 
   -- a report tells a state that its sender was in
   report_was : (which : ℕ) (t : Telling) → slice_get all.reports which ≡ Some t
       → Was (past_seen (now_of all.game all.gone ∷ older)) t.from (seen t.report)
-  report_was which t e = was_seen (now_of all.game all.gone ∷ older) t.from t.report
-      (h.followed.reports which t e)
+  report_was which t e = grind (arith, was_seen)
 
   pub pairs_fit : FitsInPairs rules.limits all
   pairs_fit = record {

@@ -6,7 +6,7 @@ use Rattle.dn_machine.specs.declared.answers.Heard.{Heard}
 use Rattle.dn_machine.specs.declared.peer.Peer.{Peer}
 use Rattle.dn_machine.specs.Flight.{Flight}
 use Rattle.dn_machine.specs.Node as machine
-use Rattle.dn_machine.specs.Node.{with_peer, ends_of, got, made, is_ended, has_left}
+use Rattle.dn_machine.specs.Node.{got, made, is_ended}
 use Rattle.dn_machine.specs.Game.{Game, with_node}
 use Rattle.dn_machine.specs.Worlds.{Rules}
 use Rattle.dn_machine.specs.Hearing.{after_request, on_packet}
@@ -25,15 +25,15 @@ module _ {S : Type 0} (known : ℕ → Holder TicCmd → Type 0) (rules : Rules 
     (told : IsTold rules.players (now_of game gone ∷ older) flight)
     (open_from : gone flight.to flight.from ≡ false) where
   -- nothing that is seen of the node changes
-  goes_on : (new : machine.Node) → IsFit rules.limits game.nodes gone flight.to new
+  goes_on : (new : machine.Node) → IsFit rules.limits game.nodes gone flight.to (gone flight.to) new
       → holder_of new (gone flight.to) ≡ holder_of (game.nodes flight.to) (gone flight.to)
       → Went known rules (with_node game flight.to new) gone
-  goes_on new fit same = (older, stays known rules game gone older follows flight.to new fit same)
+  goes_on new fit same = (older, stays follows flight.to new fit same)
 
   pub hears : Went known rules (with_node game flight.to (on_packet rules.limits flight.to (game.nodes flight.to) flight).0) gone
   hears =
       let node : machine.Node = game.nodes flight.to in
-      let self = fit_self known rules game gone older follows flight.to in
+      let self = fit_self follows flight.to in
       let sender : Peer = sender_after rules.limits flight.to (game.nodes flight.to) flight in
       let ends = flight_end rules.places (made flight.to (game.nodes flight.to))
       ((game.nodes flight.to).peers flight.from) flight in
@@ -55,11 +55,11 @@ module _ {S : Type 0} (known : ℕ → Holder TicCmd → Type 0) (rules : Rules 
             (record { ends = self.ends; endless = self.endless; resend = self.resend; rows = inl refl }) refl;
         commands = λ plays. record {
           dropped = λ number why. same;
-          stale = λ l. stale known rules game gone older follows flight told open_from sender ends low plays l;
-          gap = λ l. gap known rules game gone older follows flight told open_from (record sender { want = true }) ends low plays l;
-          takes = λ first high. taken known rules game gone older follows flight told open_from (record sender { want = false }) ends low plays first high;
+          stale = λ l. stale follows told open_from sender ends low plays l;
+          gap = λ l. gap follows told open_from (record sender { want = true }) ends low plays l;
+          takes = λ first high. taken follows told open_from (record sender { want = false }) ends low plays first high;
         };
-        requests = λ ended. quiet known rules game gone older follows flight told open_from
+        requests = λ ended. quiet follows told open_from
             (after_request rules.places (made flight.to (game.nodes flight.to))
             ((game.nodes flight.to).peers flight.from) flight.request)
             (asked_low rules.places (made flight.to (game.nodes flight.to))

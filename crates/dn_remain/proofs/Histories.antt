@@ -1,6 +1,6 @@
 -- Every list of events leads to a game whose nodes have a history.
 use Rattle.std.proofs.Common.{◌≡◌, ℕ, ◌<◌, ltb, refl, subst, arith, List, []}
-use Rattle.std.specs.Prelude.{◌&&◌, Bool, true, false, Option, Some, None, slice_get}
+use Rattle.std.specs.Prelude.{◌&&◌, Bool, false, Option, Some, None, slice_get}
 use Rattle.std.proofs.lemmas.Bool.{ltb-true, and_parts}
 use Rattle.std.proofs.lemmas.Option.{none-some}
 use Rattle.dn_tic.specs.declared.command.TicCmd.{TicCmd}
@@ -10,7 +10,7 @@ use Rattle.dn_machine.specs.declared.events.Event.{Event}
 use Rattle.dn_machine.specs.declared.events.Event.TheVariants.{Build, Give, Send, Deliver, Run, Quit, Stop}
 use Rattle.dn_machine.specs.declared.events.Refusal.{Refusal}
 use Rattle.dn_machine.specs.declared.answers.Ran.{Ran}
-use Rattle.dn_machine.specs.Node.{Node, put}
+use Rattle.dn_machine.specs.Node.{Node}
 use Rattle.dn_machine.specs.Worlds.{Rules}
 use Rattle.dn_machine.specs.Flight.{Flight}
 use Rattle.dn_machine.specs.Game.{Game, opening_game, with_node, own_marks, refused_at, refused, delivered, on_event, applied_if, applied}
@@ -30,10 +30,6 @@ use Rattle.dn_remain.proofs.Sending.{sends}
 abbrev pub nobody : ℕ → ℕ → Bool
 nobody q p = false
 
--- nothing is seen of a left node at the opening
-opening_left : (b : Bool) → (false && b) ≡ false
-opening_left b = refl
-
 -- nothing more is said of any state
 abbrev pub known : ℕ → Holder TicCmd → Type 0
 known r u = ⊥
@@ -41,16 +37,7 @@ known r u = ⊥
 module _ {S : Type 0} (rules : Rules S) (settings : Settings) where
   pub opens : Follows known rules (opening_game settings) nobody []
   unfolding opening_game rows_to
-  opens = record {
-    run = refl;
-    handed = λ x p. refl;
-    flights = λ which flight h. absurd (none-some flight h);
-    ends = λ q p e s f. absurd (none-some e s);
-    endless = λ q. refl;
-    resend = λ q to. omega arith;
-    rows = λ q tic l. absurd (omega arith);
-    knows = λ r u k. absurd k;
-  }
+  opens = grind (arith, none-some)
 
   module _ (game : Game) (older : List (ℕ → Holder TicCmd)) (follows : Follows known rules game nobody older) where
     named : (node : ℕ) → refused_at rules.players game node ≡ None → node < rules.players
@@ -74,10 +61,7 @@ module _ {S : Type 0} (rules : Rules S) (settings : Settings) where
         (nobody_is rules.limits (nobody node) (game.nodes node) (own_marks rules (game.nodes node)) (λ p. refl))
         (runs known rules game nobody older follows node (named node h) (nobody node) (own_marks rules (game.nodes node)))
     happens (Quit node) h = quits known rules game nobody older follows node (named node h)
-    happens (Stop node) h = (
-      older,
-      known_so known known rules game (put game.stopped node true) nobody older follows follows.knows,
-    )
+    happens (Stop node) h = grind (arith, known_so, known, nobody)
 
     applies : (event : Event) → Went known rules (applied rules game event).0 nobody
     unfolding applied

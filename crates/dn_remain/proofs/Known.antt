@@ -1,5 +1,5 @@
 -- What is known of a game whose nodes have a history.
-use Rattle.std.proofs.Common.{◌≡◌, ◌≢◌, ℕ, ◌<◌, ◌≤◌, inl, inr, List, [], ◌∷◌, ◌++◌, length, get_or, take, drop, refl, arith}
+use Rattle.std.proofs.Common.{◌≡◌, ◌≢◌, ℕ, ◌<◌, ◌≤◌, inl, List, [], ◌∷◌, ◌++◌, length, get_or, take, drop, refl, arith}
 use Rattle.std.specs.Prelude.{◌⊎◌, Bool, true, false, Some, None, slice_get}
 use Rattle.std.proofs.lemmas.Bool.{and_right}
 use Rattle.dn_tic.specs.declared.command.TicCmd.{TicCmd}
@@ -52,22 +52,7 @@ pub record Follows {S : Type 0} (known : ℕ → Holder TicCmd → Type 0) (rule
 
 pub told_later : (players : ℕ) (history : List (ℕ → Holder TicCmd)) (next : ℕ → Holder TicCmd) (flight : Flight)
     → IsTold players history flight → IsTold players (next ∷ history) flight
-told_later players history next flight h = record {
-  sender = h.sender;
-  receiver = h.receiver;
-  apart = h.apart;
-  by = h.by;
-  state = h.state;
-  had = inr h.had;
-  hands = elim h.hands [
-    | inl e ↦ inl e
-    | inr k ↦ inr (k.0, (k.1.0, inr k.1.1, k.1.2))
-  ];
-  open_to = h.open_to;
-  piece = h.piece;
-  reaches = h.reaches;
-  exit = λ e. let k = h.exit e in (k.0, k.1, inr k.2);
-}
+told_later players history next flight h = grind arith
 
 -- it follows whatever has stopped, and other states are known that were had
 pub known_so : {S : Type 0} (known other : ℕ → Holder TicCmd → Type 0) (rules : Rules S) (game : Game)
@@ -77,29 +62,26 @@ pub known_so : {S : Type 0} (known other : ℕ → Holder TicCmd → Type 0) (ru
     → Follows other rules (record game { stopped = stopped }) gone older
 known_so known other rules game stopped gone older follows knows = grind (arith, knows)
 
--- what is asked of another node in the place of node `q`, of all that is not in the history
-pub record IsFit (limits : Limits) (nodes : ℕ → machine.Node) (gone : ℕ → ℕ → Bool) (q : ℕ) (new : machine.Node)
-    : Type 0 where
-  pub ends : (p e : ℕ) → ends_of new p ≡ Some e → gone q p ≡ false → IsEnd nodes gone q p e
+-- what is asked of another node in the place of node `q`, which has given up these, of all that is not in the history
+pub record IsFit (limits : Limits) (nodes : ℕ → machine.Node) (gone : ℕ → ℕ → Bool) (q : ℕ) (set : ℕ → Bool)
+    (new : machine.Node) : Type 0 where
+  pub ends : (p e : ℕ) → ends_of new p ≡ Some e → set p ≡ false → IsEnd nodes gone q p e
   pub endless : ends_of new q ≡ None
   pub resend : (to : ℕ) → (new.peers to).resend ≤ made q new
   -- it ran a tic by what is seen, or none
   pub rows : (new.rows ≡ (nodes q).rows)
-      ⊎ (new.rows ≡ (nodes q).rows ++ row_had limits (holder_of new (gone q)) (machine.ran (nodes q)) ∷ [])
+      ⊎ (new.rows ≡ (nodes q).rows ++ row_had limits (holder_of new set) (machine.ran (nodes q)) ∷ [])
 
 -- the nodes of a game have some history
 abbrev pub Went : {S : Type 0} → (ℕ → Holder TicCmd → Type 0) → Rules S → Game → (ℕ → ℕ → Bool) → Type 0
 Went known rules game gone = (older : List (ℕ → Holder TicCmd)) × Follows known rules game gone older
 
 -- what is asked of a node holds of each that is there
-pub fit_self : {S : Type 0} (known : ℕ → Holder TicCmd → Type 0) (rules : Rules S) (game : Game) (gone : ℕ → ℕ → Bool) (older : List (ℕ → Holder TicCmd))
-    → Follows known rules game gone older → (q : ℕ) → IsFit rules.limits game.nodes gone q (game.nodes q)
-fit_self known rules game gone older follows q = record {
-  ends = follows.ends q;
-  endless = follows.endless q;
-  resend = follows.resend q;
-  rows = inl refl;
-}
+pub fit_self : {S : Type 0} {known : ℕ → Holder TicCmd → Type 0} {rules : Rules S} {game : Game} {gone : ℕ → ℕ → Bool}
+    {older : List (ℕ → Holder TicCmd)} (follows : Follows known rules game gone older) (q : ℕ)
+    → IsFit rules.limits game.nodes gone q (gone q) (game.nodes q)
+fit_self follows q =
+    record { ends = follows.ends q; endless = follows.endless q; resend = follows.resend q; rows = inl refl }
 
 -- whose phase is not one of an end has not left
 pub not_left : (node : machine.Node) → is_ended node.phase ≡ false → has_left node ≡ false

@@ -16,7 +16,6 @@ pub mod Histories
 pub mod Cases
 pub mod Quiet
 pub mod Own
-pub mod Giving
 pub mod Settling
 pub mod Places
 pub mod Followed

@@ -1,6 +1,6 @@
 -- The mark of a command that a node runs, or has run, is that of the node's own world.
-use Rattle.std.proofs.Common.{◌≡◌, ℕ, ◌+◌, ◌-◌, ◌<◌, ◌≤◌, refl, sym, ◌∙◌, ap, arith, inl, inr, pos, ltb, List, [], ◌∷◌, length, take}
-use Rattle.std.specs.Prelude.{◌⊎◌, Bool, false, Option, None}
+use Rattle.std.proofs.Common.{◌≡◌, ℕ, ◌+◌, ◌-◌, ◌<◌, ◌≤◌, refl, sym, ◌∙◌, arith, inl, inr, pos, ltb, List, [], ◌∷◌, length, take}
+use Rattle.std.specs.Prelude.{◌⊎◌, Bool, false}
 use Rattle.std.proofs.lemmas.Bool.{cond-false, le-ltb}
 use Rattle.std.proofs.lemmas.Option.{same_Some, slice_get-get_or}
 use Rattle.dn_tic.specs.declared.command.TicCmd.{TicCmd}
@@ -8,9 +8,9 @@ use Rattle.dn_tic.proofs.Making.{made_by-mark}
 use Rattle.dn_setup.specs.Settings.{Settings}
 use Rattle.dn_machine.specs.Game.{Game}
 use Rattle.dn_machine.specs.Node as machine
-use Rattle.dn_machine.specs.Node.{blank, got, made, held_at, own_mark, lowest}
+use Rattle.dn_machine.specs.Node.{blank, got, made, held_at}
 use Rattle.dn_machine.specs.Worlds.{Rules, world_after}
-use Rattle.dn_remain.specs.Vanished.Node.{Node, Was, is_over, ran}
+use Rattle.dn_remain.specs.Vanished.Node.{Node, Was, ran}
 use Rattle.dn_remain.specs.Vanished.Promise.{Marked, lacks_at}
 use Rattle.dn_remain.specs.Vanished.Commands.{Holder, Had, AreHanded, seen, past_seen}
 use Rattle.dn_remain.specs.Vanished.Steps.{IsRun}
@@ -20,7 +20,7 @@ use Rattle.dn_remain.proofs.Vanished.Invariant.{IsKept}
 use Rattle.dn_remain.proofs.Vanished.Making as commands
 use Rattle.dn_remain.proofs.Vanished.Marking.{marked}
 use Rattle.dn_remain.proofs.Vanished.Windows.{roomy}
-use Rattle.dn_remain.specs.Seen.{reached, end_seen, rows_to, now_of, row_had}
+use Rattle.dn_remain.specs.Seen.{end_seen, rows_to, now_of, row_had}
 use Rattle.dn_remain.proofs.Known.{Follows}
 use Rattle.dn_remain.proofs.Marked.{IsMarked, fronts_same, world_same}
 use Rattle.dn_remain.proofs.Rows.{made_row, same_row}
@@ -113,15 +113,4 @@ module _ {S : Type 0} (rules : Rules S) (settings : Settings) (game : Game) (gon
 
   pub mark_is : (held_at (game.nodes q) p tic).mark
       ≡ rules.physics.mark (world_after rules settings (game.nodes q).rows (tic - 12)) p
-  mark_is =
-      let d = close in
-      let e = made_it in
-      let none : end_seen (game.nodes p) p ≡ None =
-      ap (λ (o : Option ℕ). reached (length ((game.nodes p).held p)) o) (follows.endless p) in
-      ap (λ (c : TicCmd). c.mark) (held_same ∙ (all_marked p).own low tic made_it)
-      ∙ (made_by-mark (take (tic + 1) (game.nodes p).inputs) (own_mark (game.nodes p) p tic)
-      ∙ (cond-false (ltb tic 12) (pos 0) ((game.nodes p).marks (tic - 12) p) (le-ltb tic 12 late)
-      ∙ ((all_marked p).told p (tic - 12) its (omega arith)
-      (ap (λ (o : Option ℕ). is_over o (tic - 12)) none)
-      ∙ ap (λ (s : S). rules.physics.mark s p)
-      (sym (world_same rules settings (game.nodes q).rows (game.nodes p).rows (tic - 12) fronts)))))
+  mark_is = grind (arith, close, made_it, length, held_same, made_by-mark, take, cond-false, ltb, pos, le-ltb, world_same, fronts)

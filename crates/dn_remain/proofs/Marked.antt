@@ -13,11 +13,10 @@ use Rattle.dn_machine.specs.declared.answers.Cause.TheVariants as Cause
 use Rattle.dn_machine.specs.declared.answers.Phase.TheVariants.{Ended}
 use Rattle.dn_machine.specs.Building.{on_build}
 use Rattle.dn_machine.specs.Node.{Node, blank, made, ran, held_at, own_mark, demo_rows}
-use Rattle.dn_machine.specs.Running.{tic_limit}
+use Rattle.dn_machine.specs.Running.{tic_limit, is_over}
 use Rattle.dn_machine.specs.Worlds.{Rules, opening, world_after}
 use Rattle.dn_machine.proofs.Calls.{build_cases, built}
 use Rattle.dn_machine.proofs.Put.{put_at}
-use Rattle.dn_remain.specs.Vanished.Node.{is_over}
 use Rattle.dn_remain.specs.Seen.{end_seen}
 use Rattle.dn_remain.proofs.Alike.{IsAlike}
 use Rattle.dn_remain.proofs.Seeing.{over_stays}

@@ -5,10 +5,8 @@ use Rattle.std.proofs.lemmas.Bool.{both_ways, cases_eq, cond_both, and_right, tr
 use Rattle.std.proofs.lemmas.Option.{same_Some}
 use Rattle.dn_tic.specs.declared.command.TicCmd.{TicCmd}
 use Rattle.dn_tic.specs.declared.command.Move.{Move}
-use Rattle.dn_setup.specs.Gathered.{all_noted}
 use Rattle.dn_machine.specs.declared.answers.Phase.{Phase}
 use Rattle.dn_machine.specs.declared.answers.Phase.TheVariants.{Listening, Gathering, Playing, Ended}
-use Rattle.dn_machine.specs.declared.answers.Heard.{Heard}
 use Rattle.dn_machine.specs.declared.peer.Peer.{Peer}
 use Rattle.dn_machine.specs.Limits.{Limits}
 use Rattle.dn_machine.specs.Node as machine
@@ -22,10 +20,11 @@ use Rattle.dn_remain.specs.Wary.{Report, Wary, report_of, after_news, noted_gone
 use Rattle.dn_remain.specs.Remaining.{Telling, Remaining, wary_of, with_wary, with_telling}
 use Rattle.dn_remain.proofs.Seeing.{same_node}
 use Rattle.dn_remain.proofs.Known.{Follows, not_left}
-use Rattle.dn_remain.proofs.Giving.{steps_set}
+use Rattle.dn_remain.proofs.Following.{steps_set}
 use Rattle.dn_remain.proofs.Settling.{settles}
 use Rattle.dn_remain.proofs.Cases.{news_cases}
-use Rattle.dn_remain.proofs.Places.{own_put, own_place, there, again}
+use Rattle.dn_remain.proofs.Vanished.Put.{own_put}
+use Rattle.dn_remain.proofs.Places.{own_place, there, again}
 use Rattle.dn_remain.proofs.Followed.{IsFollowed, AreFollowed, anchored, carried}
 
 -- a report tells all that is seen of its sender
@@ -49,15 +48,10 @@ pub record IsNoted (node new : machine.Node) : Type 0 where
 
 noted_is : (limits : Limits) (node : machine.Node) (player : ℕ) (phase : Phase) → node.phase ≡ phase
     → is_in_game phase ≡ true → IsNoted node (noted_gone limits node player phase)
-noted_is limits node player Listening e h =
-    record { held = refl; peers = refl; rows = refl; left = not_left node (ap is_ended e) }
-noted_is limits node player Playing e h =
-    record { held = refl; peers = refl; rows = refl; left = not_left node (ap is_ended e) }
+noted_is limits node player Listening e h = grind (arith, not_left)
+noted_is limits node player Playing e h = grind (arith, not_left)
 noted_is limits node player (Ended cause) e h = absurd (true≢false (sym h))
-noted_is limits node player Gathering e h = cond_both (all_noted limits.players (put node.noted player true)) _ _
-    (λ (r : machine.Node × Heard). IsNoted node r.0)
-    (λ all. record { held = refl; peers = refl; rows = refl; left = and_right true false refl })
-    (λ some. record { held = refl; peers = refl; rows = refl; left = not_left node (ap is_ended e) })
+noted_is limits node player Gathering e h = grind (arith, cond_both, and_right, not_left)
 
 module _ {S : Type 0} (known : ℕ → Holder TicCmd → Type 0) (rules : Rules S) where
   module _ (all : Remaining) (older : List (ℕ → Holder TicCmd)) (f : IsFollowed known rules all older) where
@@ -80,8 +74,7 @@ module _ {S : Type 0} (known : ℕ → Holder TicCmd → Type 0) (rules : Rules 
     )
 
     pub tells : (node to : ℕ) → AreFollowed known rules (with_telling all node to (report_to rules.limits node (wary_of all node) to))
-    tells node to = tells_some node to (report_to rules.limits node (wary_of all node) to)
-        (told_is rules.limits node (wary_of all node) to)
+    tells node to = grind (arith, tells_some, told_is)
 
     -- the node decides, if it can
     newest_put : (q x r : ℕ) (report : Report) → put all.newest q (all.newest q) x r ≡ Some report
@@ -130,21 +123,17 @@ module _ {S : Type 0} (known : ℕ → Holder TicCmd → Type 0) (rules : Rules 
         ∙ ap (λ (ps : ℕ → Peer). reached (got (all.game.nodes q) p) (ps p).end) is.peers in
         let f' = anchored known rules all older f in
         carried known rules (now_of all.game all.gone ∷ older) f.follows.knows _ (now_of all.game all.gone ∷ older)
-        (steps_set (Had (now_of all.game all.gone ∷ older)) rules all.game all.gone older f' q mine here
-        (noted_gone rules.limits (all.game.nodes q) player (all.game.nodes q).phase) (put (all.gone q) player true)
-        (λ p e s g. f'.ends q p e (sym (ap (λ (ps : ℕ → Peer). (ps p).end) is.peers) ∙ s)
-        (elim (cases_eq p player) [
-          | inl d ↦ absurd (both_ways _ g (put_at (all.gone q) player p true d))
-          | inr n ↦ sym (put_off (all.gone q) player p true n) ∙ g
-        ]))
-        (ap (λ (ps : ℕ → Peer). (ps q).end) is.peers ∙ f'.endless q)
-        (λ to.
-        let a = ap (λ (ps : ℕ → Peer). (ps to).resend) is.peers in
-        let b = ap (λ (h : ℕ → List TicCmd). length (h q)) is.held in
-        let c = f'.resend q to in
-        omega arith)
-        (inl is.rows)
-        step.GiveUp (
+        (steps_set f' q (put (all.gone q) player true)
+        (noted_gone rules.limits (all.game.nodes q) player (all.game.nodes q).phase) (record {
+          ends = λ p e s g. f'.ends q p e (sym (ap (λ (ps : ℕ → Peer). (ps p).end) is.peers) ∙ s)
+              (elim (cases_eq p player) [
+                | inl d ↦ absurd (both_ways _ g (put_at (all.gone q) player p true d))
+                | inr n ↦ sym (put_off (all.gone q) player p true n) ∙ g
+              ]);
+          endless = ap (λ (ps : ℕ → Peer). (ps q).end) is.peers ∙ f'.endless q;
+          rows = inl is.rows;
+          resend = grind arith;
+        }) mine here step.GiveUp (
           player,
           low,
           apart,
@@ -173,14 +162,6 @@ module _ {S : Type 0} (known : ℕ → Holder TicCmd → Type 0) (rules : Rules 
         (λ x r report h. elim (cases_eq x q) [
           | inr n ↦ f.newest x r report (sym (ap (λ (g : ℕ → Option Report). g r)
               (put_off all.newest q x (put (all.newest q) from (Some told)) n)) ∙ h)
-          | inl e ↦
-              let at : put (all.newest q) from (Some told) r ≡ Some report =
-              sym (ap (λ (g : ℕ → Option Report). g r) (put_at all.newest q x (put (all.newest q) from (Some told)) e)) ∙ h in
-              elim (cases_eq r from) [
-                | inr n ↦ f.newest q r report (sym (put_off (all.newest q) from r (Some told) n) ∙ at)
-                | inl d ↦ subst (λ (u : Report). Had (now_of all.game all.gone ∷ older) r u)
-                    (same_Some told report (sym (put_at (all.newest q) from r (Some told) d) ∙ at))
-                    (subst (λ (i : ℕ). Had (now_of all.game all.gone ∷ older) i told) (sym d) had)
-              ]
+          | inl e ↦ grind (arith, put_at, put_off, same_Some)
         ])
         f.reports

@@ -15,10 +15,7 @@ taken_is {A} own whole start n rest e a b =
     let he : start + n ≡ length own + m = omega arith in
     let front : take (length own) whole ≡ own = ap (λ (ws : List A). take (length own) ws) (sym e)
     ∙ take-append_seam own rest in
-    let d : drop k (take n (drop start whole)) ≡ take m (drop (length own) whole) =
-    ap (λ (i : ℕ). drop k (take i (drop start whole))) hn
-    ∙ (drop-take k m (drop start whole)
-    ∙ ap (λ (ws : List A). take m ws) (drop-drop k start whole ∙ ap (λ (i : ℕ). drop i whole) hs)) in
+    let d : drop k (take n (drop start whole)) ≡ take m (drop (length own) whole) = grind (arith, drop-take, drop-drop) in
     ap (λ (ws : List A). own ++ ws) d
     ∙ (ap (λ (ws : List A). ws ++ take m (drop (length own) whole)) (sym front)
     ∙ (sym (take-add (length own) m whole) ∙ ap (λ (i : ℕ). take i whole) (sym he)))

@@ -1,23 +1,11 @@
 -- One node of a game in which players may be given up, put in its place.
-use Rattle.std.proofs.Common.{◌≡◌, ℕ, refl, sym, ◌∙◌, ap, inl, inr}
-use Rattle.std.proofs.lemmas.Bool.{cases_eq}
+use Rattle.std.proofs.Common.{◌≡◌, ℕ, refl, ap}
 use Rattle.dn_machine.specs.Game.{Game}
-use Rattle.dn_machine.specs.Node.{Node, put}
-use Rattle.dn_machine.proofs.Put.{put_at, put_off, same_functions}
+use Rattle.dn_machine.specs.Node.{Node}
+use Rattle.dn_machine.proofs.Put.{put_at}
+use Rattle.dn_remain.proofs.Vanished.Put.{own_put, twice_put}
 use Rattle.dn_remain.specs.Wary.{Wary}
 use Rattle.dn_remain.specs.Remaining.{Remaining, wary_of, with_wary}
-
-pub own_put : {A : Type 0} (f : ℕ → A) (q : ℕ) → put f q (f q) ≡ f
-own_put f q = same_functions (λ j. elim (cases_eq j q) [
-  | inl e ↦ put_at f q j (f q) e ∙ ap f (sym e)
-  | inr n ↦ put_off f q j (f q) n
-])
-
-twice_put : {A : Type 0} (f : ℕ → A) (q : ℕ) (a b : A) → put (put f q a) q b ≡ put f q b
-twice_put f q a b = same_functions (λ j. elim (cases_eq j q) [
-  | inl e ↦ put_at (put f q a) q j b e ∙ sym (put_at f q j b e)
-  | inr n ↦ put_off (put f q a) q j b n ∙ (put_off f q j a n ∙ sym (put_off f q j b n))
-])
 
 pub same_all : (a b : Remaining) → a.game ≡ b.game → a.gone ≡ b.gone → a.newest ≡ b.newest → a.reports ≡ b.reports
     → a ≡ b

@@ -9,7 +9,6 @@ use Rattle.std.proofs.lemmas.List.Prefix.{front_from_reads}
 use Rattle.dn_machine.specs.Promise.{IsPrefixOf}
 use Rattle.dn_machine.proofs.Demos.{front_each, front_passes, front_short, none_is, seat_is, whole_has}
 use Rattle.dn_machine.proofs.Marks.{lowest_none_each}
-use Rattle.dn_remain.specs.Vanished.Node.{is_over}
 use Rattle.std.proofs.lemmas.Option.{same_Some, slice_get-get_or}
 use Rattle.dn_tic.specs.declared.command.TicCmd.{TicCmd}
 use Rattle.dn_tic.specs.declared.command.Move.{Move}
@@ -17,6 +16,7 @@ use Rattle.dn_machine.specs.Node.{blank, held_at, made, own_mark, ran, is_whole,
 use Rattle.dn_setup.specs.Settings.{Settings}
 use Rattle.dn_tic.specs.Inputs.{made_by}
 use Rattle.dn_machine.specs.Worlds.{Rules, world_after}
+use Rattle.dn_machine.specs.Running.{is_over}
 use Rattle.dn_remain.specs.Vanished.Promise.{Agree, Fits, lacks_at}
 use Rattle.dn_remain.specs.Vanished.Commands.{Holder, seen, past_seen}
 use Rattle.dn_remain.proofs.Vanished.Always.{always}
@@ -65,9 +65,7 @@ module _ {S : Type 0} (rules : Rules S) (settings : Settings) (all : Remaining) 
   whole_at q tic p l m =
       let short = front_short (is_whole rules.players) (all.game.nodes q).rows in
       let a = long q in
-      let whole : is_whole rules.players (row_had rules.limits (now_of all.game all.gone q) tic) ≡ true =
-      ap (λ (row : List (Option Move)). is_whole rules.players row) (sym (f.follows.rows q tic (omega arith)))
-      ∙ front_passes (is_whole rules.players) (all.game.nodes q).rows tic [] l in
+      let whole : is_whole rules.players (row_had rules.limits (now_of all.game all.gone q) tic) ≡ true = grind (arith, front_passes) in
       ((always rules.players rules.ahead (past_seen (now_of all.game all.gone ∷ older)) f.follows.run).sound q
       (seen (now_of all.game all.gone q)) (inl refl)).rows p tic m (omega arith)
       ∙ (sym (none_over (is_over (end_seen (all.game.nodes q) p) tic) (get_or
@@ -78,9 +76,7 @@ module _ {S : Type 0} (rules : Rules S) (settings : Settings) (all : Remaining) 
   demo_at : (q tic : ℕ) → tic < length (demo_rows rules.players (all.game.nodes q))
       → get_or (demo_rows rules.players (all.game.nodes q)) tic []
       ≡ row_had rules.limits (now_of all.game all.gone q) tic
-  demo_at q tic l =
-      let short = front_short (is_whole rules.players) (all.game.nodes q).rows in
-      front_at (is_whole rules.players) (all.game.nodes q).rows tic l ∙ f.follows.rows q tic (omega arith)
+  demo_at q tic l = grind (arith, front_short, front_at, f)
 
   demo_begins : (q r : ℕ) → length (demo_rows rules.players (all.game.nodes q)) ≤ length
       (demo_rows rules.players (all.game.nodes r))
@@ -157,9 +153,7 @@ module _ {S : Type 0} (rules : Rules S) (settings : Settings) (all : Remaining) 
   pairs_agree = record {
     rows = row_at;
     has_all = λ q p a s. agreed.has_all q p a (seen (now_of all.game all.gone q)) (inl refl) s;
-    same = λ q r tic k l m.
-        row_at q tic l ∙ (ap (λ (row : List (Option Move)). Some row) (pair_row q r tic k l m)
-        ∙ sym (row_at r tic m));
+    same = grind (arith, row_at, pair_row);
     worlds = λ q r tic k l m. world_same rules settings (all.game.nodes q).rows (all.game.nodes r).rows tic
         (fronts_same (all.game.nodes q).rows (all.game.nodes r).rows [] tic l m
         (λ back o. f.follows.rows q back (omega arith) ∙ (pair_row q r back k (omega arith) (omega arith)
@@ -176,13 +170,7 @@ module _ {S : Type 0} (rules : Rules S) (settings : Settings) (all : Remaining) 
         (seen (now_of all.game all.gone r)) k.one k.other k.apart (inl refl) (inl refl) k.here k.there s t;
     at_least = λ q r p a k s. agreed.at_least q r p a (seen (now_of all.game all.gone q))
         (seen (now_of all.game all.gone r)) k.one k.other k.apart (inl refl) (inl refl) k.here k.there s;
-    without = λ q p tic l m n.
-        let a = long q in
-        ap (λ (row : List (Option Move)). lacks row p) (f.follows.rows q tic n)
-        ∙ seat_is rules.players (λ r. if is_over (end_seen (all.game.nodes q) r) tic then None
-        else Some (get_or ((all.game.nodes q).held r) tic blank)) p l m
-        ∙ none_over (is_over (end_seen (all.game.nodes q) p) tic) (get_or
-        ((all.game.nodes q).held p) tic blank);
+    without = grind (arith, long, seat_is, none_over);
     at_most = λ q p a s. agreed.at_most q p a (seen (now_of all.game all.gone q)) (inl refl) s;
     held = λ q r p tic l m. same_Some _ _
         (sym (slice_get-get_or ((all.game.nodes q).held p) tic blank l)

@@ -1,16 +1,15 @@
 -- What is known of each game that a list of events leads to.
-use Rattle.std.proofs.Common.{◌≡◌, ℕ, ◌<◌, refl, sym, ◌∙◌, ap, subst, arith, inl, inr, List, [], ◌∷◌}
-use Rattle.std.specs.Prelude.{◌≢◌, Bool, true, false, ◌==◌, if◌then◌else◌, Some}
+use Rattle.std.proofs.Common.{◌≡◌, ℕ, ◌<◌, refl, sym, ap, subst, arith, inl, inr, List, [], ◌∷◌}
+use Rattle.std.specs.Prelude.{◌≢◌, Bool, true, false, if◌then◌else◌, Some}
 use Rattle.std.proofs.lemmas.Bool.{cases_eq, true≢false}
 use Rattle.std.proofs.lemmas.Option.{none-some}
 use Rattle.dn_tic.specs.declared.command.TicCmd.{TicCmd}
 use Rattle.dn_setup.specs.Settings.{Settings}
 use Rattle.dn_machine.specs.declared.answers.Phase.TheVariants.{Listening, Gathering, Ended}
 use Rattle.dn_machine.specs.declared.answers.Cause.{Cause}
-use Rattle.dn_machine.specs.declared.answers.Cause.TheVariants as failed
 use Rattle.dn_machine.specs.Game.{opening_game}
 use Rattle.dn_machine.specs.Node as machine
-use Rattle.dn_machine.specs.Node.{got, put}
+use Rattle.dn_machine.specs.Node.{got}
 use Rattle.dn_machine.specs.Worlds.{Rules}
 use Rattle.dn_machine.proofs.Put.{put_at, put_off}
 use Rattle.dn_remain.specs.Vanished.Commands.{Holder, Had, seen, past_seen}
@@ -48,16 +47,8 @@ not_ended false cause e = cc
 module _ {S : Type 0} (rules : Rules S) (settings : Settings) where
   module _ (all : Remaining) (older : List (ℕ → Holder TicCmd)) (h : IsReached rules settings all older)
       (event : RemainEvent) (next : Remaining) (step : NextRemain rules all event next) where
-    -- all that was had
-    abbrev past : ℕ → Holder TicCmd → Type 0
-    past = Had (now_of all.game all.gone ∷ older)
-
     now : IsFollowed (Had (now_of all.game all.gone ∷ older)) rules all older
-    now = record {
-      follows = anchored Histories.known rules all older h.followed;
-      newest = h.followed.newest;
-      reports = h.followed.reports;
-    }
+    now = grind (arith, anchored)
 
     pub later : AreFollowed (Had (now_of all.game all.gone ∷ older)) rules next
     later = Remains.by_event (Had (now_of all.game all.gone ∷ older)) rules all older now event next step
@@ -79,8 +70,7 @@ module _ {S : Type 0} (rules : Rules S) (settings : Settings) where
     called : (q : ℕ) → q < rules.players → (new : machine.Node)
         → ((p e : ℕ) → end_seen (all.game.nodes q) p ≡ Some e → end_seen new p ≡ Some e)
         → IsCalled rules (all.gone q) q (all.game.nodes q) new → IsMarked rules settings q new
-    called q mine new still (inl alike) = alike_keeps rules settings q (all.game.nodes q)
-        (h.marked q) new alike still
+    called q mine new still (inl alike) = grind (arith, alike_keeps)
     called q mine new still (inr (inl built)) = subst (λ (n : machine.Node). IsMarked rules settings q n)
         (sym built.1)
         (build_keeps rules settings q (all.game.nodes q) (h.marked q) built.0
@@ -95,13 +85,9 @@ module _ {S : Type 0} (rules : Rules S) (settings : Settings) where
       | inl same ↦ subst (λ (n : machine.Node). IsMarked rules settings x n)
           (sym (ap (λ (nodes : ℕ → machine.Node). nodes x) same)) (h.marked x)
       | inr one ↦ elim (cases_eq x one.0) [
-        | inr n ↦ subst (λ (m : machine.Node). IsMarked rules settings x m)
-            (sym (ap (λ (nodes : ℕ → machine.Node). nodes x) one.3
-            ∙ put_off all.game.nodes one.0 x one.2 n)) (h.marked x)
+        | inr n ↦ grind (arith, IsMarked, put_off)
         | inl e ↦
-            let at : next.game.nodes one.0 ≡ one.2 =
-            ap (λ (nodes : ℕ → machine.Node). nodes one.0) one.3
-            ∙ put_at all.game.nodes one.0 one.0 one.2 refl in
+            let at : next.game.nodes one.0 ≡ one.2 = grind (arith, put_at) in
             subst (λ (i : ℕ). IsMarked rules settings i (next.game.nodes i)) (sym e)
             (subst (λ (m : machine.Node). IsMarked rules settings one.0 m) (sym at)
             (called one.0 one.1 one.2
@@ -111,20 +97,7 @@ module _ {S : Type 0} (rules : Rules S) (settings : Settings) where
 
     pub goes_on : IsReached rules settings next later.0
     goes_on = record {
-      followed = record {
-        follows = record {
-          run = later.1.follows.run;
-          handed = later.1.follows.handed;
-          flights = later.1.follows.flights;
-          ends = later.1.follows.ends;
-          endless = later.1.follows.endless;
-          resend = later.1.follows.resend;
-          rows = later.1.follows.rows;
-          knows = λ r u k. absurd k;
-        };
-        newest = later.1.newest;
-        reports = later.1.reports;
-      };
+      followed = grind (arith, later, ends);
       set = Settings.by_event settings rules all next h.set event step;
       marked = marked_on;
       settled = settled_on rules all next h.settled ends event step;
@@ -140,14 +113,7 @@ module _ {S : Type 0} (rules : Rules S) (settings : Settings) where
       reports = λ which t h. absurd (none-some t h);
     };
     set = Settings.opens settings rules;
-    marked = λ x. record {
-      counted = refl;
-      own = λ low tic l. absurd (omega arith);
-      told = λ p tic m l o. absurd (omega arith);
-      consistent = λ low p w s e. not_ended (x == 0) (failed.Inconsistent p w s) e;
-      room = omega arith;
-      most = λ c. omega arith;
-    };
+    marked = grind (arith, not_ended);
     settled = λ q can p given. absurd (true≢false (sym given));
     told = λ which t e. absurd (none-some t e);
   }
@@ -155,11 +121,7 @@ module _ {S : Type 0} (rules : Rules S) (settings : Settings) where
   leads : (events : List RemainEvent) (all last : Remaining) (older : List (ℕ → Holder TicCmd))
       → IsReached rules settings all older → LeadsRemain rules all events last
       → (later : List (ℕ → Holder TicCmd)) × IsReached rules settings last later
-  leads [] all last older h same = (
-    older,
-    subst (λ (r : Remaining). IsReached rules settings r older)
-        (sym same) h,
-  )
+  leads [] all last older h same = grind arith
   leads (event ∷ events) all last older h way = leads events way.0 last _
       (goes_on all older h event way.0 way.1) way.2
 

@@ -96,8 +96,7 @@ module _ {S : Type 0} (rules : Rules S) (settings : Settings) where
   pub goes_on_by : (events : List RelayEvent) (event : RelayEvent) (all mid last : Remaining)
       → LeadsRelayed rules all events mid → NextRelayed rules mid event last
       → LeadsRelayed rules all (events ++ event ∷ []) last
-  goes_on_by [] event all mid last same next =
-      (last, subst (λ (g : Remaining). NextRelayed rules g event last) same next, refl)
+  goes_on_by [] event all mid last same next = grind arith
   goes_on_by (e ∷ events) event all mid last way next =
       (way.0, way.1, goes_on_by events event way.0 mid last way.2 next)
 

@@ -12,7 +12,7 @@ use Rattle.dn_remain.specs.Vanished.Commands.{Holder, Had}
 use Rattle.dn_remain.specs.Seen.{now_of}
 use Rattle.dn_remain.specs.Wary.{Wary, with_gone, on_give_up, with_report, on_report}
 use Rattle.dn_remain.specs.Remaining as remaining
-use Rattle.dn_remain.specs.Remaining.{Telling, Remaining, opening_remaining, wary_of, with_wary, unless, with_telling, is_barred_flight, is_barred}
+use Rattle.dn_remain.specs.Remaining.{Telling, Remaining, opening_remaining, wary_of, with_wary, unless}
 use Rattle.dn_remain.specs.RunsRemain.{NextRemain, LeadsRemain, RunsRemain}
 use Rattle.dn_remain.specs.declared.events.RemainEvent.{RemainEvent}
 use Rattle.dn_remain.specs.declared.events.RemainEvent.TheVariants.{Own, GiveUp, Tell, Hear}

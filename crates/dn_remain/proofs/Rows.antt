@@ -1,5 +1,5 @@
 -- Rows of what is seen stay as they are.
-use Rattle.std.proofs.Common.{◌≡◌, ℕ, ◌<◌, ◌≤◌, sym, ◌∙◌, ap, arith, inl, inr, List, [], ◌∷◌, ◌++◌, length, get_or}
+use Rattle.std.proofs.Common.{◌≡◌, ℕ, ◌<◌, sym, ◌∙◌, ap, arith, inl, inr, List, [], ◌∷◌, ◌++◌, length, get_or}
 use Rattle.std.specs.Prelude.{◌⊎◌, if◌then◌else◌, Option, Some, None}
 use Rattle.std.proofs.lemmas.Bool.{cases_Bool, cases_lt, cond-true, cond-false}
 use Rattle.std.proofs.lemmas.List.{length_push, get_or_append_left, get_or_push}
@@ -9,7 +9,8 @@ use Rattle.dn_tic.specs.declared.command.Move.{Move}
 use Rattle.dn_machine.specs.Limits.{Limits}
 use Rattle.dn_machine.specs.Node.{blank}
 use Rattle.dn_machine.proofs.Truth.{row_of_same}
-use Rattle.dn_remain.specs.Vanished.Node.{Node, Was, is_over, ran}
+use Rattle.dn_machine.specs.Running.{is_over}
+use Rattle.dn_remain.specs.Vanished.Node.{Node, Was, ran}
 use Rattle.dn_remain.specs.Vanished.Promise.{lacks_at}
 use Rattle.dn_remain.specs.Vanished.Steps.{IsRun}
 use Rattle.dn_remain.specs.Vanished.Commands.{Holder, seen, past_seen, Had, AreHanded}
@@ -42,9 +43,7 @@ module _ (limits : Limits) (history : List (ℕ → Holder TicCmd)) (handed : Ar
             ∙ f) in
             let j = row_held limits.players limits.ahead history handed run z p tic v l y b
             (over z v y b p l ∙ (sym e ∙ f)) in
-            let k : get_or (u.held p) tic blank ≡ get_or (v.held p) tic blank =
-            same_Some _ _ (sym (slice_get-get_or (u.held p) tic blank i)
-            ∙ (same_held history handed x z p tic u v w y i j ∙ slice_get-get_or (v.held p) tic blank j)) in
+            let k : get_or (u.held p) tic blank ≡ get_or (v.held p) tic blank = grind (arith, same_Some, slice_get-get_or, same_held) in
             cond-false (is_over (u.ends p) tic) None (Some (get_or (u.held p) tic blank)) f
             ∙ (ap (λ (c : TicCmd). Some c) k
             ∙ sym (cond-false (is_over (v.ends p) tic) None (Some (get_or (v.held p) tic blank)) (sym e ∙ f)))
@@ -61,10 +60,7 @@ module _ (limits : Limits) (history : List (ℕ → Holder TicCmd)) (handed : Ar
     (long' : length v.rows ≡ length news)
     (before : (tic : ℕ) → tic < length olds → get_or olds tic [] ≡ row_had limits u tic) where
   old_row : (tic : ℕ) → tic < length olds → get_or olds tic [] ≡ row_had limits v tic
-  old_row tic l =
-      let more : length u.rows ≤ length v.rows = grown.more in
-      before tic l ∙ same_row limits history handed run q q u v w y tic (omega arith) (omega arith)
-      (λ p m. sym (grown.same tic p (omega arith)))
+  old_row tic l = grind (arith, length, same_row)
 
   pub rows_are : ((news ≡ olds) ⊎ (news ≡ olds ++ row_had limits v (length olds) ∷ [])) → (tic : ℕ)
       → tic < length news → get_or news tic [] ≡ row_had limits v tic
@@ -76,10 +72,7 @@ module _ (limits : Limits) (history : List (ℕ → Holder TicCmd)) (handed : Ar
       let d = length_push olds (row_had limits v (length olds)) in
       ap (λ (rows : List (List (Option Move))). get_or rows tic []) e ∙ elim (cases_lt tic (length olds)) [
         | inl m ↦ get_or_append_left olds (row_had limits v (length olds) ∷ []) [] tic m ∙ old_row tic m
-        | inr m ↦
-            let last : length olds ≡ tic = omega arith in
-            get_or_push olds (row_had limits v (length olds)) [] tic last
-            ∙ ap (λ (i : ℕ). row_had limits v i) last
+        | inr m ↦ grind (arith, get_or_push)
       ]
 
 -- one state of a player's node, and the one in which it made a command
@@ -87,7 +80,4 @@ pub made_row : (players ahead : ℕ) (history : List (ℕ → Node)) → IsKept 
     → (p back r : ℕ) (v maker : Node)
     → Was history p v → Was history p maker → back < ran maker → back < ran v
     → lacks_at maker back r ≡ lacks_at v back r
-made_row players ahead history kept p back r v maker w y i j = elim (kept.pairs p maker v y w) [
-  | inl order ↦ sym (order.grown.same back r i)
-  | inr order ↦ order.grown.same back r j
-]
+made_row players ahead history kept p back r v maker w y i j = grind arith

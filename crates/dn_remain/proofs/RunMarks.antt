@@ -3,7 +3,7 @@ use Rattle.std.proofs.Common.{◌≡◌, ◌≢◌, ℕ, ℤ, ◌+◌, ◌-◌, 
 use Rattle.std.specs.Prelude.{◌&&◌, Bool, true, false, not, if◌then◌else◌, Option, Some, None}
 use Rattle.std.specs.List.{prefix_len, take_while}
 use Rattle.std.specs.Option.{option_map}
-use Rattle.std.proofs.lemmas.Bool.{both_ways, cases_eq, cases_lt, cond-true, cond-false, and_from, lt-ltb, le-ltb}
+use Rattle.std.proofs.lemmas.Bool.{both_ways, cases_lt, cond-true, cond-false, and_from, lt-ltb, le-ltb}
 use Rattle.std.proofs.lemmas.List.{length_push, take-append-le}
 use Rattle.std.proofs.lemmas.List.Folds.{length-prefix_len}
 use Rattle.std.proofs.lemmas.List.Sums.{prefix_len_stops}
@@ -17,13 +17,12 @@ use Rattle.dn_machine.specs.declared.answers.Cause.TheVariants as failed
 use Rattle.dn_machine.specs.declared.answers.Phase.TheVariants.{Playing}
 use Rattle.dn_machine.specs.Game.{Game, own_marks}
 use Rattle.dn_machine.specs.Node as machine
-use Rattle.dn_machine.specs.Node.{blank, ends_of, got, made, held_at, own_mark, lowest, is_whole, demo_rows}
-use Rattle.dn_machine.specs.Running.{tic_limit, full_at, is_absent, row_held, marks_kept, on_run_but}
+use Rattle.dn_machine.specs.Node.{blank, held_at, own_mark, is_whole, demo_rows}
+use Rattle.dn_machine.specs.Running.{tic_limit, full_at, is_absent, row_held, marks_kept, on_run_but, is_over}
 use Rattle.dn_machine.specs.Worlds.{Rules, mark_in, world_after}
 use Rattle.dn_machine.proofs.Calls.{ended_by, ran_on}
 use Rattle.dn_machine.proofs.Demos.{front_short, front_stops, whole_more}
 use Rattle.dn_machine.proofs.Put.{put_at, put_off}
-use Rattle.dn_remain.specs.Vanished.Node.{is_over}
 use Rattle.dn_remain.specs.Vanished.Commands.{Holder, Had, seen, past_seen}
 use Rattle.dn_remain.proofs.Vanished.Windows.{roomy}
 use Rattle.dn_remain.specs.Seen.{end_seen, now_of}
@@ -59,31 +58,16 @@ module _ {S : Type 0} (rules : Rules S) (settings : Settings) (game : Game) (gon
   ended_keeps : (cause : Cause)
       → (rules.ahead ≤ 12 → (player : ℕ) (was should : ℤ) → cause ≢ failed.Inconsistent player was should)
       → IsMarked rules settings q (ended_by rules.limits q (game.nodes q) cause)
-  ended_keeps cause other = record {
-    counted = (all_marked q).counted;
-    own = (all_marked q).own;
-    told = (all_marked q).told;
-    consistent = λ low player was should e. other low player was should (cc);
-    room = (all_marked q).room;
-    most = (all_marked q).most;
-  }
+  ended_keeps cause other = grind arith
 
   -- what it was told before stays
   mark_stays : (t : ℕ) → t < tic + 12 → own_mark (game.nodes q) q t ≡ own_mark new q t
-  mark_stays t l = elim (cases_lt t 12) [
-    | inl m ↦ cond-true (ltb t 12) (pos 0) ((game.nodes q).marks (t - 12) q) (lt-ltb t 12 m)
-        ∙ sym (cond-true (ltb t 12) (pos 0) (new.marks (t - 12) q) (lt-ltb t 12 m))
-    | inr m ↦ cond-false (ltb t 12) (pos 0) ((game.nodes q).marks (t - 12) q) (le-ltb t 12 m)
-        ∙ (ap (λ (f : ℕ → ℤ). f q) (sym (put_off (game.nodes q).marks tic (t - 12)
-        (marks_kept rules.limits (game.nodes q) (own_marks rules (game.nodes q))) (λ e. absurd (omega arith))))
-        ∙ sym (cond-false (ltb t 12) (pos 0) (new.marks (t - 12) q) (le-ltb t 12 m)))
-  ]
+  mark_stays t l = grind (arith, cond-true, ltb, pos, lt-ltb, new, cond-false, le-ltb, put_off, tic)
 
   -- the world before a tic that was run stays
   world_stays : (t : ℕ) → t ≤ tic
       → world_after rules settings (game.nodes q).rows t ≡ world_after rules settings new.rows t
-  world_stays t l = world_same rules settings (game.nodes q).rows new.rows t
-      (sym (take-append-le t (game.nodes q).rows (row_held rules.limits (game.nodes q) ∷ []) l))
+  world_stays t l = grind (arith, world_same, new, take-append-le)
 
   -- the marks that it is told are those of its own world
   told_now : (game.nodes q).phase ≡ Playing → (p : ℕ) → p < rules.players
@@ -120,15 +104,7 @@ module _ {S : Type 0} (rules : Rules S) (settings : Settings) (game : Game) (gon
     room_kept : (whole : Bool) → is_whole rules.players (row_held rules.limits (game.nodes q)) ≡ whole
         → (length (demo_rows rules.players new) ≤ rules.capacity) × (rules.capacity ≤ tic_limit
         → machine.ran new ≤ tic_limit)
-    room_kept true e =
-        let a = (all_marked q).room in
-        let b = whole_before e in
-        let c = front_short (is_whole rules.players) new.rows in
-        let d = long in
-        let at : tic ≢ rules.capacity = λ same. free (same
-        ∙ sym (cond-true (is_whole rules.players (row_held rules.limits
-        (game.nodes q))) rules.capacity tic_limit e)) in
-        (omega arith, λ cap. omega arith)
+    room_kept true e = grind (arith, whole_before, front_short, new, long, tic, cond-true)
     room_kept false e =
         let a = (all_marked q).room in
         let b = ap (length {A = List (Option Move)})
@@ -149,18 +125,7 @@ module _ {S : Type 0} (rules : Rules S) (settings : Settings) (game : Game) (gon
           counted = (all_marked q).counted;
           own = λ low t l. (all_marked q).own low t l
               ∙ ap (λ (z : ℤ). made_by (take (t + 1) (game.nodes q).inputs) z) (mark_stays t (omega arith));
-          told = λ p t l m o.
-              let c = long in
-              elim (cases_eq t tic) [
-                | inr n ↦ ap (λ (f : ℕ → ℤ). f p) (put_off (game.nodes q).marks tic t _ n)
-                    ∙ ((all_marked q).told p t l (omega arith) o
-                    ∙ ap (λ (s : S). rules.physics.mark s p) (world_stays t (omega arith)))
-                | inl e ↦ ap (λ (f : ℕ → ℤ). f p) (put_at (game.nodes q).marks tic t _ e)
-                    ∙ (told_now plays p l (ap (λ (i : ℕ). is_over (end_seen (game.nodes q) p) i) (sym e) ∙ o)
-                    ∙ (ap (λ (i : ℕ). rules.physics.mark (world_after rules settings (game.nodes q).rows i) p)
-                    (sym e)
-                    ∙ ap (λ (s : S). rules.physics.mark s p) (world_stays t (omega arith))))
-              ];
+          told = grind (arith, long, put_off, world_stays, put_at, told_now);
           consistent = (all_marked q).consistent;
           room = rooms.0;
           most = rooms.1;

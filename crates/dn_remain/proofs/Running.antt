@@ -8,13 +8,12 @@ use Rattle.dn_tic.specs.declared.command.Move.{Move}
 use Rattle.dn_machine.specs.declared.answers.Cause.{Cause}
 use Rattle.dn_machine.specs.declared.answers.Phase.TheVariants.{Playing, Ended}
 use Rattle.dn_machine.specs.Node as machine
-use Rattle.dn_machine.specs.Node.{ends_of, got, held_at, is_ended, has_left, lowest}
+use Rattle.dn_machine.specs.Node.{ends_of, got, held_at, is_ended, lowest}
 use Rattle.dn_machine.specs.Game.{Game, with_node}
 use Rattle.dn_machine.specs.Worlds.{Rules}
-use Rattle.dn_machine.specs.Running.{is_absent, is_awaited, row_held, on_quit, on_run_but}
+use Rattle.dn_machine.specs.Running.{is_absent, is_awaited, row_held, on_quit, on_run_but, is_over}
 use Rattle.dn_machine.proofs.Calls.{ran_on, quit_cases}
 use Rattle.dn_machine.proofs.Marks.{lowest_none_each}
-use Rattle.dn_remain.specs.Vanished.Node.{is_over}
 use Rattle.dn_remain.specs.Vanished.Steps.{Run, Leave}
 use Rattle.dn_remain.specs.Vanished.Commands.{Holder, seen, past_seen}
 use Rattle.dn_remain.proofs.Vanished.Invariant.{IsKept}
@@ -32,26 +31,26 @@ module _ {S : Type 0} (known : ℕ → Holder TicCmd → Type 0) (rules : Rules 
   kept : IsKept rules.players (past_seen (now_of game gone ∷ older))
   kept = always rules.players rules.ahead (past_seen (now_of game gone ∷ older)) follows.run
 
-  self : IsFit rules.limits game.nodes gone q (game.nodes q)
-  self = fit_self known rules game gone older follows q
+  self : IsFit rules.limits game.nodes gone q (gone q) (game.nodes q)
+  self = fit_self follows q
 
   -- a node that ends has left, if it has played
   ends : (cause : Cause) → is_ended (game.nodes q).phase ≡ false
       → Went known rules (with_node game q (record (game.nodes q) { phase = Ended cause })) gone
   ends cause e =
       let here = not_left (game.nodes q) e in
-      let fit : IsFit rules.limits game.nodes gone q (record (game.nodes q) { phase = Ended cause }) =
+      let fit : IsFit rules.limits game.nodes gone q (gone q) (record (game.nodes q) { phase = Ended cause }) =
       record { ends = self.ends; endless = self.endless; resend = self.resend; rows = inl refl } in
       elim (cases_Bool (game.nodes q).played) [
         | inr f ↦ (
           older,
-          stays known rules game gone older follows q (record (game.nodes q) { phase = Ended cause }) fit
+          stays follows q (record (game.nodes q) { phase = Ended cause }) fit
               (same_holder _ (holder_of (game.nodes q) (gone q)) refl refl refl
               (ap (λ (b : Bool). b && true) f ∙ sym here) refl),
         )
         | inl t ↦ (
           now_of game gone ∷ older,
-          steps known rules game gone older follows q (record (game.nodes q) { phase = Ended cause }) fit mine here Leave
+          steps follows q (record (game.nodes q) { phase = Ended cause }) fit mine here Leave
               (same_node (seen (holder_of (record (game.nodes q) { phase = Ended cause }) (gone q))) _ refl refl refl
               (ap (λ (b : Bool). b && true) t) refl)
               (inl refl) (λ p n. inl refl),
@@ -68,11 +67,7 @@ module _ {S : Type 0} (known : ℕ → Holder TicCmd → Type 0) (rules : Rules 
         let a = (kept.sound q (seen (now_of game gone q)) (inl refl)).ahead p l none.0 in
         elim (cases_Option (ends_of (game.nodes q) p)) [
           | inl e ↦ ap (λ (o : Option ℕ). is_over o (machine.ran (game.nodes q))) (e ∙ sym none.0)
-          | inr e ↦
-              let b = none.1 e.0 e.1 in
-              ap (λ (o : Option ℕ). is_over o (machine.ran (game.nodes q))) e.1
-              ∙ (lt-leb e.0 (machine.ran (game.nodes q)) (omega arith)
-              ∙ sym (ap (λ (o : Option ℕ). is_over o (machine.ran (game.nodes q))) none.0))
+          | inr e ↦ grind (arith, lt-leb)
         ]
   ]
 
@@ -106,7 +101,7 @@ module _ {S : Type 0} (known : ℕ → Holder TicCmd → Type 0) (rules : Rules 
         let more : machine.ran (ran_on rules.limits q (game.nodes q) marks) ≡ suc (machine.ran (game.nodes q)) =
         omega (arith, length_push (game.nodes q).rows (row_held rules.limits (game.nodes q))) in (
           now_of game gone ∷ older,
-          steps known rules game gone older follows q (ran_on rules.limits q (game.nodes q) marks)
+          steps follows q (ran_on rules.limits q (game.nodes q) marks)
               (record { ends = self.ends; endless = self.endless; resend = self.resend; rows = inr row_is }) mine
               (not_left (game.nodes q) (ap is_ended plays)) Run (
                 has,
@@ -119,7 +114,7 @@ module _ {S : Type 0} (known : ℕ → Holder TicCmd → Type 0) (rules : Rules 
         )
 
   same : Went known rules (with_node game q (game.nodes q)) gone
-  same = (older, stays known rules game gone older follows q (game.nodes q) self refl)
+  same = (older, stays follows q (game.nodes q) self refl)
 
   pub runs : (but : ℕ → Bool) (marks : ℕ → ℤ)
       → Went known rules (with_node game q (on_run_but rules.limits but (game.nodes q) marks).0) gone

@@ -1,11 +1,9 @@
 -- A packet that is sent carries a piece of what its sender has.
 use Rattle.std.proofs.Common.{◌≡◌, ◌≢◌, ℕ, ◌<◌, ◌≤◌, refl, sym, ◌∙◌, ap, subst, arith, inl, inr, List, ◌∷◌, length, drop}
 use Rattle.std.specs.Prelude.{Bool, true, false, Option, Some, None}
-use Rattle.std.proofs.lemmas.Bool.{cases_eq}
 use Rattle.std.proofs.lemmas.List.{length-take, length-drop}
 use Rattle.dn_tic.specs.declared.command.TicCmd.{TicCmd}
 use Rattle.dn_setup.specs.Settings.{Settings}
-use Rattle.dn_machine.specs.declared.peer.Peer.{Peer}
 use Rattle.dn_machine.specs.Flight.{Kind, Play, Exit, Flight}
 use Rattle.dn_machine.specs.Limits.{Limits}
 use Rattle.dn_machine.specs.Node as machine
@@ -14,9 +12,8 @@ use Rattle.dn_machine.specs.Game.{Game, with_node, posted}
 use Rattle.dn_machine.specs.Sending.{first_sent, last_sent, left_kind, set_up_flight, commands_flight, request_to, after_sent, on_send}
 use Rattle.dn_machine.specs.Worlds.{Rules}
 use Rattle.dn_machine.proofs.Calls.{send_cases}
-use Rattle.dn_machine.proofs.Put.{slice_get_push}
+use Rattle.dn_machine.proofs.Put.{slice_get_push, put_at, put_off, same_functions}
 use Rattle.dn_remain.specs.Vanished.Commands.{Holder}
-use Rattle.dn_remain.proofs.Vanished.Put.{put_at, put_off, same_functions}
 use Rattle.dn_remain.specs.Seen.{reached, end_seen, rows_to, holder_of, now_of}
 use Rattle.dn_remain.proofs.Pieces.{take_long}
 use Rattle.dn_remain.proofs.Seeing.{same_holder}
@@ -61,28 +58,15 @@ module _ {S : Type 0} (known : ℕ → Holder TicCmd → Type 0) (rules : Rules 
   after apart =
       let node : machine.Node = game.nodes q in
       let sent : machine.Node = after_sent rules.limits q (game.nodes q) to in
-      let peer_is : (p : ℕ) → ends_of (after_sent rules.limits q (game.nodes q) to) p ≡ ends_of (game.nodes q) p =
-      λ p. elim (cases_eq p to) [
-        | inl e ↦ ap (λ (o : Peer). o.end) (put_at (game.nodes q).peers to p _ e) ∙ ap (ends_of (game.nodes q)) (sym e)
-        | inr n ↦ ap (λ (o : Peer). o.end) (put_off (game.nodes q).peers to p _ n)
-      ] in
+      let peer_is : (p : ℕ) → ends_of (after_sent rules.limits q (game.nodes q) to) p ≡ ends_of (game.nodes q) p = grind (arith, put_at, put_off) in
       let ends : end_seen (after_sent rules.limits q (game.nodes q) to) ≡ end_seen (game.nodes q) =
       same_functions (λ p. ap (λ (o : Option ℕ). reached (length ((game.nodes q).held p)) o) (peer_is p)) in
-      stays known rules game gone older follows q (after_sent rules.limits q (game.nodes q) to)
+      stays follows q (after_sent rules.limits q (game.nodes q) to)
       (record {
         ends = λ p e s f. follows.ends q p e (sym (peer_is p) ∙ s) f;
         endless = peer_is q ∙ follows.endless q;
         rows = inl refl;
-        resend = λ r. elim (cases_eq r to) [
-          | inl e ↦ subst (λ (i : ℕ). ((after_sent rules.limits q (game.nodes q) to).peers i).resend ≤ made q (game.nodes q))
-              (sym e) (next_low rules.limits q (game.nodes q) to)
-          | inr n ↦
-              let a : ((after_sent rules.limits q (game.nodes q) to).peers r).resend ≡ ((game.nodes q).peers r).resend =
-              ap (λ (o : Peer). o.resend) (put_off (game.nodes q).peers to r _ n) in
-              let b : ((game.nodes q).peers r).resend ≤ made q (after_sent rules.limits q (game.nodes q) to) =
-              follows.resend q r in
-              omega arith
-        ];
+        resend = grind (arith, next_low, put_off);
       })
       (same_holder (holder_of (after_sent rules.limits q (game.nodes q) to) (gone q)) _ refl ends refl refl
       (ap (λ (e : ℕ → Option ℕ). rows_to e (machine.ran (game.nodes q))) ends))
@@ -121,7 +105,7 @@ module _ {S : Type 0} (known : ℕ → Holder TicCmd → Type 0) (rules : Rules 
   )
 
   same : Follows known rules (with_node game q (game.nodes q)) gone older
-  same = stays known rules game gone older follows q (game.nodes q) (fit_self known rules game gone older follows q) refl
+  same = stays follows q (game.nodes q) (fit_self follows q) refl
 
   -- a set-up packet carries nothing
   sets_up : (q ≢ to) → (o : Option Settings)

@@ -1,17 +1,16 @@
 -- Every node that has started has the key player's settings, whoever was given up.
-use Rattle.std.proofs.Common.{◌≡◌, ℕ, refl, sym, ◌∙◌, ap, arith}
+use Rattle.std.proofs.Common.{◌≡◌, ℕ, refl, ap, arith}
 use Rattle.std.specs.Prelude.{Bool, ℤ, true, Option, Some}
 use Rattle.std.proofs.lemmas.Bool.{cond_both}
 use Rattle.std.proofs.lemmas.Option.{none-some}
 use Rattle.dn_setup.specs.Settings.{Settings}
-use Rattle.dn_setup.specs.Gathered.{all_noted}
 use Rattle.dn_tic.specs.declared.input.Input.{Input}
 use Rattle.dn_machine.specs.declared.answers.Heard.{Heard}
 use Rattle.dn_machine.specs.declared.answers.Phase.{Phase}
 use Rattle.dn_machine.specs.declared.answers.Phase.TheVariants.{Listening, Gathering, Playing, Ended}
 use Rattle.dn_machine.specs.Flight.{SetUp, Flight}
 use Rattle.dn_machine.specs.Limits.{Limits}
-use Rattle.dn_machine.specs.Node.{Node, put}
+use Rattle.dn_machine.specs.Node.{Node}
 use Rattle.dn_machine.specs.Building.{on_build}
 use Rattle.dn_machine.specs.Sending.{set_up_flight, on_send}
 use Rattle.dn_machine.specs.Hearing.{on_packet}
@@ -30,18 +29,11 @@ pub record IsSet (settings : Settings) (node : Node) : Type 0 where
 abbrev pub Carries : Settings → Flight → Type 0
 Carries settings flight = (s : Settings) → flight.kind ≡ SetUp s → s ≡ settings
 
-phase_apart : (phase : Phase) → phase ≡ Gathering → (phase ≡ Playing) → ⊥
-phase_apart phase e f = absurd (cc)
-
 -- with another phase, that is not Gathering
 ended_set : (settings : Settings) (node new : Node) → IsSet settings node → new.settings ≡ node.settings
     → new.played ≡ node.played → (new.phase ≡ Gathering → node.phase ≡ Gathering)
     → (new.phase ≡ Playing → node.phase ≡ Playing) → IsSet settings new
-ended_set settings node new h s p e f = record {
-  gathers = λ g. s ∙ h.gathers (e g);
-  played = λ t. s ∙ h.played (sym p ∙ t);
-  plays = λ g. p ∙ h.plays (f g);
-}
+ended_set settings node new h s p e f = grind arith
 
 -- a node that starts
 started_set : (settings : Settings) (new : Node) → new.settings ≡ Some settings → new.played ≡ true → IsSet settings new
@@ -87,12 +79,7 @@ module _ (settings : Settings) (limits : Limits) (me : ℕ) (node : Node) (h : I
     starts = λ s listens kind. started_set settings _ (ap (λ (i : Settings). Some i) (carries s kind)) refl;
     completes = λ word g all. started_set settings _ (h.gathers g) refl;
     notes = λ word g some. ended_set settings node _ h refl refl (λ e. e) (λ e. e);
-    commands = λ plays. record {
-      dropped = λ number why. h;
-      stale = λ l. ended_set settings node _ h refl refl (λ g. g) (λ g. g);
-      gap = λ l. ended_set settings node _ h refl refl (λ g. g) (λ g. g);
-      takes = λ first high. ended_set settings node _ h refl refl (λ g. g) (λ g. g);
-    };
+    commands = grind (arith, ended_set);
     requests = λ ended. ended_set settings node _ h refl refl (λ g. g) (λ g. g);
   })
 
@@ -100,10 +87,7 @@ module _ (settings : Settings) (limits : Limits) (me : ℕ) (node : Node) (h : I
   set_noted player Listening e = h
   set_noted player Playing e = h
   set_noted player (Ended cause) e = h
-  set_noted player Gathering e = cond_both (all_noted limits.players (put node.noted player true)) _ _
-      (λ (r : Node × Heard). IsSet settings r.0)
-      (λ all. started_set settings _ (h.gathers e) refl)
-      (λ some. ended_set settings node _ h refl refl (λ g. g) (λ g. g))
+  set_noted player Gathering e = grind (arith, cond_both, started_set, ended_set)
 
   pub set_settled : (gone : ℕ → Bool) (decided : Report) → IsSet settings (settled node gone decided)
   set_settled gone decided = ended_set settings node _ h refl refl (λ g. g) (λ g. g)

@@ -19,7 +19,7 @@ use Rattle.dn_machine.proofs.Put.{put_at, put_off, slice_get_push}
 use Rattle.dn_remain.specs.Vanished.Decisions.{on_decision}
 use Rattle.dn_remain.specs.Wary.{Report, Wary, report_of, or_fresh, after_news, with_gone, with_report, on_give_up, on_report}
 use Rattle.dn_remain.specs.Remaining as remaining
-use Rattle.dn_remain.specs.Remaining.{Telling, Remaining, opening_remaining, wary_of, with_wary, unless, with_telling, after_run, after_event}
+use Rattle.dn_remain.specs.Remaining.{Telling, Remaining, wary_of, with_wary, unless, with_telling, after_run, after_event}
 use Rattle.dn_remain.specs.RunsRemain.{NextOwn, NextRemain}
 use Rattle.dn_remain.specs.declared.events.RemainEvent.{RemainEvent}
 use Rattle.dn_remain.specs.declared.events.RemainEvent.TheVariants.{Own, GiveUp, Tell, Hear}

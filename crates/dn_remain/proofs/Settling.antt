@@ -9,11 +9,13 @@ use Rattle.dn_tic.specs.declared.command.TicCmd.{TicCmd}
 use Rattle.dn_machine.specs.declared.peer.Peer.{Peer}
 use Rattle.dn_machine.specs.Game.{Game, with_node}
 use Rattle.dn_machine.specs.Node as machine
-use Rattle.dn_machine.specs.Node.{ends_of, made, has_left}
+use Rattle.dn_machine.specs.Node.{ends_of, has_left, put}
 use Rattle.dn_machine.specs.Worlds.{Rules}
-use Rattle.dn_remain.specs.Vanished.Node.{Node, put, is_over, Was}
+use Rattle.dn_machine.proofs.Put.{same_functions}
+use Rattle.dn_machine.specs.Running.{is_over}
+use Rattle.dn_remain.specs.Vanished.Node.{Node}
 use Rattle.dn_remain.specs.Vanished.Reports.{HasHeard, decided}
-use Rattle.dn_remain.specs.Vanished.Calls.{is_report_in, is_heard, can_decide, report_or, AreTrue}
+use Rattle.dn_remain.specs.Vanished.Calls.{is_heard, can_decide, report_or, AreTrue}
 use Rattle.dn_remain.specs.Vanished.Steps.{Decide}
 use Rattle.dn_remain.specs.Vanished.Commands.{Holder, seen, past_seen, Had}
 use Rattle.dn_remain.specs.Vanished.Decisions.{longest, told, on_decision}
@@ -23,13 +25,12 @@ use Rattle.dn_remain.proofs.Vanished.Deciding.{old_ends}
 use Rattle.dn_remain.proofs.Vanished.Handing.{was_seen}
 use Rattle.dn_remain.proofs.Vanished.Lists.{counts, own_below, pieces}
 use Rattle.dn_remain.proofs.Vanished.Mild.{cases_Option}
-use Rattle.dn_remain.proofs.Vanished.Put.{same_functions}
 use Rattle.dn_remain.proofs.Vanished.Tests.{bounded, every_at, heard_from}
-use Rattle.dn_remain.specs.Seen.{reached, end_seen, rows_to, holder_of, now_of}
+use Rattle.dn_remain.specs.Seen.{reached, end_seen, holder_of, now_of}
 use Rattle.dn_remain.specs.Wary.{Report, or_fresh, settled}
 use Rattle.dn_remain.proofs.Seeing.{same_holder, length_rows, rows_alike, reached_some}
 use Rattle.dn_remain.proofs.Known.{Follows}
-use Rattle.dn_remain.proofs.Giving.{steps_set}
+use Rattle.dn_remain.proofs.Following.{steps_set}
 
 -- what is told, or nothing
 seen_or : (o : Option Report) → report_or (option_map seen o) ≡ seen (or_fresh o)
@@ -49,14 +50,8 @@ module _ {S : Type 0} (known : ℕ → Holder TicCmd → Type 0) (rules : Rules 
   kept : IsKept rules.players (past_seen (now_of game gone ∷ older))
   kept = always rules.players rules.ahead (past_seen (now_of game gone ∷ older)) follows.run
 
-  heard : ℕ → Report
-  heard r = or_fresh (newest r)
-
   known_seen : AreTrue (past_seen (now_of game gone ∷ older)) (λ r. option_map seen (newest r))
-  known_seen r node h =
-      let k = seen_some (newest r) node h in
-      subst (λ (n : Node). Was (past_seen (now_of game gone ∷ older)) r n) (sym k.2)
-      (was_seen (now_of game gone ∷ older) r k.0 (true_newest r k.0 k.1))
+  known_seen r node h = grind (arith, seen_some, was_seen)
 
   has_heard : HasHeard rules.players (past_seen (now_of game gone ∷ older)) q (seen (holder_of (game.nodes q) (gone q)))
       (λ r. seen (or_fresh (newest r)))
@@ -74,10 +69,7 @@ module _ {S : Type 0} (known : ℕ → Holder TicCmd → Type 0) (rules : Rules 
     | inl e ↦ absurd (elim (or_cases (eqb r q) _ (every_at rules.players
         (is_heard rules.players q (seen (holder_of (game.nodes q) (gone q))) (λ s. option_map seen (newest s))) r can l)) [
           | inl i ↦ n (eqb-true r q i)
-          | inr a ↦ elim (or_cases (gone q r) _ a) [
-            | inl i ↦ both_ways (gone q r) o i
-            | inr b ↦ true≢false (sym b ∙ ap (λ (i : Option Report). is_report_in rules.players (gone q) (option_map seen i)) e)
-          ]
+          | inr a ↦ grind (arith, or_cases, both_ways, true≢false)
         ])
   ]
 
@@ -101,11 +93,7 @@ module _ {S : Type 0} (known : ℕ → Holder TicCmd → Type 0) (rules : Rules 
   end_at p = elim (cases_Bool (gone q p)) [
     | inl t ↦ ap (λ (o : Option ℕ). reached (length (after.held p)) o) (end_in p t ∙ longest_is p t)
         ∙ (reached_some (length (after.held p)) (length (after.held p)) (omega arith) ∙ sym (longest_is p t))
-    | inr f ↦ ap (λ (o : Option ℕ). reached (length (after.held p)) o) (end_out p f)
-        ∙ (ap (λ (cs : List TicCmd). reached (length cs) (ends_of (game.nodes q) p))
-        (cond-false (gone q p) (longest rules.players (told q (holder_of (game.nodes q) (gone q)) (λ r. or_fresh (newest r)) p))
-        ((game.nodes q).held p) f)
-        ∙ sym (cond-false (gone q p) _ (end_seen (game.nodes q) p) f))
+    | inr f ↦ grind (arith, end_out, cond-false)
   ]
 
   counted : seen after ≡ decided rules.players q (seen (holder_of (game.nodes q) (gone q))) (λ r. seen (or_fresh (newest r)))
@@ -140,38 +128,23 @@ module _ {S : Type 0} (known : ℕ → Holder TicCmd → Type 0) (rules : Rules 
   ]
 
   holder_is : holder_of new (gone q) ≡ after
-  holder_is = same_holder (holder_of new (gone q)) after refl (same_functions end_at) refl refl
-      (ap (λ (e : ℕ → Option ℕ). rows_to e (machine.ran (game.nodes q))) (same_functions end_at)
-      ∙ rows_alike after.ends (end_seen (game.nodes q)) (machine.ran (game.nodes q)) over_same)
+  holder_is = grind (arith, same_holder, new, after, same_functions, end_at, rows_alike, over_same)
 
   own_gone : gone q q ≡ false
   own_gone = (kept.sound q (seen (now_of game gone q)) (inl refl)).own
 
   held_own : new.held q ≡ (game.nodes q).held q
-  held_own = cond-false (gone q q)
-      (longest rules.players (told q (holder_of (game.nodes q) (gone q)) (λ r. or_fresh (newest r)) q))
-      ((game.nodes q).held q) own_gone
+  held_own = grind (arith, cond-false, own_gone)
 
   pub settles : Follows known rules (with_node game q (settled (game.nodes q) (gone q)
       (on_decision rules.players q (holder_of (game.nodes q) (gone q)) (λ r. or_fresh (newest r)))))
       (put gone q (gone q)) (now_of game gone ∷ older)
-  settles = steps_set known rules game gone older follows q mine here new (gone q)
-      (λ p e s f. follows.ends q p e (sym (end_out p f) ∙ s) f)
-      (end_out q own_gone ∙ follows.endless q)
-      (λ to.
-      let a = follows.resend q to in
-      let b = ap (length {A = TicCmd}) held_own in
-      elim (cases_Bool (gone q to)) [
-        | inl t ↦
-            let c : (new.peers to).resend ≡ ((game.nodes q).peers to).resend =
-            ap (λ (o : Peer). o.resend) (cond-true (gone q to) _ ((game.nodes q).peers to) t) in
-            omega arith
-        | inr f ↦
-            let c : (new.peers to).resend ≡ ((game.nodes q).peers to).resend =
-            ap (λ (o : Peer). o.resend) (cond-false (gone q to) _ ((game.nodes q).peers to) f) in
-            omega arith
-      ])
-      (inl refl)
+  settles = steps_set follows q (gone q) new (record {
+    ends = λ p e s f. follows.ends q p e (sym (end_out p f) ∙ s) f;
+    endless = end_out q own_gone ∙ follows.endless q;
+    rows = inl refl;
+    resend = grind (arith, held_own, cond-true, cond-false);
+  }) mine here
       Decide ((λ r. seen (or_fresh (newest r))), has_heard, ap (λ (h : Holder TicCmd). seen h) holder_is ∙ counted)
       (inl held_own)
       (λ p n. elim (pieces rules.players q (holder_of (game.nodes q) (gone q)) (λ r. or_fresh (newest r)) p mine) [

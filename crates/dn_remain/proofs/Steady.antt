@@ -1,8 +1,8 @@
 -- No check fails among those who remain, and nothing is dropped but for a reason.
-use Rattle.std.proofs.Common.{◌≡◌, ℕ, ℤ, zero, suc, ◌+◌, ◌<◌, ◌≤◌, leb, refl, sym, ◌∙◌, ap, arith, inl, inr, List, ◌∷◌, length}
-use Rattle.std.specs.Prelude.{◌⊎◌, Bool, true, false, not, Option, Some, None, slice_get}
+use Rattle.std.proofs.Common.{◌≡◌, ℕ, ℤ, zero, suc, ◌+◌, ◌<◌, ◌≤◌, leb, refl, sym, ◌∙◌, arith, List, ◌∷◌, length}
+use Rattle.std.specs.Prelude.{◌⊎◌, Bool, true, false, Option, Some, None, slice_get}
 use Rattle.std.specs.Option.{option_map}
-use Rattle.std.proofs.lemmas.Bool.{cases_Bool, and_parts, true≢false}
+use Rattle.std.proofs.lemmas.Bool.{and_parts, true≢false}
 use Rattle.std.proofs.lemmas.Option.{none-some}
 use Rattle.dn_tic.specs.declared.command.TicCmd.{TicCmd}
 use Rattle.dn_setup.specs.Settings.{Settings}
@@ -10,8 +10,8 @@ use Rattle.dn_machine.specs.declared.answers.Ran.TheVariants.{Waiting}
 use Rattle.dn_machine.specs.Drops as drops
 use Rattle.dn_machine.specs.Limits.{Limits, IsWindow}
 use Rattle.dn_machine.specs.Node as machine
-use Rattle.dn_machine.specs.Node.{ends_of, got, is_ended, has_left, lowest}
-use Rattle.dn_machine.specs.Running.{is_over, is_absent, is_awaited, on_run, on_run_but}
+use Rattle.dn_machine.specs.Node.{got, lowest}
+use Rattle.dn_machine.specs.Running.{is_awaited, on_run, on_run_but}
 use Rattle.dn_machine.specs.Worlds.{Rules}
 use Rattle.dn_remain.specs.Vanished.Calls.{is_newer}
 use Rattle.dn_remain.specs.Vanished.Node.{Within}
@@ -95,21 +95,7 @@ module _ {S : Type 0} (rules : Rules S) (settings : Settings) (all : Remaining) 
   -- whoever has decided waits for none whom it has given up
   not_awaited : (q p : ℕ) → all.gone q p ≡ true → is_awaited (all.game.nodes q) p ≡ true
       → can_settle rules.limits q (wary_of all q) ≡ false
-  not_awaited q p given awaited = elim (cases_Bool (can_settle rules.limits q (wary_of all q))) [
-    | inr cannot ↦ cannot
-    | inl can ↦
-        let parts = and_parts (not (is_absent (all.game.nodes q) p))
-        (leb (got (all.game.nodes q) p) (machine.ran (all.game.nodes q))) awaited in
-        let knows = h.settled q can p given in
-        elim (reached_cases (got (all.game.nodes q) p) (ends_of (all.game.nodes q) p)) [
-          | inl none ↦ absurd (none-some (got (all.game.nodes q) p) (sym none.0 ∙ knows))
-          | inr some ↦
-              let end : ends_of (all.game.nodes q) p ≡ Some (got (all.game.nodes q) p) = some.1 ∙ (sym some.2
-              ∙ knows) in
-              absurd (true≢false (sym parts.0 ∙ ap not
-              (ap (λ (o : Option ℕ). is_over o (machine.ran (all.game.nodes q))) end ∙ parts.1)))
-        ]
-  ]
+  not_awaited q p given awaited = grind (arith, and_parts, leb, reached_cases, none-some, true≢false)
 
   pub pairs_steady : SteadyInPairs rules.limits all
   pairs_steady = record {

@@ -90,12 +90,7 @@ module _ {S : Type 0} (known : ℕ → Holder TicCmd → Type 0) (rules : Rules 
       ((kept.order q (seen (now_of all.game all.gone q)) (inr (inl refl))).ends p end s)
 
   pub taken : CanBeTaken rules.limits all q
-  taken = record {
-    front = front;
-    made = made;
-    room = λ p t. room p;
-    known = λ p end t s. same_end p end s;
-  }
+  taken = grind (arith, front, made, room, same_end)
 
 -- in the place of node `q` one that can decide
 pub taken_of : {S : Type 0} (rules : Rules S) (all : Remaining) (q : ℕ) (wary : Wary)

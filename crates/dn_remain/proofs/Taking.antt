@@ -1,177 +1,152 @@
 -- A packet of commands is stale, lies past a gap, or is taken.
 use Rattle.std.proofs.Common.{◌≡◌, ℕ, ◌-◌, ◌<◌, ◌≤◌, refl, sym, ◌∙◌, ap, subst, arith, inl, inr, List, ◌∷◌, ◌++◌, length, take, drop, cond}
-use Rattle.std.specs.Prelude.{Bool, true, false, Option, Some, None}
-use Rattle.std.proofs.lemmas.Bool.{cases_eq, cases_Bool, cond-true, cond-false}
+use Rattle.std.specs.Prelude.{◌⊎◌, Bool, true, false, Some, None}
+use Rattle.std.proofs.lemmas.Bool.{cases_Bool, cond-true, cond-false}
 use Rattle.std.proofs.lemmas.List.{length-take-le}
 use Rattle.dn_tic.specs.declared.command.TicCmd.{TicCmd}
 use Rattle.dn_machine.specs.declared.answers.Phase.TheVariants.{Playing}
 use Rattle.dn_machine.specs.declared.peer.Peer.{Peer}
 use Rattle.dn_machine.specs.Flight.{Flight, is_exit, end_of}
 use Rattle.dn_machine.specs.Node as machine
-use Rattle.dn_machine.specs.Node.{with_peer, ends_of, got, made, is_ended, has_left}
+use Rattle.dn_machine.specs.Node.{with_peer, ends_of, made, is_ended, put}
 use Rattle.dn_machine.specs.Game.{Game, with_node}
 use Rattle.dn_machine.specs.Worlds.{Rules}
-use Rattle.dn_remain.specs.Vanished.Node.{put}
+use Rattle.dn_machine.proofs.Put.{put_at, put_off}
 use Rattle.dn_remain.specs.Vanished.Commands.{Holder}
 use Rattle.dn_remain.proofs.Vanished.Catching.{begins}
 use Rattle.dn_remain.proofs.Vanished.Handing.{handed}
-use Rattle.dn_remain.proofs.Vanished.Put.{put_at, put_off}
 use Rattle.dn_remain.specs.Seen.{reached, end_seen, now_of}
 use Rattle.dn_remain.proofs.Pieces.{taken_is}
+use Rattle.dn_remain.proofs.Vanished.Put.{at_put, own_put}
 use Rattle.dn_remain.proofs.Seeing.{reached_none, reached_cases}
 use Rattle.dn_remain.proofs.Known.{IsTold, IsEnd, Follows, IsFit, Went, not_left}
 use Rattle.dn_remain.proofs.Learning.{takes, learns}
 use Rattle.dn_remain.proofs.Arriving.{end_is, made_it, below_made, unknown, end_known, fit_peer, quiet}
 
-module _ {S : Type 0} (known : ℕ → Holder TicCmd → Type 0) (rules : Rules S) (game : Game) (gone : ℕ → ℕ → Bool) (older : List (ℕ → Holder TicCmd))
-    (follows : Follows known rules game gone older) (flight : Flight)
+module _ {S : Type 0} {known : ℕ → Holder TicCmd → Type 0} {rules : Rules S} {game : Game} {gone : ℕ → ℕ → Bool} {older : List (ℕ → Holder TicCmd)}
+    (follows : Follows known rules game gone older) {flight : Flight}
     (told : IsTold rules.players (now_of game gone ∷ older) flight)
     (open_from : gone flight.to flight.from ≡ false) where
   module _ (peer : Peer)
       (ends : peer.end ≡ cond (is_exit flight.kind) (Some (end_of flight)) (ends_of (game.nodes flight.to) flight.from))
       (low : peer.resend ≤ made flight.to (game.nodes flight.to))
       (plays : (game.nodes flight.to).phase ≡ Playing) where
-    here : has_left (game.nodes flight.to) ≡ false
-    here = not_left (game.nodes flight.to) (ap is_ended plays)
+    abbrev me : machine.Node
+    me = game.nodes flight.to
+
+    -- the sender's commands that it has
+    abbrev has : List TicCmd
+    has = me.held flight.from
+
+    -- the node with another list of them
+    abbrev with_list : List TicCmd → machine.Node
+    with_list more = record (with_peer me flight.from peer) { held = put me.held flight.from more }
 
     told_end : is_exit flight.kind ≡ true → peer.end ≡ Some (end_of flight)
     told_end x = ends ∙ cond-true (is_exit flight.kind) _ _ x
 
-    old_end : is_exit flight.kind ≡ false → peer.end ≡ ends_of (game.nodes flight.to) flight.from
+    old_end : is_exit flight.kind ≡ false → peer.end ≡ ends_of me flight.from
     old_end f = ends ∙ cond-false (is_exit flight.kind) _ _ f
 
-    -- the ends after it
-    ends_put : (end : Option ℕ) → peer.end ≡ end → (new : machine.Node)
-        → ((p : ℕ) → new.peers p ≡ put (game.nodes flight.to).peers flight.from peer p) → (p : ℕ)
-        → ends_of new p ≡ put (ends_of (game.nodes flight.to)) flight.from end p
-    ends_put end e new at p = elim (cases_eq p flight.from) [
-      | inl d ↦ ap (λ (o : Peer). o.end) (at p ∙ put_at (game.nodes flight.to).peers flight.from p peer d)
-          ∙ (e ∙ sym (put_at (ends_of (game.nodes flight.to)) flight.from p end d))
-      | inr n ↦ ap (λ (o : Peer). o.end) (at p ∙ put_off (game.nodes flight.to).peers flight.from p peer n)
-          ∙ sym (put_off (ends_of (game.nodes flight.to)) flight.from p end n)
-    ]
+    fit : (held : ℕ → List TicCmd) → held flight.to ≡ me.held flight.to
+        → IsFit rules.limits game.nodes gone flight.to (gone flight.to) (record (with_peer me flight.from peer) { held = held })
+    fit held same = fit_peer follows told open_from held peer same low (end_known follows told open_from peer ends)
 
-    pub stale : end_of flight ≤ got (game.nodes flight.to) flight.from
-        → Went known rules (with_node game flight.to (with_peer (game.nodes flight.to) flight.from peer)) gone
+    same : reached (length has) peer.end ≡ end_seen me flight.from
+        → Went known rules (with_node game flight.to (with_peer me flight.from peer)) gone
+    same = quiet follows told open_from peer low (end_known follows told open_from peer ends)
+
+    -- it has a piece of the sender's list that reaches this end, and learns the end
+    learn : (held : ℕ → List TicCmd) (more : List TicCmd) (end : ℕ) → held ≡ put me.held flight.from more
+        → held flight.to ≡ me.held flight.to → length more ≡ end → end ≤ length (told.state.held flight.from)
+        → length has ≤ end → (more ≡ has) ⊎ (more ≡ take end (told.state.held flight.from))
+        → IsEnd game.nodes gone flight.to flight.from end → end_seen me flight.from ≡ None → peer.end ≡ Some end
+        → Went known rules (with_node game flight.to (record (with_peer me flight.from peer) { held = held })) gone
+    learn held more end put_more own long below high piece is none e =
+        learns follows flight.to told.receiver _ (fit held own) flight.from told.sender told.apart open_from
+        (not_left me (ap is_ended plays)) more (record { held = put_more; left = refl; ran = refl }) told.by told.state told.had
+        told.open_to told.hands end long below high piece is.1 is.2 is.3 none
+        (at_put (λ p o. o.end ≡ put (ends_of me) flight.from (Some end) p) me.peers flight.from peer
+        (e ∙ sym (put_at (ends_of me) flight.from flight.from _ refl))
+        (λ p n. sym (put_off (ends_of me) flight.from p _ n)))
+
+    pub stale : end_of flight ≤ length has
+        → Went known rules (with_node game flight.to (with_peer me flight.from peer)) gone
     stale l = elim (cases_Bool (is_exit flight.kind)) [
-      | inr f ↦ quiet known rules game gone older follows flight told open_from peer low (end_known known rules game gone older follows flight told open_from peer ends)
-          (ap (λ (o : Option ℕ). reached (got (game.nodes flight.to) flight.from) o) (old_end f))
+      | inr f ↦ same (ap (reached (length has)) (old_end f))
       | inl x ↦
-          let is = end_is known rules game gone older follows flight told open_from x in
+          let is = end_is follows told open_from x in
           let last : end_of flight ≡ length ((game.nodes flight.from).held flight.from) = is.3 in
-          let b = below_made known rules game gone older follows flight told open_from in
-          elim (reached_cases (got (game.nodes flight.to) flight.from) (ends_of (game.nodes flight.to) flight.from)) [
+          let b = below_made follows told open_from in
+          elim (reached_cases (length has) (ends_of me flight.from)) [
             | inr some ↦
                 let k = (follows.ends flight.to flight.from some.0 some.1 open_from).3 in
-                let same : end_of flight ≡ some.0 = omega arith in
-                quiet known rules game gone older follows flight told open_from peer low (end_known known rules game gone older follows flight told open_from peer ends)
-                (ap (λ (o : Option ℕ). reached (got (game.nodes flight.to) flight.from) o)
-                (told_end x ∙ (ap (λ (i : ℕ). Some i) same ∙ sym some.1)))
-            | inl none ↦ learns known rules game gone older follows flight.to told.receiver
-                (with_peer (game.nodes flight.to) flight.from peer)
-                (fit_peer known rules game gone older follows flight told open_from (with_peer (game.nodes flight.to) flight.from peer) peer (λ p. refl) refl refl low (end_known known rules game gone older follows flight told open_from peer ends))
-                flight.from told.sender told.apart open_from here ((game.nodes flight.to).held flight.from)
-                (record { held = λ p. put_self p; left = refl; ran = refl }) told.by told.state told.had told.open_to told.hands
-                (end_of flight) (omega arith) told.reaches (omega arith) (inl refl) is.1 is.2 last none.0
-                (ends_put (Some (end_of flight)) (told_end x) (with_peer (game.nodes flight.to) flight.from peer) (λ p. refl))
+                let at : end_of flight ≡ some.0 = omega arith in
+                same (ap (reached (length has)) (told_end x ∙ (ap (λ (i : ℕ). Some i) at ∙ sym some.1)))
+            | inl none ↦ learn me.held has (end_of flight) (sym (own_put me.held flight.from)) refl (omega arith)
+                told.reaches (omega arith) (inl refl) is none.0 (told_end x)
           ]
     ]
-      where
-        put_self : (p : ℕ) → (game.nodes flight.to).held p
-            ≡ put (game.nodes flight.to).held flight.from ((game.nodes flight.to).held flight.from) p
-        put_self p = elim (cases_eq p flight.from) [
-          | inl e ↦ ap (game.nodes flight.to).held e ∙ sym (put_at (game.nodes flight.to).held flight.from p _ e)
-          | inr n ↦ sym (put_off (game.nodes flight.to).held flight.from p _ n)
-        ]
 
-    pub gap : got (game.nodes flight.to) flight.from < flight.start
-        → Went known rules (with_node game flight.to (with_peer (game.nodes flight.to) flight.from peer)) gone
-    gap l = elim (cases_Bool (is_exit flight.kind)) [
-      | inr f ↦ quiet known rules game gone older follows flight told open_from peer low (end_known known rules game gone older follows flight told open_from peer ends)
-          (ap (λ (o : Option ℕ). reached (got (game.nodes flight.to) flight.from) o) (old_end f))
-      | inl x ↦ quiet known rules game gone older follows flight told open_from peer low (end_known known rules game gone older follows flight told open_from peer ends)
-          (ap (λ (o : Option ℕ). reached (got (game.nodes flight.to) flight.from) o) (told_end x)
-          ∙ (reached_none (got (game.nodes flight.to) flight.from) (end_of flight) (omega arith)
-          ∙ sym (unknown known rules game gone older follows flight told open_from (omega arith))))
-    ]
+    pub gap : length has < flight.start
+        → Went known rules (with_node game flight.to (with_peer me flight.from peer)) gone
+    gap l = same (elim (cases_Bool (is_exit flight.kind)) [
+      | inr f ↦ ap (reached (length has)) (old_end f)
+      | inl x ↦ ap (reached (length has)) (told_end x)
+          ∙ (reached_none (length has) (end_of flight) (omega arith) ∙ sym (unknown follows told open_from (omega arith)))
+    ])
 
-    module _ (first : flight.start ≤ got (game.nodes flight.to) flight.from)
-        (high : got (game.nodes flight.to) flight.from < end_of flight) where
-      more : List TicCmd
-      more = (game.nodes flight.to).held flight.from
-          ++ drop (got (game.nodes flight.to) flight.from - flight.start) flight.commands
+    module _ (first : flight.start ≤ length has) (high : length has < end_of flight) where
+      abbrev more : List TicCmd
+      more = has ++ drop (length has - flight.start) flight.commands
 
-      abbrev pub new : machine.Node
-      new = record (with_peer (game.nodes flight.to) flight.from peer) {
-        held = put (game.nodes flight.to).held flight.from
-            ((game.nodes flight.to).held flight.from
-            ++ drop (got (game.nodes flight.to) flight.from - flight.start) flight.commands);
-      }
-
-      piece : (game.nodes flight.to).held flight.from
-          ++ drop (got (game.nodes flight.to) flight.from - flight.start) flight.commands
-          ≡ take (end_of flight) (told.state.held flight.from)
+      piece : more ≡ take (end_of flight) (told.state.held flight.from)
       piece =
           let a = told.reaches in
-          ap (λ (cs : List TicCmd). (game.nodes flight.to).held flight.from
-          ++ drop (got (game.nodes flight.to) flight.from - flight.start) cs) told.piece
-          ∙ taken_is ((game.nodes flight.to).held flight.from) (told.state.held flight.from) flight.start
-          (length flight.commands) (drop (got (game.nodes flight.to) flight.from) (told.state.held flight.from))
-          (begins ((game.nodes flight.to).held flight.from) (told.state.held flight.from)
-          ((game.nodes flight.from).held flight.from)
-          (handed (now_of game gone ∷ older) follows.handed flight.to flight.from (now_of game gone flight.to) (inl refl))
-          (handed (now_of game gone ∷ older) follows.handed told.by flight.from told.state told.had) (omega arith))
-          first (omega arith)
+          let had = handed (now_of game gone ∷ older) follows.handed in
+          ap (λ (cs : List TicCmd). has ++ drop (length has - flight.start) cs) told.piece
+          ∙ taken_is has (told.state.held flight.from) flight.start
+          (length flight.commands) (drop (length has) (told.state.held flight.from))
+          (begins has (told.state.held flight.from) ((game.nodes flight.from).held flight.from)
+          (had flight.to flight.from (now_of game gone flight.to) (inl refl))
+          (had told.by flight.from told.state told.had) (omega arith)) first (omega arith)
 
-      long : length ((game.nodes flight.to).held flight.from
-          ++ drop (got (game.nodes flight.to) flight.from - flight.start) flight.commands) ≡ end_of flight
+      long : length more ≡ end_of flight
       long = ap (length {A = TicCmd}) piece ∙ length-take-le (end_of flight) (told.state.held flight.from) told.reaches
 
-      fit : IsFit rules.limits game.nodes gone flight.to new
-      fit = fit_peer known rules game gone older follows flight told open_from new peer (λ p. refl)
-          (put_off (game.nodes flight.to).held flight.from flight.to _ (λ e. told.apart (sym e))) refl low (end_known known rules game gone older follows flight told open_from peer ends)
+      own : (with_list more).held flight.to ≡ me.held flight.to
+      own = put_off me.held flight.from flight.to more (λ e. told.apart (sym e))
 
-      learn : IsEnd game.nodes gone flight.to flight.from (end_of flight) → peer.end ≡ Some (end_of flight)
-          → Went known rules (with_node game flight.to new) gone
-      learn is e = learns known rules game gone older follows flight.to told.receiver new fit flight.from told.sender told.apart
-          open_from here _ (record { held = λ p. refl; left = refl; ran = refl }) told.by told.state told.had told.open_to told.hands
-          (end_of flight) long told.reaches (omega arith) (inr piece) is.1 is.2 is.3 (unknown known rules game gone older follows flight told open_from high)
-          (ends_put (Some (end_of flight)) e new (λ p. refl))
+      learn_end : IsEnd game.nodes gone flight.to flight.from (end_of flight) → peer.end ≡ Some (end_of flight)
+          → Went known rules (with_node game flight.to (with_list more)) gone
+      learn_end is e = learn (with_list more).held more (end_of flight) refl own long told.reaches (omega arith) (inr piece)
+          is (unknown follows told open_from high) e
 
       -- no end is reached by them
-      pass : is_exit flight.kind ≡ false
-          → reached (end_of flight) (ends_of (game.nodes flight.to) flight.from) ≡ None
-          → Went known rules (with_node game flight.to new) gone
-      pass f none = takes known rules game gone older follows flight.to told.receiver new fit flight.from told.sender told.apart
-          open_from here _ (record { held = λ p. refl; left = refl; ran = refl }) told.by told.state told.had told.open_to told.hands
-          (end_of flight) long told.reaches (omega arith) (inr piece)
-          (λ p. elim (cases_eq p flight.from) [
-            | inl e ↦
-                let count : length (new.held p) ≡ end_of flight =
-                ap (length {A = TicCmd}) (put_at (game.nodes flight.to).held flight.from p _ e) ∙ long in
-                ap (λ (i : ℕ). reached i (ends_of new p)) count
-                ∙ (ap (λ (o : Peer). reached (end_of flight) o.end)
-                (put_at (game.nodes flight.to).peers flight.from p peer e)
-                ∙ (ap (λ (o : Option ℕ). reached (end_of flight) o) (old_end f)
-                ∙ (none ∙ (sym (unknown known rules game gone older follows flight told open_from high) ∙ ap (end_seen (game.nodes flight.to)) (sym e)))))
-            | inr n ↦ ap (λ (cs : List TicCmd). reached (length cs) (ends_of new p))
-                (put_off (game.nodes flight.to).held flight.from p _ n)
-                ∙ ap (λ (o : Peer). reached (got (game.nodes flight.to) p) o.end)
-                (put_off (game.nodes flight.to).peers flight.from p peer n)
-          ])
+      pass : is_exit flight.kind ≡ false → reached (end_of flight) (ends_of me flight.from) ≡ None
+          → Went known rules (with_node game flight.to (with_list more)) gone
+      pass f none = takes follows flight.to told.receiver (with_list more) (fit (with_list more).held own) flight.from
+          told.sender told.apart open_from (not_left me (ap is_ended plays)) more
+          (record { held = refl; left = refl; ran = refl }) told.by told.state told.had told.open_to
+          told.hands (end_of flight) long told.reaches (omega arith) (inr piece)
+          (at_put (λ p o. reached (length (put me.held flight.from more p)) o.end ≡ end_seen me p) me.peers flight.from peer
+          (ap (λ (cs : List TicCmd). reached (length cs) peer.end) (put_at me.held flight.from flight.from more refl)
+          ∙ (ap (λ (i : ℕ). reached i peer.end) long ∙ (ap (reached (end_of flight)) (old_end f)
+          ∙ (none ∙ sym (unknown follows told open_from high)))))
+          (λ p n. ap (λ (cs : List TicCmd). reached (length cs) (ends_of me p)) (put_off me.held flight.from p more n)))
 
-      pub taken : Went known rules (with_node game flight.to new) gone
+      pub taken : Went known rules (with_node game flight.to (with_list more)) gone
       taken = elim (cases_Bool (is_exit flight.kind)) [
-        | inl x ↦ learn (end_is known rules game gone older follows flight told open_from x) (told_end x)
-        | inr f ↦ elim (reached_cases (end_of flight) (ends_of (game.nodes flight.to) flight.from)) [
+        | inl x ↦ learn_end (end_is follows told open_from x) (told_end x)
+        | inr f ↦ elim (reached_cases (end_of flight) (ends_of me flight.from)) [
           | inl none ↦ pass f none.0
           | inr some ↦
               let is = follows.ends flight.to flight.from some.0 some.1 open_from in
               let a = is.3 in
-              let b = made_it known rules game gone older follows flight told open_from in
+              let b = made_it follows told open_from in
               let c = some.3 in
-              let same : some.0 ≡ end_of flight = omega arith in
-              learn (subst (λ (i : ℕ). IsEnd game.nodes gone flight.to flight.from i) same is)
-              (old_end f ∙ (some.1 ∙ ap (λ (i : ℕ). Some i) same))
+              let at : some.0 ≡ end_of flight = omega arith in
+              learn_end (subst (λ (i : ℕ). IsEnd game.nodes gone flight.to flight.from i) at is)
+              (old_end f ∙ (some.1 ∙ ap (λ (i : ℕ). Some i) at))
         ]
       ]

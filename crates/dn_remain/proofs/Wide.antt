@@ -1,5 +1,5 @@
 -- Three players in a window of seven: one runs by the commands of another, whose marks tell of another world.
-use Rattle.std.proofs.Common.{◌≡◌, ℕ, refl, sym, ◌∙◌, ap, subst, arith, inl, inr, List, [], ◌∷◌, ◌++◌, get_or, take}
+use Rattle.std.proofs.Common.{◌≡◌, ℕ, refl, ◌∙◌, ap, arith, List, [], ◌∷◌, ◌++◌, get_or, take}
 use Rattle.std.specs.Prelude.{true, false, Option, None}
 use Rattle.std.proofs.lemmas.List.{length_push, get_or_append_left, get_or_push}
 use Rattle.dn_tic.specs.declared.command.TicCmd.{TicCmd}
@@ -63,12 +63,7 @@ leads_on : {S : Type 0} (rules : Rules S) (events : List RemainEvent) (all mid l
     (event : RemainEvent)
     → LeadsRemain rules all events mid → NextRemain rules mid event last
     → LeadsRemain rules all (events ++ event ∷ []) last
-leads_on rules [] all mid last event same step = (
-  last,
-  subst (λ
-      (r : Remaining). NextRemain rules r event last) same step,
-  refl,
-)
+leads_on rules [] all mid last event same step = grind arith
 leads_on rules (first ∷ events) all mid last event way step =
     (way.0, way.1, leads_on rules events way.0 mid last event way.2 step)
 
@@ -142,9 +137,7 @@ module _ {S : Type 0} (physics : Physics S) (settings : Settings) where
 
   pub runs : RunsRemain (rules_within physics sevens) settings (before ++ Own (Run 1) ∷ []) last
   unfolding last
-  runs = leads_on (rules_within physics sevens) before (opening_remaining settings) there last (Own
-      (Run 1)) reaches
-      (inr (refl, with_node there.game 1 after_it, inl (sym game_is), refl))
+  runs = grind (arith, leads_on, sevens, before, there, last, reaches, after_it, game_is)
 
   abbrev agreed : AgreeInPairs (rules_within physics sevens) settings last
   agreed =

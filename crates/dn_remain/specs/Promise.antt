@@ -12,9 +12,9 @@ use Rattle.dn_machine.specs.Flight.{Flight, end_of}
 use Rattle.dn_machine.specs.Limits.{Limits}
 use Rattle.dn_machine.specs.Node.{got, made, ran, held_at, has_left, lacks, demo_rows}
 use Rattle.dn_machine.specs.Promise.{IsPrefixOf}
-use Rattle.dn_machine.specs.Running.{tic_limit, on_run, on_run_but}
+use Rattle.dn_machine.specs.Running.{tic_limit, on_run, on_run_but, is_over}
 use Rattle.dn_machine.specs.Worlds.{Rules, world_after}
-use Rattle.dn_remain.specs.Vanished.Node.{Within, is_over}
+use Rattle.dn_remain.specs.Vanished.Node.{Within}
 use Rattle.dn_remain.specs.declared.events.Reported.TheVariants as Reported
 use Rattle.dn_remain.specs.Seen.{end_seen, holder_of, row_had}
 use Rattle.dn_remain.specs.Wary.{Report, on_report, undecided}

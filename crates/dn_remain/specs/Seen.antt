@@ -5,7 +5,7 @@ use Rattle.dn_tic.specs.declared.command.Move.{Move}
 use Rattle.dn_machine.specs.Game.{Game}
 use Rattle.dn_machine.specs.Limits.{Limits, row_of}
 use Rattle.dn_machine.specs.Node.{Node, blank, ends_of, got, ran, has_left}
-use Rattle.dn_remain.specs.Vanished.Node.{is_over}
+use Rattle.dn_machine.specs.Running.{is_over}
 use Rattle.dn_remain.specs.Vanished.Commands.{Holder}
 
 -- an end counts once all commands before it are there

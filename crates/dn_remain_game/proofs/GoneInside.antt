@@ -16,7 +16,7 @@ use Rattle.dn_remain.specs.Wary.{Report, Wary, on_give_up, on_report, report_to,
 use Rattle.dn_remain.specs.declared.events.RemainEvent.{RemainEvent}
 use Rattle.dn_remain.specs.declared.events.RemainEvent.TheVariants.{Own, GiveUp, Tell, Hear}
 use Rattle.dn_remain.proofs.Cases.{give_up_cases}
-use Rattle.dn_remain.proofs.Places.{own_put}
+use Rattle.dn_remain.proofs.Vanished.Put.{own_put}
 use Rattle.dn_survivor.proofs.Waries.{news_gone}
 use Rattle.dn_remain_game.proofs.Nobody.{heard_gone}
 

@@ -14,7 +14,7 @@ use Rattle.dn_remain.specs.Wary.{Report, Wary, on_report, report_to, with_report
 use Rattle.dn_remain.specs.declared.events.RemainEvent.{RemainEvent}
 use Rattle.dn_remain.specs.declared.events.RemainEvent.TheVariants.{Own, GiveUp, Tell, Hear}
 use Rattle.dn_remain.proofs.Cases.{report_cases}
-use Rattle.dn_remain.proofs.Places.{own_put}
+use Rattle.dn_remain.proofs.Vanished.Put.{own_put}
 use Rattle.dn_survivor.proofs.Waries.{news_gone}
 use Rattle.dn_remain_game.specs.declared.happened.Happened.{Happened}
 use Rattle.dn_remain_game.specs.Applied.{Answers, Plays}

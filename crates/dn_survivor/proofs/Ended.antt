@@ -67,10 +67,6 @@ one gone old new q node is frozen x =
 posted_nodes : (game : Game) (o : Option Flight) → (posted game o).0.nodes ≡ game.nodes
 posted_nodes game o = grind arith
 
-telling_nodes : (all : Remaining) (node to : ℕ) (o : Option Report)
-    → (with_telling all node to o).game.nodes ≡ all.game.nodes
-telling_nodes all node to o = grind arith
-
 module _ {S : Type 0} (rules : Rules S) (all : Remaining) where
   delivers : (o : Option Flight) → is_barred_flight all o ≡ false
       → AreFrozen all.gone all.game (delivered rules all.game o).0

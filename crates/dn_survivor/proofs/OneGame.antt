@@ -61,7 +61,8 @@ use Rattle.dn_remain.specs.declared.events.RemainEvent.{RemainEvent}
 use Rattle.dn_remain.specs.declared.events.RemainEvent.TheVariants.{Own, GiveUp, Tell, Hear}
 use Rattle.dn_remain.proofs.Known.{IsTold}
 use Rattle.dn_remain.specs.Seen.{now_of}
-use Rattle.dn_remain.proofs.Places.{own_put, there}
+use Rattle.dn_remain.proofs.Places.{there}
+use Rattle.dn_remain.proofs.Vanished.Put.{own_put}
 use Rattle.dn_remain.proofs.Reached.{IsReached}
 use Rattle.dn_survivor.specs.Calls.{GivesUp, HearsReport, sent_unless}
 use Rattle.dn_survivor.specs.OneGame.{AreRemaining, AreTelling, IsGivenAs, IsTelling}

@@ -62,9 +62,6 @@ none_recorded n none = grind arith
 
 module _ (marking : Marking) (limits : Limits) (settings : Settings) (session : Session)
     (game : AreRemaining marking limits settings session) where
-  abbrev all : Remaining
-  all = game.last
-
   abbrev node : ℕ → machine.Node
   node = game.last.game.nodes
 

@@ -18,11 +18,12 @@ use Rattle.dn_machine.specs.Node as machine
 use Rattle.dn_machine.specs.Node.{blank, ends_of, got, has_left, made, own_mark, ran}
 use Rattle.dn_machine.specs.Worlds.{Rules}
 use Rattle.dn_machine.proofs.Put.{put_at, put_off}
+use Rattle.dn_machine.specs.Promise.{IsPrefixOf}
 use Rattle.dn_lockstep.specs.Rings.{is_stop}
 use Rattle.dn_lockstep.specs.Settling.{is_other_end}
 use Rattle.dn_lockstep.proofs.Keeping.{none_stops}
 use Rattle.dn_remain.specs.Vanished.Calls.{every, is_heard, is_report, is_within_at}
-use Rattle.dn_remain.specs.Vanished.Commands.{Holder, IsPrefixOf, seen, past_seen}
+use Rattle.dn_remain.specs.Vanished.Commands.{Holder, seen, past_seen}
 use Rattle.dn_remain.specs.Vanished.Node as counted
 use Rattle.dn_remain.proofs.Vanished.Always.{always}
 use Rattle.dn_remain.proofs.Vanished.Fitting.{fits}

@@ -14,8 +14,6 @@ mod ending;
 mod hearing;
 mod laws;
 mod sets;
-#[cfg(test)]
-mod tests;
 
 use crate::report::Report;
 pub use hearing::Reported;

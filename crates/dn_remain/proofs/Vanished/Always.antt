@@ -1,5 +1,5 @@
 -- The opening has what every step keeps, and so has every run.
-use Rattle.std.proofs.Common.{◌≡◌, ℕ, ◌<◌, ◌≤◌, refl, sym, ◌∙◌, ap, subst, arith, inl, inr, List, [], ◌∷◌}
+use Rattle.std.proofs.Common.{◌≡◌, ℕ, ◌<◌, ◌≤◌, sym, subst, arith, List, [], ◌∷◌}
 use Rattle.std.specs.Prelude.{false}
 use Rattle.std.proofs.lemmas.Option.{none-some}
 use Rattle.dn_remain.specs.Vanished.Node.{Node, fresh, Was}
@@ -13,35 +13,17 @@ use Rattle.dn_remain.proofs.Vanished.Single.{makes, takes, learns, runs, gives_u
 use Rattle.dn_remain.proofs.Vanished.Deciding.{decided_good}
 
 fresh_sound : (players x : ℕ) → IsSound players ((λ node. fresh) ∷ []) x fresh
-fresh_sound players x = record {
-  own = refl;
-  full = λ p e s. absurd (none-some e s);
-  made = λ p. omega arith;
-  source = λ p e s. absurd (none-some e s);
-  rows = λ p tic l m. absurd (omega arith);
-  ahead = λ p l s. omega arith;
-}
+fresh_sound players x = grind (arith, none-some)
 
 only_fresh : (x : ℕ) (u : Node) → Was ((λ node. fresh) ∷ []) x u → u ≡ fresh
-only_fresh x u w = elim w [
-  | inl e ↦ e
-  | inr n ↦ absurd n
-]
+only_fresh x u w = grind arith
 
 opening_later : (players x : ℕ) (u v : Node) → u ≡ fresh → v ≡ fresh
     → IsLater players ((λ node. fresh) ∷ []) x u v
-opening_later players x u v d e = subst (λ (n : Node). IsLater players ((λ node. fresh) ∷ []) x u n) (d ∙ sym e)
-    (later_self players ((λ node. fresh) ∷ []) x u)
+opening_later players x u v d e = grind (arith, IsLater, later_self)
 
 opens : (players : ℕ) → IsKept players ((λ node. fresh) ∷ [])
-opens players = record {
-  order = λ x u w. opening_later players x u fresh (only_fresh x u w) refl;
-  pairs = λ x u v w y. inl (opening_later players x u v (only_fresh x u w) (only_fresh x v y));
-  sound = λ x u w. subst (λ (n : Node). IsSound players ((λ node. fresh) ∷ []) x n) (sym (only_fresh x u w))
-      (fresh_sound players x);
-  met = λ x z u v l m n w y a b p e s. absurd (none-some e
-      (sym (ap (λ (n : Node). n.ends p) (only_fresh x u w)) ∙ s));
-}
+opens players = grind (arith, opening_later, only_fresh, IsSound, fresh_sound, none-some)
 
 module _ (players ahead : ℕ) (nodes : ℕ → Node) (older : List (ℕ → Node)) (q : ℕ) (l : q < players)
     (here : (nodes q).left ≡ false) (kept : IsKept players (nodes ∷ older)) where
@@ -65,10 +47,7 @@ module _ (players ahead : ℕ) (nodes : ℕ → Node) (older : List (ℕ → Nod
 
 steps : (players ahead : ℕ) (nodes : ℕ → Node) (older : List (ℕ → Node)) (next : ℕ → Node)
     → Step players ahead (nodes ∷ older) next → IsKept players (nodes ∷ older) → IsKept players (next ∷ nodes ∷ older)
-steps players ahead nodes older next step kept =
-    subst (λ (n : ℕ → Node). IsKept players (n ∷ nodes ∷ older)) (sym step.next_is)
-    (kept_after players nodes older step.q step.new kept
-    (good players ahead nodes older step.q step.player step.here kept step.act step.new step.acts))
+steps players ahead nodes older next step kept = grind (arith, IsKept, kept_after, good)
 
 pub always : (players ahead : ℕ) (history : List (ℕ → Node)) → IsRun players ahead history → IsKept players history
 always players ahead [] run = absurd run

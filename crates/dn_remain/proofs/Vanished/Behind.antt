@@ -1,11 +1,12 @@
 -- Of a player whom it has not given up, a node has nothing that the player made after it decided without the node:
 -- who hands commands on to the node had not given it up, and so had not heard of such a decision's reports.
-use Rattle.std.proofs.Common.{◌≡◌, ℕ, ◌+◌, ◌<◌, ◌≤◌, refl, sym, ◌∙◌, ap, subst, arith, inl, inr, List, [], ◌∷◌}
+use Rattle.std.proofs.Common.{◌≡◌, ℕ, ◌<◌, ◌≤◌, refl, sym, ◌∙◌, ap, subst, arith, inl, inr, List, [], ◌∷◌}
 use Rattle.std.specs.Prelude.{true, false}
 use Rattle.std.proofs.lemmas.Bool.{both_ways, cases_eq, cases_Bool}
-use Rattle.dn_remain.specs.Vanished.Node.{Node, put, Was}
+use Rattle.dn_machine.proofs.Put.{put_at, put_off}
+use Rattle.dn_machine.specs.Node.{put}
+use Rattle.dn_remain.specs.Vanished.Node.{Node, Was}
 use Rattle.dn_remain.specs.Vanished.Steps.{Act, Make, Take, Learn, Run, GiveUp, Leave, Decide, Acts, IsRun, HandsOn}
-use Rattle.dn_remain.proofs.Vanished.Put.{put_at, put_off}
 use Rattle.dn_remain.proofs.Vanished.Invariant.{IsDecision, IsKept}
 use Rattle.dn_remain.proofs.Vanished.Deciding.{got_out}
 use Rattle.dn_remain.proofs.Vanished.Stepping.{was_q, was_other}
@@ -21,26 +22,12 @@ module _ (players ahead : ℕ) (all : List (ℕ → Node)) (whole : IsKept playe
   -- a state of the player in which it had not given up a node
   pub own_behind : (q : ℕ) (sent : Node) → Was all p sent → sent.gone q ≡ false → d.gone q ≡ true
       → sent.got p ≤ d.got p
-  own_behind q sent w o t = elim (whole.pairs p sent d w decides.was) [
-    | inl order ↦ order.got p
-    | inr order ↦ absurd (both_ways (sent.gone q) o (order.gone q t))
-  ]
+  own_behind q sent w o t = grind (arith, both_ways)
 
   -- a state of another, who was heard by the decision
   heard_behind : (r q : ℕ) (sent : Node) → r < players → Was all r sent → sent.gone q ≡ false → d.gone q ≡ true
       → d.gone r ≡ false → sent.got p ≤ d.got p
-  heard_behind r q sent l w o t h =
-      let v = decides.reaches r l h in
-      let a : v.0.got p ≤ d.got p = v.3 in
-      elim (whole.pairs r sent v.0 w v.1) [
-        | inl order ↦ let b : sent.got p ≤ v.0.got p = order.got p in omega arith
-        | inr order ↦ elim v.2 [
-          | inl same ↦ absurd (both_ways (sent.gone q) o (order.gone q (same q ∙ t)))
-          | inr gone ↦
-              let b : sent.got p ≡ v.0.got p = ap (λ (n : Node). n.got p) (order.left gone.0) in
-              omega arith
-        ]
-      ]
+  heard_behind r q sent l w o t h = grind (arith, both_ways)
 
   module _ (nodes : ℕ → Node) (older : List (ℕ → Node)) (past : IsPast (nodes ∷ older) all)
       (before : (x : ℕ) (u : Node) → x < players → (x ≡ p → ⊥) → Was (nodes ∷ older) x u → u.gone p ≡ false
@@ -66,21 +53,14 @@ module _ (players ahead : ℕ) (all : List (ℕ → Node)) (whole : IsKept playe
 
       raised : (new : Node) (a end : ℕ) → (nodes q).gone p ≡ false → new.got ≡ put (nodes q).got a end
           → (p ≡ a → end ≤ d.got p) → new.got p ≤ d.got p
-      raised new a end g s h = elim (cases_eq p a) [
-        | inr m ↦ stays new g (ap (λ (f : ℕ → ℕ). f p) s ∙ put_off (nodes q).got a p end m)
-        | inl e ↦
-            let b : new.got p ≡ end = ap (λ (f : ℕ → ℕ). f p) s ∙ put_at (nodes q).got a p end e in
-            let c = h e in
-            omega arith
-      ]
+      raised new a end g s h = grind (arith, stays, put_off, put_at)
 
       was_in : (new next : Node) → next ≡ new → next.gone p ≡ false → new.gone p ≡ false
       was_in new next e g = sym (ap (λ (n : Node). n.gone p) e) ∙ g
 
       pub new_behind : (act : Act) (new : Node) → Acts players ahead (nodes ∷ older) q act new → new.gone p ≡ false
           → new.got p ≤ d.got p
-      new_behind Make new a g = stays new (was_in _ new a.1 g)
-          (ap (λ (m : Node). m.got p) a.1 ∙ put_off (nodes q).got q p ((nodes q).got q + 1) (λ e. apart (sym e)))
+      new_behind Make new a g = grind (arith, stays, was_in, put_off)
       new_behind Take new a g = raised new a.0 a.1 (was_in _ new a.8 g) (ap (λ (m : Node). m.got) a.8) (λ e.
           let b : a.2.got p ≤ d.got p = handed_behind q (nodes q) a.2
           (subst (λ (i : ℕ). HandsOn players (nodes ∷ older) (nodes q) i a.2) (sym e) a.3) a.4 (was_in _ new a.8 g) t in
@@ -94,25 +74,14 @@ module _ (players ahead : ℕ) (all : List (ℕ → Node)) (whole : IsKept playe
           let f : (nodes p).got p ≡ (nodes a.0).got a.0 = ap (λ (i : ℕ). (nodes i).got i) e in
           omega arith)
       new_behind Run new a g = stays new (was_in _ new a.1 g) (ap (λ (m : Node). m.got p) a.1)
-      new_behind GiveUp new a g = stays new
-          (elim (cases_eq p a.0) [
-            | inl e ↦ absurd (both_ways _ (was_in _ new a.3 g) (put_at (nodes q).gone a.0 p true e))
-            | inr m ↦ sym (put_off (nodes q).gone a.0 p true m) ∙ was_in _ new a.3 g
-          ])
-          (ap (λ (m : Node). m.got p) a.3)
+      new_behind GiveUp new a g = grind (arith, stays, both_ways, was_in, put_at, put_off)
       new_behind Leave new a g = stays new (was_in _ new a g) (ap (λ (m : Node). m.got p) a)
-      new_behind Decide new a g = stays new (was_in _ new a.2 g)
-          (ap (λ (m : Node). m.got p) a.2 ∙ got_out players nodes older q l here kept a.0 a.1 p (was_in _ new a.2 g))
+      new_behind Decide new a g = grind (arith, stays, was_in, got_out)
 
   pub behind : (history : List (ℕ → Node)) → IsRun players ahead history → IsPast history all → (x : ℕ) (u : Node)
       → x < players → (x ≡ p → ⊥) → Was history x u → u.gone p ≡ false → d.gone x ≡ true → u.got p ≤ d.got p
   behind [] run past x u l n w g t = absurd run
-  behind (nodes ∷ []) run past x u l n w g t = elim w [
-    | inr o ↦ absurd o
-    | inl e ↦
-        let a : u.got p ≡ 0 = ap (λ (m : Node). m.got p) e ∙ ap (λ (f : ℕ → Node). (f x).got p) run in
-        omega arith
-  ]
+  behind (nodes ∷ []) run past x u l n w g t = grind arith
   behind (next ∷ (nodes ∷ older)) run past x u l n w g t =
       let step = run.0 in
       let late : IsPast (nodes ∷ older) all = λ y v k. past y v (inr k) in

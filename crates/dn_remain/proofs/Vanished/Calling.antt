@@ -3,30 +3,20 @@ use Rattle.std.proofs.Common.{◌≡◌, ℕ, ◌<◌, eqb, ltb, refl, sym, ◌�
 use Rattle.std.specs.Prelude.{Bool, true, false, not, ◌&&◌, Option, Some}
 use Rattle.std.proofs.lemmas.Bool.{cases_eq, cases_Bool, and_parts, not-true, ltb-true, eqb-false, cond-true, cond-false}
 use Rattle.std.proofs.lemmas.Option.{same_Some}
-use Rattle.dn_remain.specs.Vanished.Node.{Node, put, now, Was}
+use Rattle.dn_machine.proofs.Put.{put_at, put_off}
+use Rattle.dn_machine.specs.Node.{put}
+use Rattle.dn_remain.specs.Vanished.Node.{Node, now, Was}
 use Rattle.dn_remain.specs.Vanished.Reports.{decided}
 use Rattle.dn_remain.specs.Vanished.Calls.{Keeper, can_decide, report_or, after_news, may_give_up, on_give_up, is_newer, on_report, AreTrue, LeadsTo}
 use Rattle.dn_remain.specs.Vanished.Steps.{GiveUp, Decide, Step, IsRun}
-use Rattle.dn_remain.proofs.Vanished.Put.{same_functions, put_at, put_off}
+use Rattle.dn_remain.proofs.Vanished.Put.{own_put, twice_put}
 use Rattle.dn_remain.proofs.Vanished.Tests.{heard_from}
-
-put_same : (nodes : ℕ → Node) (q : ℕ) → nodes ≡ put nodes q (nodes q)
-put_same nodes q = same_functions (λ j. elim (cases_eq j q) [
-  | inl e ↦ ap nodes e ∙ sym (put_at nodes q j (nodes q) e)
-  | inr n ↦ sym (put_off nodes q j (nodes q) n)
-])
-
-put_twice : (nodes : ℕ → Node) (q : ℕ) (a b : Node) → put (put nodes q a) q b ≡ put nodes q b
-put_twice nodes q a b = same_functions (λ j. elim (cases_eq j q) [
-  | inl e ↦ put_at (put nodes q a) q j b e ∙ sym (put_at nodes q j b e)
-  | inr n ↦ put_off (put nodes q a) q j b n ∙ (put_off nodes q j a n ∙ sym (put_off nodes q j b n))
-])
 
 module _ (players ahead : ℕ) (nodes : ℕ → Node) (older : List (ℕ → Node)) (q : ℕ)
     (run : IsRun players ahead (nodes ∷ older)) (l : q < players) where
   stay : (newest : ℕ → Option Node) → AreTrue (nodes ∷ older) newest
       → LeadsTo players ahead (nodes ∷ older) q (record { node = nodes q; newest = newest })
-  stay newest known = record { steps = []; run = run; nodes = put_same nodes q; known = known }
+  stay newest known = record { steps = []; run = run; nodes = sym (own_put nodes q); known = known }
 
   decide : (newest : ℕ → Option Node) → (nodes q).left ≡ false → AreTrue (nodes ∷ older) newest
       → can_decide players q (nodes q) newest ≡ true
@@ -82,7 +72,7 @@ back players ahead nodes older q a k h =
     record {
       steps = h.steps ++ put nodes q a ∷ [];
       run = subst (λ (past : List (ℕ → Node)). IsRun players ahead past) (sym e) h.run;
-      nodes = ap (λ (past : List (ℕ → Node)). now past) e ∙ (h.nodes ∙ put_twice nodes q a k.node);
+      nodes = ap (λ (past : List (ℕ → Node)). now past) e ∙ (h.nodes ∙ twice_put nodes q a k.node);
       known = subst (λ (past : List (ℕ → Node)). AreTrue past k.newest) (sym e) h.known;
     }
 

@@ -4,9 +4,10 @@ use Rattle.std.specs.Prelude.{true, false}
 use Rattle.std.proofs.lemmas.Bool.{both_ways, cases_lt, cond-true, cond-false}
 use Rattle.std.proofs.lemmas.List.{take-append-drop, take-append-le, drop-drop}
 use Rattle.std.proofs.Math.Seq.{take-append_seam, take-length}
-use Rattle.dn_remain.specs.Vanished.Node.{put}
+use Rattle.dn_machine.specs.Promise.{IsPrefixOf}
+use Rattle.dn_machine.specs.Node.{put}
 use Rattle.dn_remain.specs.Vanished.Steps.{IsRun}
-use Rattle.dn_remain.specs.Vanished.Commands.{Holder, seen, past_seen, holders, Handed, AreHanded, IsPrefixOf}
+use Rattle.dn_remain.specs.Vanished.Commands.{Holder, seen, past_seen, holders, Handed, AreHanded}
 use Rattle.dn_remain.specs.Vanished.Decisions.{HasHeardLists, IsReady, longest, told, on_decision, caught_up}
 use Rattle.dn_remain.proofs.Vanished.Invariant.{IsKept}
 use Rattle.dn_remain.proofs.Vanished.Views.{stands_outside}
@@ -81,10 +82,7 @@ module _ {C : Type 0} where
 
     above : (p : ℕ) → (nodes q).gone p ≡ true
         → length ((nodes q).held p) ≤ length ((on_decision players q (nodes q) heard).held p)
-    above p t =
-        let a = own_below players q (nodes q) heard p l in
-        let b = ap length (cond-true ((nodes q).gone p) (longest players (told q (nodes q) heard p)) ((nodes q).held p) t) in
-        omega arith
+    above p t = grind (arith, own_below, length, cond-true)
 
     is_player : (p : ℕ) → (nodes q).gone p ≡ true → p < players
     is_player p t = elim (cases_lt p players) [
@@ -97,12 +95,7 @@ module _ {C : Type 0} where
     unfolding IsCaught
     caught p t = elim (pieces players q (nodes q) heard p l) [
       | inl e ↦ subst (λ (ws : List C). IsCaught p ws) (sym e) (own_is p)
-      | inr k ↦
-          let m = is_player p t in
-          let a = above p t in
-          let b = near p k.0 m k.1 k.2 k.3 in
-          let d = ap length k.4 in
-          subst (λ (ws : List C). IsCaught p ws) (sym k.4) (b, (told_is p k.0 m k.1 k.2 k.3).1 (omega arith))
+      | inr k ↦ grind (arith, is_player, above, near, told_is)
     ]
 
     all_is : (p : ℕ) → (nodes q).gone p ≡ true
@@ -120,8 +113,7 @@ module _ {C : Type 0} where
       × (length ((holders history q).held p) ≤ length ((heard r).held p)
       → caught_up places ((holders history q).held p) ((heard r).held p) ≡ (heard r).held p)
   ready_told players ahead places [] q p r heard h m n f o = absurd h.run
-  ready_told players ahead places (nodes ∷ older) q p r heard h m n f o =
-      told_is players ahead places nodes older q heard h.handed h.run h.room h.player h.here h.heard_lists p r m n f o
+  ready_told players ahead places (nodes ∷ older) q p r heard h m n f o = grind (arith, told_is, handed)
 
   pub ready_all : (players ahead places : ℕ) (history : List (ℕ → Holder C)) (q p : ℕ) (heard : ℕ → Holder C)
       → IsReady players ahead places history q heard → (holders history q).gone p ≡ true

@@ -2,7 +2,8 @@
 use Rattle.std.proofs.Common.{◌≡◌, ℕ, ◌<◌, sym, ◌∙◌, ap, List, ◌∷◌}
 use Rattle.std.specs.Prelude.{true, false, Option, Some}
 use Rattle.std.proofs.lemmas.Bool.{leb-false}
-use Rattle.dn_remain.specs.Vanished.Node.{Node, ran, is_over}
+use Rattle.dn_machine.specs.Running.{is_over}
+use Rattle.dn_remain.specs.Vanished.Node.{Node, ran}
 use Rattle.dn_remain.specs.Vanished.Reports.{HasHeard, decided}
 use Rattle.dn_remain.proofs.Vanished.Invariant.{IsKept}
 use Rattle.dn_remain.proofs.Vanished.Deciding.{got_in, ends_in}

@@ -1,11 +1,13 @@
 -- A decision keeps all.
-use Rattle.std.proofs.Common.{◌≡◌, ℕ, ◌<◌, ◌≤◌, eqb, refl, sym, ◌∙◌, ap, subst, arith, inl, inr, List, ◌∷◌}
+use Rattle.std.proofs.Common.{◌≡◌, ℕ, ◌<◌, ◌≤◌, eqb, refl, sym, ◌∙◌, arith, inl, inr, List, ◌∷◌}
 use Rattle.std.specs.Prelude.{◌⊎◌, Bool, true, false, Some}
 use Rattle.std.proofs.lemmas.Bool.{both_ways, cases_eq, cases_Bool, eq-eqb, ne_eqb, cond-true, cond-false}
 use Rattle.std.proofs.lemmas.Option.{same_Some}
-use Rattle.dn_remain.specs.Vanished.Node.{Node, put, Was, Same, Within}
+use Rattle.dn_machine.proofs.Put.{put_at, put_off}
+use Rattle.dn_machine.specs.Node.{put}
+use Rattle.dn_remain.specs.Vanished.Node.{Node, Was, Same, Within}
 use Rattle.dn_remain.specs.Vanished.Reports.{Stands, HasHeard, share, decided_end, decided}
-use Rattle.dn_remain.proofs.Vanished.Put.{put_at, put_off, highest_bounds, highest_reached}
+use Rattle.dn_remain.proofs.Vanished.Put.{highest_bounds, highest_reached}
 use Rattle.dn_remain.proofs.Vanished.Invariant.{IsBase, IsDecision, IsLater, HasSource, IsSound, IsMet, IsKept}
 use Rattle.dn_remain.proofs.Vanished.Views.{outside, stands_outside, both_within, base_same, base_kept, source_kept}
 use Rattle.dn_remain.proofs.Vanished.Stepping.{IsGood, grows, stays}
@@ -60,13 +62,7 @@ module _ (players : ℕ) (nodes : ℕ → Node) (older : List (ℕ → Node)) (q
       let h = highest_reached players (share q (nodes q) heard p) (omega arith) in
       elim (cases_eq h.0 q) [
         | inl e ↦ inl (h.2 ∙ share_own p h.0 e)
-        | inr n ↦ elim (cases_Bool ((nodes q).gone h.0)) [
-          | inl t ↦
-              let a = h.2 ∙ share_gone p h.0 n t in
-              let b = above_own p in
-              inl (omega arith)
-          | inr o ↦ inr (h.0, h.1, n, o, h.2 ∙ share_other p h.0 n o)
-        ]
+        | inr n ↦ grind (arith, share_gone, above_own, share_other)
       ]
 
   -- nobody who was heard had given up `q`
@@ -76,13 +72,7 @@ module _ (players : ℕ) (nodes : ℕ → Node) (older : List (ℕ → Node)) (q
   -- a decision of another who had not given up `q` was for players whom `q` has given up
   inside : (z : ℕ) (d : Node) → IsDecision players (nodes ∷ older) z d → d.gone q ≡ false
       → Within d.gone (nodes q).gone
-  inside z d h o p t =
-      let w = h.sees q l o in
-      elim w.2 [
-        | inl same ↦ (kept.order q w.0 w.1).gone p (same p ∙ t)
-        | inr gone ↦ absurd (both_ways (nodes q).left here
-            (ap (λ (n : Node). n.left) ((kept.order q w.0 w.1).left gone.0) ∙ gone.0))
-      ]
+  inside z d h o p t = grind (arith, both_ways)
 
   -- the end of an earlier decision for the same set is not above what states that stand for it reach
   floor : (z : ℕ) (d : Node) (set : ℕ → Bool) (p b : ℕ) → IsDecision players (nodes ∷ older) z d
@@ -100,16 +90,8 @@ module _ (players : ℕ) (nodes : ℕ → Node) (older : List (ℕ → Node)) (q
       → ((d : Node) → IsDecision players (nodes ∷ older) r d → Within old.gone d.gone
       → Within d.gone new.gone → Same old.gone set → d.got p ≤ b)
       → new.got p ≤ b
-  stood r p b set old new order (inr gone) t low decided =
-      let a : new.got p ≡ old.got p = ap (λ (n : Node). n.got p) (order.left gone.0) in
-      omega arith
-  stood r p b set old new order (inl same) t low decided = elim (order.frozen p (same p ∙ t)) [
-    | inl a ↦ omega arith
-    | inr d ↦
-        let a : d.0.got p ≤ b = decided d.0 d.1 d.2 d.3 same in
-        let f : d.0.got p ≡ new.got p = d.4 in
-        omega arith
-  ]
+  stood r p b set old new order (inr gone) t low decided = grind arith
+  stood r p b set old new order (inl same) t low decided = grind arith
 
   -- whoever decides for this set decides at least this
   base_new : (p : ℕ) → (nodes q).gone p ≡ true
@@ -141,102 +123,37 @@ module _ (players : ℕ) (nodes : ℕ → Node) (older : List (ℕ → Node)) (q
 
   -- no count falls
   pub up : (p : ℕ) → (nodes q).got p ≤ (decided players q (nodes q) heard).got p
-  up p = elim (cases_Bool ((nodes q).gone p)) [
-    | inl t ↦ let a = got_in p t in let b = above_own p in omega arith
-    | inr t ↦ let a = got_out p t in omega arith
-  ]
+  up p = grind (arith, got_in, above_own, got_out)
 
   -- of each who has not been given up there is a state that stands for the set
   stands : (r : ℕ) → r < players → (nodes q).gone r ≡ false
       → (w : Node) × Was (nodes ∷ older) r w × Stands (nodes q).gone w
       × ((p : ℕ) → (nodes q).gone p ≡ true → w.got p ≤ (decided players q (nodes q) heard).got p)
-  stands r m o = elim (cases_eq r q) [
-    | inl e ↦ (nodes q, inl (ap nodes (sym e)), inl (λ p. refl), λ p t. up p)
-    | inr n ↦
-        let ev = hears r m n o in
-        (heard r, ev.0, ev.1, λ p t. let a = got_in p t in let b = above p r m n o in omega arith)
-  ]
+  stands r m o = grind (arith, up, got_in, above)
 
   -- and that has none of the commands that the node made later
   stands_own : (r : ℕ) → r < players → (nodes q).gone r ≡ false
       → (w : Node) × Was (nodes ∷ older) r w × Stands (nodes q).gone w
       × (w.got q ≤ (decided players q (nodes q) heard).got q)
-  stands_own r m o =
-      let a : (nodes q).got q ≤ (decided players q (nodes q) heard).got q = up q in
-      elim (cases_eq r q) [
-        | inl e ↦ (nodes q, inl (ap nodes (sym e)), inl (λ p. refl), a)
-        | inr n ↦
-            let ev = hears r m n o in
-            let b : (heard r).got q ≤ (nodes q).got q = (kept.sound r (heard r) ev.0).made q in
-            (heard r, ev.0, ev.1, omega arith)
-      ]
+  stands_own r m o = grind (arith, up, sound)
 
   decision : IsDecision players (put nodes q (decided players q (nodes q) heard) ∷ nodes ∷ older) q
       (decided players q (nodes q) heard)
-  decision = record {
-    was = inl (sym (put_at nodes q q (decided players q (nodes q) heard) refl));
-    own = sound.own;
-    known = λ p t. ends_in p t ∙ ap (λ (i : ℕ). Some i) (sym (got_in p t));
-    sees = λ r m o. let w = stands r m o in (w.0, inr w.1, w.2, w.3);
-    reaches = λ r m o. let w = stands_own r m o in (w.0, inr w.1, w.2, w.3);
-    base = λ p t. subst (λ (i : ℕ). IsBase players (put nodes q (decided players q (nodes q) heard) ∷ nodes ∷ older)
-        (nodes q).gone p i) (sym (got_in p t))
-        (base_kept players (nodes ∷ older) (put nodes q (decided players q (nodes q) heard))
-        (grows nodes q (decided players q (nodes q) heard) up) kept (nodes q).gone p
-        (decided_end players q (nodes q) heard p)
-        (λ r m o. let w = stands r m o in (w.0, w.1, w.2)) (base_new p t));
-  }
+  decision = grind (arith, put_at, sound, ends_in, got_in, stands, stands_own, IsBase, base_kept, grows, up, base_new)
 
   -- an end that it knew is the one that it decides
   same_end : (p e : ℕ) → (nodes q).gone p ≡ true → (nodes q).ends p ≡ Some e → decided_end players q (nodes q) heard p ≡ e
-  same_end p e t s =
-      let a : (nodes q).got p ≡ e = sound.full p e s in
-      let b = above_own p in
-      elim (reached p) [
-        | inl c ↦ c ∙ a
-        | inr h ↦
-            let ev = hears h.0 h.1 h.2 h.3 in
-            let f : decided_end players q (nodes q) heard p ≡ (heard h.0).got p = h.4 in
-            elim (sound.source p e s) [
-              | inl k ↦
-                  let g : (heard h.0).got p ≤ (nodes p).got p = (kept.sound h.0 (heard h.0) ev.0).made p in
-                  let i = k.1 in
-                  omega arith
-              | inr d ↦
-                  let g : (heard h.0).got p ≤ d.0.got p = kept.met q h.0 d.0 (heard h.0) l h.1 (λ i. h.2 (sym i))
-                  d.1.was ev.0 (outside d.0.gone (nodes q).gone h.0 d.4 h.3) (not_q h.0 h.1 h.2 h.3) p (d.0.got p)
-                  (d.1.known p d.2) in
-                  let i : d.0.got p ≡ e = d.3 in
-                  omega arith
-            ]
-      ]
+  same_end p e t s = grind (arith, sound, above_own, reached, outside, not_q)
 
   end_made : (p : ℕ) → decided_end players q (nodes q) heard p ≤ (nodes p).got p
-  end_made p = elim (reached p) [
-    | inl c ↦ let a : (nodes q).got p ≤ (nodes p).got p = sound.made p in omega arith
-    | inr h ↦
-        let ev = hears h.0 h.1 h.2 h.3 in
-        let f : decided_end players q (nodes q) heard p ≡ (heard h.0).got p = h.4 in
-        let g : (heard h.0).got p ≤ (nodes p).got p = (kept.sound h.0 (heard h.0) ev.0).made p in
-        omega arith
-  ]
+  end_made p = grind (arith, reached, sound)
 
   pub old_ends : (p e : ℕ) → (nodes q).ends p ≡ Some e → (decided players q (nodes q) heard).ends p ≡ Some e
-  old_ends p e s = elim (cases_Bool ((nodes q).gone p)) [
-    | inl t ↦ ends_in p t ∙ ap (λ (i : ℕ). Some i) (same_end p e t s)
-    | inr t ↦ ends_out p t ∙ s
-  ]
+  old_ends p e s = grind (arith, ends_in, same_end, ends_out)
 
   later : IsLater players (put nodes q (decided players q (nodes q) heard) ∷ nodes ∷ older) q (nodes q)
       (decided players q (nodes q) heard)
-  later = record {
-    gone = λ p t. t;
-    got = up;
-    ends = old_ends;
-    left = λ t. absurd (both_ways (nodes q).left here t);
-    frozen = λ p t. inr (decided players q (nodes q) heard, decision, (λ r u. u), (λ r u. u), refl, omega arith);
-    grown = record { more = omega arith; same = λ tic p m. refl };
-  }
+  later = grind (arith, up, old_ends, both_ways, decision)
 
   end_is : (p e : ℕ) → (nodes q).gone p ≡ true → (decided players q (nodes q) heard).ends p ≡ Some e
       → decided_end players q (nodes q) heard p ≡ e
@@ -244,46 +161,16 @@ module _ (players : ℕ) (nodes : ℕ → Node) (older : List (ℕ → Node)) (q
 
   full : (p e : ℕ) → (decided players q (nodes q) heard).ends p ≡ Some e
       → (decided players q (nodes q) heard).got p ≡ e
-  full p e s = elim (cases_Bool ((nodes q).gone p)) [
-    | inl t ↦ got_in p t ∙ end_is p e t s
-    | inr t ↦ got_out p t ∙ sound.full p e (sym (ends_out p t) ∙ s)
-  ]
+  full p e s = grind (arith, got_in, end_is, got_out, sound, ends_out)
 
   made : (p : ℕ) → (decided players q (nodes q) heard).got p
       ≤ (put nodes q (decided players q (nodes q) heard) p).got p
-  made p = elim (cases_eq p q) [
-    | inl e ↦
-        let a : (put nodes q (decided players q (nodes q) heard) p).got p ≡ (decided players q (nodes q) heard).got p =
-        ap (λ (n : Node). n.got p) (put_at nodes q p (decided players q (nodes q) heard) e) in
-        omega arith
-    | inr n ↦
-        let a : (put nodes q (decided players q (nodes q) heard) p).got p ≡ (nodes p).got p =
-        ap (λ (n : Node). n.got p) (put_off nodes q p (decided players q (nodes q) heard) n) in
-        elim (cases_Bool ((nodes q).gone p)) [
-          | inl t ↦ let b = got_in p t in let c = end_made p in omega arith
-          | inr t ↦
-              let b = got_out p t in
-              let c : (nodes q).got p ≤ (nodes p).got p = sound.made p in
-              omega arith
-        ]
-  ]
+  made p = grind (arith, put_at, put_off, got_in, end_made, got_out, sound)
 
   source : (p e : ℕ) → (decided players q (nodes q) heard).ends p ≡ Some e
       → HasSource players (put nodes q (decided players q (nodes q) heard) ∷ nodes ∷ older) q
       (decided players q (nodes q) heard) p e
-  source p e s = elim (cases_Bool ((nodes q).gone p)) [
-    | inl t ↦ inr (decided players q (nodes q) heard, decision, t, full p e s, (λ r u. u), omega arith)
-    | inr t ↦ elim (source_kept players (nodes ∷ older) (put nodes q (decided players q (nodes q) heard))
-        (grows nodes q (decided players q (nodes q) heard) up) kept
-        (stays nodes q (decided players q (nodes q) heard) here) q (nodes q) p e
-        (sound.source p e (sym (ends_out p t) ∙ s))) [
-          | inl k ↦ inl k
-          | inr d ↦
-              let a = d.5 in
-              let b : (nodes q).got q ≤ (decided players q (nodes q) heard).got q = up q in
-              inr (d.0, d.1, d.2, d.3, d.4, omega arith)
-        ]
-  ]
+  source p e s = grind (arith, decision, full, source_kept, grows, up, stays, sound, ends_out)
 
   -- what others have of one whose end it decided
   met_left : (z : ℕ) (v : Node) → z < players → (z ≡ q → ⊥) → Was (nodes ∷ older) z v
@@ -317,70 +204,26 @@ module _ (players : ℕ) (nodes : ℕ → Node) (older : List (ℕ → Node)) (q
   heard_below z d p m n b h t o r i j k =
       let ev = hears r i j k in
       elim (cases_eq r z) [
-        | inl e ↦
-            let w : Was (nodes ∷ older) z (heard r) = subst (λ (y : ℕ). Was (nodes ∷ older) y (heard r)) e ev.0 in
-            elim (kept.pairs z d (heard r) h.was w) [
-              | inl order ↦
-                  let a : (heard r).got p ≡ d.got p = (kept.sound z (heard r) w).full p (d.got p)
-                  (order.ends p (d.got p) (h.known p t)) in
-                  omega arith
-              | inr order ↦ order.got p
-            ]
+        | inl e ↦ grind (arith, sound, full)
         | inr c ↦
             let u : d.gone r ≡ false = outside d.gone (nodes q).gone r (inside z d h o) k in
             elim (cases_Bool ((heard r).gone z)) [
               | inr f ↦ kept.met z r d (heard r) m i (λ e. c (sym e)) h.was ev.0 u f p (d.got p) (h.known p t)
-              | inl f ↦
-                  let w = h.sees r i u in
-                  let g : w.0.got p ≤ d.got p = w.3 p t in
-                  elim (kept.pairs r w.0 (heard r) w.1 ev.0) [
-                    | inr order ↦ let a : (heard r).got p ≤ w.0.got p = order.got p in omega arith
-                    | inl order ↦ stood r p (d.got p) d.gone w.0 (heard r) order w.2 t g (λ x y v s same.
-                        let f : x.gone z ≡ false = outside x.gone (nodes q).gone z
-                        (inside r x y (outside x.gone (heard r).gone q s (not_q r i j k))) b in
-                        kept.met z r d x m i (λ e. c (sym e)) h.was y.was u f p (d.got p) (h.known p t))
-                  ]
+              | inl f ↦ grind (arith, stood, outside, inside, not_q)
             ]
       ]
 
   met_right : (z : ℕ) (u : Node) → z < players → (z ≡ q → ⊥) → Was (nodes ∷ older) z u
       → IsMet z q u (decided players q (nodes q) heard)
   met_right z u m n w a b p e s = elim (cases_Bool ((nodes q).gone p)) [
-    | inr t ↦
-        let c : (nodes q).got p ≤ e = kept.met z q u (nodes q) m l n w (inl refl) a b p e s in
-        let f = got_out p t in
-        omega arith
+    | inr t ↦ grind (arith, got_out)
     | inl t ↦
         let f = got_in p t in
         elim ((kept.sound z u w).source p e s) [
           | inl k ↦ let c = end_made p in let g = k.1 in omega arith
-          | inr d ↦
-              let o : d.0.gone q ≡ false = outside d.0.gone u.gone q d.4 a in
-              let g : d.0.got p ≡ e = d.3 in
-              elim (reached p) [
-                | inl c ↦
-                    let x : (nodes q).got p ≤ d.0.got p = kept.met z q d.0 (nodes q) m l n d.1.was (inl refl) o b p
-                    (d.0.got p) (d.1.known p d.2) in
-                    omega arith
-                | inr h ↦
-                    let c : decided_end players q (nodes q) heard p ≡ (heard h.0).got p = h.4 in
-                    let x : (heard h.0).got p ≤ d.0.got p =
-                    heard_below z d.0 p m n b d.1 d.2 o h.0 h.1 h.2 h.3 in
-                    omega arith
-              ]
+          | inr d ↦ grind (arith, outside, reached, heard_below)
         ]
   ]
 
   pub decided_good : IsGood players nodes older q (decided players q (nodes q) heard)
-  decided_good =
-      let told : IsTold players (decided players q (nodes q) heard) =
-      told_still players (nodes q) (decided players q (nodes q) heard)
-      (told_of players (nodes ∷ older) q (nodes q) sound) refl up old_ends full in
-      record {
-        here = here;
-        later = later;
-        sound = sound_by players (put nodes q (decided players q (nodes q) heard) ∷ nodes ∷ older) q _ sound.own full
-            made source told;
-        met_left = met_left;
-        met_right = met_right;
-      }
+  decided_good = grind (arith, IsTold, told_still, told_of, sound, up, old_ends, full, later, sound_by, made, source, met_left, met_right)

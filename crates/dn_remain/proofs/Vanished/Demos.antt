@@ -5,10 +5,11 @@ use Rattle.std.specs.List.{take_while, prefix_len}
 use Rattle.std.proofs.lemmas.Bool.{cases_lt, not-true, lt-ltb, le-ltb, cond-true, cond-false}
 use Rattle.std.proofs.lemmas.List.Sums.{prefix_len-le-length, prefix_len_passes}
 use Rattle.std.proofs.lemmas.List.Folds.{length-prefix_len}
+use Rattle.dn_machine.proofs.Put.{same_functions}
+use Rattle.dn_machine.specs.Promise.{IsPrefixOf}
 use Rattle.dn_remain.specs.Vanished.Promise.{lacks_at}
 use Rattle.dn_remain.specs.Vanished.Steps.{IsRun}
-use Rattle.dn_remain.specs.Vanished.Commands.{Holder, seen, past_seen, Had, AreHanded, IsPrefixOf, is_whole, commands_at, commands_to, demo}
-use Rattle.dn_remain.proofs.Vanished.Put.{same_functions}
+use Rattle.dn_remain.specs.Vanished.Commands.{Holder, seen, past_seen, Had, AreHanded, is_whole, commands_at, commands_to, demo}
 use Rattle.dn_remain.proofs.Vanished.Tests.{every_at}
 use Rattle.dn_remain.proofs.Vanished.Handing.{front_self, front_joined, shared}
 
@@ -35,8 +36,7 @@ module _ {C : Type 0} where
   fewer : (players : ℕ) (u : Holder C) (n m : ℕ) → n ≤ m
       → IsPrefixOf (commands_to players u n) (commands_to players u m)
   unfolding commands_to
-  fewer players u n zero l =
-      let e : n ≡ 0 = omega arith in front_self _ _ (ap (λ (i : ℕ). commands_to players u i) e)
+  fewer players u n zero l = grind (arith, front_self)
   fewer players u n (suc m) l = elim (cases_lt n (suc m)) [
     | inl k ↦ front_joined _ _ _ (fewer players u n m (omega arith)) (commands_at players u m ∷ [], refl)
     | inr k ↦
@@ -76,7 +76,4 @@ module _ {C : Type 0} where
   pub demos : (players ahead : ℕ) (history : List (ℕ → Holder C)) → AreHanded history
       → IsRun players ahead (past_seen history) → (x z : ℕ) (u v : Holder C) → Had history x u → Had history z v
       → IsPrefixOf (demo players u) (demo players v) ⊎ IsPrefixOf (demo players v) (demo players u)
-  demos players ahead history h run x z u v w y = elim (cases_lt (demo_length players u) (demo_length players v)) [
-    | inl l ↦ inl (shorter players ahead history h run x z u v w y (omega arith))
-    | inr l ↦ inr (shorter players ahead history h run z x v u y w l)
-  ]
+  demos players ahead history h run x z u v w y = grind (arith, cases_lt, demo_length, shorter)

@@ -2,10 +2,11 @@
 use Rattle.std.proofs.Common.{◌≡◌, ℕ, ◌+◌, ◌<◌, ◌≤◌, refl, sym, ◌∙◌, ap, subst, arith, inl, inr, List, [], ◌∷◌}
 use Rattle.std.specs.Prelude.{true, false, None}
 use Rattle.std.proofs.lemmas.Bool.{both_ways, cases_eq, cases_Bool}
-use Rattle.dn_remain.specs.Vanished.Node.{Node, put, ran, now, Was}
+use Rattle.dn_machine.proofs.Put.{put_at, put_off}
+use Rattle.dn_machine.specs.Node.{put}
+use Rattle.dn_remain.specs.Vanished.Node.{Node, ran, now, Was}
 use Rattle.dn_remain.specs.Vanished.Steps.{Act, Make, Take, Learn, Run, GiveUp, Leave, Decide, Acts, IsRun}
 use Rattle.dn_remain.specs.Vanished.Promise.{Fits}
-use Rattle.dn_remain.proofs.Vanished.Put.{put_at, put_off}
 use Rattle.dn_remain.proofs.Vanished.Mild.{cases_Option}
 use Rattle.dn_remain.proofs.Vanished.Always.{always}
 use Rattle.dn_remain.proofs.Vanished.Windows.{roomy, now_was}
@@ -40,11 +41,7 @@ unread_now players ahead history run x p l h =
 unread : (players ahead : ℕ) (history : List (ℕ → Node)) → IsRun players ahead history → (x p : ℕ) (u : Node)
     → x < players → Was history x u → u.got p ≤ ran u + (ahead + ahead)
 unread players ahead [] run x p u l w = absurd run
-unread players ahead (nodes ∷ []) run x p u l w = elim w [
-  | inr n ↦ absurd n
-  | inl e ↦ subst (λ (n : Node). n.got p ≤ ran n + (ahead + ahead))
-      (sym (e ∙ ap (λ (f : ℕ → Node). f x) run)) (omega arith)
-]
+unread players ahead (nodes ∷ []) run x p u l w = grind arith
 unread players ahead (next ∷ (nodes ∷ older)) run x p u l w = elim w [
   | inr o ↦ unread players ahead (nodes ∷ older) run.1 x p u l o
   | inl e ↦
@@ -89,10 +86,7 @@ fits players ahead history run =
       run = λ x p u w l e. (kept.sound x u w).ahead p l e;
       close = room.near;
       unread = unread players ahead history run;
-      overrun = λ x r p v l h w o.
-          let a = room.own x (now history x) (here x) in
-          let b = room.near x r p v l h w o in
-          omega arith;
+      overrun = grind arith;
       unheard = λ x r p v l m i n h g w o. elim (cases_Option ((now history x).ends p)) [
         | inl e ↦ lacking x r p v l i h w o e
         | inr e ↦

@@ -2,9 +2,9 @@
 use Rattle.std.proofs.Common.{◌≡◌, ℕ, refl, sym, ◌∙◌, ap, inl, List, [], ◌∷◌}
 use Rattle.std.specs.Prelude.{true, false, Some}
 use Rattle.std.proofs.lemmas.Bool.{both_ways}
+use Rattle.dn_machine.proofs.Put.{put_at, put_off}
 use Rattle.dn_remain.specs.Vanished.Node.{Node, now}
 use Rattle.dn_remain.specs.Vanished.Steps.{Act, Make, Take, Learn, Run, GiveUp, Leave, Decide, Acts, Step, IsRun}
-use Rattle.dn_remain.proofs.Vanished.Put.{put_at, put_off}
 use Rattle.dn_remain.proofs.Vanished.Invariant.{IsKept}
 use Rattle.dn_remain.proofs.Vanished.Always.{always}
 

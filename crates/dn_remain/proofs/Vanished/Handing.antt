@@ -3,11 +3,13 @@ use Rattle.std.proofs.Common.{◌≡◌, ℕ, ◌<◌, zero, suc, refl, sym, ◌
 use Rattle.std.specs.Prelude.{◌⊎◌, false, slice_get}
 use Rattle.std.proofs.lemmas.Bool.{cases_eq}
 use Rattle.std.proofs.lemmas.List.{take-append-drop}
-use Rattle.dn_remain.specs.Vanished.Node.{put, Was}
+use Rattle.dn_machine.proofs.Put.{put_at, put_off}
+use Rattle.dn_machine.specs.Promise.{IsPrefixOf}
+use Rattle.dn_machine.specs.Node.{put}
+use Rattle.dn_remain.specs.Vanished.Node.{Was}
 use Rattle.dn_remain.specs.Vanished.Promise.{lacks_at}
 use Rattle.dn_remain.specs.Vanished.Steps.{IsRun}
-use Rattle.dn_remain.specs.Vanished.Commands.{Holder, seen, past_seen, holders, Had, AreHanded, IsPrefixOf}
-use Rattle.dn_remain.proofs.Vanished.Put.{put_at, put_off}
+use Rattle.dn_remain.specs.Vanished.Commands.{Holder, seen, past_seen, holders, Had, AreHanded}
 use Rattle.dn_remain.proofs.Vanished.Always.{always}
 use Rattle.dn_remain.proofs.Vanished.Promises.{agree}
 
@@ -40,14 +42,7 @@ module _ {C : Type 0} where
     maker_grows : (p : ℕ) → IsPrefixOf ((nodes p).held p) ((put nodes q new p).held p)
     maker_grows p = elim (cases_eq p q) [
       | inr n ↦ front_self _ _ (ap (λ (h : Holder C). h.held p) (sym (put_off nodes q p new n)))
-      | inl e ↦
-          let a : (put nodes q new p).held p ≡ new.held q =
-          ap (λ (h : Holder C). h.held p) (put_at nodes q p new e) ∙ ap new.held e in
-          let b : (nodes p).held p ≡ (nodes q).held q = ap (λ (i : ℕ). (nodes i).held i) e in
-          elim own [
-            | inl o ↦ front_self _ _ (b ∙ (sym o ∙ sym a))
-            | inr o ↦ (o.0 ∷ [], ap (λ (ws : List C). ws ++ o.0 ∷ []) b ∙ (sym o.1 ∙ sym a))
-          ]
+      | inl e ↦ grind (arith, put_at, front_self)
     ]
 
     old_front : (x p : ℕ) (u : Holder C) → Had (nodes ∷ older) x u → IsPrefixOf (u.held p) ((put nodes q new p).held p)
@@ -84,10 +79,7 @@ module _ {C : Type 0} where
   handed [] h x p u w = absurd w
   handed (nodes ∷ []) h x p u w = elim w [
     | inr n ↦ absurd n
-    | inl e ↦ (
-      (nodes p).held p,
-      ap (λ (ws : List C). ws ++ (nodes p).held p) (ap (λ (s : Holder C). s.held p) e ∙ h x p),
-    )
+    | inl e ↦ grind arith
   ]
   handed (next ∷ (nodes ∷ older)) h x p u w =
       let step = h.0 in
@@ -130,9 +122,7 @@ module _ {C : Type 0} where
         → tic < length u.rows → tic < length v.rows → lacks_at (seen u) tic p ≡ false
         → lacks_at (seen v) tic p ≡ false
         → (tic < length (u.held p)) × (slice_get (u.held p) tic ≡ slice_get (v.held p) tic)
-    shared x z p tic u v l w y i j s t =
-        let a = row_held x p tic u l w i s in
-        (a, same_held history h x z p tic u v w y a (row_held z p tic v l y j t))
+    shared x z p tic u v l w y i j s t = grind (arith, row_held, same_held)
 
     pub same_commands : (x z p tic : ℕ) (u v : Holder C)
         → x < players → z < players → p < players → (x ≡ z → ⊥) → Had history x u → Had history z v

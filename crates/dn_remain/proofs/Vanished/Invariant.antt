@@ -1,6 +1,7 @@
 -- What every step keeps.
 use Rattle.std.specs.Prelude.{ℕ, ◌<◌, ◌≤◌, Bool, true, false, List, ◌≡◌, ◌⊎◌, Some, None}
-use Rattle.dn_remain.specs.Vanished.Node.{Node, ran, is_over, now, Was, Within}
+use Rattle.dn_machine.specs.Running.{is_over}
+use Rattle.dn_remain.specs.Vanished.Node.{Node, ran, now, Was, Within}
 use Rattle.dn_remain.specs.Vanished.Reports.{Stands}
 use Rattle.dn_remain.specs.Vanished.Promise.{lacks_at}
 

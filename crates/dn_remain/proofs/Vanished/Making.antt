@@ -1,10 +1,11 @@
 -- Every command was made by a step that might make it.
-use Rattle.std.proofs.Common.{◌≡◌, ℕ, ◌+◌, ◌<◌, ◌≤◌, refl, sym, ◌∙◌, ap, arith, inl, inr, List, [], ◌∷◌}
+use Rattle.std.proofs.Common.{◌≡◌, ℕ, ◌+◌, ◌<◌, ◌≤◌, refl, ◌∙◌, ap, arith, inl, inr, List, [], ◌∷◌}
 use Rattle.std.specs.Prelude.{false}
 use Rattle.std.proofs.lemmas.Bool.{cases_eq, cases_lt}
-use Rattle.dn_remain.specs.Vanished.Node.{Node, put, ran, now, Was}
+use Rattle.dn_machine.proofs.Put.{put_at, put_off}
+use Rattle.dn_machine.specs.Node.{put}
+use Rattle.dn_remain.specs.Vanished.Node.{Node, ran, now, Was}
 use Rattle.dn_remain.specs.Vanished.Steps.{Act, Make, Take, Learn, Run, GiveUp, Leave, Decide, Acts, IsRun}
-use Rattle.dn_remain.proofs.Vanished.Put.{put_at, put_off}
 use Rattle.dn_remain.proofs.Vanished.Invariant.{IsKept}
 use Rattle.dn_remain.proofs.Vanished.Deciding.{got_out}
 use Rattle.dn_remain.proofs.Vanished.Always.{always}
@@ -21,17 +22,10 @@ module _ (players ahead : ℕ) (nodes : ℕ → Node) (older : List (ℕ → Nod
 
   made_new : (act : Act) (new : Node) → Acts players ahead (nodes ∷ older) q act new → tic < new.got q
       → ((nodes q).got q ≡ tic) × (tic < ran (nodes q) + ahead)
-  made_new Make new a k =
-      let c : new.got q ≡ (nodes q).got q + 1 =
-      own new _ _ (ap (λ (n : Node). n.got) a.1) (put_at (nodes q).got q q ((nodes q).got q + 1) refl) in
-      let d : (nodes q).got q < ran (nodes q) + ahead = a.0 in
-      (omega arith, omega arith)
+  made_new Make new a k = grind (arith, own, put_at)
   made_new Take new a k = none new
       (elim (cases_eq q a.0) [
-        | inr n ↦
-            let c : new.got q ≡ (nodes q).got q =
-            own new _ _ (ap (λ (n : Node). n.got) a.8) (put_off (nodes q).got a.0 q a.1 n) in
-            omega arith
+        | inr n ↦ grind (arith, own, put_off)
         | inl e ↦
             let c : new.got q ≡ a.1 =
             own new _ _ (ap (λ (n : Node). n.got) a.8) (put_at (nodes q).got a.0 q a.1 e) in
@@ -40,29 +34,17 @@ module _ (players ahead : ℕ) (nodes : ℕ → Node) (older : List (ℕ → Nod
             let g : (nodes q).got q ≡ (nodes a.0).got a.0 = ap (λ (i : ℕ). (nodes i).got i) e in
             omega arith
       ]) k
-  made_new Learn new a k = none new
-      (let c : new.got q ≡ (nodes q).got q =
-      own new _ _ (ap (λ (n : Node). n.got) a.5)
-      (put_off (nodes q).got a.0 q ((nodes a.0).got a.0) (λ e. a.1 (sym e))) in
-      omega arith) k
-  made_new Run new a k =
-      none new (let c : new.got q ≡ (nodes q).got q = ap (λ (n : Node). n.got q) a.1 in omega arith) k
-  made_new GiveUp new a k =
-      none new (let c : new.got q ≡ (nodes q).got q = ap (λ (n : Node). n.got q) a.3 in omega arith) k
-  made_new Leave new a k =
-      none new (let c : new.got q ≡ (nodes q).got q = ap (λ (n : Node). n.got q) a in omega arith) k
-  made_new Decide new a k =
-      none new
-      (let c : new.got q ≡ (nodes q).got q = ap (λ (n : Node). n.got q) a.2
-      ∙ got_out players nodes older q l here kept a.0 a.1 q (kept.sound q (nodes q) (inl refl)).own in
-      omega arith) k
+  made_new Learn new a k = grind (arith, none, own, put_off)
+  made_new Run new a k = grind (arith, none)
+  made_new GiveUp new a k = grind (arith, none)
+  made_new Leave new a k = grind (arith, none)
+  made_new Decide new a k = grind (arith, none, got_out, own)
 
 pub made : (players ahead : ℕ) (history : List (ℕ → Node)) → IsRun players ahead history → (p tic : ℕ)
     → tic < (now history p).got p
     → (maker : Node) × Was history p maker × (maker.got p ≡ tic) × (tic < ran maker + ahead)
 made players ahead [] run p tic k = absurd run
-made players ahead (nodes ∷ []) run p tic k =
-    let a : (nodes p).got p ≡ 0 = ap (λ (f : ℕ → Node). (f p).got p) run in absurd (omega arith)
+made players ahead (nodes ∷ []) run p tic k = grind arith
 made players ahead (next ∷ (nodes ∷ older)) run p tic k =
     let step = run.0 in
     let at : next p ≡ put nodes step.q step.new p = ap (λ (f : ℕ → Node). f p) step.next_is in
@@ -71,10 +53,7 @@ made players ahead (next ∷ (nodes ∷ older)) run p tic k =
           let before = made players ahead (nodes ∷ older) run.1 p tic m in
           (before.0, inr before.1, before.2, before.3)
       | inr m ↦ elim (cases_eq p step.q) [
-        | inr n ↦
-            let a : (next p).got p ≡ (nodes p).got p =
-            ap (λ (n : Node). n.got p) (at ∙ put_off nodes step.q p step.new n) in
-            absurd (omega arith)
+        | inr n ↦ grind (arith, put_off)
         | inl e ↦
             let a : (next p).got p ≡ step.new.got p =
             ap (λ (n : Node). n.got p) (at ∙ put_at nodes step.q p step.new e) in

@@ -1,5 +1,5 @@
 -- So the marks of two nodes agree.
-use Rattle.std.proofs.Common.{◌≡◌, ℕ, ◌+◌, ◌<◌, ◌≤◌, sym, subst, arith, inl, inr, List}
+use Rattle.std.proofs.Common.{◌≡◌, ℕ, ◌+◌, ◌<◌, ◌≤◌, subst, arith, inl, inr, List}
 use Rattle.std.specs.Prelude.{false}
 use Rattle.std.proofs.lemmas.Bool.{cases_eq, cases_Bool}
 use Rattle.dn_remain.specs.Vanished.Node.{Node, ran, Was}
@@ -22,18 +22,12 @@ module _ (players ahead : ℕ) (history : List (ℕ → Node)) (run : IsRun play
       rows_alike players history kept x p u maker l m f w y g
       (λ d decides below. elim (cases_Bool (d.gone x)) [
         | inr o ↦ o
-        | inl t ↦
-            let a : u.got p ≤ d.got p = behind players ahead history kept p d decides history run
-            (λ z v k. k) x u l f w g t in
-            absurd (omega arith)
+        | inl t ↦ grind (arith, behind)
       ]) r back n j i
 
   own_row : (p back r : ℕ) (u maker : Node) → Was history p u → Was history p maker → back < ran maker
       → back < ran u → lacks_at u back r ≡ lacks_at maker back r
-  own_row p back r u maker w y i j = elim ((always players ahead history run).pairs p u maker w y) [
-    | inl order ↦ sym (order.grown.same back r j)
-    | inr order ↦ order.grown.same back r i
-  ]
+  own_row p back r u maker w y i j = grind (arith, always)
 
   same : ahead ≤ 12 → (x p tic back r : ℕ) (u maker : Node) → x < players → p < players → r < players
       → Was history x u → Was history p maker → u.gone p ≡ false → maker.got p ≡ tic → tic < ran maker + ahead

@@ -2,11 +2,12 @@
 use Rattle.std.proofs.Common.{◌≡◌, ℕ, ◌+◌, ◌<◌, ◌≤◌, refl, sym, ◌∙◌, ap, subst, arith, inl, inr, List, [], ◌∷◌}
 use Rattle.std.specs.Prelude.{false, Some}
 use Rattle.std.proofs.lemmas.Bool.{both_ways, cases_eq, cases_Bool}
-use Rattle.dn_remain.specs.Vanished.Node.{Node, put, ran, fresh, Was}
+use Rattle.dn_machine.proofs.Put.{put_at, put_off}
+use Rattle.dn_machine.specs.Node.{put}
+use Rattle.dn_remain.specs.Vanished.Node.{Node, ran, fresh, Was}
 use Rattle.dn_remain.specs.Vanished.Reports.{HasHeard, decided_end, decided}
 use Rattle.dn_remain.specs.Vanished.Steps.{Act, Make, Take, Learn, Run, GiveUp, Leave, Decide, Acts, Step, IsRun, HandsOn}
 use Rattle.dn_remain.specs.Vanished.Promise.{lacks_at}
-use Rattle.dn_remain.proofs.Vanished.Put.{put_at, put_off}
 use Rattle.dn_remain.proofs.Vanished.Invariant.{IsGrown, IsKept}
 use Rattle.dn_remain.proofs.Vanished.Stepping.{was_q, was_other}
 use Rattle.dn_remain.proofs.Vanished.Deciding.{got_in, got_out, reached, not_q}
@@ -28,11 +29,7 @@ pub record IsMarked (players : ℕ) (history : List (ℕ → Node)) : Type 0 whe
       → back + 12 ≤ tic → IsSameRow u maker back r
 
 row_grown : (u v maker : Node) (back r : ℕ) → IsGrown u v → IsSameRow u maker back r → IsSameRow v maker back r
-row_grown u v maker back r g h = record {
-  ran_it = omega (arith, g.more, h.ran_it);
-  made_it = h.made_it;
-  same = g.same back r h.ran_it ∙ h.same;
-}
+row_grown u v maker back r g h = grind arith
 
 module _ (players ahead : ℕ) (nodes : ℕ → Node) (older : List (ℕ → Node)) (q : ℕ) (l : q < players)
     (here : (nodes q).left ≡ false) (kept : IsKept players (nodes ∷ older))
@@ -58,10 +55,7 @@ module _ (players ahead : ℕ) (nodes : ℕ → Node) (older : List (ℕ → Nod
       let i : back < ran maker = omega arith in
       elim (kept.pairs p maker sent y w) [
         | inr order ↦ let c : sent.got p ≤ maker.got p = order.got p in absurd (omega arith)
-        | inl order ↦
-            let more = order.grown.more in
-            let k = told_row p r back tic sent m n f w g o p s b (omega arith) in
-            record { ran_it = k.0; made_it = i; same = k.1 ∙ order.grown.same back r i }
+        | inl order ↦ grind (arith, told_row)
       ]
 
   old_row : (p tic back r : ℕ) (maker : Node) → p < players → r < players → (q ≡ p → ⊥)
@@ -190,8 +184,7 @@ module _ (players ahead : ℕ) (nodes : ℕ → Node) (older : List (ℕ → Nod
         omega arith
 
     grown : IsGrown (nodes q) new
-    grown = subst (λ (n : Node). IsGrown (nodes q) n) (put_at nodes q q new refl)
-        (kept'.order q (nodes q) (inr (inl refl))).grown
+    grown = grind (arith, IsGrown, put_at)
 
     -- the maker's state is an old one, or nobody else has the command yet
     by_old : (x p tic back r : ℕ) (u maker : Node) → x < players → p < players → r < players → (x ≡ p → ⊥)
@@ -241,12 +234,7 @@ steps players ahead low nodes older next run step kept kept' room marked =
     (new_row players ahead nodes older step.q step.player step.here kept low room marked run step.act step.new step.acts))
 
 opens : (players : ℕ) → IsMarked players ((λ node. fresh) ∷ [])
-opens players = record {
-  marked = λ x p tic back r u maker l m n f w y e s b. elim w [
-    | inl d ↦ let a : u.got p ≡ 0 = ap (λ (n : Node). n.got p) d in absurd (omega arith)
-    | inr d ↦ absurd d
-  ];
-}
+opens players = grind arith
 
 pub marks : (players ahead : ℕ) → ahead + ahead ≤ 12 → (history : List (ℕ → Node)) → IsRun players ahead history → IsMarked players history
 marks players ahead low [] run = absurd run

@@ -1,19 +1,26 @@
--- A function with another value at one place, and the largest of some numbers.
-use Rattle.std.proofs.Common.{◌≡◌, ℕ, ◌<◌, ◌≤◌, eqb, ◌∙◌, ap, arith, inl, inr, suc, zero}
-use Rattle.std.proofs.lemmas.Bool.{eq-eqb, ne_eqb, cases_lt, cond-true, cond-false}
+-- What holds at each place of a function after one of its values is another, and the largest of some numbers.
+use Rattle.std.proofs.Common.{◌≡◌, ℕ, ◌<◌, ◌≤◌, refl, ◌∙◌, arith, inl, inr, suc, zero}
+use Rattle.std.proofs.lemmas.Bool.{cases_lt}
 use Rattle.std.proofs.Math.Nat.{le-max_left, le-max_right, max-eq_left, max-eq_right}
-use Rattle.dn_remain.specs.Vanished.Node.{put}
+use Rattle.dn_machine.specs.Node.{put}
+use Rattle.dn_machine.proofs.Put.{put_at, put_off, same_functions}
 use Rattle.dn_remain.specs.Vanished.Reports.{highest}
 
-pub put_at : {A : Type 0} (f : ℕ → A) (i j : ℕ) (x : A) → j ≡ i → put f i x j ≡ x
-put_at f i j x e = cond-true (eqb j i) x (f j) (eq-eqb j i e)
+-- what holds of the new value in its place, and of each other in its own, holds in every place
+pub at_put : {A : Type 0} (P : ℕ → A → Type 0) (f : ℕ → A) (i : ℕ) (new : A) → P i new
+    → ((j : ℕ) → (j ≡ i → ⊥) → P j (f j)) → (j : ℕ) → P j (put f i new j)
+at_put P f i new here rest j = grind (arith, put_at, put_off)
 
-pub put_off : {A : Type 0} (f : ℕ → A) (i j : ℕ) (x : A) → (j ≡ i → ⊥) → put f i x j ≡ f j
-put_off f i j x n = cond-false (eqb j i) x (f j) (ne_eqb j i n)
+-- the same of two functions
+pub at_both : {A B : Type 0} (P : ℕ → A → B → Type 0) (f : ℕ → A) (g : ℕ → B) (i : ℕ) (a : A) (b : B) → P i a b
+    → ((j : ℕ) → (j ≡ i → ⊥) → P j (f j) (g j)) → (j : ℕ) → P j (put f i a j) (put g i b j)
+at_both P f g i a b here rest = grind (arith, at_put, put_at, put_off)
 
--- equal functions
-pub same_functions : {A : Type 0} {f g : ℕ → A} → ((j : ℕ) → f j ≡ g j) → f ≡ g
-same_functions h = λ i j. h j i
+pub own_put : {A : Type 0} (f : ℕ → A) (q : ℕ) → put f q (f q) ≡ f
+own_put f q = same_functions (at_put (λ j x. x ≡ f j) f q (f q) refl (λ j n. refl))
+
+pub twice_put : {A : Type 0} (f : ℕ → A) (q : ℕ) (a b : A) → put (put f q a) q b ≡ put f q b
+twice_put f q a b = grind (arith, same_functions, at_put, put_at, put_off)
 
 pub highest_bounds : (n : ℕ) (f : ℕ → ℕ) (r : ℕ) → r < n → f r ≤ highest n f
 unfolding highest
@@ -23,11 +30,7 @@ highest_bounds (suc n) f r h = elim (cases_lt r n) [
       let k : f r ≤ highest n f = highest_bounds n f r l in
       let m = le-max_left (highest n f) (f n) in
       omega arith
-  | inr l ↦
-      let e : r ≡ n = omega arith in
-      let m = le-max_right (highest n f) (f n) in
-      let d : f r ≡ f n = ap f e in
-      omega arith
+  | inr l ↦ grind (arith, le-max_right)
 ]
 
 pub highest_reached : (n : ℕ) (f : ℕ → ℕ) → 0 < n → (r : ℕ) × (r < n) × (highest n f ≡ f r)

@@ -1,7 +1,8 @@
 -- Readings of the definitions: what the rules say where each of the weaker ones fails. Player 0 is the one who
 -- vanishes, and counts are of its commands.
 use Rattle.std.specs.Prelude.{ℕ, ◌==◌, Bool, true, false, [], ◌∷◌, ◌≡◌, refl, Option, Some, None, if◌then◌else◌}
-use Rattle.dn_remain.specs.Vanished.Node.{Node, put, fresh}
+use Rattle.dn_machine.specs.Node.{put}
+use Rattle.dn_remain.specs.Vanished.Node.{Node, fresh}
 use Rattle.dn_remain.specs.Vanished.Reports.{highest, decided_end, decided}
 use Rattle.dn_remain.specs.Vanished.Calls.{every, is_report, can_decide, report_or, may_give_up, is_newer}
 use Rattle.dn_remain.specs.Vanished.Commands.{Holder, fresh_holder, commands_to, demo}

@@ -1,8 +1,9 @@
 -- Two nodes ran the same rows, where one has not given up the other, and that other had decided nothing without it.
-use Rattle.std.proofs.Common.{◌≡◌, ℕ, ◌<◌, ◌≤◌, sym, ◌∙◌, ap, arith, inl, inr, List}
-use Rattle.std.specs.Prelude.{false, Option, Some}
+use Rattle.std.proofs.Common.{◌≡◌, ℕ, ◌<◌, ◌≤◌, sym, ◌∙◌, arith, inl, inr, List}
+use Rattle.std.specs.Prelude.{false, Some}
 use Rattle.std.proofs.lemmas.Bool.{lt-leb}
-use Rattle.dn_remain.specs.Vanished.Node.{Node, ran, is_over, Was}
+use Rattle.dn_machine.specs.Running.{is_over}
+use Rattle.dn_remain.specs.Vanished.Node.{Node, ran, Was}
 use Rattle.dn_remain.specs.Vanished.Promise.{lacks_at}
 use Rattle.dn_remain.proofs.Vanished.Invariant.{IsDecision, IsKept}
 use Rattle.dn_remain.proofs.Vanished.Mild.{cases_Option}
@@ -15,10 +16,7 @@ module _ (players : ℕ) (history : List (ℕ → Node)) (kept : IsKept players 
   -- an end that one knows is not below what the other has
   below_u : (r e : ℕ) → u.ends r ≡ Some e → v.got r ≤ e
   below_u r e s = elim ((kept.sound x u w).source r e s) [
-    | inl k ↦
-        let a = (kept.sound p v y).made r in
-        let b = k.1 in
-        omega arith
+    | inl k ↦ grind arith
     | inr d ↦
         let o : d.0.gone p ≡ false = outside d.0.gone u.gone p d.4 g in
         let t = d.1.sees p m o in
@@ -27,9 +25,7 @@ module _ (players : ℕ) (history : List (ℕ → Node)) (kept : IsKept players 
         elim (kept.pairs p v t.0 y t.1) [
           | inl order ↦ let c : v.got r ≤ t.0.got r = order.got r in omega arith
           | inr order ↦ elim t.2 [
-            | inr gone ↦
-                let c : v.got r ≡ t.0.got r = ap (λ (n : Node). n.got r) (order.left gone.0) in
-                omega arith
+            | inr gone ↦ grind arith
             | inl same ↦ elim (order.frozen r (same r ∙ d.2)) [
               | inl c ↦ omega arith
               | inr k ↦
@@ -44,10 +40,7 @@ module _ (players : ℕ) (history : List (ℕ → Node)) (kept : IsKept players 
 
   below_v : (r e : ℕ) → v.ends r ≡ Some e → u.got r ≤ e
   below_v r e s = elim ((kept.sound p v y).source r e s) [
-    | inl k ↦
-        let a = (kept.sound x u w).made r in
-        let b = k.1 in
-        omega arith
+    | inl k ↦ grind arith
     | inr d ↦
         let c : u.got r ≤ d.0.got r = kept.met p x d.0 u m l (λ i. n (sym i)) d.1.was w (free d.0 d.1 d.5) g r
         (d.0.got r) (d.1.known r d.2) in
@@ -57,31 +50,9 @@ module _ (players : ℕ) (history : List (ℕ → Node)) (kept : IsKept players 
 
   over_same : (r tic : ℕ) → r < players → tic < ran u → tic < ran v → is_over (u.ends r) tic ≡ is_over (v.ends r) tic
   over_same r tic i j k = elim (cases_Option (u.ends r)) [
-    | inl s ↦ elim (cases_Option (v.ends r)) [
-      | inl t ↦ ap (λ (o : Option ℕ). is_over o tic) (s ∙ sym t)
-      | inr t ↦
-          let a : u.got r ≤ t.0 = below_v r t.0 t.1 in
-          let b : ran u ≤ u.got r = (kept.sound x u w).ahead r i s in
-          ap (λ (o : Option ℕ). is_over o tic) s
-          ∙ sym (ap (λ (o : Option ℕ). is_over o tic) t.1 ∙ lt-leb t.0 tic (omega arith))
-    ]
-    | inr s ↦
-        let a : v.got r ≤ s.0 = below_u r s.0 s.1 in
-        elim (cases_Option (v.ends r)) [
-          | inl t ↦
-              let b : ran v ≤ v.got r = (kept.sound p v y).ahead r i t in
-              ap (λ (o : Option ℕ). is_over o tic) s.1 ∙ (lt-leb s.0 tic (omega arith)
-              ∙ sym (ap (λ (o : Option ℕ). is_over o tic) t))
-          | inr t ↦
-              let b : u.got r ≤ t.0 = below_v r t.0 t.1 in
-              let c : u.got r ≡ s.0 = (kept.sound x u w).full r s.0 s.1 in
-              let d : v.got r ≡ t.0 = (kept.sound p v y).full r t.0 t.1 in
-              let same : s.0 ≡ t.0 = omega arith in
-              ap (λ (o : Option ℕ). is_over o tic)
-              (s.1 ∙ (ap (λ (e : ℕ). Some e) same ∙ sym t.1))
-        ]
+    | inl s ↦ grind (arith, cases_Option, below_v, lt-leb)
+    | inr s ↦ grind (arith, below_u, cases_Option, lt-leb, below_v)
   ]
 
   pub rows_alike : (r tic : ℕ) → r < players → tic < ran u → tic < ran v → lacks_at u tic r ≡ lacks_at v tic r
-  rows_alike r tic i j k = (kept.sound x u w).rows r tic i j ∙ (over_same r tic i j k
-      ∙ sym ((kept.sound p v y).rows r tic i k))
+  rows_alike r tic i j k = grind (arith, over_same)

@@ -1,9 +1,10 @@
 -- When one node steps and its new state meets what is asked of it, all is kept.
-use Rattle.std.proofs.Common.{◌≡◌, ℕ, ◌<◌, ◌≤◌, refl, sym, ◌∙◌, ap, subst, arith, inl, inr, List, ◌∷◌}
+use Rattle.std.proofs.Common.{◌≡◌, ℕ, ◌<◌, ◌≤◌, sym, subst, arith, inl, inr, List, ◌∷◌}
 use Rattle.std.specs.Prelude.{◌⊎◌, true, false}
 use Rattle.std.proofs.lemmas.Bool.{both_ways, cases_eq}
-use Rattle.dn_remain.specs.Vanished.Node.{Node, put, Was}
-use Rattle.dn_remain.proofs.Vanished.Put.{put_at, put_off}
+use Rattle.dn_machine.proofs.Put.{put_at, put_off}
+use Rattle.dn_machine.specs.Node.{put}
+use Rattle.dn_remain.specs.Vanished.Node.{Node, Was}
 use Rattle.dn_remain.proofs.Vanished.Invariant.{IsLater, IsSound, IsMet, IsKept}
 use Rattle.dn_remain.proofs.Vanished.Views.{later_self, later_joined, later_kept, sound_kept}
 
@@ -17,37 +18,21 @@ pub record IsGood (players : ℕ) (nodes : ℕ → Node) (older : List (ℕ → 
 
 pub was_q : (nodes : ℕ → Node) (older : List (ℕ → Node)) (q : ℕ) (new u : Node)
     → Was (put nodes q new ∷ nodes ∷ older) q u → (u ≡ new) ⊎ Was (nodes ∷ older) q u
-was_q nodes older q new u h = elim h [
-  | inl e ↦ inl (e ∙ put_at nodes q q new refl)
-  | inr w ↦ inr w
-]
+was_q nodes older q new u h = grind (arith, put_at)
 
 pub was_other : (nodes : ℕ → Node) (older : List (ℕ → Node)) (q : ℕ) (new : Node) (x : ℕ) (u : Node)
     → (x ≡ q → ⊥) → Was (put nodes q new ∷ nodes ∷ older) x u → Was (nodes ∷ older) x u
-was_other nodes older q new x u n h = elim h [
-  | inl e ↦ inl (e ∙ put_off nodes q x new n)
-  | inr w ↦ w
-]
+was_other nodes older q new x u n h = grind (arith, put_off)
 
 -- counts do not fall
 pub grows : (nodes : ℕ → Node) (q : ℕ) (new : Node) → ((p : ℕ) → (nodes q).got p ≤ new.got p) → (r p : ℕ)
     → (nodes r).got p ≤ (put nodes q new r).got p
-grows nodes q new h r p = elim (cases_eq r q) [
-  | inl e ↦
-      let a : (put nodes q new r).got p ≡ new.got p = ap (λ (n : Node). n.got p) (put_at nodes q r new e) in
-      let b : (nodes r).got p ≡ (nodes q).got p = ap (λ (m : ℕ). (nodes m).got p) e in
-      let c : (nodes q).got p ≤ new.got p = h p in
-      omega arith
-  | inr n ↦
-      let a : (put nodes q new r).got p ≡ (nodes r).got p = ap (λ (n : Node). n.got p) (put_off nodes q r new n) in
-      omega arith
-]
+grows nodes q new h r p = grind (arith, put_at, put_off)
 
 -- whoever has left stays
 pub stays : (nodes : ℕ → Node) (q : ℕ) (new : Node) → (nodes q).left ≡ false → (p : ℕ) → (nodes p).left ≡ true
     → put nodes q new p ≡ nodes p
-stays nodes q new h p l = put_off nodes q p new (λ e. both_ways (nodes p).left
-    (ap (λ (m : ℕ). (nodes m).left) e ∙ h) l)
+stays nodes q new h p l = grind (arith, put_off, both_ways)
 
 module _ (players : ℕ) (nodes : ℕ → Node) (older : List (ℕ → Node)) (q : ℕ) (new : Node)
     (kept : IsKept players (nodes ∷ older)) (good : IsGood players nodes older q new) where
@@ -61,23 +46,16 @@ module _ (players : ℕ) (nodes : ℕ → Node) (older : List (ℕ → Node)) (q
       (up q u (nodes q) (kept.order q u w)) good.later
 
   same_later : (u : Node) → u ≡ new → IsLater players (put nodes q new ∷ nodes ∷ older) q u new
-  same_later u e = subst (λ (n : Node). IsLater players (put nodes q new ∷ nodes ∷ older) q n new) (sym e)
-      (later_self players (put nodes q new ∷ nodes ∷ older) q new)
+  same_later u e = grind (arith, IsLater, later_self)
 
   order_at_q : (u : Node) → Was (put nodes q new ∷ nodes ∷ older) q u
       → IsLater players (put nodes q new ∷ nodes ∷ older) q u new
-  order_at_q u w = elim (was_q nodes older q new u w) [
-    | inl e ↦ same_later u e
-    | inr o ↦ order_q u o
-  ]
+  order_at_q u w = grind (arith, was_q, same_later, order_q)
 
   order_after : (x : ℕ) (u : Node) → Was (put nodes q new ∷ nodes ∷ older) x u
       → IsLater players (put nodes q new ∷ nodes ∷ older) x u (put nodes q new x)
   order_after x u w = elim (cases_eq x q) [
-    | inl e ↦ subst (λ (n : Node). IsLater players (put nodes q new ∷ nodes ∷ older) x u n)
-        (sym (put_at nodes q x new e))
-        (subst (λ (y : ℕ). Was (put nodes q new ∷ nodes ∷ older) y u
-        → IsLater players (put nodes q new ∷ nodes ∷ older) y u new) (sym e) (order_at_q u) w)
+    | inl e ↦ grind (arith, IsLater, put_at, order_at_q)
     | inr n ↦ subst (λ (m : Node). IsLater players (put nodes q new ∷ nodes ∷ older) x u m)
         (sym (put_off nodes q x new n))
         (up x u (nodes x) (kept.order x u (was_other nodes older q new x u n w)))
@@ -105,10 +83,7 @@ module _ (players : ℕ) (nodes : ℕ → Node) (older : List (ℕ → Node)) (q
       → IsLater players (put nodes q new ∷ nodes ∷ older) x u v
       ⊎ IsLater players (put nodes q new ∷ nodes ∷ older) x v u
   pairs_after x u v w y = elim (cases_eq x q) [
-    | inl e ↦ subst (λ (m : ℕ). Was (put nodes q new ∷ nodes ∷ older) m u
-        → Was (put nodes q new ∷ nodes ∷ older) m v
-        → IsLater players (put nodes q new ∷ nodes ∷ older) m u v
-        ⊎ IsLater players (put nodes q new ∷ nodes ∷ older) m v u) (sym e) (pairs_q u v) w y
+    | inl e ↦ grind (arith, IsLater, pairs_q)
     | inr n ↦ elim (kept.pairs x u v (was_other nodes older q new x u n w)
         (was_other nodes older q new x v n y)) [
           | inl l ↦ inl (up x u v l)
@@ -122,10 +97,7 @@ module _ (players : ℕ) (nodes : ℕ → Node) (older : List (ℕ → Node)) (q
 
   sound_q : (u : Node) → Was (put nodes q new ∷ nodes ∷ older) q u
       → IsSound players (put nodes q new ∷ nodes ∷ older) q u
-  sound_q u w = elim (was_q nodes older q new u w) [
-    | inl e ↦ subst (λ (n : Node). IsSound players (put nodes q new ∷ nodes ∷ older) q n) (sym e) good.sound
-    | inr o ↦ old_sound q u o
-  ]
+  sound_q u w = grind (arith, was_q, IsSound, old_sound)
 
   sound_after : (x : ℕ) (u : Node) → Was (put nodes q new ∷ nodes ∷ older) x u
       → IsSound players (put nodes q new ∷ nodes ∷ older) x u
@@ -137,31 +109,15 @@ module _ (players : ℕ) (nodes : ℕ → Node) (older : List (ℕ → Node)) (q
 
   met_from_q : (z : ℕ) (u v : Node) → q < players → z < players → (z ≡ q → ⊥)
       → Was (put nodes q new ∷ nodes ∷ older) q u → Was (nodes ∷ older) z v → IsMet q z u v
-  met_from_q z u v l m n w y = elim (was_q nodes older q new u w) [
-    | inl e ↦ subst (λ (s : Node). IsMet q z s v) (sym e) (good.met_left z v m n y)
-    | inr o ↦ kept.met q z u v l m (λ e. n (sym e)) o y
-  ]
+  met_from_q z u v l m n w y = grind (arith, was_q, IsMet)
 
   met_to_q : (x : ℕ) (u v : Node) → x < players → q < players → (x ≡ q → ⊥) → Was (nodes ∷ older) x u
       → Was (put nodes q new ∷ nodes ∷ older) q v → IsMet x q u v
-  met_to_q x u v l m n w y = elim (was_q nodes older q new v y) [
-    | inl e ↦ subst (λ (s : Node). IsMet x q u s) (sym e) (good.met_right x u l n w)
-    | inr o ↦ kept.met x q u v l m n w o
-  ]
+  met_to_q x u v l m n w y = grind (arith, was_q, IsMet)
 
   met_after : (x z : ℕ) (u v : Node) → x < players → z < players → (x ≡ z → ⊥)
       → Was (put nodes q new ∷ nodes ∷ older) x u → Was (put nodes q new ∷ nodes ∷ older) z v → IsMet x z u v
-  met_after x z u v l m n w y = elim (cases_eq x q) [
-    | inl e ↦
-        let a : (z ≡ q → ⊥) = λ d. n (e ∙ sym d) in
-        subst (λ (k : ℕ). k < players → Was (put nodes q new ∷ nodes ∷ older) k u → IsMet k z u v) (sym e)
-        (λ i j. met_from_q z u v i m a j (was_other nodes older q new z v a y)) l w
-    | inr a ↦ elim (cases_eq z q) [
-      | inl e ↦ subst (λ (k : ℕ). k < players → Was (put nodes q new ∷ nodes ∷ older) k v → IsMet x k u v) (sym e)
-          (λ i j. met_to_q x u v l i a (was_other nodes older q new x u a w) j) m y
-      | inr b ↦ kept.met x z u v l m n (was_other nodes older q new x u a w) (was_other nodes older q new z v b y)
-    ]
-  ]
+  met_after x z u v l m n w y = grind (arith, IsMet, met_from_q, was_other, met_to_q)
 
   pub kept_after : IsKept players (put nodes q new ∷ nodes ∷ older)
   kept_after = record { order = order_after; pairs = pairs_after; sound = sound_after; met = met_after }

@@ -2,22 +2,16 @@
 use Rattle.std.proofs.Common.{◌≡◌, ℕ, ◌+◌, ◌<◌, zero, suc, refl, arith, inl, List, [], ◌∷◌, ◌++◌}
 use Rattle.std.specs.Prelude.{true, false, Some}
 use Rattle.std.proofs.lemmas.Bool.{true≢false}
-use Rattle.dn_remain.specs.Vanished.Node.{Node, put, fresh, ran, is_over, now}
+use Rattle.dn_machine.specs.Running.{is_over}
+use Rattle.dn_machine.specs.Node.{put}
+use Rattle.dn_remain.specs.Vanished.Node.{Node, fresh, ran, now}
 use Rattle.dn_remain.specs.Vanished.Promise.{lacks_at}
 use Rattle.dn_remain.specs.Vanished.Reports.{HasHeard, highest, decided}
 use Rattle.dn_remain.specs.Vanished.Steps.{Act, Make, Take, Run, GiveUp, Decide, Acts, Step, IsRun}
 
 step : (nodes : ℕ → Node) (older : List (ℕ → Node)) (q : ℕ) (act : Act) (new : Node) → q < 3
     → (nodes q).left ≡ false → Acts 3 5 (nodes ∷ older) q act new → Step 3 5 (nodes ∷ older) (put nodes q new)
-step nodes older q act new l h a = record {
-  q = q;
-  act = act;
-  new = new;
-  player = l;
-  here = h;
-  acts = a;
-  next_is = refl;
-}
+step nodes older q act new l h a = grind arith
 
 abbrev n0 : ℕ → Node
 n0 = λ node. fresh

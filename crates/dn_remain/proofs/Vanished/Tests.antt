@@ -2,11 +2,12 @@
 use Rattle.std.proofs.Common.{◌≡◌, ℕ, ◌<◌, ◌≤◌, eqb, zero, suc, refl, sym, ◌∙◌, ap, subst, arith, inl, inr, List, [], ◌∷◌}
 use Rattle.std.specs.Prelude.{Bool, true, false, not, ◌||◌, Option, Some}
 use Rattle.std.proofs.lemmas.Bool.{both_ways, cases_eq, cases_lt, and_parts, or_cases, not-true, eqb-true, true≢false}
-use Rattle.dn_remain.specs.Vanished.Node.{Node, put, now, Was, Within}
+use Rattle.dn_machine.proofs.Put.{put_at, put_off}
+use Rattle.dn_machine.specs.Node.{put}
+use Rattle.dn_remain.specs.Vanished.Node.{Node, now, Was, Within}
 use Rattle.dn_remain.specs.Vanished.Reports.{Stands, HasHeard}
 use Rattle.dn_remain.specs.Vanished.Calls.{every, is_within_at, is_report, is_report_in, is_heard, can_decide, report_or}
 use Rattle.dn_remain.specs.Vanished.Steps.{Act, Make, Take, Learn, Run, GiveUp, Leave, Decide, Acts, IsRun}
-use Rattle.dn_remain.proofs.Vanished.Put.{put_at, put_off}
 use Rattle.dn_remain.proofs.Vanished.Views.{both_within}
 use Rattle.dn_remain.proofs.Vanished.Mild.{cases_Option}
 
@@ -20,10 +21,6 @@ every_at (suc bound) test i h l =
       | inr m ↦ let e : i ≡ bound = omega arith in ap test e ∙ a.1
     ]
 
--- only players of the game are given up
-IsOfPlayers : ℕ → Node → Type 0
-IsOfPlayers players u = (p : ℕ) → players ≤ p → u.gone p ≡ false
-
 module _ (players ahead : ℕ) (nodes : ℕ → Node) (older : List (ℕ → Node)) (q : ℕ) where
   next_bounded : (act : Act) (new : Node) → Acts players ahead (nodes ∷ older) q act new
       → ((p : ℕ) → players ≤ p → (nodes q).gone p ≡ false) → (p : ℕ) → players ≤ p → new.gone p ≡ false
@@ -31,20 +28,14 @@ module _ (players ahead : ℕ) (nodes : ℕ → Node) (older : List (ℕ → Nod
   next_bounded Take new a h p l = ap (λ (n : Node). n.gone p) a.8 ∙ h p l
   next_bounded Learn new a h p l = ap (λ (n : Node). n.gone p) a.5 ∙ h p l
   next_bounded Run new a h p l = ap (λ (n : Node). n.gone p) a.1 ∙ h p l
-  next_bounded GiveUp new a h p l =
-      let b : a.0 < players = a.1 in
-      let c : (p ≡ a.0 → ⊥) = λ e. absurd (omega arith) in
-      ap (λ (n : Node). n.gone p) a.3 ∙ (put_off (nodes q).gone a.0 p true c ∙ h p l)
+  next_bounded GiveUp new a h p l = grind (arith, put_off)
   next_bounded Leave new a h p l = ap (λ (n : Node). n.gone p) a ∙ h p l
   next_bounded Decide new a h p l = ap (λ (n : Node). n.gone p) a.2 ∙ h p l
 
 pub bounded : (players ahead : ℕ) (history : List (ℕ → Node)) → IsRun players ahead history → (x : ℕ) (u : Node)
     → Was history x u → (p : ℕ) → players ≤ p → u.gone p ≡ false
 bounded players ahead [] run x u w p l = absurd run
-bounded players ahead (nodes ∷ []) run x u w p l = elim w [
-  | inl e ↦ ap (λ (n : Node). n.gone p) (e ∙ ap (λ (f : ℕ → Node). f x) run)
-  | inr n ↦ absurd n
-]
+bounded players ahead (nodes ∷ []) run x u w p l = grind arith
 bounded players ahead (next ∷ (nodes ∷ older)) run x u w p l = elim w [
   | inr o ↦ bounded players ahead (nodes ∷ older) run.1 x u o p l
   | inl e ↦

@@ -1,10 +1,10 @@
 -- What a node lacks that cannot decide; and that the tests ask for no more than they need.
-use Rattle.std.proofs.Common.{◌≡◌, ℕ, ◌<◌, eqb, zero, suc, refl, sym, ◌∙◌, ap, subst, arith, inl, inr, List}
-use Rattle.std.specs.Prelude.{Bool, true, false, not, ◌&&◌, ◌||◌, Option, Some}
-use Rattle.std.proofs.lemmas.Bool.{both_ways, cases_eq, cases_Bool, eq-eqb, cond-true, true≢false}
+use Rattle.std.proofs.Common.{◌≡◌, ℕ, ◌<◌, eqb, zero, suc, refl, ◌∙◌, ap, arith, inl, inr, List}
+use Rattle.std.specs.Prelude.{Bool, true, false, ◌&&◌, ◌||◌, Option, Some}
+use Rattle.std.proofs.lemmas.Bool.{both_ways, cases_Bool, eq-eqb, cond-true, true≢false}
 use Rattle.dn_remain.specs.Vanished.Node.{Node, Was, Within}
-use Rattle.dn_remain.specs.Vanished.Reports.{Stands, decided_end}
-use Rattle.dn_remain.specs.Vanished.Calls.{Keeper, every, is_within_at, is_report, is_report_in, is_heard, can_decide, report_or, after_news, is_newer}
+use Rattle.dn_remain.specs.Vanished.Reports.{Stands}
+use Rattle.dn_remain.specs.Vanished.Calls.{Keeper, every, is_within_at, is_report, can_decide, after_news, is_newer}
 use Rattle.dn_remain.specs.Vanished.Promise.{Steady}
 use Rattle.dn_remain.proofs.Vanished.Invariant.{IsLater, IsKept}
 use Rattle.dn_remain.proofs.Vanished.Views.{same_within, same_turned}
@@ -16,16 +16,10 @@ first : (a b : Bool) → a ≡ true → (a || b) ≡ true
 first a b e = ap (λ (x : Bool). x || b) e
 
 second : (a b : Bool) → b ≡ true → (a || b) ≡ true
-second a b f = elim (cases_Bool a) [
-  | inl t ↦ first a b t
-  | inr e ↦ ap (λ (x : Bool). x || b) e ∙ f
-]
+second a b f = grind (arith, first)
 
 neither : (a b : Bool) → (a || b) ≡ false → (a ≡ false) × (b ≡ false)
-neither a b h = elim (cases_Bool a) [
-  | inl t ↦ absurd (both_ways (a || b) h (first a b t))
-  | inr e ↦ (e, sym (ap (λ (x : Bool). x || b) e) ∙ h)
-]
+neither a b h = grind (arith, both_ways, first)
 
 every_from : (bound : ℕ) (test : ℕ → Bool) → ((i : ℕ) → i < bound → test i ≡ true) → every bound test ≡ true
 unfolding every
@@ -45,10 +39,7 @@ every_fails (suc bound) test h = elim (cases_Bool (test bound)) [
 ]
 
 within_at : (one other : ℕ → Bool) (p : ℕ) → Within one other → is_within_at one other p ≡ true
-within_at one other p h = elim (cases_Bool (one p)) [
-  | inl t ↦ second (not (one p)) (other p) (h p t)
-  | inr f ↦ first (not (one p)) (other p) (ap not f)
-]
+within_at one other p h = grind (arith, second, first)
 
 within_every : (players : ℕ) (one other : ℕ → Bool) → Within one other
     → every players (is_within_at one other) ≡ true
@@ -56,70 +47,32 @@ within_every players one other h = every_from players (is_within_at one other) (
 
 stands_is : (players : ℕ) (gone : ℕ → Bool) (report : Node) → Stands gone report
     → is_report players gone report ≡ true
-stands_is players gone report h = elim h [
-  | inl same ↦ both (every players (is_within_at report.gone gone)) _
-      (within_every players report.gone gone (same_within report.gone gone same))
-      (second report.left _ (within_every players gone report.gone
-      (same_within gone report.gone (same_turned report.gone gone same))))
-  | inr left ↦ both (every players (is_within_at report.gone gone)) _
-      (within_every players report.gone gone left.1) (first report.left _ left.0)
-]
+stands_is players gone report h = grind (arith, both, within_every, same_within, second, same_turned, first)
 
 module _ (players q : ℕ) (node : Node) (newest : ℕ → Option Node) where
   -- whoever has what it needs can decide
   pub can : ((r : ℕ) → r < players → (r ≡ q → ⊥) → node.gone r ≡ false
       → (report : Node) × (newest r ≡ Some report) × Stands node.gone report)
       → can_decide players q node newest ≡ true
-  can h = every_from players (is_heard players q node newest) (λ r l. elim (cases_eq r q) [
-    | inl e ↦ first (eqb r q) _ (eq-eqb r q e)
-    | inr n ↦ second (eqb r q) _ (elim (cases_Bool (node.gone r)) [
-      | inl t ↦ first (node.gone r) _ t
-      | inr f ↦
-          let k = h r l n f in
-          second (node.gone r) _ (ap (λ (i : Option Node). is_report_in players node.gone i) k.1
-          ∙ stands_is players node.gone k.0 k.2)
-    ])
-  ])
+  can h = grind (arith, every_from, first, eqb, eq-eqb, second, stands_is)
 
   -- whoever cannot lacks a report of one whom it has not given up
   pub lacking : can_decide players q node newest ≡ false
       → (r : ℕ) × (r < players) × (r ≡ q → ⊥) × (node.gone r ≡ false)
       × ((report : Node) → newest r ≡ Some report → Stands node.gone report → ⊥)
-  lacking h =
-      let k = every_fails players (is_heard players q node newest) h in
-      let a = neither (eqb k.0 q) _ k.2 in
-      let b = neither (node.gone k.0) _ a.1 in (
-        k.0,
-        k.1,
-        (λ e. both_ways (eqb k.0 q) a.0 (eq-eqb k.0 q e)),
-        b.0,
-        (λ report e s. both_ways (is_report_in players node.gone (newest k.0)) b.1
-            (ap (λ (i : Option Node). is_report_in players node.gone i) e ∙ stands_is players node.gone report s)),
-      )
+  lacking h = grind (arith, every_fails, neither, eqb, both_ways, eq-eqb, stands_is)
 
 -- whoever can decide has decided, once it has heard the news
 pub decided_now : (players q : ℕ) (keeper : Keeper) (p : ℕ)
     → can_decide players q keeper.node keeper.newest ≡ true → keeper.node.gone p ≡ true
     → (after_news players q keeper).node.ends p ≡ Some ((after_news players q keeper).node.got p)
-decided_now players q keeper p h t =
-    let end : ℕ = decided_end players q keeper.node (λ r. report_or (keeper.newest r)) p in
-    subst (λ (k : Keeper). k.node.ends p ≡ Some (k.node.got p))
-    (sym (cond-true (can_decide players q keeper.node keeper.newest) _ _ h))
-    (cond-true (keeper.node.gone p) (Some end) (keeper.node.ends p) t
-    ∙ ap (λ (i : ℕ). Some i) (sym (cond-true (keeper.node.gone p) end (keeper.node.got p) t)))
+decided_now players q keeper p h t = grind (arith, cond-true)
 
 module _ (players : ℕ) (history : List (ℕ → Node)) (kept : IsKept players history) where
   -- a later state is a newer report
   newer : (r : ℕ) (old report : Node) → IsLater players history r old report
       → is_newer players (Some old) report ≡ true
-  newer r old report h = both (every players (is_within_at old.gone report.gone)) _
-      (within_every players old.gone report.gone h.gone)
-      (elim (cases_Bool old.left) [
-        | inl t ↦
-            let e : report.left ≡ true = ap (λ (n : Node). n.left) (h.left t) ∙ t in
-            ap (λ (x : Bool). not (x && not report.left)) t ∙ ap (λ (x : Bool). not (not x)) e
-        | inr f ↦ ap (λ (x : Bool). not (x && not report.left)) f
-      ])
+  newer r old report h = grind (arith, both, within_every)
 
   older : (r : ℕ) (old report : Node) → Was history r old → Was history r report
       → is_newer players (Some old) report ≡ false → IsLater players history r report old
@@ -129,7 +82,4 @@ module _ (players : ℕ) (history : List (ℕ → Node)) (kept : IsKept players 
   ]
 
   pub steady : Steady players history
-  steady = record {
-    gone = λ r old report w y h. (older r old report w y h).gone;
-    got = λ r p old report w y h. (older r old report w y h).got p;
-  }
+  steady = grind (arith, older)

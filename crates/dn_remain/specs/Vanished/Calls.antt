@@ -1,7 +1,8 @@
 -- What a node does when it is told to give up somebody and when a report comes, and the tests that it makes.
 -- Only players of the game are given up, so sets are compared below their number.
 use Rattle.std.specs.Prelude.{ℕ, zero, suc, Bool, true, false, not, nat_lt, ◌&&◌, ◌||◌, ◌==◌, if◌then◌else◌, List, ◌++◌, ◌≡◌, Option, Some, None}
-use Rattle.dn_remain.specs.Vanished.Node.{Node, fresh, put, now, Was}
+use Rattle.dn_machine.specs.Node.{put}
+use Rattle.dn_remain.specs.Vanished.Node.{Node, fresh, now, Was}
 use Rattle.dn_remain.specs.Vanished.Reports.{decided}
 use Rattle.dn_remain.specs.Vanished.Steps.{IsRun}
 

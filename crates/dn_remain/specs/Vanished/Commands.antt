@@ -3,7 +3,8 @@
 -- with commands, rings and packets has to show of itself.
 use Rattle.std.specs.Prelude.{ℕ, zero, suc, Bool, false, not, List, [], ◌∷◌, ◌++◌, ◌≡◌, ◌⊎◌, nat_lt, if◌then◌else◌, Option, None, length, take, slice_get}
 use Rattle.std.specs.List.{take_while}
-use Rattle.dn_remain.specs.Vanished.Node.{Node, put}
+use Rattle.dn_machine.specs.Node.{put}
+use Rattle.dn_remain.specs.Vanished.Node.{Node}
 use Rattle.dn_remain.specs.Vanished.Calls.{every}
 
 -- a node, with the commands themselves; all else is as in `Node`
@@ -66,10 +67,6 @@ abbrev pub AreHanded : {C : Type 0} → List (ℕ → Holder C) → Type 0
 AreHanded [] = ⊥
 AreHanded (nodes ∷ []) = (x p : ℕ) → (nodes x).held p ≡ []
 AreHanded (next ∷ (nodes ∷ older)) = Handed nodes older next × AreHanded (nodes ∷ older)
-
--- the first list begins the second
-abbrev pub IsPrefixOf : {A : Type 0} → List A → List A → Type 0
-IsPrefixOf {A} xs ys = (rest : List A) × (xs ++ rest ≡ ys)
 
 -- the row lacks no player of the game
 abbrev pub is_whole : ℕ → (ℕ → Bool) → Bool

@@ -1,5 +1,5 @@
 -- What a node keeps of players who may vanish, and all states that nodes were ever in.
-use Rattle.std.specs.Prelude.{ℕ, Bool, true, false, nat_le, List, [], ◌∷◌, ◌≡◌, ◌⊎◌, ◌==◌, if◌then◌else◌, Option, Some, None, length}
+use Rattle.std.specs.Prelude.{ℕ, Bool, true, false, List, [], ◌∷◌, ◌≡◌, ◌⊎◌, Option, None, length}
 
 pub record Node : Type 0 where
   -- how many commands it has of each player; of itself those that it made
@@ -16,16 +16,6 @@ pub record Node : Type 0 where
 -- how many tics it ran
 abbrev pub ran : Node → ℕ
 ran node = length node.rows
-
--- the same but at one place, where it is another thing. It stands in dn_machine too, as `is_over` does; this
--- crate uses none of ours, so that dn_machine may use its laws
-abbrev pub put : {A : Type 0} → (ℕ → A) → ℕ → A → ℕ → A
-put all place new other = if other == place then new else all other
-
--- there is an end, and the tic is not before it: it is run without the player
-abbrev pub is_over : Option ℕ → ℕ → Bool
-is_over None tic = false
-is_over (Some end) tic = nat_le end tic
 
 -- nothing was done yet
 abbrev pub fresh : Node

@@ -1,6 +1,7 @@
 -- What holds of all states that nodes were ever in.
 use Rattle.std.specs.Prelude.{ℕ, ◌<◌, ◌≤◌, ◌+◌, Bool, true, false, List, ◌≡◌, Some, None, get_or}
-use Rattle.dn_remain.specs.Vanished.Node.{Node, ran, is_over, now, Was, Within}
+use Rattle.dn_machine.specs.Running.{is_over}
+use Rattle.dn_remain.specs.Vanished.Node.{Node, ran, now, Was, Within}
 use Rattle.dn_remain.specs.Vanished.Calls.{is_newer}
 
 -- the row that a node ran for a tic lacks a player

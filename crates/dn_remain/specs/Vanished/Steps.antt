@@ -1,6 +1,8 @@
 -- What one node may do next. A node that has left does nothing.
 use Rattle.std.specs.Prelude.{ℕ, ◌+◌, ◌<◌, ◌≤◌, true, false, List, [], ◌∷◌, ◌++◌, ◌≡◌, ◌⊎◌, Some}
-use Rattle.dn_remain.specs.Vanished.Node.{Node, put, ran, is_over, fresh, now, Was, Within}
+use Rattle.dn_machine.specs.Running.{is_over}
+use Rattle.dn_machine.specs.Node.{put}
+use Rattle.dn_remain.specs.Vanished.Node.{Node, ran, fresh, now, Was, Within}
 use Rattle.dn_remain.specs.Vanished.Reports.{HasHeard, decided}
 
 -- it makes a command: never more ahead of the tics run than the window allows

@@ -1,7 +1,8 @@
 //! What holds of the commands themselves, where lists of them are handed on.
 
 ghost use Rattle.std.specs.Prelude.{◌≡◌, ◌⊎◌, ℕ, ◌+◌, ◌-◌, ◌<◌, ◌≤◌, List, ◌∷◌, true, false, length, slice_get};
-ghost use Rattle.dn_remain.specs.{Vanished.Node.put, Vanished.Commands.AreHanded, Vanished.Commands.Had, Vanished.Commands.Handed, Vanished.Commands.Holder, Vanished.Commands.IsPrefixOf, Vanished.Commands.demo, Vanished.Commands.holders, Vanished.Commands.past_seen};
+ghost use Rattle.dn_machine.specs.{Node.put, Promise.IsPrefixOf};
+ghost use Rattle.dn_remain.specs.{Vanished.Commands.AreHanded, Vanished.Commands.Had, Vanished.Commands.Handed, Vanished.Commands.Holder, Vanished.Commands.demo, Vanished.Commands.holders, Vanished.Commands.past_seen};
 ghost use Rattle.dn_remain.specs.{Vanished.Commands.seen, Vanished.Decisions.HasHeardLists, Vanished.Decisions.IsReady, Vanished.Decisions.caught_up, Vanished.Decisions.on_decision, Vanished.Reports.decided, Vanished.Steps.IsRun, Vanished.Promise.lacks_at};
 
 /// Where lists are handed on piece by piece, each is a prefix of its maker's, whoever has given up whom. So any

@@ -1,7 +1,8 @@
 //! What holds of counts, ends and rows, after every list of steps.
 
 ghost use Rattle.std.specs.Prelude.{◌≡◌, ℕ, ◌+◌, ◌<◌, ◌≤◌, List, ◌∷◌, true, false, Some};
-ghost use Rattle.dn_remain.specs.{Vanished.Node.Node, Vanished.Node.Was, Vanished.Node.is_over, Vanished.Node.now, Vanished.Node.ran, Vanished.Reports.Stands, Vanished.Steps.Decide, Vanished.Steps.IsRun, Vanished.Steps.Step, Vanished.Promise.Agree, Vanished.Promise.Fits, Vanished.Promise.Lasts};
+ghost use Rattle.dn_machine.specs.Running.{is_over};
+ghost use Rattle.dn_remain.specs.{Vanished.Node.Node, Vanished.Node.Was, Vanished.Node.now, Vanished.Node.ran, Vanished.Reports.Stands, Vanished.Steps.Decide, Vanished.Steps.IsRun, Vanished.Steps.Step, Vanished.Promise.Agree, Vanished.Promise.Fits, Vanished.Promise.Lasts};
 ghost use Rattle.dn_remain.specs.{Vanished.Promise.Marked, Vanished.Promise.lacks_at};
 
 /// After every list of steps, whichever packets and reports were lost, repeated, delayed or reordered: any two

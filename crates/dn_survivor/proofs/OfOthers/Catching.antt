@@ -7,9 +7,10 @@ use Rattle.std.proofs.lemmas.List.{drop-drop, drop_all, length-drop, take-append
 use Rattle.std.proofs.Math.Nat.{max-eq_left, max-eq_right}
 use Rattle.std.proofs.Math.Seq.{take-append_seam, take-length}
 use Rattle.dn_tic.specs.declared.command.TicCmd.{TicCmd}
+use Rattle.dn_machine.specs.Promise.{IsPrefixOf}
 use Rattle.dn_survivor.specs.declared.report.Report.{Report}
 use Rattle.dn_remain.specs.Vanished.Calls.{report_or}
-use Rattle.dn_remain.specs.Vanished.Commands.{Holder, IsPrefixOf, fresh_holder}
+use Rattle.dn_remain.specs.Vanished.Commands.{Holder, fresh_holder}
 use Rattle.dn_remain.specs.Vanished.Decisions.{caught_up, last_of, on_decision}
 use Rattle.dn_remain.specs.Vanished.Reports.{share}
 use Rattle.dn_remain.proofs.Vanished.Catching.{begins}

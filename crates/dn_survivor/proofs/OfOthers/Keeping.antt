@@ -4,10 +4,10 @@ use Rattle.std.specs.Prelude.{Bool, true, false}
 use Rattle.std.proofs.lemmas.Bool.{cases_eq}
 use Rattle.std.proofs.lemmas.List.{get_or-set_same, get_or-set_other, length-set}
 use Rattle.dn_tic.specs.declared.command.TicCmd.{TicCmd}
+use Rattle.dn_machine.proofs.Put.{put_at, put_off}
+use Rattle.dn_machine.specs.Node.{put}
 use Rattle.dn_survivor.specs.declared.report.Report.{Report}
-use Rattle.dn_remain.specs.Vanished.Node.{put}
 use Rattle.dn_remain.specs.Vanished.Commands.{Holder}
-use Rattle.dn_remain.proofs.Vanished.Put.{put_at, put_off}
 use Rattle.dn_survivor.specs.declared.others.Others.{Others}
 use Rattle.dn_survivor.specs.OfOthers.Keeping.{has, newest_of, nothing_kept}
 use Rattle.dn_survivor.specs.OfOthers.Hearing.{with_newest}

@@ -4,10 +4,10 @@ use Rattle.std.specs.Prelude.{true, ◌||◌, ◌==◌, if◌then◌else◌, []}
 use Rattle.std.specs.Option.{option_map}
 use Rattle.std.proofs.lemmas.Bool.{cases_eq}
 use Rattle.std.proofs.lemmas.List.{get_or-set_other}
+use Rattle.dn_machine.proofs.Put.{same_functions}
 use Rattle.dn_survivor.specs.declared.report.Report.{Report}
 use Rattle.dn_remain.specs.Vanished.Calls.{every, is_heard, is_report_in, can_decide, report_or}
 use Rattle.dn_remain.specs.Vanished.Reports.{highest, share, decided_end}
-use Rattle.dn_remain.proofs.Vanished.Put.{same_functions}
 use Rattle.dn_survivor.specs.declared.others.Others.{Others}
 use Rattle.dn_survivor.specs.OfOthers.Keeping.{commands_of, first_of, has, largest_at, last_by, last_in, newest_of, node_of, nodes_of, own_of, teller_of, told_of}
 

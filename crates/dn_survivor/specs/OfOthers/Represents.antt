@@ -2,8 +2,9 @@
 -- of each.
 use Rattle.std.specs.Prelude.{◌≡◌, ◌≢◌, ◌<◌, ◌≤◌, ◌+◌, ℕ, Bool, false, List, length, Option, Some, None}
 use Rattle.dn_tic.specs.declared.command.TicCmd.{TicCmd}
+use Rattle.dn_machine.specs.Promise.{IsPrefixOf}
 use Rattle.dn_survivor.specs.declared.report.Report.{Report}
-use Rattle.dn_remain.specs.Vanished.Commands.{Holder, IsPrefixOf}
+use Rattle.dn_remain.specs.Vanished.Commands.{Holder}
 use Rattle.dn_remain.specs.Vanished.Decisions.{last_of}
 use Rattle.dn_survivor.specs.declared.others.Others.{Others}
 use Rattle.dn_survivor.specs.OfOthers.Keeping.{count_told, has, last_told, newest_of}

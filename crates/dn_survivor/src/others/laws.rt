@@ -4,8 +4,9 @@ ghost use Rattle.std.specs.{Prelude.◌≡◌, Prelude.◌≢◌, Prelude.◌<�
 ghost use Rattle.std.specs.{Prelude.if◌then◌else◌, Prelude.List, Prelude.None, Prelude.Some, Prelude.Option, Prelude.length, Prelude.drop, Prelude.max, Prelude.slice_set, Option.option_map};
 ghost use Rattle.std.specs.{Option.unwrap_or};
 ghost use Rattle.dn_tic.specs.declared.command.TicCmd.{TicCmd};
+ghost use Rattle.dn_machine.specs.{Node.put, Promise.IsPrefixOf};
 ghost use Rattle.dn_survivor.specs.declared.report.Report.{Report};
-ghost use Rattle.dn_remain.specs.{Vanished.Node.Node, Vanished.Node.put, Vanished.Calls.can_decide, Vanished.Calls.is_heard, Vanished.Calls.is_newer, Vanished.Commands.Holder, Vanished.Commands.IsPrefixOf, Vanished.Commands.fresh_holder, Vanished.Commands.seen};
+ghost use Rattle.dn_remain.specs.{Vanished.Node.Node, Vanished.Calls.can_decide, Vanished.Calls.is_heard, Vanished.Calls.is_newer, Vanished.Commands.Holder, Vanished.Commands.fresh_holder, Vanished.Commands.seen};
 ghost use Rattle.dn_remain.specs.{Vanished.Decisions.on_decision, Vanished.Reports.decided_end};
 ghost use Rattle.dn_survivor.specs.{declared.others.hearing.Reported.TheVariants.Kept, declared.others.hearing.Reported.TheVariants.GivenUp, declared.others.hearing.Reported.TheVariants.Excluded};
 ghost use Rattle.dn_survivor.specs.{declared.others.hearing.Reported.TheVariants.Stale, declared.others.Others.Others, OfOthers.Keeping.commands_of, OfOthers.Keeping.first_of, OfOthers.Keeping.has, OfOthers.Keeping.nodes_of};

@@ -1,10 +1,11 @@
 -- A decision can be made by the states that all are in.
 use Rattle.std.proofs.Common.{◌≡◌, ℕ, refl, sym, subst, inl, [], ◌∷◌}
 use Rattle.std.specs.Prelude.{true, Some}
-use Rattle.dn_remain.specs.Vanished.Node.{Node, put}
+use Rattle.dn_machine.proofs.Put.{put_at}
+use Rattle.dn_machine.specs.Node.{put}
+use Rattle.dn_remain.specs.Vanished.Node.{Node}
 use Rattle.dn_remain.specs.Vanished.Reports.{HasHeard, decided}
 use Rattle.dn_remain.specs.Vanished.Steps.{Decide, Step}
-use Rattle.dn_remain.proofs.Vanished.Put.{put_at}
 use Rattle.dn_remain.proofs.Vanished.Always.{always}
 use Rattle.dn_remain.proofs.Vanished.Coming.{known_after, has_command}
 use Rattle.dn_remain.proofs.vanish.counts.decisions_come.Goals as goal
