@@ -1,5 +1,6 @@
-/* Preloaded into the program: refuses one memory request, fails one read, write, send or receive, or moves
-   one byte a call, as the environment says. It tells by the file MET that the fault was met.
+/* Preloaded into the program: refuses one memory request, sockets, or one request for random bytes, fails one read,
+   write, send or receive, or moves one byte a call, as the environment says. It tells by the file MET that the
+   fault was met.
 
      REFUSE_MEMORY=N    the Nth request for memory is refused
      FAIL_READ=N        the Nth read of standard input fails
@@ -7,6 +8,8 @@
      STOP_WRITE=N       from the Nth write on, standard output takes nothing
      FAIL_SEND=N        the Nth send fails
      FAIL_RECEIVE=N     the Nth receive fails
+     FAIL_SOCKET=N      from the Nth on, no socket is made
+     FAIL_RANDOM=N      the Nth request for random bytes fails
      ONE_BYTE=1         each read of standard input and each write to standard output moves one byte */
 #define _GNU_SOURCE
 #include <dlfcn.h>
@@ -90,4 +93,16 @@ ssize_t recvfrom(int socket, void *bytes, size_t length, int flags, struct socka
   static long receives;
   if (fails("FAIL_RECEIVE", &receives)) { errno = EIO; return -1; }
   return syscall(SYS_recvfrom, socket, bytes, length, flags, from, size);
+}
+
+int socket(int domain, int type, int protocol) {
+  static long sockets;
+  if (number("FAIL_SOCKET") && ++sockets >= number("FAIL_SOCKET")) { tell(); errno = EMFILE; return -1; }
+  return syscall(SYS_socket, domain, type, protocol);
+}
+
+int getentropy(void *bytes, size_t length) {
+  static long draws;
+  if (fails("FAIL_RANDOM", &draws)) { errno = ENOSYS; return -1; }
+  return syscall(SYS_getrandom, bytes, length, 0) == (long)length ? 0 : -1;
 }

@@ -4,8 +4,6 @@
 mod fault;
 mod file;
 mod laws;
-#[cfg(test)]
-mod tests;
 mod text;
 
 pub use fault::KeyFault;

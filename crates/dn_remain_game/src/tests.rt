@@ -1,8 +1,8 @@
-//! Worlds of games in which player 0 vanishes, or player 1 before the start.
+//! A node is called as a game calls it: three play, and player 0 vanishes.
 
 use crate::{Config, GivenUp, Lived, NodeFault, Reported};
 use dn_game::GameNode;
-use dn_machine::{Heard, Made, Phase, Ran};
+use dn_machine::{Heard, Made, Ran};
 use dn_setup::Settings;
 use dn_tic::{Command, Keys};
 use dn_world::Walk;
@@ -75,18 +75,5 @@ fn worlds_go_on_without_one(rt: HostRuntime) -> Result<(), Fail> {
     }
     assert!(&rt; second.quit());
     assert!(&rt; !second.quit());
-    Ok(())
-}
-
-#[test]
-fn a_world_begins_where_the_last_is_given_up(rt: HostRuntime) -> Result<(), Fail> {
-    let settings = Settings::new(2, 0, false, false, 1, 1)?;
-    let mut alone = open(rt.alloc(), 2, 0, settings)?;
-    assert_eq!(&rt; alone.world().x(0), None);
-    assert_eq!(&rt; alone.give_up(1), GivenUp::Decided);
-    assert_eq!(&rt; alone.survivor().lockstep().phase(), Phase::Playing);
-    assert!(&rt; alone.world().x(0).is_some());
-    assert_eq!(&rt; alone.build(Keys::default()), Made::Made(0));
-    assert_eq!(&rt; alone.run(), Ran::Ran(0));
     Ok(())
 }

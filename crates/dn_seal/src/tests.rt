@@ -1,44 +1,15 @@
-//! Tests of codes and envelopes.
+//! A case of RFC 4231. The others, and envelopes, are scripts.
 
-mod altered;
-mod holders;
-mod others;
-mod random;
-mod vectors;
+use crate::hmac;
 
-use crate::{SealFault, Sealer};
-use arrayvec::ArrayVec;
-
-/// The number of the game.
-const GAME: [u8; 16] = [1, 2, 3, 4, 5, 6, 7, 8, 9, 10, 11, 12, 13, 14, 15, 16];
-
-const SECRET: [u8; 32] = [7; 32];
-
-/// The datagram of the tests.
-const DATAGRAM: [u8; 8] = [1, 2, 3, 4, 5, 6, 7, 8];
-
-type Envelope = ArrayVec<u8, 141>;
-
-/// The sealer of a player of the game.
-fn player(me: u8) -> Sealer {
-    Sealer::new(SECRET, GAME, me)
-}
-
-/// An envelope from player 1 to player 0.
-fn sealed() -> Envelope {
-    player(1).seal(0, 3, None, &DATAGRAM)
-}
-
-/// What player 0 makes of bytes.
-fn fault(bytes: &[u8]) -> Option<SealFault> {
-    player(0).open(bytes).err()
-}
-
-/// The same bytes, with these bits of one turned.
-fn turned(bytes: &[u8], place: usize, bits: u8) -> Envelope {
-    let mut out = ArrayVec::new();
-    for (i, byte) in bytes.iter().enumerate() {
-        let _ = out.try_push(if i == place { *byte ^ bits } else { *byte });
-    }
-    out
+#[test]
+fn a_case_of_the_rfc(rt: HostRuntime) {
+    assert_eq!(rt;
+        hmac(b"Jefe", b"what do ya want for nothing?"),
+        [
+            0x5b, 0xdc, 0xc1, 0x46, 0xbf, 0x60, 0x75, 0x4e, 0x6a, 0x04, 0x24, 0x26, 0x08, 0x95,
+            0x75, 0xc7, 0x5a, 0x00, 0x3f, 0x08, 0x9d, 0x27, 0x39, 0x83, 0x9d, 0xec, 0x58, 0xb9,
+            0x64, 0xec, 0x38, 0x43
+        ]
+    );
 }

@@ -1,18 +1,4 @@
-//! Tests of the program's subcommands.
+//! Tests of the program's runs and words that its subcommands do not show.
 
-mod calm;
-mod demo_faults;
-mod demos;
-mod faults;
-mod games;
-mod leaving;
-mod nets;
-mod printed;
-mod rows;
-mod script_faults;
-mod scripts;
-mod show;
-mod storms;
-mod streams;
-mod traces;
-mod upgrades;
+mod runs;
+mod words;

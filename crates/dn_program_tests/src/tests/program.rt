@@ -1,23 +1,4 @@
-//! Tests of the command line, over a runtime whose words, input and sockets are chosen.
+//! Tests of what is made of a command line, and of keys.
 
-mod faults;
-mod host;
 mod keys;
-mod misuse;
-mod ranges;
 mod readings;
-mod runs;
-mod sockets;
-
-/// One command of player 0: forward 50 and attack.
-const ONE: [u8; 16] = [
-    0xCB, 0x45, 0x23, 0x05, 0, 0, 0, 1, 0x32, 0, 0, 0, 0, 0, 0, 1,
-];
-
-/// Two tics of the players 0 and 1, in version 109.
-const TWO: [u8; 30] = [
-    0x6D, 0x03, 0x01, 0x07, 0x01, 0x00, 0x00, 0x01, 0x01, 0x01, 0x01, 0x00, 0x00, // header
-    0x32, 0x00, 0x00, 0x00, 0x00, 0x00, 0x01, 0x00, // tic 0
-    0xCE, 0x00, 0x00, 0x01, 0x19, 0x18, 0x40, 0x00, // tic 1
-    0x80,
-];

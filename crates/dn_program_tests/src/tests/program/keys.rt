@@ -1,79 +1,35 @@
-//! `key`: what it prints, its exit status, and the file that it makes; and a session that has no key, no
-//! address or no socket.
+//! The text of a key, with one that was written by hand.
 
-use super::host::{Called, Host};
-use dn_shared_tests::{holds, list, must, same};
-use std::net::Net;
-use std::process::Abort;
-use std::random::RandomSource;
-use std::rt::Files;
+use dn_program::key::{KEY, key_in, read_key, text_of_key};
+use dn_shared_tests::{holds, same};
 use std::test::Fail;
-use std::time::Clock;
 use std::{fs, process};
 
-/// Calls the program by a line.
-fn call(rt: &(impl AllocGlobal + Net + Files + RandomSource + Clock), line: &str) -> Called {
-    Host::new(rt, line.as_bytes(), b"").call()
-}
+/// The bytes from 0 to 31.
+const COUNTED: [u8; KEY] = [
+    0, 1, 2, 3, 4, 5, 6, 7, 8, 9, 10, 11, 12, 13, 14, 15, 16, 17, 18, 19, 20, 21, 22, 23, 24, 25,
+    26, 27, 28, 29, 30, 31,
+];
 
-/// Compares the status and the line that was printed.
-fn answers(rt: &impl Abort, called: &Called, status: u8, line: &str) {
-    same!(rt; called.status, status, line);
-    same!(rt; called.printed.as_slice(), line.as_bytes(), line);
+const COUNTED_TEXT: &[u8; 65] =
+    b"000102030405060708090a0b0c0d0e0f101112131415161718191a1b1c1d1e1f\n";
+
+#[test]
+fn a_key_is_64_digits_and_a_line_end(ref rt: HostRuntime) {
+    holds!(rt; text_of_key(&COUNTED) == *COUNTED_TEXT);
+    same!(rt; key_in(COUNTED_TEXT), Ok(COUNTED));
+    let capitals = b"000102030405060708090A0B0C0D0E0F101112131415161718191A1B1C1D1E1F\n";
+    same!(rt; key_in(capitals), Ok(COUNTED));
 }
 
 #[test]
-fn a_key_is_made_and_never_written_over(rt: HostRuntime) -> Result<(), Fail> {
+fn a_key_is_read_from_its_file(rt: HostRuntime) -> Result<(), Fail> {
     let id = process::id(rt.process());
     let path = format!(in rt.alloc(); "/tmp/netgame.key.{id}")?;
-    let line = format!(in rt.alloc(); "netgame key {path}")?;
     let rt = &rt;
-    answers(rt, &call(rt, line.as_str()), 0, "");
-    let made = must!(rt; fs::read(rt, path.as_str()));
-    same!(rt; made.len(), 65);
-    answers(rt, &call(rt, line.as_str()), 1, "key: the file exists\n");
-    let kept = must!(rt; fs::read(rt, path.as_str()));
-    holds!(rt; kept == made);
-    let _ = fs::remove_file(rt, path.as_str());
+    fs::write(rt, path.as_str(), COUNTED_TEXT.as_slice())?;
+    let read = read_key(rt, path.as_str());
+    fs::remove_file(rt, path.as_str())?;
+    same!(rt; read, Ok(COUNTED));
     Ok(())
-}
-
-#[test]
-fn a_key_that_cannot_be_made_is_told(ref rt: HostRuntime) {
-    let called = call(rt, "netgame key /nowhere/netgame.key");
-    answers(rt, &called, 3, "key: cannot make the file\n");
-    let mut host = Host::new(rt, b"netgame key /nowhere/netgame.key", b"");
-    host.dull = true;
-    answers(rt, &host.call(), 3, "key: no random bytes\n");
-    let host = Host::new(rt, b"netgame key /nowhere/netgame.key", b"");
-    host.jams.set(1);
-    answers(rt, &host.call(), 3, "write fault\n");
-}
-
-#[test]
-fn a_session_that_cannot_begin_is_told(ref rt: HostRuntime) {
-    for (line, status, printed) in list! {
-        ("netgame host", 3, "socket fault\n"),
-        ("netgame join 127.0.0.1:5029", 3, "socket fault\n"),
-        ("netgame join 127.0.0.1", 1, "address: not found\n"),
-        ("netgame join 127.0.0.1:70000", 1, "address: not found\n"),
-        ("netgame host --key /nowhere/key", 3, "key: cannot read the file\n"),
-        ("netgame join 127.0.0.1:5029 --key /nowhere/key", 3, "key: cannot read the file\n")
-    } {
-        answers(rt, &call(rt, line), status, printed);
-    }
-}
-
-#[test]
-fn with_raw_all_texts_go_to_standard_error(ref rt: HostRuntime) {
-    for (line, status, told) in list! {
-        ("netgame host --raw", 3, "socket fault\n"),
-        ("netgame join 127.0.0.1 --raw", 1, "address: not found\n"),
-        ("netgame host --raw --key /nowhere/key", 3, "key: cannot read the file\n")
-    } {
-        let called = call(rt, line);
-        same!(rt; called.status, status, line);
-        same!(rt; called.printed.as_slice(), b"", line);
-        same!(rt; called.complained.as_slice(), told.as_bytes(), line);
-    }
 }

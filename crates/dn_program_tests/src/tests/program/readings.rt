@@ -87,19 +87,10 @@ fn each_value_and_flag_is_that_of_its_word(rt: HostRuntime) {
     let rt = &rt;
     let defaults = [2, 1, 1, 0, 131_072];
     let none = [false; 3];
+    let line = "netgame sim --players 3 --skill 4 --episode 3 --map 32 --deathmatch 1 --limit 1024";
     for (line, players, values, flags) in [
         ("netgame sim", 2, defaults, none),
-        ("netgame sim --players 3", 3, defaults, none),
-        ("netgame sim --skill 4", 2, [4, 1, 1, 0, 131_072], none),
-        ("netgame storm --episode 3", 2, [2, 3, 1, 0, 131_072], none),
-        ("netgame loop --map 32", 2, [2, 1, 32, 0, 131_072], none),
-        (
-            "netgame play --deathmatch 1",
-            2,
-            [2, 1, 1, 1, 131_072],
-            none,
-        ),
-        ("netgame sim --limit 1024", 2, [2, 1, 1, 0, 1_024], none),
+        (line, 3, [4, 3, 32, 1, 1_024], none),
         ("netgame sim --respawn", 2, defaults, [true, false, false]),
         (
             "netgame storm --nomonsters",
@@ -108,12 +99,6 @@ fn each_value_and_flag_is_that_of_its_word(rt: HostRuntime) {
             [false, true, false],
         ),
         ("netgame loop --extra", 2, defaults, [false, false, true]),
-        (
-            "netgame play --respawn --nomonsters --extra",
-            2,
-            defaults,
-            [true; 3],
-        ),
     ] {
         match must!(rt; read(rt.alloc(), line)) {
             Some(options) => same!(rt; options.game, Some((players, values, flags)), line),

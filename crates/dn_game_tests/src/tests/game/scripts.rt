@@ -1,4 +1,0 @@
-//! Tests of scripts.
-
-mod faults;
-mod lines;

@@ -1,7 +1,0 @@
-//! Tests of `dn_link`, in a crate of their own, since a crate that has tests is proved twice.
-#![tactic(auto)]
-
-#[cfg(test)]
-mod checks;
-#[cfg(test)]
-mod tests;
