@@ -10,36 +10,31 @@ from svg import INK, LETTER, PALE, Picture
 # The layers from below: name, what is in it, how many rows, color.
 LAYERS = [
     ('bytes', ['what is sent', 'and kept'], 3, '#f1f4f9'),
-    ('machine', ['the game in', 'whole numbers,', 'and a node', 'that follows it'], 4, '#f6f1e6'),
+    ('machine', ['the game in', 'whole numbers,', 'and a node', 'that follows it'], 3, '#f6f1e6'),
     ('promise', ['games agree:', 'for engines,', 'on networks,', 'in a program'], 4, '#ecf4ec'),
 ]
 # The boxes: layer, its row in it from below, middle, and the lines of crates in the box.
 PLACES = [
-    ('bytes', 0, 198, [['dn_line']]),
     ('bytes', 0, 315, [['dn_tic']]),
     ('bytes', 0, 412, [['dn_packet']]),
     ('bytes', 0, 574, [['dn_seal']]),
     ('bytes', 1, 248, [['dn_ring']]),
     ('bytes', 1, 355, [['dn_setup']]),
-    ('bytes', 1, 498, [['dn_notice'], ['dn_report']]),
     ('bytes', 1, 638, [['dn_greeting']]),
-    ('bytes', 2, 156, [['dn_key']]),
     ('bytes', 2, 291, [['dn_demo']]),
     ('bytes', 2, 384, [['dn_world']]),
     ('bytes', 2, 686, [['dn_measure']]),
     ('machine', 0, 345, [['dn_machine']]),
-    ('machine', 0, 442, [['dn_remain'], ['dn_vanish']]),
-    ('machine', 1, 480, [['dn_others']]),
-    ('machine', 2, 294, [['dn_lockstep']]),
-    ('machine', 2, 430, [['dn_survivor']]),
-    ('machine', 3, 290, [['dn_node']]),
-    ('promise', 0, 255, [['dn_turn']]),
-    ('promise', 1, 375, [['dn_script', 'dn_game']]),
+    ('machine', 0, 442, [['dn_remain']]),
+    ('machine', 1, 294, [['dn_lockstep']]),
+    ('machine', 1, 430, [['dn_survivor']]),
+    ('machine', 2, 290, [['dn_node']]),
     ('promise', 0, 598, [['dn_link'], ['dn_open']]),
+    ('promise', 1, 375, [['dn_game']]),
     ('promise', 1, 511, [['dn_link_game']]),
     ('promise', 2, 394, [['dn_remain_game']]),
     ('promise', 2, 572, [['zirmegat']]),
-    ('promise', 3, 262, [['dn_text', 'dn_netgame', 'dn_options'], ['dn_program', 'netgame']]),
+    ('promise', 3, 262, [['dn_netgame', 'dn_program', 'netgame']]),
     ('promise', 3, 650, [['dn_host']]),
 ]
 WIDTH, RISE, LINE, MARGIN = 740, 48, 17, 10
@@ -47,7 +42,7 @@ WIDTH, RISE, LINE, MARGIN = 740, 48, 17, 10
 
 def read(lines):
     """The crates that each crate uses, without those of tests."""
-    words = [line.replace(':', ' : ').split() for line in lines]
+    words = [line.replace(':', ' : ').split() for line in lines if not line.startswith('#')]
     uses = {line[0]: line[line.index(':') + 1:] for line in words if not line[0].endswith('_tests')}
     return {name: [used for used in all_used if used in uses] for name, all_used in uses.items()}
 

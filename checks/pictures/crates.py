@@ -35,7 +35,7 @@ for text in drawing.iter(SVG + 'text'):
         if len(around) != 1 or text.text in home:
             faults.append(f'{text.text} is not in one box, once')
         home.update((text.text, box) for box in around)
-lines = (line.partition(':')[::2] for line in sys.stdin)
+lines = (line.partition(':')[::2] for line in sys.stdin if not line.startswith('#'))
 uses = {name.split()[0]: used.split() for name, used in lines if not name.split()[0].endswith('_tests')}
 faults += [f'no crate {name}' for name in home.keys() - uses.keys()]
 faults += [f'{name} is missing' for name in uses.keys() - home.keys()]
