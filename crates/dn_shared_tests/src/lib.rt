@@ -58,32 +58,8 @@ macro_rules! list {
     };
 }
 
-/// A table: the type of its rows, the names of their fields in braces, and the rows in brackets.
-#[macro_export]
-macro_rules! rows {
-    ($Row:ident $names:tt $($row:tt)*) => {
-        [$($crate::row!($Row $names $row)),*]
-    };
-}
-
-/// A row of a table.
-#[macro_export]
-macro_rules! row {
-    ($Row:ident { $($name:ident),* } [ $($value:expr),* ]) => {
-        $Row { $($name: $value),* }
-    };
-}
-
 /// Tells that this call was refused memory and answered so. `checks/memory/run` refuses each request in turn,
 /// and wants each of these lines.
 pub fn finds_no_memory(rt: &impl Print, call: &str) {
     let _ = println!(rt; "no memory: {call}");
-}
-
-/// The bytes, with another at this place.
-pub fn changed<const SIZE: usize>(mut bytes: [u8; SIZE], place: usize, byte: u8) -> [u8; SIZE] {
-    if let Some(old) = bytes.get_mut(place) {
-        *old = byte;
-    }
-    bytes
 }
