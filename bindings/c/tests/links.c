@@ -5,8 +5,8 @@
  * for, those of another game and of who is no player of this one, and those that were on the way when the
  * game before ended, which may have had the same secret. All who run a tic must run it by the same row, all
  * who tell where a player ends must tell the same, all demos must be the same as far as they go, nobody may
- * wait for ever, and who has quit must be told that it may leave, and not before the others have all of its
- * commands. C99 and C++. Ends with status 0, or names the line that failed. */
+ * wait for ever, and who has quit must be told that it may leave, unless player 0 is gone for good, and not
+ * before the others have all of its commands. C99 and C++. Ends with status 0, or names the line that failed. */
 #include "agreed.h"
 #include "chance.h"
 #include "due.h"
@@ -391,6 +391,10 @@ static int wants_to_quit(uint8_t me) {
     return now >= all[me].quits || zmg_link_phase(&links[me]).code == ZMG_PHASE_ENDED;
 }
 
+/* Player 0 has given up the game, and is gone. Settings that it gave before may still come, long after its
+ * goodbyes, and start a game in which it answers nobody. */
+static int is_deserted(void) { return all[0].gives_up && all[0].is == GONE; }
+
 static void live(uint8_t me) {
     player *p = &all[me];
     if (p->is == ABSENT && now >= p->comes) come(me);
@@ -401,8 +405,8 @@ static void live(uint8_t me) {
     if (p->is != HERE && p->is != LEAVING) return;
     look_for_leave(me);
     if (p->is != LEAVING) return;
-    MUST(p->may_leave || now - p->quit_at < PATIENCE);
-    if (p->may_leave && now > p->left_at + FAREWELL) go(me);
+    MUST(p->may_leave || now - p->quit_at < PATIENCE || is_deserted());
+    if (p->may_leave ? now > p->left_at + FAREWELL : now - p->quit_at >= PATIENCE) go(me);
 }
 
 /* ---- A game ---- */
