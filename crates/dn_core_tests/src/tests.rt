@@ -8,6 +8,7 @@ mod game;
 mod line;
 mod lockstep;
 mod node;
+mod remaining;
 mod ring;
 mod turn;
 mod world;

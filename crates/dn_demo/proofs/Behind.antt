@@ -1,20 +1,11 @@
 -- Commands, rows and lists of rows that stand behind a front of bytes.
 use Rattle.std.proofs.Common.{◌≡◌, ◌≢◌, ◌<◌, ◌≤◌, ℕ, ◌+◌, ◌*◌, Bool, true, false, List, [], ◌∷◌, ◌++◌, length, map, take, drop, get_or, slice_get, All, Option, Some, None, IfSome, is_some, refl, sym, ap, ◌∙◌, arith, inl, inr, w8, append_assoc, length-append}
-use Rattle.std.specs.Int.{cast_signed, cast_unsigned}
-use Rattle.std.specs.List.{range_with_len}
+use Rattle.std.specs.{Int.{cast_signed, cast_unsigned}, List.range_with_len}
 use Rattle.std.proofs.Math.Seq.{drop-append_seam, take-append_seam}
-use Rattle.std.proofs.lemmas.Int.{to_z-of_z}
-use Rattle.std.proofs.lemmas.List.{get_or-append-add}
-use Rattle.std.proofs.lemmas.List.Elements.{All-head, All-tail}
-use Rattle.std.proofs.lemmas.Bool.{cases_lt}
-use Rattle.std.proofs.lemmas.Option.{slice_get-get_or}
+use Rattle.std.proofs.lemmas.{Int.to_z-of_z, List.get_or-append-add, List.Elements.{All-head, All-tail}, Bool.cases_lt, Option.slice_get-get_or}
 use Rattle.dn_tic.specs.declared.command.Move.{Move}
-use Rattle.dn_demo.specs.Layout.{Layout, command_size, spell, tell}
-use Rattle.dn_demo.specs.Rows.{IsMove, IsRecordable, IsRow, AllMoves, player_count}
-use Rattle.dn_demo.specs.Text.{marker, row_bytes, commands_of}
-use Rattle.dn_demo.specs.Places.{place, move_at, moves_from}
-use Rattle.dn_demo.proofs.Layouts.{IsSound, IsTold, move_told, length-spell}
-use Rattle.dn_demo.proofs.Text.{length-row_bytes}
+use Rattle.dn_demo.specs.{Layout.{Layout, command_size, spell, tell}, Rows.{IsMove, IsRecordable, IsRow, AllMoves, player_count}, Text.{marker, row_bytes, commands_of}, Places.{place, move_at, moves_from}}
+use Rattle.dn_demo.proofs.{Layouts.{IsSound, IsTold, move_told, length-spell}, Text.length-row_bytes}
 
 -- a command that stands behind a front tells its move
 move_behind : (layout : Layout) (front rest : List ℕ) (m : Move) (k : ℕ) → IsSound layout

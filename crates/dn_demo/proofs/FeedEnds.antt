@@ -1,18 +1,10 @@
 -- How a feed ends.
 use Rattle.std.proofs.Common.{◌≡◌, ◌<◌, ◌≤◌, ℕ, ◌+◌, ◌/◌, Bool, true, false, List, [], ◌∷◌, length, take, drop, min, get_or, Ok, Err, refl, sym, ap, ◌∙◌, subst, arith}
-use Rattle.std.proofs.lemmas.List.{get_or-take, take_all, length-take, length-take-le}
-use Rattle.std.proofs.lemmas.List.FromFn.{length-map-range_with_len}
+use Rattle.std.proofs.lemmas.{List.{get_or-take, take_all, length-take, length-take-le}, List.FromFn.length-map-range_with_len}
 use Rattle.dn_world.specs.Physics.{Physics}
-use Rattle.dn_demo.specs.Layout.{Layout, command_size}
-use Rattle.dn_demo.specs.Places.{start_in, seats_in, row_in}
-use Rattle.dn_demo.specs.Reading.{recording, HasHeader, IsReadAs}
-use Rattle.dn_demo.specs.Feeding.{Feeding, feeding_of, Shows, Takes, TakesFront, state_by}
-use Rattle.dn_demo.specs.Fed.{IsFedAs, EndsAs}
-use Rattle.dn_demo.specs.declared.fed.Fed.{Fed}
-use Rattle.dn_demo.specs.declared.demo.DemoFault.TheVariants.{NoMarker}
-use Rattle.dn_demo.proofs.Fronts.{start_in-take}
-use Rattle.dn_demo.proofs.HeadersKept.{header_of_kept, seats_kept}
-use Rattle.dn_demo.proofs.FeedKept.{fed_as, no_marker}
+use Rattle.dn_demo.specs.{Layout.{Layout, command_size}, Places.{start_in, seats_in, row_in}, Reading.{recording, HasHeader, IsReadAs}, Feeding.{Feeding, feeding_of, Shows, Takes, TakesFront, state_by}, Fed.{IsFedAs, EndsAs}, declared.fed.Fed.Fed}
+use Rattle.dn_demo.specs.{declared.demo.DemoFault.TheVariants.NoMarker}
+use Rattle.dn_demo.proofs.{Fronts.{start_in-take, header_of_kept, seats_kept}, FeedKept.{fed_as, no_marker}}
 
 -- one byte of a piece
 pub front_byte : {S W : Type 0} (state : W → S) (physics : Physics S) (f g : Feeding W) (piece rest : List ℕ)

@@ -1,21 +1,11 @@
 -- What a feed has kept, as bytes come.
-use Rattle.std.proofs.Common.{◌≡◌, ◌<◌, ◌≤◌, ℕ, ◌+◌, ◌-◌, ◌*◌, ◌/◌, ◌%◌, true, false, List, ◌++◌, length, Ok, Err, sym, ap, ◌∙◌, subst, arith, append_assoc, length-append}
+use Rattle.std.proofs.Common.{◌≡◌, ◌<◌, ◌≤◌, ℕ, ◌+◌, Bool, true, false, List, [], ◌∷◌, ◌++◌, length, take, set, refl, sym, ap, ◌∙◌, subst, arith, length-append, ◌-◌, ◌*◌, ◌/◌, ◌%◌, Ok, Err, append_assoc}
+use Rattle.std.proofs.lemmas.{List.{take_all, take_more_set, length-set, length-take-le, length-drop}, Nat.{div-mul-add, mod-mul-add}, Option.slice_get_within}
 use Rattle.std.proofs.Math.Nat.{mul-div_cancel_left, lt_of_mul-lt-mul_left}
-use Rattle.std.proofs.lemmas.Nat.{div-mul-add, mod-mul-add}
-use Rattle.std.proofs.lemmas.List.{length-take-le, length-drop}
-use Rattle.std.proofs.lemmas.Option.{slice_get_within}
 use Rattle.dn_world.specs.Physics.{Physics}
-use Rattle.dn_demo.specs.Layout.{Layout, command_size}
-use Rattle.dn_demo.specs.Rows.{player_count}
-use Rattle.dn_demo.specs.Text.{marker}
-use Rattle.dn_demo.specs.Places.{seats_in, place}
-use Rattle.dn_demo.specs.Reading.{recording, HasHeader, IsReadAs}
-use Rattle.dn_demo.specs.Feeding.{Feeding, IsUpToMarker, Shows, ShowsRows, Takes, TakesFront}
-use Rattle.dn_demo.specs.declared.demo.DemoFault.TheVariants.{NoMarker}
-use Rattle.dn_demo.proofs.OneReading.{same_layout}
-use Rattle.dn_demo.proofs.Layouts.{place_order}
-use Rattle.dn_demo.proofs.HeadersKept.{header_kept, header_of_kept, kept_longer}
-use Rattle.dn_demo.proofs.RowsKept.{unmarked}
+use Rattle.dn_demo.specs.{Layout.{Layout, command_size}, Places.{start_in, seats_in, place}, Reading.{HasHeader, recording, IsReadAs}, Feeding.{Feeding, feeding_of, IsKept, Takes, IsUpToMarker, Shows, ShowsRows, TakesFront}, Rows.player_count, Text.marker}
+use Rattle.dn_demo.specs.{declared.demo.DemoFault.TheVariants.NoMarker}
+use Rattle.dn_demo.proofs.{Fronts.{header_kept, header_of_kept, kept_longer}, RowsKept.{of_unmarked, begun, unmarked}, RowsMarked.passed, OneReading.same_layout, Layouts.place_order}
 
 -- behind a whole header that stays, bytes are shown where their rows are
 pub shown_more : {S W : Type 0} (state : W → S) (physics : Physics S) (bytes more : List ℕ) (f g : Feeding W)
@@ -24,17 +14,7 @@ pub shown_more : {S W : Type 0} (state : W → S) (physics : Physics S) (bytes m
     → ((layout : Layout) → HasHeader layout bytes → ShowsRows state physics layout bytes f
     → ShowsRows state physics layout (bytes ++ more) g)
     → Shows state physics (bytes ++ more) g
-shown_more state physics bytes more f g long shown taken header rows =
-    let whole : 13 ≤ length bytes = omega (arith, shown.taken) in
-    let same = kept_longer bytes more f.header shown.header whole in
-    record {
-      taken = omega (arith, taken, shown.taken, length-append bytes more);
-      header = header ∙ same;
-      rows = λ layout h.
-          let own = header_of_kept layout bytes f.header shown.header
-          (header_kept layout (bytes ++ more) f.header same h) in
-          rows layout own (shown.rows layout own);
-    }
+shown_more state physics bytes more f g long shown taken header rows = grind (arith, kept_longer, length-append, header_of_kept, header_kept)
 
 -- of the layout that its header has
 pub shown_in : {S W : Type 0} (state : W → S) (physics : Physics S) (layout : Layout) (bytes more : List ℕ)
@@ -92,9 +72,7 @@ no_marker state physics layout bytes f h free rows =
 -- what takes one piece, and another behind it
 pub takes_more : {S W : Type 0} (state : W → S) (physics : Physics S) (f g h : Feeding W) (xs ys : List ℕ)
     → Takes state physics f xs g → Takes state physics g ys h → Takes state physics f (xs ++ ys) h
-takes_more state physics f g h xs ys one other bytes shown =
-    subst (λ (b : List ℕ). Shows state physics b h) (append_assoc bytes xs ys)
-    (other (bytes ++ xs) (one bytes shown))
+takes_more state physics f g h xs ys one other bytes shown = grind (arith, append_assoc)
 
 -- a front, and one behind it
 pub front_more : {S W : Type 0} (state : W → S) (physics : Physics S) (f g h : Feeding W)
@@ -108,3 +86,75 @@ front_more state physics f g h piece mid rest one other =
       count = omega (arith, one.count, other.count, length-append one.front other.front);
       shown = takes_more state physics f g h one.front other.front one.shown other.shown;
     }
+
+-- What a feed has kept behind a byte of its header, or behind bytes that nothing is read from, by its fields.
+
+-- nothing more comes into a header that is whole
+pub take_past : (taken n : ℕ) (header : List ℕ) → length header ≡ 13 → 13 ≤ taken
+    → take (taken + n) header ≡ take taken header
+take_past taken n header size long = grind (arith, take_all)
+
+module _ {S W : Type 0} (state : W → S) (physics : Physics S) {taken tics after : ℕ} {marked : Bool}
+    {world : W} {f : Feeding W} (header : List ℕ) (kept : ℕ) (row : List ℕ)
+    (view : feeding_of taken header tics kept row marked after world ≡ f) (size : length header ≡ 13) where
+  abbrev old : Feeding W
+  old = feeding_of taken header tics kept row marked after world
+
+  -- behind the marker
+  pub pass_marked : (piece : List ℕ) → marked ≡ true → 13 ≤ taken
+      → Takes state physics f piece
+      (feeding_of (taken + length piece) header tics kept row marked (after + length piece) world)
+  pass_marked piece was long =
+      let new = feeding_of (taken + length piece) header tics kept row marked (after + length piece) world in
+      subst (λ (h : Feeding W). Takes state physics h piece new) view (λ bytes shown.
+      shown_more state physics bytes piece old new long shown refl
+      (take_past taken (length piece) header size long)
+      (λ layout h rows. passed state physics layout bytes piece old new.taken new.header was rows))
+
+  -- behind a header that is refused
+  pub pass_unread : (piece : List ℕ)
+      → (f.marked ≡ false → (layout : Layout) → HasHeader layout f.header → ⊥) → marked ≡ false
+      → 13 ≤ taken
+      → Takes state physics f piece
+      (feeding_of (taken + length piece) header tics kept row marked after world)
+  pass_unread piece unread free long =
+      let new = feeding_of (taken + length piece) header tics kept row marked after world in
+      let none = subst (λ (h : Feeding W). h.marked ≡ false → (layout : Layout)
+      → HasHeader layout h.header → ⊥) (sym view) unread free in
+      subst (λ (h : Feeding W). Takes state physics h piece new) view (λ bytes shown.
+      shown_more state physics bytes piece old new long shown refl
+      (take_past taken (length piece) header size long)
+      (λ layout h rows. absurd (none layout (header_kept layout bytes old.header shown.header h))))
+
+  -- in the header
+  pub header_taken : (byte : ℕ) (new : W) → IsKept old → taken < 13
+      → ((layout : Layout) → HasHeader layout (take (taken + 1) (set header taken byte))
+      → state new ≡ physics.begin (start_in (set header taken byte)) (seats_in (set header taken byte)))
+      → Takes state physics f (byte ∷ [])
+      (feeding_of (taken + 1) (set header taken byte) tics kept row marked after new)
+  header_taken byte new is below begins =
+      let own = set header taken byte in
+      let next = feeding_of (taken + 1) own tics kept row marked after new in
+      subst (λ (h : Feeding W). Takes state physics h (byte ∷ []) next) view (λ bytes shown.
+      let all = bytes ++ byte ∷ [] in
+      let blank = is.blank below in
+      let before : take taken header ≡ bytes =
+      shown.header ∙ take_all 13 bytes (omega (arith, shown.taken, below)) in
+      let so_far : take (taken + 1) own ≡ all =
+      take_more_set header taken byte (omega (arith, size, below))
+      ∙ ap (λ (t : List ℕ). t ++ byte ∷ []) before in
+      let count : length all ≡ taken + 1 = omega (arith, length-append bytes (byte ∷ []), shown.taken) in
+      record {
+        taken = sym count;
+        header = so_far ∙ sym (take_all 13 all (omega (arith, count, below)));
+        rows = λ layout h.
+            let there : HasHeader layout (take (taken + 1) own) =
+            subst (λ (t : List ℕ). HasHeader layout t) (sym so_far) h in
+            let whole : take (taken + 1) own ≡ own =
+            take_all (taken + 1) own (omega (arith, count, h.whole, length-set header taken byte, size)) in
+            let same : own ≡ all = sym whole ∙ so_far in
+            of_unmarked state physics layout all next blank.2
+            (begun state physics layout all after tics (take kept row) new blank.3 blank.0 blank.1
+            (omega (arith, count, below, h.whole)) h.somebody
+            (begins layout there ∙ (λ i. physics.begin (start_in (same i)) (seats_in (same i)))));
+      })

@@ -1,26 +1,14 @@
 -- What a feed has kept behind the bytes of its rows, by its fields.
-use Rattle.std.proofs.Common.{◌≡◌, ◌≢◌, ◌<◌, ◌≤◌, ℕ, ◌+◌, ◌-◌, ◌*◌, ◌/◌, ◌%◌, Bool, true, false, List, [], ◌∷◌, ◌++◌, length, take, set, Option, Some, refl, sym, ap, ◌∙◌, subst, arith, inl, inr, length-append}
+use Rattle.std.proofs.Common.{◌≡◌, ◌≢◌, ◌<◌, ◌≤◌, ℕ, ◌+◌, ◌-◌, ◌*◌, ◌/◌, ◌%◌, Bool, true, false, List, [], ◌∷◌, ◌++◌, length, take, set, Option, Some, refl, sym, ap, ◌∙◌, subst, arith, length-append}
 use Rattle.std.proofs.Math.Nat.{mul-div_cancel_left}
-use Rattle.std.proofs.lemmas.Bool.{cases_lt}
-use Rattle.std.proofs.lemmas.List.{take_all, take_more_set, take-append-drop, length-take, length-take-le, length-drop}
+use Rattle.std.proofs.lemmas.{Bool.cases_lt, List.{take_all, take_more_set, take-append-drop, length-take, length-take-le, length-drop}}
 use Rattle.dn_tic.specs.declared.command.Move.{Move}
 use Rattle.dn_world.specs.Physics.{Physics}
-use Rattle.dn_demo.specs.Layout.{Layout, layout_of, command_size}
-use Rattle.dn_demo.specs.Rows.{player_count}
-use Rattle.dn_demo.specs.Text.{marker}
-use Rattle.dn_demo.specs.Places.{seats_in, place, moves_from}
-use Rattle.dn_demo.specs.Reading.{HasHeader}
-use Rattle.dn_demo.specs.Feeding.{Feeding, feeding_of, IsKept, Shows, ShowsRows, StepsRows, Takes, TakesFront, row_size}
-use Rattle.dn_demo.specs.Listed.{EndsRow}
+use Rattle.dn_demo.specs.{Layout.{Layout, layout_of, command_size}, Rows.player_count, Text.marker, Places.{seats_in, place, moves_from}, Reading.HasHeader, Feeding.{Feeding, feeding_of, IsKept, Shows, ShowsRows, StepsRows, Takes, TakesFront, row_size}}
+use Rattle.dn_demo.specs.{Listed.EndsRow, declared.layout.Layout.TheVariants.{Vanilla, LongTics}}
+use Rattle.dn_demo.proofs.{OneReading.same_layout, Fronts.{header_of_kept, seats_kept}, RowsKept.{Unmarked, of_unmarked, byte_kept, row_done, rows_done}, RowsMarked.marker_came, FeedKept.{shown_in, take_past}}
 use Rattle.dn_demo.specs.declared.layout.Layout as declared
-use Rattle.dn_demo.specs.declared.layout.Layout.TheVariants.{Vanilla, LongTics}
-use Rattle.dn_demo.proofs.OneReading.{same_layout}
-use Rattle.dn_demo.proofs.HeadersKept.{header_of_kept, seats_kept}
 use Rattle.dn_demo.proofs.RowsKept as rows
-use Rattle.dn_demo.proofs.RowsKept.{Unmarked, of_unmarked, byte_kept, row_done, rows_done}
-use Rattle.dn_demo.proofs.RowsMarked.{marker_came}
-use Rattle.dn_demo.proofs.FeedKept.{shown_in}
-use Rattle.dn_demo.proofs.FeedSteps.{take_past}
 
 -- a row has at most twenty bytes
 few_players : (seats : List Bool) → player_count seats ≤ length seats
@@ -125,32 +113,13 @@ module _ {S W : Type 0} (state : W → S) (physics : Physics S) {taken tics afte
 
         -- a row that is not full has room for another byte
         not_full : (kept + 1 ≡ size * players → ⊥) → kept + 1 < row_size layout (seats_in header)
-        not_full not =
-            elim (cases_lt (kept + 1) (row_size layout (seats_in header))) [
-              | inl less ↦ less
-              | inr full ↦ absurd (not (omega (arith, count, full, unfinished)))
-            ]
+        not_full not = grind (arith, cases_lt, count, unfinished)
 
         -- a feed that took a byte of a row
         pub still_kept : (kept + 1 ≡ size * players → ⊥)
             → (kept + 1 ≤ 20)
             × IsKept (feeding_of (taken + 1) header tics (kept + 1) (set row kept byte) marked after world)
-        still_kept not =
-            let less = not_full not in (
-              omega (arith, short_row name header, less),
-              record {
-                played = omega (arith, is.1.played);
-                behind = omega (arith, is.1.behind);
-                blank = λ below. absurd (omega (arith, long, below));
-                unfinished = λ own h.
-                    let here = subst (λ (t : List ℕ). HasHeader own t) (same_header 1) h in
-                    let same = same_layout (take taken header) layout own has.known here.known in
-                    let back : row_size layout (seats_in header)
-                    ≡ row_size own (seats_in (take (taken + 1) header)) =
-                    λ i. row_size (same i) (seats_in (sym (same_header 1 ∙ all) i)) in
-                    omega (arith, ap length joined, longer, less, back);
-              },
-            )
+        still_kept not = grind (arith, not_full, short_row, long, unfinished, same_header, same_layout, has, all, joined, longer)
 
         pub byte_taken : (byte ≡ marker → kept % command_size layout ≢ 0) → (kept + 1 ≡ size * players → ⊥)
             → Takes state physics f (byte ∷ [])
@@ -170,9 +139,7 @@ module _ {S W : Type 0} (state : W → S) (physics : Physics S) {taken tics afte
             → moves ≡ moves_from layout (front ++ take (kept + 1) (set row kept byte)) present command) where
           told_joined : (front : List ℕ) (command : ℕ) → length front + 0 ≡ place layout command
               → moves ≡ moves_from layout (front ++ (take kept row ++ byte ∷ [])) present command
-          told_joined front command e =
-              told front command e
-              ∙ ap (λ (t : List ℕ). moves_from layout (front ++ t) present command) joined
+          told_joined front command e = grind (arith, joined)
 
           pub row_taken : (new : W) → (byte ≡ marker → kept % command_size layout ≢ 0)
               → kept + 1 ≡ size * players → state new ≡ physics.step (state world) moves

@@ -1,15 +1,10 @@
 -- A demo that keeps the bytes before its marker.
 use Rattle.std.proofs.Common.{◌≡◌, ◌<◌, ◌≤◌, ℕ, ◌+◌, ◌-◌, ◌*◌, ◌/◌, Bool, false, List, [], ◌∷◌, length, map, take, fold, get_or, slice_get, Option, Some, sym, ap, ◌∙◌, arith}
 use Rattle.std.specs.List.{range_with_len}
-use Rattle.std.proofs.lemmas.List.FromFn.{length-map-range_with_len, get_or-map-range_with_len}
-use Rattle.std.proofs.lemmas.Option.{slice_get-get_or, slice_get_within, get_or_from_slice_get}
-use Rattle.std.proofs.lemmas.List.Sums.{fold_more}
-use Rattle.dn_tic.specs.declared.command.Move.{Move}
+use Rattle.std.proofs.lemmas.{List.FromFn.{length-map-range_with_len, get_or-map-range_with_len}, Option.{slice_get-get_or, slice_get_within, get_or_from_slice_get}, List.Sums.fold_more}
 use Rattle.std.proofs.Math.Nat.{mul-div-le, mul-le-mul_left}
-use Rattle.dn_demo.specs.Layout.{Layout, command_size}
-use Rattle.dn_demo.specs.Rows.{player_count}
-use Rattle.dn_demo.specs.Places.{seats_in, place, commands_in, moves_from, row_in}
-use Rattle.dn_demo.specs.Reading.{Recording, recording}
+use Rattle.dn_tic.specs.declared.command.Move.{Move}
+use Rattle.dn_demo.specs.{Layout.{Layout, command_size}, Rows.player_count, Places.{seats_in, place, commands_in, moves_from, row_in}, Reading.{Recording, recording}}
 use Rattle.dn_demo.proofs.Fronts.{tic_fits}
 
 -- a row of four seats, each of which takes its command from where the one before it has left off
@@ -40,9 +35,7 @@ get-map-range f n i below =
 pub length-rows : (layout : Layout) (bytes : List ℕ) (after : ℕ) (demo : Recording)
     → recording layout bytes (commands_in layout bytes) after ≡ demo
     → length demo.rows ≡ commands_in layout bytes / player_count (seats_in bytes)
-length-rows layout bytes after demo e =
-    sym (ap (λ (d : Recording). length d.rows) e) ∙ length-map-range_with_len (row_in layout bytes) 0
-    (commands_in layout bytes / player_count (seats_in bytes))
+length-rows layout bytes after demo e = grind (arith, length-map-range_with_len)
 
 -- the row of a tic stands in the kept bytes, and is the demo's
 pub row_kept : (layout : Layout) (bytes kept : List ℕ) (after : ℕ) (demo : Recording) (seats : List Bool)

@@ -8,17 +8,10 @@ pub mod Behind
 pub mod ReadBack
 pub mod Writable
 pub mod RecordedAnew
-mod ToldBehind
-mod Gets
 mod Stepping
-mod HeadersKept
 mod RowsKept
 mod RowsMarked
 mod FeedKept
-mod FeedSteps
 mod FeedRows
 mod FeedEnds
-mod PiecesJoined
-mod TicsCounted
 pub mod Listing
-mod RowsTold

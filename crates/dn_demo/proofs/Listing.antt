@@ -1,36 +1,62 @@
 -- The rows that are told as bytes come.
-use Rattle.std.proofs.Common.{◌≡◌, ◌<◌, ◌≤◌, ℕ, ◌+◌, ◌*◌, List, [], ◌∷◌, ◌++◌, length, take, Option, Some, None, refl, sym, ap, ◌∙◌, subst, arith, append_assoc, append-nil, length-append}
-use Rattle.std.proofs.lemmas.List.{length-drop}
-use Rattle.std.proofs.lemmas.List.FromFn.{map-range_with_len_more}
+use Rattle.std.proofs.Common.{◌≡◌, ◌<◌, ◌≤◌, ℕ, ◌+◌, ◌-◌, ◌*◌, ◌/◌, ◌%◌, Bool, true, false, List, length, refl, ap, ◌∙◌, arith, inl, inr, [], ◌∷◌, ◌++◌, Option, Some, None, sym, subst, append_assoc, append-nil, length-append}
+use Rattle.std.proofs.Math.Nat.{div-add-mod, mod-lt, lt_of_mul-lt-mul_left}
+use Rattle.std.proofs.lemmas.{Nat.div-mul-add, List.{length-take-le, length-drop}, Option.slice_get_within, List.FromFn.map-range_with_len_more}
+use Rattle.dn_demo.specs.{Layout.{Layout, command_size}, Text.marker, Places.{place, HasCommands, seats_in, row_in, rows_in}, Feeding.{IsUpToMarker, Feeding, Shows, ShowsRows, Takes}, Rows.player_count, Reading.{HasHeader, HasRows}}
+use Rattle.dn_demo.specs.{Listed.{told, EndsRow, AreListed, Lists, TellsFront}}
+use Rattle.dn_demo.proofs.{Layouts.place_order, FeedKept.takes_more, Fronts.{header_kept, header_of_kept, kept_longer}, OneReading.same_layout, RowsMarked.front_within, Stepping.rows_in-append}
 use Rattle.dn_tic.specs.declared.command.Move.{Move}
 use Rattle.dn_world.specs.Physics.{Physics}
-use Rattle.dn_demo.specs.Layout.{Layout}
-use Rattle.dn_demo.specs.Rows.{player_count}
-use Rattle.dn_demo.specs.Places.{seats_in, place, row_in, rows_in}
-use Rattle.dn_demo.specs.Reading.{HasHeader, HasRows}
-use Rattle.dn_demo.specs.Feeding.{Feeding, Shows, ShowsRows, Takes}
-use Rattle.dn_demo.specs.Listed.{told, EndsRow, AreListed, Lists, TellsFront}
-use Rattle.dn_demo.proofs.FeedKept.{takes_more}
-use Rattle.dn_demo.proofs.HeadersKept.{header_kept, header_of_kept, kept_longer}
-use Rattle.dn_demo.proofs.OneReading.{same_layout}
-use Rattle.dn_demo.proofs.TicsCounted.{counted}
-use Rattle.dn_demo.proofs.RowsMarked.{front_within}
-use Rattle.dn_demo.proofs.Stepping.{rows_in-append}
+
+-- How many whole tics the commands before the marker, or before the end, make.
+
+-- a number between a product and the next is divided to the factor
+quotient : (players tics commands : ℕ) → players * tics ≤ commands → commands < players * tics + players
+    → commands / players ≡ tics
+quotient players tics commands least most = grind (arith, div-mul-add)
+
+-- the commands before the marker, or before the end, make this many tics
+pub counted : (layout : Layout) (bytes : List ℕ) (players tics : ℕ) (marked : Bool) (front : List ℕ) (after : ℕ)
+    → IsUpToMarker layout bytes marked front after
+    → 13 ≤ length bytes → place layout (players * tics) ≤ length front
+    → length front < place layout (players * tics) + command_size layout * players
+    → (commands : ℕ) × HasCommands layout bytes commands × (commands / players ≡ tics)
+counted layout bytes players tics true front after ends long least most =
+    let commands = ends.0 in
+    let size = command_size layout in
+    let inside = slice_get_within bytes (place layout commands) marker ends.1.marked in
+    let same : length front ≡ place layout commands = ap length ends.2
+    ∙ length-take-le (place layout commands) bytes (omega arith) in
+    let next : size * (players * tics + players) ≡ size * (players * tics) + size * players = omega arith in
+    let low : players * tics ≤ commands = place_order layout (players * tics) commands
+    (omega (arith, same, least)) in
+    let high : commands < players * tics + players =
+    lt_of_mul-lt-mul_left size (omega (arith, same, most, next)) in
+    (commands, inl ends.1, quotient players tics commands low high)
+counted layout bytes players tics false front after ends long least most =
+    let size = command_size layout in
+    let body = length bytes - 13 in
+    let commands = body / size in
+    let same : length front ≡ length bytes = ap length ends.1 in
+    let split = div-add-mod body size in
+    let left : body % size < size = mod-lt body (omega arith) in
+    let next : size * (players * tics + players) ≡ size * (players * tics) + size * players = omega arith in
+    let more : size * (commands + 1) ≡ size * commands + size = omega arith in
+    let low : players * tics < commands + 1 =
+    lt_of_mul-lt-mul_left size (omega (arith, same, least, split, left, more)) in
+    let high : commands < players * tics + players =
+    lt_of_mul-lt-mul_left size
+    (omega (arith, same, most, split, next, long)) in
+    (commands, inr (ends.0, refl), quotient players tics commands (omega (arith, low)) high)
 
 -- a header that bytes have once more came behind them
 old_header : (layout : Layout) (bytes more : List ℕ) → 13 ≤ length bytes → HasHeader layout (bytes ++ more)
     → HasHeader layout bytes
-old_header layout bytes more whole h =
-    let kept = kept_longer bytes more (take 13 bytes) refl whole in
-    header_of_kept layout bytes (take 13 bytes) refl
-    (header_kept layout (bytes ++ more) (take 13 bytes) kept h)
+old_header layout bytes more whole h = grind (arith, kept_longer, header_of_kept, header_kept)
 
 longer_header : (layout : Layout) (bytes more : List ℕ) → HasHeader layout bytes
     → HasHeader layout (bytes ++ more)
-longer_header layout bytes more h =
-    let kept = kept_longer bytes more (take 13 bytes) refl h.whole in
-    header_of_kept layout (bytes ++ more) (take 13 bytes) kept
-    (header_kept layout bytes (take 13 bytes) refl h)
+longer_header layout bytes more h = grind (arith, kept_longer, header_of_kept, header_kept)
 
 -- the whole tics of the bytes lie within them
 tics_within : {S W : Type 0} (state : W → S) (physics : Physics S) (layout : Layout) (bytes : List ℕ)
@@ -62,17 +88,7 @@ lists_none state physics f g piece long tics =
 pub lists_header : {S W : Type 0} (state : W → S) (physics : Physics S) (f g : Feeding W) (byte : ℕ)
     → f.taken < 13 → f.tics ≡ 0 → g.tics ≡ 0
     → Lists state physics f (byte ∷ []) g []
-lists_header state physics f g byte short old new =
-    record {
-      tics = omega (arith, old, new);
-      each = λ bytes before shown listed.
-          let empty : before ++ [] ≡ [] = append-nil before
-          ∙ listed.none (λ layout h. omega (arith, shown.taken, short, h.whole)) in
-          record {
-            some = λ layout h. empty ∙ ap (rows_in layout (bytes ++ byte ∷ [])) (sym new);
-            none = λ no. empty;
-          };
-    }
+lists_header state physics f g byte short old new = grind (arith, append-nil)
 
 -- where a tic ends, or none
 pub lists_ended : {S W : Type 0} (state : W → S) (physics : Physics S) (layout : Layout) (f g : Feeding W)
@@ -141,11 +157,7 @@ pub tells_all : {S W : Type 0} (state : W → S) (physics : Physics S) (f g : Fe
     (rows : List (List (Option Move)))
     → TellsFront state physics f piece [] g rows → Takes state physics f piece g
     × Lists state physics f piece g rows
-tells_all state physics f g piece rows all =
-    let whole : all.front ≡ piece = sym (all.split ∙ append-nil all.front) in (
-      subst (λ (p : List ℕ). Takes state physics f p g) whole all.shown,
-      subst (λ (p : List ℕ). Lists state physics f p g rows) whole all.listed,
-    )
+tells_all state physics f g piece rows all = grind (arith, append-nil)
 
 -- the rows told are those that the bytes have
 pub rows_of_listed : {S W : Type 0} (state : W → S) (physics : Physics S) (bytes : List ℕ) (f : Feeding W)

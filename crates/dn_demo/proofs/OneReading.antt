@@ -1,18 +1,11 @@
 -- The bytes of a demo are read in one way.
-use Rattle.std.proofs.Common.{Some, subst, ◌≡◌, ◌≤◌, ℕ, ◌+◌, ◌-◌, ◌*◌, ◌/◌, ◌%◌, map, List, take, length, Result, Ok, Err, refl, sym, ap, ◌∙◌, arith, inl, inr}
+use Rattle.std.proofs.Common.{Some, ◌≡◌, ◌≤◌, ℕ, ◌+◌, ◌-◌, ◌*◌, ◌/◌, ◌%◌, map, List, take, length, Result, Ok, Err, refl, sym, ap, ◌∙◌, arith, inl, inr}
 use Rattle.std.specs.List.{range_with_len}
-use Rattle.std.proofs.lemmas.List.{get_or-take, length-take-le}
-use Rattle.std.proofs.lemmas.Option.{slice_get_within}
+use Rattle.std.proofs.lemmas.{List.{get_or-take, length-take-le}, Option.slice_get_within}
 use Rattle.std.proofs.Math.Nat.{mul-div_cancel_left}
-use Rattle.dn_demo.specs.Layout.{Layout, command_size}
-use Rattle.dn_demo.specs.Rows.{player_count}
-use Rattle.dn_demo.specs.Text.{marker}
-use Rattle.dn_demo.specs.Places.{layout_in, seats_in, place, commands_in, row_in, EndsBehind}
-use Rattle.dn_demo.specs.Reading.{Recording, recording, HasHeader, IsReadAs, IsSameButMemory}
-use Rattle.dn_demo.specs.declared.demo.DemoFault.{DemoFault}
-use Rattle.dn_demo.specs.declared.demo.DemoFault.TheVariants.{Short, Version, NoPlayers, NoMarker, Memory}
-use Rattle.dn_demo.proofs.Fronts.{start_in-take, seats_in-take, row_in-take, map-agree}
-use Rattle.dn_demo.proofs.Markers.{one_end}
+use Rattle.dn_demo.specs.{Layout.{Layout, command_size}, Rows.player_count, Text.marker, Places.{layout_in, seats_in, place, commands_in, row_in, EndsBehind}, Reading.{Recording, recording, HasHeader, IsReadAs, IsSameButMemory}}
+use Rattle.dn_demo.specs.{declared.demo.DemoFault.DemoFault, declared.demo.DemoFault.TheVariants.{Short, Version, NoPlayers, NoMarker, Memory}}
+use Rattle.dn_demo.proofs.{Fronts.{start_in-take, seats_in-take, row_in-take, map-agree}, Markers.one_end}
 
 -- the bytes before the marker tell the whole demo
 pub recording-take : (layout : Layout) (k : ℕ) (bytes : List ℕ) (after : ℕ)
@@ -44,12 +37,7 @@ pub same_layout : (bytes : List ℕ) (a b : Layout) → layout_in bytes ≡ Some
 same_layout bytes a b p q = let both = sym p ∙ q in cc
 
 pub same_demo : (bytes : List ℕ) (d e : Recording) → IsReadAs bytes (Ok d) → IsReadAs bytes (Ok e) → d ≡ e
-same_demo bytes d e p q =
-    let layout = same_layout bytes p.0 q.0 p.1.known q.1.known in
-    let ends : EndsBehind q.0 bytes p.2.0 = subst (λ (l : Layout). EndsBehind l bytes p.2.0) layout p.2.1 in
-    let behind = one_end q.0 bytes p.2.0 q.2.0 ends q.2.1 in
-    p.2.2 ∙ (λ i. recording (layout i) bytes (behind i) (length bytes - (place (layout i) (behind i) + 1)))
-    ∙ sym q.2.2
+same_demo bytes d e p q = grind (arith, same_layout, one_end)
 
 -- what reads as a demo reads as nothing else, memory aside
 pub one_reading : (bytes : List ℕ) (d : Recording) → IsReadAs bytes (Ok d) → (r : Result Recording DemoFault)
@@ -59,10 +47,7 @@ one_reading bytes d p (Ok e) q = inl (ap (λ x. Ok x) (same_demo bytes d e p q))
 one_reading bytes d p (Err Short) q = absurd (omega (arith, p.1.whole))
 one_reading bytes d p (Err Version) q = absurd (let both = sym p.1.known ∙ q.1 in cc)
 one_reading bytes d p (Err NoPlayers) q = absurd (omega (arith, p.1.somebody))
-one_reading bytes d p (Err NoMarker) q =
-    let layout = same_layout bytes p.0 q.0 p.1.known q.1.known in
-    let ends : EndsBehind q.0 bytes p.2.0 = subst (λ (l : Layout). EndsBehind l bytes p.2.0) layout p.2.1 in
-    absurd (q.2 p.2.0 ends.marked)
+one_reading bytes d p (Err NoMarker) q = grind (arith, same_layout)
 one_reading bytes d p (Err Memory) q = inr (inr refl)
 
 -- a demo that keeps these bytes

@@ -2,20 +2,12 @@
 use Rattle.std.proofs.Common.{◌≡◌, ◌<◌, ℕ, ◌+◌, ◌-◌, ◌*◌, ◌/◌, ◌%◌, Bool, true, List, [], ◌∷◌, ◌++◌, length, map, get_or, All, Option, Some, None, IfSome, Ok, refl, sym, ap, ◌∙◌, arith, append_assoc, length-append}
 use Rattle.std.specs.List.{range_with_len}
 use Rattle.std.proofs.Math.Nat.{mul-div_cancel_left, mul-mod_right}
-use Rattle.std.proofs.lemmas.List.{get_or_at, length-map}
-use Rattle.std.proofs.lemmas.List.Elements.{All-nil, All-cons, All-head, All-tail}
-use Rattle.std.proofs.lemmas.Option.{slice_get-get_or}
+use Rattle.std.proofs.lemmas.{List.{get_or_at, length-map}, List.Elements.{All-nil, All-cons, All-head, All-tail}, Option.slice_get-get_or}
 use Rattle.dn_tic.specs.declared.command.Move.{Move}
-use Rattle.dn_setup.specs.declared.start.Start.{Start}
-use Rattle.dn_setup.specs.Starts.{bit}
-use Rattle.dn_demo.specs.Layout.{Layout, vanilla, long_tics, layout_of_version}
-use Rattle.dn_demo.specs.Rows.{AreWritable, AllMoves, IsMove, IsWhole, player_count}
-use Rattle.dn_demo.specs.Text.{marker, header, commands_of, demo_text}
-use Rattle.dn_demo.specs.Places.{start_in, seats_in, place, moves_from, EndsBehind}
-use Rattle.dn_demo.specs.Reading.{IsReadAs, written_demo}
-use Rattle.dn_demo.proofs.Layouts.{IsSound, IsTold, vanilla_sound, long_tics_sound, whole_told, long_told}
-use Rattle.dn_demo.proofs.Text.{header-seats}
-use Rattle.dn_demo.proofs.Behind.{RowsOf, rows_of, rows_behind, none_in_rows, length-rows}
+use Rattle.dn_setup.specs.{declared.start.Start.Start, Starts.bit}
+use Rattle.dn_demo.specs.{Layout.{Layout, vanilla, long_tics, layout_of_version}, Rows.{AreWritable, AllMoves, IsMove, IsWhole, player_count}, Text.{marker, header, commands_of, demo_text}, Places.{start_in, seats_in, place, moves_from, EndsBehind}}
+use Rattle.dn_demo.specs.{Reading.{IsReadAs, written_demo}}
+use Rattle.dn_demo.proofs.{Layouts.{IsSound, IsTold, vanilla_sound, long_tics_sound, whole_told, long_told}, Text.header-seats, Behind.{RowsOf, rows_of, rows_behind, none_in_rows, length-rows}}
 
 -- rows at their places, where there are as many seats
 rows_in-text : (layout : Layout) (text : List ℕ) (seats present : List Bool)

@@ -1,26 +1,13 @@
 -- A demo that was read, recorded row by row.
 use Rattle.std.proofs.Common.{◌≡◌, ◌<◌, ◌≤◌, ℕ, ◌+◌, ◌-◌, ◌*◌, ◌/◌, Bool, false, List, [], ◌∷◌, ◌++◌, length, nat_le, take, slice_get, Option, Some, Ok, sym, ap, ◌∙◌, subst, arith}
-use Rattle.std.proofs.lemmas.List.{take_more, length-map}
-use Rattle.std.proofs.lemmas.Option.{slice_get_within, get_or_from_slice_get}
-use Rattle.dn_tic.specs.declared.command.Move.{Move}
-use Rattle.dn_setup.specs.declared.start.Start.{Start}
-use Rattle.dn_setup.specs.Starts.{bit}
-use Rattle.dn_world.specs.Physics.{Physics}
+use Rattle.std.proofs.lemmas.{List.{take_more, length-map}, Option.{slice_get_within, get_or_from_slice_get}, Bool.{le-leb, leb-true}}
 use Rattle.std.proofs.Math.Nat.{mul-div-le}
-use Rattle.std.proofs.lemmas.Bool.{le-leb, leb-true}
-use Rattle.dn_demo.specs.Layout.{Layout, long_tics, command_size}
-use Rattle.dn_demo.specs.Rows.{IsRow, player_count}
-use Rattle.dn_demo.specs.Places.{place, seats_in, moves_from, commands_in, HasNoMarker}
-use Rattle.dn_demo.specs.Text.{demo_text}
-use Rattle.dn_demo.specs.Reading.{Recording, recording, IsReadAs, written_demo, state_after}
-use Rattle.dn_demo.specs.Recorded.{Recorded, AddsRow, recorded_size}
-use Rattle.dn_demo.specs.Upgraded.{IsUpgraded}
-use Rattle.dn_demo.proofs.Fronts.{tic_fits}
-use Rattle.dn_demo.proofs.Kept.{length-rows}
-use Rattle.dn_demo.proofs.OneReading.{same_demo}
-use Rattle.dn_demo.proofs.ReadBack.{long_read_back}
-use Rattle.dn_demo.proofs.Text.{text-none}
-use Rattle.dn_demo.proofs.Writable.{AreBytes, row_told, rows_writable}
+use Rattle.dn_tic.specs.declared.command.Move.{Move}
+use Rattle.dn_setup.specs.{declared.start.Start.Start, Starts.bit}
+use Rattle.dn_world.specs.Physics.{Physics}
+use Rattle.dn_demo.specs.{Layout.{Layout, long_tics, command_size}, Rows.{IsRow, player_count}, Places.{place, seats_in, moves_from, commands_in, HasNoMarker}, Text.demo_text, Reading.{Recording, recording, IsReadAs, written_demo, state_after}}
+use Rattle.dn_demo.specs.{Recorded.{Recorded, AddsRow, recorded_size}, Upgraded.IsUpgraded}
+use Rattle.dn_demo.proofs.{Fronts.tic_fits, Kept.length-rows, OneReading.same_demo, ReadBack.long_read_back, Text.text-none, Writable.{AreBytes, row_told, rows_writable}}
 
 -- the text of the first rows, with one more
 pub one_more : (old new : List ℕ) (start : Start) (view : ℕ) (present : List Bool)

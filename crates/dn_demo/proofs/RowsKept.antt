@@ -1,31 +1,17 @@
 -- What is kept of a demo's rows, as bytes come before the marker.
-use Rattle.std.proofs.Common.{◌≡◌, ◌≢◌, ◌<◌, ◌≤◌, ℕ, ◌+◌, ◌-◌, ◌*◌, ◌%◌, Bool, false, List, [], ◌∷◌, ◌++◌, length, take, drop, slice_get, Option, Some, refl, sym, ap, ◌∙◌, subst, arith, inl, inr, append_assoc, length-append}
-use Rattle.std.proofs.Math.Nat.{mul-add-mod_self_left, mul-mod_right, mul-pos, lt_of_mul-lt-mul_left}
-use Rattle.std.proofs.Math.Seq.{drop-length}
-use Rattle.std.proofs.lemmas.Bool.{cases_lt}
-use Rattle.std.proofs.lemmas.List.{take-append-drop, drop-append-le, length-take-le, length-drop}
-use Rattle.std.proofs.lemmas.Option.{slice_get_within}
+use Rattle.std.proofs.Common.{◌≡◌, ◌≢◌, ◌<◌, ◌≤◌, ℕ, ◌+◌, ◌-◌, ◌*◌, ◌%◌, Bool, false, List, [], ◌∷◌, ◌++◌, length, take, drop, slice_get, Option, Some, refl, sym, ap, ◌∙◌, subst, arith, append_assoc, length-append}
+use Rattle.std.proofs.Math.{Nat.{mul-add-mod_self_left, mul-mod_right, mul-pos, lt_of_mul-lt-mul_left}, Seq.drop-length}
+use Rattle.std.proofs.lemmas.{Bool.cases_lt, List.{take-append-drop, drop-append-le, length-take-le, length-drop}, Option.slice_get_within}
 use Rattle.dn_tic.specs.declared.command.Move.{Move}
 use Rattle.dn_world.specs.Physics.{Physics}
-use Rattle.dn_demo.specs.Layout.{Layout, command_size}
-use Rattle.dn_demo.specs.Rows.{player_count}
-use Rattle.dn_demo.specs.Text.{marker}
-use Rattle.dn_demo.specs.Places.{start_in, seats_in, place, moves_from, row_in, IsUnmarked}
-use Rattle.dn_demo.specs.Feeding.{Feeding, IsUpToMarker, ShowsRows, StepsRows, row_size, state_by}
-use Rattle.dn_demo.proofs.Gets.{get_first, get_second}
-use Rattle.dn_demo.proofs.Layouts.{place_order}
-use Rattle.dn_demo.proofs.Stepping.{seats_in-append, state_by-append, state_by-more}
+use Rattle.dn_demo.specs.{Layout.{Layout, command_size}, Rows.player_count, Text.marker, Places.{start_in, seats_in, place, moves_from, row_in, IsUnmarked}, Feeding.{Feeding, IsUpToMarker, ShowsRows, StepsRows, row_size, state_by}}
+use Rattle.dn_demo.proofs.{Stepping.{get_first, get_second, seats_in-append, state_by-append, state_by-more}, Layouts.place_order}
 
 none_behind : (layout : Layout) (bytes more : List ℕ) → IsUnmarked layout bytes
     → ((command : ℕ) → length bytes ≤ place layout command
     → slice_get more (place layout command - length bytes) ≢ Some marker)
     → IsUnmarked layout (bytes ++ more)
-none_behind layout bytes more none not command here =
-    elim (cases_lt (place layout command) (length bytes)) [
-      | inl below ↦ none command (sym (get_first bytes more (place layout command) below) ∙ here)
-      | inr past ↦ not command (omega arith)
-          (sym (get_second bytes more (place layout command) (omega arith)) ∙ here)
-    ]
+none_behind layout bytes more none not command here = grind (arith, cases_lt, none, get_first, get_second)
 
 -- a byte that is none, or stands at no place
 none_in_byte : (layout : Layout) (bytes : List ℕ) (byte commands r : ℕ) → IsUnmarked layout bytes

@@ -1,36 +1,22 @@
 -- What is kept of a demo's rows, with the marker and behind it.
 use Rattle.std.proofs.Common.{◌≡◌, ◌<◌, ◌≤◌, ℕ, ◌+◌, ◌-◌, ◌*◌, ◌/◌, ◌%◌, Bool, true, false, List, [], ◌∷◌, ◌++◌, length, take, drop, slice_get, Some, refl, sym, ap, ◌∙◌, subst, arith, length-append}
-use Rattle.std.proofs.Math.Nat.{div-add-mod}
-use Rattle.std.proofs.Math.Seq.{take-append_seam}
-use Rattle.std.proofs.lemmas.List.{take-append-le, length-take-le}
-use Rattle.std.proofs.lemmas.Option.{slice_get_within}
+use Rattle.std.proofs.Math.{Nat.div-add-mod, Seq.take-append_seam}
+use Rattle.std.proofs.lemmas.{List.{take-append-le, length-take-le}, Option.slice_get_within}
 use Rattle.dn_world.specs.Physics.{Physics}
-use Rattle.dn_demo.specs.Layout.{Layout, command_size}
-use Rattle.dn_demo.specs.Rows.{player_count}
-use Rattle.dn_demo.specs.Text.{marker}
-use Rattle.dn_demo.specs.Places.{seats_in, place, HasNoMarker, EndsBehind}
-use Rattle.dn_demo.specs.Feeding.{Feeding, IsUpToMarker, ShowsRows, row_size, state_by}
-use Rattle.dn_demo.proofs.Gets.{get_first, get_second}
-use Rattle.dn_demo.proofs.Layouts.{place_below}
-use Rattle.dn_demo.proofs.RowsKept.{Unmarked, row_place, same_place, same_size}
-use Rattle.dn_demo.proofs.Stepping.{state_by-append}
+use Rattle.dn_demo.specs.{Layout.{Layout, command_size}, Rows.player_count, Text.marker, Places.{seats_in, place, HasNoMarker, EndsBehind}, Feeding.{Feeding, IsUpToMarker, ShowsRows, row_size, state_by}}
+use Rattle.dn_demo.proofs.{Stepping.{get_first, get_second, state_by-append}, Layouts.place_below, RowsKept.{Unmarked, row_place, same_place, same_size}}
 
 -- the front lies within the bytes
 pub front_within : (layout : Layout) (bytes : List ℕ) (marked : Bool) (front : List ℕ) (after : ℕ)
     → IsUpToMarker layout bytes marked front after → length front ≤ length bytes
-front_within layout bytes true front after ends =
-    let inside = slice_get_within bytes (place layout ends.0) marker ends.1.marked in
-    omega (arith, ap length ends.2, length-take-le (place layout ends.0) bytes (omega arith))
+front_within layout bytes true front after ends = grind (arith, slice_get_within, length-take-le)
 front_within layout bytes false front after ends = omega (arith, ap length ends.1)
 
 module _ {S W : Type 0} (state : W → S) (physics : Physics S) (layout : Layout) (bytes more : List ℕ) where
   -- no marker stands at the first places, whatever comes behind them
   none_first : (commands : ℕ) → place layout commands ≤ length bytes → HasNoMarker layout bytes commands
       → HasNoMarker layout (bytes ++ more) commands
-  none_first commands within none command below here =
-      let before = place_below layout command commands below in
-      none command below
-      (sym (get_first bytes more (place layout command) (omega (arith, before, within))) ∙ here)
+  none_first commands within none command below here = grind (arith, place_below, get_first)
 
   -- the rows that the bytes have, where more came behind them
   rows_longer : (f : Feeding W) (front : List ℕ) (commands : ℕ) → f.marked ≡ true

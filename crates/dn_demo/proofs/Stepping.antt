@@ -1,20 +1,34 @@
 -- A world that is stepped by the rows of a demo.
-use Rattle.std.proofs.Common.{◌≡◌, ◌≢◌, ◌<◌, ◌≤◌, ℕ, ◌+◌, ◌-◌, ◌*◌, Bool, List, [], ◌∷◌, ◌++◌, length, map, take, drop, fold, slice_get, Option, Some, sym, ap, subst, ◌∙◌, arith, inl, inr, append_assoc, length-append}
+use Rattle.std.proofs.Common.{◌≡◌, ◌<◌, ◌≤◌, ℕ, zero, suc, ◌+◌, ◌-◌, List, [], ◌∷◌, ◌++◌, length, drop, slice_get, refl, ap, ◌∙◌, arith, ◌≢◌, ◌*◌, Bool, map, take, fold, Option, Some, sym, inl, inr, append_assoc, length-append}
 use Rattle.std.specs.List.{range_with_len}
 use Rattle.std.proofs.Math.Nat.{mul-le-mul_left}
-use Rattle.std.proofs.lemmas.Bool.{cases_lt}
-use Rattle.std.proofs.lemmas.List.{take-append-le, take-append-drop, length-take-le, length-drop, drop-drop}
-use Rattle.std.proofs.lemmas.List.FromFn.{map-range_with_len_more}
-use Rattle.std.proofs.lemmas.List.Sums.{fold-append}
+use Rattle.std.proofs.lemmas.{Bool.cases_lt, List.{take-append-le, take-append-drop, length-take-le, length-drop, drop-drop}, List.FromFn.map-range_with_len_more, List.Sums.fold-append}
 use Rattle.dn_tic.specs.declared.command.Move.{Move}
 use Rattle.dn_world.specs.Physics.{Physics}
-use Rattle.dn_demo.specs.Layout.{Layout, command_size}
-use Rattle.dn_demo.specs.Rows.{player_count}
-use Rattle.dn_demo.specs.Text.{marker}
-use Rattle.dn_demo.specs.Places.{start_in, seats_in, place, moves_from, row_in, rows_in}
-use Rattle.dn_demo.specs.Feeding.{row_size, state_by, StepsRows}
-use Rattle.dn_demo.proofs.Gets.{get_rest}
+use Rattle.dn_demo.specs.{Layout.{Layout, command_size}, Rows.player_count, Text.marker, Places.{start_in, seats_in, place, moves_from, row_in, rows_in}, Feeding.{row_size, state_by, StepsRows}}
 use Rattle.dn_demo.proofs.Fronts.{start_in-take, seats_in-take, moves_from-take, map-agree}
+
+-- What stands at an index of joined bytes, or of a rest.
+
+-- what stands in the first
+pub get_first : (xs ys : List ℕ) (i : ℕ) → i < length xs → slice_get (xs ++ ys) i ≡ slice_get xs i
+get_first [] ys i below = absurd (omega arith)
+get_first (x ∷ xs) ys zero below = refl
+get_first (x ∷ xs) ys (suc i) below = get_first xs ys i (omega arith)
+
+-- what stands behind it
+pub get_second : (xs ys : List ℕ) (i : ℕ) → length xs ≤ i
+    → slice_get (xs ++ ys) i ≡ slice_get ys (i - length xs)
+get_second [] ys i past = ap (slice_get ys) (omega arith)
+get_second (x ∷ xs) ys zero past = absurd (omega arith)
+get_second (x ∷ xs) ys (suc i) past = grind (arith, suc, get_second xs ys i (omega arith), slice_get)
+
+-- what stands in a rest
+pub get_rest : (n i : ℕ) (xs : List ℕ) → slice_get (drop n xs) i ≡ slice_get xs (n + i)
+get_rest zero i xs = ap (slice_get xs) (omega arith)
+get_rest (suc n) i [] = refl
+get_rest (suc n) i (x ∷ xs) =
+    let same : suc n + i ≡ suc (n + i) = omega arith in rw same (get_rest n i xs)
 
 -- a header tells the same, whatever stands behind it
 pub start_in-append : (bytes more : List ℕ) → 13 ≤ length bytes → start_in (bytes ++ more) ≡ start_in bytes
@@ -60,11 +74,7 @@ rows_in-append layout bytes more tics whole =
 pub state_by-append : {S : Type 0} (physics : Physics S) (layout : Layout) (bytes more : List ℕ) (tics : ℕ)
     → place layout (player_count (seats_in bytes) * tics) ≤ length bytes
     → state_by physics layout (bytes ++ more) tics ≡ state_by physics layout bytes tics
-state_by-append physics layout bytes more tics whole =
-    let start = start_in-append bytes more (omega arith) in
-    let seats = seats_in-append bytes more (omega arith) in
-    let rows = rows_in-append layout bytes more tics whole in
-    λ i. fold physics.step (physics.begin (start i) (seats i)) (rows i)
+state_by-append physics layout bytes more tics whole = grind (arith, start_in-append, seats_in-append, rows_in-append, fold)
 
 -- one more tic
 pub state_by-more : {S : Type 0} (physics : Physics S) (layout : Layout) (bytes : List ℕ) (tics : ℕ)
@@ -80,21 +90,7 @@ state_by-more physics layout bytes tics =
 pub steps_none : {S W : Type 0} (state : W → S) (physics : Physics S) (layout : Layout) (present : List Bool)
     (w : W) (piece : List ℕ)
     → StepsRows state physics layout present w piece piece w
-steps_none state physics layout present w piece =
-    let none : 0 ≡ row_size layout present * 0 = omega arith in
-    record {
-      tics = 0;
-      left = ap (λ n. drop n piece) none;
-      within = omega arith;
-      unmarked = λ command below. absurd (omega arith);
-      world = λ bytes before seats e is.
-          let whole : place layout (player_count (seats_in bytes) * before) ≤ length bytes =
-          subst (λ p. place layout (p * before) ≤ length bytes) (sym (ap player_count seats))
-          (omega (arith, e)) in
-          let same : before ≡ before + 0 = omega arith in
-          is ∙ sym (state_by-append physics layout bytes piece before whole)
-          ∙ ap (state_by physics layout (bytes ++ piece)) same;
-    }
+steps_none state physics layout present w piece = grind (arith, state_by-append)
 
 -- one row on
 pub steps_more : {S W : Type 0} (state : W → S) (physics : Physics S) (layout : Layout) (present : List Bool)

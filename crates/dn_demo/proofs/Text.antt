@@ -1,37 +1,21 @@
 -- The text of a demo that goes on, and how long its parts are.
-use Rattle.std.proofs.Common.{◌≡◌, ℕ, ◌*◌, Bool, true, false, List, [], ◌∷◌, ◌++◌, length, map, Option, Some, None, is_some, refl, sym, ap, ◌∙◌, arith, append_assoc, append-nil, length-append}
+use Rattle.std.proofs.Common.{◌≡◌, ℕ, ◌*◌, Bool, true, false, List, [], ◌∷◌, ◌++◌, length, map, Option, Some, None, is_some, refl, ◌∙◌, arith, append_assoc, append-nil, length-append}
 use Rattle.std.proofs.lemmas.List.Concat.{flat_map-append}
 use Rattle.dn_tic.specs.declared.command.Move.{Move}
-use Rattle.dn_setup.specs.declared.start.Start.{Start}
-use Rattle.dn_setup.specs.Starts.{bit}
-use Rattle.dn_demo.specs.Layout.{Layout, long_tics, command_size, spell}
-use Rattle.dn_demo.specs.Rows.{player_count}
-use Rattle.dn_demo.specs.Text.{demo_text, header, row_bytes, commands_of, marker}
-use Rattle.dn_demo.specs.Places.{seats_in, is_set}
-use Rattle.dn_demo.specs.Recorded.{AddsRow, Closes}
+use Rattle.dn_setup.specs.{declared.start.Start.Start, Starts.bit}
+use Rattle.dn_demo.specs.{Layout.{Layout, long_tics, command_size, spell}, Rows.player_count, Text.{demo_text, header, row_bytes, marker}, Places.{seats_in, is_set}, Recorded.{AddsRow, Closes}}
 use Rattle.dn_demo.proofs.Layouts.{IsSound, length-spell}
 
 -- one more row
 pub text-row : (old new : List ℕ) (row : List (Option Move)) → new ≡ old ++ row_bytes long_tics row
     → AddsRow old new row
 unfolding demo_text
-text-row old new row e start view present rows text =
-    let h = header long_tics start view present in
-    let bytes = row_bytes long_tics row in
-    let commands : List (List (Option Move)) → List ℕ = commands_of long_tics in
-    let more : commands (rows ++ row ∷ []) ≡ commands rows ++ bytes =
-    flat_map-append (row_bytes long_tics) rows (row ∷ [])
-    ∙ ap (λ (t : List ℕ). commands rows ++ t) (append-nil bytes) in
-    let open_text : old ≡ h ++ commands rows = text ∙ append-nil (h ++ commands rows) in
-    e ∙ ap (λ (t : List ℕ). t ++ bytes) open_text ∙ append_assoc h (commands rows) bytes
-    ∙ ap (λ (t : List ℕ). h ++ t) (sym more) ∙ sym (append-nil (h ++ commands (rows ++ row ∷ [])))
+text-row old new row e start view present rows text = grind (arith, flat_map-append, append-nil, append_assoc)
 
 -- the marker
 pub text-closed : (old new : List ℕ) → new ≡ old ++ marker ∷ [] → Closes old new
 unfolding demo_text
-text-closed old new e start view present rows text =
-    e ∙ ap (λ (t : List ℕ). t ++ marker ∷ [])
-    (text ∙ append-nil (header long_tics start view present ++ commands_of long_tics rows))
+text-closed old new e start view present rows text = grind (arith, append-nil)
 
 -- a command for each player who is present
 pub length-row_bytes : (layout : Layout) (present : List Bool) (row : List (Option Move)) → IsSound layout

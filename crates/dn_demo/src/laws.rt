@@ -18,6 +18,7 @@ pub fn spelt_moves_are_told()
 
 /// The closed text of rows is read as these rows, with nothing cut and nothing after the marker; as
 /// version 109 if their turns are multiples of 256.
+#[tactic(auto, using(crate::proofs::ReadBack::vanilla_read_back, crate::proofs::ReadBack::long_read_back))]
 pub fn written_rows_are_read()
     ensures vanilla { (start : Start) (view : ℕ) (present : List Bool) (rows : List (List (Option Move)))
         → AreWritable present rows → AllMoves IsWhole rows

@@ -1,46 +1,25 @@
 -- The nodes of a game agree, since the machine's nodes that they represent do.
-use Rattle.dn_game.proofs.Vanilla.{window_of}
-use Rattle.std.proofs.Common.{◌≡◌, ◌<◌, ◌≤◌, ℕ, true, List, length, Option, Some, Result, ap, sym, ◌∙◌, subst, inl, inr, arith}
-use Rattle.std.specs.Prelude.{fold}
-use Rattle.std.specs.Option.{option_map}
-use Rattle.std.proofs.lemmas.Bool.{cases_lt}
-use Rattle.std.proofs.lemmas.Option.{same_Some, slice_get_within}
-use Rattle.dn_tic.specs.declared.command.Move.{Move}
+use Rattle.std.proofs.Common.{List, Result, ◌≡◌, ◌<◌, ◌≤◌, ℕ, true, length, Option, Some, ap, sym, ◌∙◌, subst, inl, inr, arith}
+use Rattle.std.specs.{Prelude.fold, Option.option_map}
+use Rattle.std.proofs.lemmas.{Bool.cases_lt, Option.{same_Some, slice_get_within}}
+use Rattle.dn_game.proofs.{Places.{window_of, there_is}, Answering.{plays_leads, leads_plays}, SteadyAnswers.steady_answers, InputsMade.inputs_played}
 use Rattle.dn_setup.specs.Settings.{Settings}
+use Rattle.dn_machine.specs.{declared.events.Done.Done, declared.events.Event.Event, declared.events.Refusal.Refusal, Game.{Game, opening_game}, Worlds.{Rules, opening, world, world_after}, Node.demo_rows, Promise.inputs_of, Running.tic_limit}
+use Rattle.dn_machine.proofs.{Games.always, Invariant.IsKept}
+use Rattle.dn_game.specs.{Contents.Contents, Played.Plays, Promised.{IsReached, IsPromised}, Represents.Represents, Agreed.AreAgreed, InputsMade.inputs_made, Told.{HasNode, lockstep_in, lockstep_at}}
+use Rattle.dn_tic.specs.declared.command.Move.{Move}
 use Rattle.dn_demo.specs.Reading.{state_after}
-use Rattle.dn_machine.specs.declared.events.Done.{Done}
-use Rattle.dn_machine.specs.declared.events.Event.{Event}
-use Rattle.dn_machine.specs.declared.events.Refusal.{Refusal}
-use Rattle.dn_machine.specs.Game as machine
-use Rattle.dn_machine.specs.Game.{opening_game}
-use Rattle.dn_machine.specs.Node.{demo_rows}
-use Rattle.dn_machine.specs.Promise.{inputs_of}
-use Rattle.dn_machine.specs.Running.{tic_limit}
-use Rattle.dn_machine.specs.Worlds.{Rules, opening, world, world_after}
-use Rattle.dn_machine.proofs.Games.{always}
-use Rattle.dn_machine.proofs.Invariant.{IsKept}
-use Rattle.dn_machine.proofs.Promises
-use Rattle.dn_lockstep.specs.Contents as lockstep
-use Rattle.dn_lockstep.specs.Demos.{rows_made, demo_made}
-use Rattle.dn_lockstep.specs.Represents as lockstep_to
-use Rattle.dn_lockstep.specs.Told.{HasStarted}
-use Rattle.dn_lockstep.proofs.Agreeing as locksteps
+use Rattle.dn_lockstep.specs.{Demos.{rows_made, demo_made}, Told.HasStarted}
 use Rattle.dn_lockstep.proofs.Shown.{started}
-use Rattle.dn_node.specs.declared.node.Node.{Node}
-use Rattle.dn_node.specs.Contents as node
-use Rattle.dn_node.specs.Contents.{locked}
-use Rattle.dn_node.specs.Represents as node_to
+use Rattle.dn_node.specs.{declared.node.Node.Node, Contents.locked}
 use Rattle.dn_node.proofs.Replaying.{world_recorded}
-use Rattle.dn_game.specs.Agreed.{AreAgreed}
-use Rattle.dn_game.specs.Contents.{Contents}
-use Rattle.dn_game.specs.InputsMade.{inputs_made}
-use Rattle.dn_game.specs.Played.{Plays}
-use Rattle.dn_game.specs.Promised.{IsReached}
-use Rattle.dn_game.specs.Represents.{Represents}
-use Rattle.dn_game.specs.Told.{HasNode, lockstep_in, lockstep_at}
-use Rattle.dn_game.proofs.Answering.{plays_leads}
-use Rattle.dn_game.proofs.InputsMade.{inputs_played}
-use Rattle.dn_game.proofs.Places.{there_is}
+use Rattle.dn_machine.proofs.Promises
+use Rattle.dn_machine.specs.Game as machine
+use Rattle.dn_lockstep.specs.Contents as lockstep
+use Rattle.dn_lockstep.specs.Represents as lockstep_to
+use Rattle.dn_lockstep.proofs.Agreeing as locksteps
+use Rattle.dn_node.specs.Contents as node
+use Rattle.dn_node.specs.Represents as node_to
 
 -- a game that represents one of the machine
 module _ {W S : Type 0} (state : W → S) (rules : Rules S) (g : Contents W) (m : machine.Game)
@@ -131,3 +110,28 @@ agreed_on_keys state rules settings events answers last g plays shows =
     let run = plays_leads rules events answers (opening_game settings) last plays in
     rw (inputs_played rules settings events answers last plays)
     at (agreed state rules settings events g (record { last = last; run = run; game = shows }))
+
+-- What was played is promised.
+
+module _ {W S : Type 0} (state : W → S) (rules : Rules S) (settings : Settings) (events : List Event) where
+  pub promised : (answers : List (Result Done Refusal)) (last : Game) (g : Contents W)
+      → Plays rules (opening_game settings) events answers last → Represents state rules g last
+      → IsPromised state rules settings events answers last g
+  promised answers last g plays shown =
+      let kept = always rules settings (window_of rules.limits shown.vanilla) events last
+      (plays_leads rules events answers (opening_game settings) last plays) in
+      record {
+        plays = plays;
+        game = shown;
+        agree = Promises.agree rules settings last kept;
+        fits = Promises.fits rules settings last kept;
+        steady = Promises.steady rules settings last kept;
+        answered = steady_answers rules (window_of rules.limits shown.vanilla) settings events answers last plays;
+        agreed = agreed_on_keys state rules settings events answers last g plays shown;
+      }
+
+  pub reached_promised : (g : Contents W) → (r : IsReached state rules settings events g)
+      → (answers : List (Result Done Refusal)) × IsPromised state rules settings events answers r.last g
+  reached_promised g r =
+      let way = leads_plays rules events (opening_game settings) r.last r.run in
+      (way.0, promised way.0 r.last g way.1 r.game)

@@ -2,24 +2,15 @@
 use Rattle.std.proofs.Common.{◌≡◌, ◌<◌, ◌⊎◌, ℕ, true, length, set, Option, Some, None, Result, Ok, Err, refl, ap, sym, subst, inl, inr, arith}
 use Rattle.std.specs.Prelude.{slice_index_or}
 use Rattle.std.proofs.lemmas.List.{get_or-set_same, get_or-set_other}
-use Rattle.dn_machine.specs.declared.events.Done.{Done}
-use Rattle.dn_machine.specs.declared.events.Event.{Event}
-use Rattle.dn_machine.specs.declared.events.Event.TheVariants.{Send}
-use Rattle.dn_machine.specs.declared.events.Refusal.{Refusal}
-use Rattle.dn_machine.specs.Game as machine
-use Rattle.dn_machine.specs.Game.{applied, applied_if, refused, on_event, with_node}
-use Rattle.dn_machine.specs.Node as machine_node
-use Rattle.dn_machine.specs.Node.{put}
-use Rattle.dn_machine.specs.Worlds.{Rules}
+use Rattle.dn_machine.specs.{declared.events.Done.Done, declared.events.Event.Event, declared.events.Event.TheVariants.Send, declared.events.Refusal.Refusal, Game.{applied, applied_if, refused, on_event, with_node}, Node.put, Worlds.Rules}
 use Rattle.dn_node.specs.declared.node.Node.{Node}
+use Rattle.dn_game.specs.{Applied.{IsAfter, IsApplied, IsAddressed, IsLeftOut}, Contents.Contents, Represents.Represents}
+use Rattle.dn_game.proofs.Standing.{moved, places, node_at}
+use Rattle.dn_machine.specs.Game as machine
+use Rattle.dn_machine.specs.Node as machine_node
 use Rattle.dn_node.specs.Contents as node
 use Rattle.dn_node.specs.Represents as node_to
 use Rattle.dn_node.specs.Steps as step
-use Rattle.dn_game.specs.Applied.{IsAfter, IsApplied, IsAddressed, IsLeftOut}
-use Rattle.dn_game.specs.Contents.{Contents}
-use Rattle.dn_game.specs.Represents.{Represents}
-use Rattle.dn_game.proofs.Moving.{moved, places}
-use Rattle.dn_game.proofs.Standing.{node_at}
 
 pub applied_so : {S : Type 0} (rules : Rules S) (m : machine.Game) (event : Event) (refusal : Option Refusal)
     → refusal ≡ refused rules.players m event
@@ -82,9 +73,4 @@ pub stops : {W S : Type 0} (state : W → S) (rules : Rules S) (g : Contents W) 
     → Represents state rules g m → place < length g.stopped
     → IsAfter state rules (record g { stopped = set g.stopped place true })
     (record m { stopped = put m.stopped place true }, Done.Stopped) Done.Stopped
-stops state rules g m place r below =
-    record {
-      game = moved state rules g m r _ _ refl r.nodes
-          (λ i. grind (arith, get_or-set_same, get_or-set_other, r.stopped i)) r.flights r.carried;
-      answered = refl;
-    }
+stops state rules g m place r below = grind (arith, moved, get_or-set_same, get_or-set_other)

@@ -1,26 +1,12 @@
 -- A packet that is delivered as soon as it is sent, and a round of such packets.
 use Rattle.std.proofs.Common.{◌≡◌, ◌≢◌, ℕ, zero, suc, List, [], ◌∷◌, map, ◌<◌, ◌+◌, append_assoc, true, false, true≢false, ◌∙◌, ◌++◌, ◌^◌, length, Result, Ok, Err, refl, ap, sym, subst, inl, inr, arith}
 use Rattle.std.specs.Prelude.{OnErr}
-use Rattle.dn_tic.specs.declared.input.Input.{Input}
-use Rattle.dn_tic.specs.declared.input.Input.TheVariants.{Pressed, Given}
-use Rattle.dn_machine.specs.declared.events.Done.{Done}
-use Rattle.dn_machine.specs.declared.events.Event.{Event}
-use Rattle.dn_machine.specs.declared.events.Event.TheVariants.{Send, Deliver, Run}
-use Rattle.dn_machine.specs.declared.events.Refusal.{Refusal}
-use Rattle.dn_machine.specs.Game.{Game}
-use Rattle.dn_machine.specs.Progress.{after, build_of, in_order, exchange, turn}
-use Rattle.dn_machine.specs.Runs.{is_send}
-use Rattle.dn_machine.specs.Worlds.{Rules}
-use Rattle.dn_game.specs.declared.rounds.RoundFault.{RoundFault}
-use Rattle.dn_game.specs.Applied.{IsApplied}
-use Rattle.dn_game.specs.Contents.{Contents}
-use Rattle.dn_game.specs.Represents.{Represents}
-use Rattle.dn_game.specs.Frame.{KeepsFlights, KeepsRest}
-use Rattle.dn_game.specs.Rounds.{pressed_by, IsUnsent, IsCutShort, IsCarriedOut, KeepsIdleWorlds}
-use Rattle.dn_game.specs.RoundEvents.{events_in_order, exchange_events, turn_events, after_all}
-use Rattle.dn_game.proofs.Idling.{idle_more, idle_one}
-use Rattle.dn_game.proofs.Rounding.{all_after, after_exchange, after_in_order, events_split}
-use Rattle.dn_tic.specs.Inputs.{input_of}
+use Rattle.dn_tic.specs.{declared.input.Input.Input, declared.input.Input.TheVariants.{Pressed, Given}, Inputs.input_of}
+use Rattle.dn_machine.specs.{declared.events.Done.Done, declared.events.Event.Event, declared.events.Event.TheVariants.{Send, Deliver, Run}, declared.events.Refusal.Refusal, Game.Game, Progress.{after, build_of, in_order, exchange, turn}, Runs.is_send}
+use Rattle.dn_machine.specs.{Worlds.Rules}
+use Rattle.dn_game.specs.{declared.rounds.RoundFault.RoundFault, Applied.IsApplied, Contents.Contents, Represents.Represents, Frame.{KeepsFlights, KeepsRest}, Rounds.{pressed_by, IsUnsent, IsCutShort, IsCarriedOut, KeepsIdleWorlds}}
+use Rattle.dn_game.specs.{RoundEvents.{events_in_order, exchange_events, turn_events, after_all}}
+use Rattle.dn_game.proofs.Rounding.{idle_more, idle_one, all_after, after_exchange, after_in_order, events_split}
 
 -- one step more
 step_more : (step : Game → ℕ → Game) (count : ℕ) (game : Game)

@@ -1,41 +1,18 @@
 -- A game goes on as the machine's game that it represents.
-use Rattle.dn_game.proofs.Vanilla.{window_of, swift_of, packet_of}
 use Rattle.std.proofs.Common.{◌<◌, ◌≤◌, ◌+◌, ◌≡◌, ℕ, List, Result, Err, refl, ap, sym, ◌∙◌, inl, inr, arith, subst}
+use Rattle.dn_game.proofs.{Places.{window_of, swift_of, packet_of, there_is}, Agreeing.{inside, shown, promised}, Answering.{plays_leads, plays_on}, Rounding.plays_rounds}
 use Rattle.dn_setup.specs.Settings.{Settings}
-use Rattle.dn_machine.specs.declared.events.Done.{Done}
-use Rattle.dn_machine.specs.Limits.{Limits}
-use Rattle.dn_machine.specs.declared.events.Event.{Event}
-use Rattle.dn_machine.specs.declared.events.Refusal.{Refusal}
-use Rattle.dn_machine.specs.Game.{Game, opening_game}
-use Rattle.dn_machine.proofs.Invariant.{IsKept}
-use Rattle.dn_machine.specs.Node.{is_ended}
-use Rattle.dn_machine.specs.Progress as machine
-use Rattle.dn_machine.specs.Progress.{good_rounds}
-use Rattle.dn_machine.specs.Running.{tic_limit}
-use Rattle.dn_machine.specs.Worlds.{Rules}
-use Rattle.dn_machine.proofs.Progress.{goes_on_with}
-use Rattle.dn_machine.proofs.Games.{always}
-use Rattle.dn_machine.proofs.Promises
+use Rattle.dn_machine.specs.{declared.events.Done.Done, Limits.Limits, declared.events.Event.Event, declared.events.Refusal.Refusal, Game.{Game, opening_game}, Node.is_ended, Progress.good_rounds, Running.tic_limit, Worlds.Rules}
+use Rattle.dn_machine.proofs.{Invariant.IsKept, Progress.goes_on_with, Games.always}
 use Rattle.dn_node.specs.declared.node.Node.{Node}
+use Rattle.dn_game.specs.{declared.going_on.PlayOnFault.PlayOnFault, declared.going_on.PlayOnFault.TheVariants.Round, declared.rounds.RoundFault.RoundFault, declared.played.Played.Played, Contents.{Contents, contents}}
+use Rattle.dn_game.specs.{GoingOn.{NoneLost, AllRan, HasRoom, GoesOn, HasGoneOn, HasPlayedOn}, Played.{Answers, IsReachedWith}, Promised.{IsReached, HasPlayed}, Represents.Represents, Told.HasNode}
+use Rattle.dn_lockstep.proofs.Shown.{started, end_is}
+use Rattle.dn_tic.specs.declared.input.Input.{Input}
+use Rattle.dn_machine.specs.Progress as machine
+use Rattle.dn_machine.proofs.Promises
 use Rattle.dn_node.specs.Contents as node
 use Rattle.dn_node.specs.Represents as node_to
-use Rattle.dn_game.specs.declared.going_on.PlayOnFault.{PlayOnFault}
-use Rattle.dn_game.specs.declared.going_on.PlayOnFault.TheVariants.{Round}
-use Rattle.dn_game.specs.declared.rounds.RoundFault.{RoundFault}
-use Rattle.dn_game.specs.declared.played.Played.{Played}
-use Rattle.dn_game.specs.Contents.{Contents, contents}
-use Rattle.dn_game.specs.GoingOn.{NoneLost, AllRan, HasRoom, GoesOn, HasGoneOn, HasPlayedOn}
-use Rattle.dn_game.specs.Played.{Answers, IsReachedWith}
-use Rattle.dn_game.specs.Promised.{IsReached, HasPlayed}
-use Rattle.dn_game.specs.Represents.{Represents}
-use Rattle.dn_game.specs.Told.{HasNode}
-use Rattle.dn_lockstep.proofs.Shown.{started, end_is}
-use Rattle.dn_game.proofs.Agreeing.{inside, shown}
-use Rattle.dn_game.proofs.Answering.{plays_leads, plays_on}
-use Rattle.dn_game.proofs.Places.{there_is}
-use Rattle.dn_game.proofs.Promising.{promised}
-use Rattle.dn_game.proofs.Rounding.{plays_rounds}
-use Rattle.dn_tic.specs.declared.input.Input.{Input}
 
 -- one answer tells of one fault
 pub same_round : {A : Type 0} (one other : RoundFault) (answer : Result A PlayOnFault) → answer ≡ Err (Round one)

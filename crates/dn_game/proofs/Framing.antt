@@ -1,24 +1,13 @@
 -- What the step of one node leaves as it is.
 use Rattle.std.proofs.Common.{◌≡◌, ◌≢◌, ◌++◌, ℕ, zero, suc, List, [], ◌∷◌, Option, Some, Result, Ok, append-nil, map, set, ap, sym, ◌∙◌, refl, subst}
-use Rattle.std.specs.Borrow.{Bor}
-use Rattle.std.specs.Prelude.{slice_get, slice_index_or}
+use Rattle.std.specs.{Borrow.Bor, Prelude.{slice_get, slice_index_or}}
 use Rattle.std.proofs.Math.Seq.{map-set_same}
-use Rattle.dn_machine.specs.declared.answers.Heard.{Heard}
-use Rattle.dn_machine.specs.declared.answers.Ran.{Ran}
-use Rattle.dn_machine.specs.declared.events.Done.{Done}
-use Rattle.dn_machine.specs.declared.events.Event.{Event}
-use Rattle.dn_machine.specs.declared.events.Refusal.{Refusal}
-use Rattle.dn_open.specs.declared.arrived.Arrived.{Arrived}
-use Rattle.dn_open.specs.declared.open_event.OpenEvent.{OpenEvent}
-use Rattle.dn_open.specs.declared.open_event.OpenEvent.TheVariants.{Own, Arrive}
+use Rattle.dn_machine.specs.{declared.answers.Heard.Heard, declared.answers.Ran.Ran, declared.events.Done.Done, declared.events.Event.Event, declared.events.Refusal.Refusal}
+use Rattle.dn_open.specs.{declared.arrived.Arrived.Arrived, declared.open_event.OpenEvent.OpenEvent, declared.open_event.OpenEvent.TheVariants.{Own, Arrive}}
 use Rattle.dn_node.specs.declared.node.Node.{Node}
+use Rattle.dn_game.specs.{declared.flight.Flight.Flight, declared.open_done.OpenDone.OpenDone, Contents.Contents, Frame.{KeepsOthers, KeepsWorlds, KeepsRest, KeepsRestOpen, Keeping, MovesNoWorld, MovesNoWorldOpen}, OpenPlayed.arrival_answer}
+use Rattle.dn_game.specs.{Fresh.worlds_of}
 use Rattle.dn_node.specs.Contents as node
-use Rattle.dn_game.specs.declared.flight.Flight.{Flight}
-use Rattle.dn_game.specs.declared.open_done.OpenDone.{OpenDone}
-use Rattle.dn_game.specs.Contents.{Contents}
-use Rattle.dn_game.specs.Frame.{KeepsOthers, KeepsWorlds, KeepsRest, KeepsRestOpen, Keeping, MovesNoWorld, MovesNoWorldOpen}
-use Rattle.dn_game.specs.OpenPlayed.{arrival_answer}
-use Rattle.dn_game.specs.Fresh.{worlds_of}
 
 -- what stands elsewhere stays
 pub slice_get-set_other : {X : Type 0} (xs : List X) (i j : ℕ) (y : X) → j ≢ i

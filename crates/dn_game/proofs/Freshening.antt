@@ -1,15 +1,12 @@
 -- One node more in a game that opens.
-use Rattle.std.proofs.Common.{◌≡◌, ℕ, zero, suc, ◌⊎◌, false, List, [], ◌∷◌, ◌++◌, length, map, append-nil, Some, ap, sym, ◌∙◌, refl, inl, inr, arith}
+use Rattle.std.proofs.Common.{◌≡◌, ℕ, zero, suc, ◌⊎◌, false, List, [], ◌∷◌, ◌++◌, length, map, append-nil, Some, sym, refl, inl, inr, arith}
 use Rattle.std.specs.Prelude.{slice_get}
-use Rattle.std.proofs.lemmas.List.{append_assoc, map_push, nil_from_length}
-use Rattle.std.proofs.lemmas.Option.{same_Some}
+use Rattle.std.proofs.lemmas.{List.{append_assoc, map_push, nil_from_length}, Option.same_Some}
 use Rattle.dn_setup.specs.Settings.{Settings}
-use Rattle.dn_machine.specs.Game.{opening_game}
-use Rattle.dn_machine.specs.Worlds.{Rules}
+use Rattle.dn_machine.specs.{Game.opening_game, Worlds.Rules}
 use Rattle.dn_node.specs.declared.node.Node.{Node}
-use Rattle.dn_game.specs.Fresh.{AreFresh, EachIs}
+use Rattle.dn_game.specs.{Fresh.{AreFresh, EachIs}, declared.flight.Flight.Flight}
 use Rattle.dn_game.specs.Represents as represents
-use Rattle.dn_game.specs.declared.flight.Flight.{Flight}
 
 -- what stands in a list with one more: it stood there before, or it is the last
 slice_get-more : {A : Type 0} (xs : List A) (y : A) (k : ℕ) (x : A) → slice_get (xs ++ y ∷ []) k ≡ Some x
@@ -17,18 +14,12 @@ slice_get-more : {A : Type 0} (xs : List A) (y : A) (k : ℕ) (x : A) → slice_
 slice_get-more [] y zero x h = inr (refl, sym (same_Some _ _ h))
 slice_get-more [] y (suc k) x h = absurd (cc)
 slice_get-more (z ∷ xs) y zero x h = inl h
-slice_get-more (z ∷ xs) y (suc k) x h = elim (slice_get-more xs y k x h) [
-  | inl before ↦ inl before
-  | inr (at, last) ↦ inr (ap suc at, last)
-]
+slice_get-more (z ∷ xs) y (suc k) x h = grind (arith, slice_get-more xs y k x h)
 
 -- what holds of each at its place holds with one more
 pub each_more : {A : Type 0} (P : ℕ → A → Type 0) (xs : List A) (y : A)
     → EachIs P xs → P (length xs) y → EachIs P (xs ++ y ∷ [])
-each_more P xs y before one k x there = elim (slice_get-more xs y k x there) [
-  | inl old ↦ before k x old
-  | inr (at, last) ↦ rw (last, at) one
-]
+each_more P xs y before one k x there = grind (arith, slice_get-more)
 
 pub opens : {W S : Type 0} (state : W → S) (rules : Rules S) (vanilla : represents.IsVanilla rules.limits)
     (settings : Settings) (nodes : List (Node W))
@@ -56,6 +47,4 @@ module _ {X W : Type 0} (view : X → W) (xs : List X) (rest whole : List W)
   given_more more x w left pushed is first = grind (arith, map_push {X = X} {Y = W}, append_assoc {A = W})
 
   pub given_all : length rest ≡ 0 → map view xs ≡ whole
-  given_all none =
-      sym (append-nil (map view xs))
-      ∙ ap (λ (ws : List W). map view xs ++ ws) (sym (nil_from_length rest none)) ∙ so_far
+  given_all none = grind (arith, append-nil, nil_from_length)

@@ -1,25 +1,14 @@
 -- A node that did not start has the world that was given for it.
 use Rattle.std.proofs.Common.{◌≡◌, ◌≢◌, ◌⊎◌, ◌++◌, ℕ, zero, suc, List, [], ◌∷◌, Option, Some, None, Result, length, ap, sym, ◌∙◌, refl, inl, inr}
-use Rattle.std.specs.Prelude.{slice_get}
-use Rattle.std.specs.Option.{option_map}
-use Rattle.std.proofs.lemmas.Bool.{cases_eq}
-use Rattle.std.proofs.lemmas.Option.{none-some, same_Some, slice_get-map}
+use Rattle.std.specs.{Prelude.slice_get, Option.option_map}
+use Rattle.std.proofs.lemmas.{Bool.cases_eq, Option.{none-some, same_Some, slice_get-map}}
 use Rattle.dn_world.specs.Physics.{Physics}
-use Rattle.dn_machine.specs.declared.events.Done.{Done}
-use Rattle.dn_machine.specs.declared.events.Event.{Event}
-use Rattle.dn_machine.specs.declared.events.Event.TheVariants.{Build, Give, Send, Deliver, Run, Quit, Stop}
-use Rattle.dn_machine.specs.declared.events.Refusal.{Refusal}
+use Rattle.dn_machine.specs.{declared.events.Done.Done, declared.events.Event.Event, declared.events.Event.TheVariants.{Build, Give, Send, Deliver, Run, Quit, Stop}, declared.events.Refusal.Refusal}
 use Rattle.dn_node.specs.declared.node.Node.{Node}
+use Rattle.dn_open.specs.{declared.open_event.OpenEvent.OpenEvent, declared.open_event.OpenEvent.TheVariants.{Own, Arrive}}
+use Rattle.dn_game.specs.{declared.flight.Flight.Flight, declared.played.Played.Played, Contents.{Contents, contents}, Frame.{KeepsOthers, KeepsWorlds, MovesNoWorld, named_in, named_in_open}, Fresh.worlds_of, Given.{KeepsGiven, NeverMoves}}
+use Rattle.dn_game.specs.{Played.AppliesOne}
 use Rattle.dn_node.specs.Contents as node
-use Rattle.dn_open.specs.declared.open_event.OpenEvent.{OpenEvent}
-use Rattle.dn_open.specs.declared.open_event.OpenEvent.TheVariants.{Own, Arrive}
-use Rattle.dn_game.specs.declared.flight.Flight.{Flight}
-use Rattle.dn_game.specs.declared.played.Played.{Played}
-use Rattle.dn_game.specs.Contents.{Contents, contents}
-use Rattle.dn_game.specs.Frame.{KeepsOthers, KeepsWorlds, MovesNoWorld, named_in, named_in_open}
-use Rattle.dn_game.specs.Fresh.{worlds_of}
-use Rattle.dn_game.specs.Given.{KeepsGiven, NeverMoves}
-use Rattle.dn_game.specs.Played.{AppliesOne}
 
 -- this node is named, or it is not
 named_or : (o : Option ℕ) (i : ℕ) → (o ≡ Some i) ⊎ (o ≢ Some i)

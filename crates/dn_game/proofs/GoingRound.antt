@@ -1,17 +1,12 @@
 -- The first player who has not stopped.
-use Rattle.std.proofs.Common.{◌≡◌, ◌<◌, ◌+◌, ◌-◌, ◌%◌, ℕ, Bool, true, false, not, length, Some, None, ap, sym, ◌∙◌, subst, inl, inr, arith}
-use Rattle.std.specs.Prelude.{slice_index_or}
-use Rattle.std.proofs.lemmas.Bool.{cases_lt, not-false}
+use Rattle.std.proofs.Common.{◌≡◌, ◌<◌, ◌≤◌, ◌-◌, ◌%◌, ◌^◌, ℕ, true, false, length, Option, ap, ◌∙◌, arith, ◌+◌, Bool, not, Some, None, subst, inl, inr}
+use Rattle.std.specs.{Prelude.{slice_get, is_none, min, slice_index_or}}
+use Rattle.std.proofs.lemmas.{List.length-map, Bool.{cases_lt, not-false}}
 use Rattle.std.proofs.Math.Nat.{mod-eq_of_lt, add-mod_right}
-use Rattle.dn_machine.specs.Game.{Game}
-use Rattle.dn_machine.specs.Worlds.{Rules}
+use Rattle.dn_machine.specs.{declared.events.Event.TheVariants.{Deliver, Run}, declared.events.Refusal.Refusal, Game.{Game, refused_flight}, Worlds.Rules, Node.lowest}
+use Rattle.dn_game.specs.{Contents.Contents, Represents.{Represents, flight_of}, Schedule.{delivery_or_run, event_of, first_moving}}
 use Rattle.dn_machine.proofs.Marks.{lowest_none_each}
-use Rattle.dn_game.specs.Contents.{Contents}
-use Rattle.dn_game.specs.Represents.{Represents}
-use Rattle.std.specs.Option.{option_map}
-use Rattle.dn_machine.specs.Node.{lowest}
 use Rattle.dn_lockstep.proofs.Lowest.{lowest_past, lowest_found, lowest_same}
-use Rattle.dn_game.specs.Schedule.{first_moving}
 
 module _ (players from : ℕ) (stopped : ℕ → Bool) where
   -- the player this many numbers on has not stopped
@@ -24,14 +19,10 @@ module _ (players from : ℕ) (stopped : ℕ → Bool) where
 
   pub moving_found : (i : ℕ) → i < players → lowest i moves ≡ None → stopped ((from + i) % players) ≡ false
       → Some ((from + i) % players) ≡ first_moving players stopped from
-  moving_found i below before here =
-      sym (ap (option_map (λ (k : ℕ). (from + k) % players))
-      (lowest_found players i moves below before (ap not here)))
+  moving_found i below before here = grind (arith, lowest_found)
 
   pub moving_none : (i : ℕ) → i ≡ players → lowest i moves ≡ None → None ≡ first_moving players stopped from
-  moving_none i all before =
-      sym (ap (option_map (λ (k : ℕ). (from + k) % players))
-      (ap (λ (k : ℕ). lowest k moves) (sym all) ∙ before))
+  moving_none i all before = grind arith
 
 -- going round, every player is reached
 reached : (players from node : ℕ) → from < players → node < players
@@ -62,7 +53,29 @@ pub same_moving : {W S : Type 0} (state : W → S) (rules : Rules S) (g : Conten
     → Represents state rules g m
     → (from : ℕ) → first_moving (length g.nodes) (λ p. slice_index_or g.stopped p false) from
     ≡ first_moving rules.players m.stopped from
-same_moving state rules g m r from =
-    ap (λ (k : ℕ). first_moving k (λ p. slice_index_or g.stopped p false) from) r.players
-    ∙ ap (option_map (λ (i : ℕ). (from + i) % rules.players))
-    (lowest_same rules.players _ _ (λ i inside. ap not (r.stopped ((from + i) % rules.players))))
+same_moving state rules g m r from = grind (arith, lowest_same)
+
+-- The delivery that a schedule gives, or the run in its place, by what was looked at.
+
+-- as many packets as flights
+pub flights_are : {W S : Type 0} (state : W → S) (rules : Rules S) (g : Contents W) (m : Game)
+    → Represents state rules g m
+    → length g.flights ≡ length m.flights
+flights_are state rules g m r = ap length r.flights ∙ length-map m.flights flight_of
+
+-- the recent packet that was looked at, by its number, and why it is refused, if it is
+module _ {W S : Type 0} (state : W → S) (rules : Rules S) (g : Contents W) (m : Game)
+    (r : Represents state rules g m) (node c count least which : ℕ) (counted : count ≡ length g.flights)
+    (some : 0 < count) (smaller : least ≡ min count 32) (is : which ≡ count - 1 - c % least)
+    (fits : which < 2 ^ 32) (refusal : Option Refusal)
+    (told : refusal ≡ refused_flight m (slice_get m.flights which)) where
+  pub runs_refused : is_none refusal ≡ false → Run node ≡ delivery_or_run m node c
+  runs_refused test = grind (arith, flights_are state rules g m r)
+
+  pub delivers : is_none refusal ≡ true → Deliver which ≡ delivery_or_run m node c
+  delivers test = grind (arith, flights_are state rules g m r)
+
+-- by the words that choose it
+pub chooses : (players : ℕ) (m : Game) (a c node : ℕ) → 5 ≤ a % 16 → 9 ≤ a % 16 → a % 16 < 14
+    → delivery_or_run m node c ≡ event_of players m a c node
+chooses players m a c node five nine fourteen = grind arith

@@ -1,33 +1,17 @@
 -- What was promised of a game says the headline, by what its nodes show.
 use Rattle.std.proofs.Common.{◌≡◌, ◌<◌, ◌≤◌, ◌+◌, ℕ, true, false, List, length, Some, ap, sym, ◌∙◌, arith}
-use Rattle.std.specs.Prelude.{fold, Bool, [], nat_lt, ◌||◌, if◌then◌else◌}
-use Rattle.std.specs.Option.{option_map}
-use Rattle.std.proofs.lemmas.List.{take_all}
-use Rattle.std.proofs.lemmas.Option.{same_Some}
-use Rattle.dn_setup.specs.Settings.{Settings}
-use Rattle.dn_setup.specs.Starts.{start_of}
-use Rattle.dn_demo.specs.Layout.{long_tics}
-use Rattle.dn_demo.specs.Text.{demo_text}
-use Rattle.dn_machine.specs.declared.answers.Phase.{Phase}
-use Rattle.dn_machine.specs.Node.{is_ended}
-use Rattle.dn_machine.specs.Game as machine
-use Rattle.dn_machine.specs.Headline.{Shown, whole_rows}
-use Rattle.dn_machine.specs.Promise.{Agree}
-use Rattle.dn_machine.specs.Worlds.{Inputs, Rules, opening, world_after}
-use Rattle.dn_lockstep.specs.Contents as lockstep
-use Rattle.dn_lockstep.specs.Demos.{recorded}
-use Rattle.dn_lockstep.specs.Represents.{demo_with}
-use Rattle.dn_lockstep.specs.Rows.{seats_of}
-use Rattle.dn_lockstep.specs.Told.{HasStarted, got, made}
+use Rattle.std.specs.{Prelude.{fold, nat_lt, ◌||◌}}
+use Rattle.std.proofs.lemmas.{List.take_all, Option.same_Some}
+use Rattle.dn_setup.specs.{Settings.Settings, Starts.start_of}
+use Rattle.dn_demo.specs.{Layout.long_tics, Text.demo_text}
+use Rattle.dn_machine.specs.{declared.answers.Phase.Phase, Node.is_ended, Headline.{Shown, whole_rows}, Promise.Agree, Worlds.{Inputs, Rules, opening, world_after}}
+use Rattle.dn_lockstep.specs.{Demos.recorded, Rows.seats_of, Told.{HasStarted, got, made}}
 use Rattle.dn_lockstep.proofs.Shown.{started}
+use Rattle.dn_node.specs.Contents.{locked}
+use Rattle.dn_game.specs.{Agreed.AreAgreed, Contents.Contents, Headline.{HaveAgreed, Shows}, Represents.Represents, Told.{HasNode, lockstep_in, lockstep_at}}
+use Rattle.dn_machine.specs.Game as machine
 use Rattle.dn_node.specs.Contents as node
 use Rattle.dn_node.specs.Represents as node_to
-use Rattle.dn_node.specs.Contents.{locked}
-use Rattle.dn_game.specs.Agreed.{AreAgreed}
-use Rattle.dn_game.specs.Contents.{Contents}
-use Rattle.dn_game.specs.Headline.{HaveAgreed, Shows}
-use Rattle.dn_game.specs.Represents.{Represents}
-use Rattle.dn_game.specs.Told.{HasNode, lockstep_in, lockstep_at}
 use Rattle.dn_game.proofs.Agreeing as agreeing
 
 module _ {W S : Type 0} (state : W → S) (rules : Rules S) (settings : Settings) (g : Contents W)
@@ -59,10 +43,7 @@ module _ {W S : Type 0} (state : W → S) (rules : Rules S) (settings : Settings
 
       world_is : state n.world ≡ fold rules.physics.step (opening rules settings) (m.nodes i).rows
       unfolding world_after
-      world_is = same_Some _ _
-          (shown.world played
-          ∙ ap (option_map (λ (s : Settings). world_after rules s (m.nodes i).rows (length (m.nodes i).rows))) chosen)
-          ∙ ap (fold rules.physics.step (opening rules settings)) (take_all (length (m.nodes i).rows) (m.nodes i).rows (omega arith))
+      world_is = grind (arith, same_Some, shown, played, chosen, take_all)
 
     -- the text of its demo, where it stands so and ran so many tics
     abbrev closes : Phase → ℕ → List ℕ
@@ -71,19 +52,7 @@ module _ {W S : Type 0} (state : W → S) (rules : Rules S) (settings : Settings
         (is_ended phase || nat_lt (length (whole_rows rules.players (m.nodes i).rows)) tics)
 
     shows : rules.limits.places ≡ 12 → Shows state rules.physics settings rules.players i n (shown_at i)
-    shows twelve = record {
-      phase = ap (λ (c : lockstep.Contents). c.phase) its;
-      ran = sym shown.lockstep.table.ran;
-      got = λ player l. ap (λ (c : lockstep.Contents). got c player) its;
-      places = shown.lockstep.whose.places ∙ twelve;
-      demo = ap recorded its;
-      world = world_is;
-      rows = λ begun. shown.lockstep.demo.bytes
-          ∙ ap (λ (b : Bool). if b then demo_with rules.limits i (m.nodes i) (m.nodes i).settings else []) (played begun)
-          ∙ ap (demo_with rules.limits i (m.nodes i)) (chosen begun)
-          ∙ ap (closes (m.nodes i).phase) (sym shown.lockstep.table.ran)
-          ∙ ap (λ (phase : Phase). closes phase n.ran) (sym shown.lockstep.stands.phase);
-    }
+    shows twelve = grind (arith, its, shown, world_is, played, chosen)
 
   module _ (inputs : Inputs) (agreed : AreAgreed state rules settings inputs g) (five : rules.limits.ahead ≡ 5)
       (twelve : rules.limits.places ≡ 12) where
@@ -95,24 +64,14 @@ module _ {W S : Type 0} (state : W → S) (rules : Rules S) (settings : Settings
 
     unread : (q p : ℕ) → q < rules.players → p < rules.players
         → got (lockstep_at g q) p ≤ length (m.nodes q).rows + 10
-    unread q p k l =
-        let its = agreed.locksteps.unread q p k l in
-        let tics = ran_is q k in
-        omega (arith, its, tics, five)
+    unread q p k l = grind (arith, its, ran_is)
 
     lacked : (q p : ℕ) → q < rules.players → p < rules.players → is_ended (lockstep_at g q).phase ≡ false
         → got (lockstep_at g p) p ≤ got (lockstep_at g q) p + 10
-    lacked q p k l goes_on =
-        let its = agreed.locksteps.unheard q p k l goes_on in
-        let mine = own p l in
-        omega (arith, its, mine, five)
+    lacked q p k l goes_on = grind (arith, its, own)
 
     ahead : (p : ℕ) → p < rules.players → got (lockstep_at g p) p ≤ length (m.nodes p).rows + 5
-    ahead p k =
-        let its = agreed.locksteps.ahead p k in
-        let tics = ran_is p k in
-        let mine = own p k in
-        omega (arith, its, tics, mine, five)
+    ahead p k = grind (arith, its, ran_is, own)
 
     pub have_agreed : HaveAgreed state rules.physics settings rules.players g
     have_agreed = record {

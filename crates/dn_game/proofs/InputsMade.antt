@@ -2,20 +2,9 @@
 use Rattle.std.proofs.Common.{◌≡◌, ℕ, List, [], ◌∷◌, ◌++◌, Result, ap, sym, ◌∙◌, append-nil, arith}
 use Rattle.std.proofs.lemmas.List.{append_assoc}
 use Rattle.dn_setup.specs.Settings.{Settings}
-use Rattle.dn_machine.specs.declared.events.Done.{Done}
-use Rattle.dn_machine.specs.declared.events.Event.{Event}
-use Rattle.dn_machine.specs.declared.events.Refusal.{Refusal}
-use Rattle.dn_machine.specs.Worlds.{Rules}
-use Rattle.dn_machine.specs.Flight.{Flight}
-use Rattle.dn_machine.specs.Node.{Node}
-use Rattle.dn_machine.specs.Building.{on_build}
-use Rattle.dn_machine.specs.Sending.{on_send}
-use Rattle.dn_machine.specs.Hearing.{on_packet}
-use Rattle.dn_machine.specs.Running.{on_run, on_quit}
-use Rattle.dn_machine.specs.Game.{Game, opening_game, applied, on_own_run}
-use Rattle.dn_machine.specs.Promise.{inputs_of}
-use Rattle.dn_game.specs.InputsMade.{inputs_by, inputs_made}
-use Rattle.dn_game.specs.Played.{Answers, Plays}
+use Rattle.dn_machine.specs.{declared.events.Done.Done, declared.events.Event.Event, declared.events.Refusal.Refusal, Worlds.Rules, Flight.Flight, Node.Node, Building.on_build, Sending.on_send, Hearing.on_packet, Running.{on_run, on_quit}}
+use Rattle.dn_machine.specs.{Game.{Game, opening_game, applied, on_own_run}, Promise.inputs_of}
+use Rattle.dn_game.specs.{InputsMade.{inputs_by, inputs_made}, Played.{Answers, Plays}}
 use Rattle.dn_tic.specs.declared.input.Input.{Input}
 
 -- no call but a build takes inputs

@@ -1,34 +1,19 @@
 -- One open event more in a list that was played.
-use Rattle.std.proofs.Common.{◌≡◌, ◌<◌, ℕ, List, [], ◌∷◌, ◌++◌, length, set, None, Result, Ok, Err, refl, inl}
-use Rattle.std.specs.Prelude.{slice_index_or}
-use Rattle.std.specs.Borrow.{Bor}
-use Rattle.dn_setup.specs.Settings.{Settings}
+use Rattle.std.proofs.Common.{◌≡◌, ◌<◌, ℕ, List, length, set, None, Result, Ok, Err, refl, inl}
+use Rattle.std.specs.{Prelude.slice_index_or, Borrow.Bor}
 use Rattle.dn_world.specs.Physics.{Physics}
-use Rattle.dn_machine.specs.declared.events.Done.{Done}
-use Rattle.dn_machine.specs.declared.events.Event.{Event}
-use Rattle.dn_machine.specs.declared.events.Refusal.{Refusal}
-use Rattle.dn_machine.specs.Game.{Game, on_event, opening_game, refused, with_node}
-use Rattle.dn_machine.specs.Limits.{Limits}
-use Rattle.dn_machine.specs.Node as machine_node
-use Rattle.dn_machine.specs.Worlds.{Rules, rules_of, rules_within}
+use Rattle.dn_machine.specs.{declared.events.Done.Done, declared.events.Event.Event, declared.events.Refusal.Refusal, Game.{Game, on_event, opening_game, refused, with_node}, Limits.Limits, Worlds.{Rules, rules_of, rules_within}}
 use Rattle.dn_node.specs.declared.node.Node.{Node}
+use Rattle.dn_machine.proofs.Games.{goes_on}
+use Rattle.dn_seal.specs.declared.seal.Seal.{Seal}
+use Rattle.dn_open.specs.{declared.arrived.Arrived.Arrived, declared.open_event.OpenEvent.OpenEvent, declared.open_event.OpenEvent.TheVariants.{Own, Arrive}}
+use Rattle.dn_game.specs.{declared.open_done.OpenDone.OpenDone, Applied.{IsAddressed, IsApplied, Tells}, Arrived.{Opening, IsArrived, after_arrival}, Contents.Contents}
+use Rattle.dn_game.specs.{OpenPlayed.{AnswersOpen, ArrivesSo, IsAppliedOpen, IsCarriedOnOpen, LeadsOn, own_answer, arrival_answer}, Played.Answers, Represents.Represents}
+use Rattle.dn_game.proofs.{Answering.{answers_next, answers_one, plays_more}, Applying.after_step}
+use Rattle.dn_machine.specs.Node as machine_node
 use Rattle.dn_node.specs.Contents as node
 use Rattle.dn_node.specs.Represents as node_to
 use Rattle.dn_node.specs.Steps as step
-use Rattle.dn_machine.proofs.Games.{goes_on}
-use Rattle.dn_seal.specs.declared.seal.Seal.{Seal}
-use Rattle.dn_open.specs.declared.arrived.Arrived.{Arrived}
-use Rattle.dn_open.specs.declared.open_event.OpenEvent.{OpenEvent}
-use Rattle.dn_open.specs.declared.open_event.OpenEvent.TheVariants.{Own, Arrive}
-use Rattle.dn_game.specs.declared.open_done.OpenDone.{OpenDone}
-use Rattle.dn_game.specs.Applied.{IsAddressed, IsApplied, Tells}
-use Rattle.dn_game.specs.Arrived.{Opening, IsArrived, after_arrival}
-use Rattle.dn_game.specs.Contents.{Contents}
-use Rattle.dn_game.specs.OpenPlayed.{AnswersOpen, ArrivesSo, IsAppliedOpen, IsCarriedOnOpen, LeadsOn, own_answer, arrival_answer}
-use Rattle.dn_game.specs.Played.{Answers}
-use Rattle.dn_game.specs.Represents.{Represents}
-use Rattle.dn_game.proofs.Answering.{answers_next, answers_one, plays_more}
-use Rattle.dn_game.proofs.Applying.{after_step}
 
 -- bytes that came to a node have led somewhere
 pub arrival_leads : {W S : Type 0} (state : W → S) (rules : Rules S) (seal : Seal) (m : Game) (node : ℕ)

@@ -2,43 +2,22 @@
 use Rattle.std.proofs.Common.{◌≡◌, ◌<◌, ◌-◌, ◌&&◌, ℕ, Bool, true, false, List, length, set, drop, Option, Some, None, Result, Ok, Err, refl, ap, sym, ◌∙◌, subst}
 use Rattle.std.specs.Prelude.{slice_index_or}
 use Rattle.std.proofs.lemmas.List.Elements.{All-take, All-drop}
-use Rattle.dn_packet.specs.Read as packet
-use Rattle.dn_packet.specs.declared.packet.Packet.{Packet}
-use Rattle.dn_packet.specs.declared.packet.PacketFault.{PacketFault}
-use Rattle.dn_setup.specs.Settings.{Settings}
-use Rattle.dn_setup.specs.Setup.{Told}
-use Rattle.dn_setup.specs.declared.setup.SetupFault.{SetupFault}
-use Rattle.dn_setup.specs.declared.setup.SetupFault.TheVariants.{NotSetup}
-use Rattle.dn_packet.specs.declared.packet.PacketFault.TheVariants.{Short}
-use Rattle.dn_machine.specs.declared.answers.Heard.{Heard}
-use Rattle.dn_machine.specs.declared.events.Refusal.{Refusal}
-use Rattle.dn_machine.specs.Flight.{is_close, is_request_close}
-use Rattle.dn_machine.specs.Game as machine
-use Rattle.dn_machine.specs.Game.{refused_at, with_node}
-use Rattle.dn_machine.specs.Node as exact
-use Rattle.dn_machine.specs.Node.{made}
-use Rattle.dn_machine.specs.Worlds.{Rules}
-use Rattle.dn_lockstep.specs.Rings.{count_of}
-use Rattle.dn_lockstep.specs.Received.{received, IsTold}
+use Rattle.dn_packet.specs.{declared.packet.Packet.Packet, declared.packet.PacketFault.PacketFault, declared.packet.PacketFault.TheVariants.Short}
+use Rattle.dn_setup.specs.{Settings.Settings, Setup.Told, declared.setup.SetupFault.SetupFault, declared.setup.SetupFault.TheVariants.NotSetup}
+use Rattle.dn_machine.specs.{declared.answers.Heard.Heard, declared.events.Refusal.Refusal, Flight.{is_close, is_request_close}, Game.{refused_at, with_node}, Node.made, Worlds.Rules}
+use Rattle.dn_lockstep.specs.{Rings.count_of, Received.{received, IsTold}}
 use Rattle.dn_node.specs.declared.node.Node.{Node}
+use Rattle.dn_seal.specs.{declared.opened.Opened.Opened, declared.opened.SealFault.SealFault, declared.seal.Seal.Seal, Opening.{Sealing, IsOpenedAs, letter_to, told_body}}
+use Rattle.dn_seal.proofs.Envelopes.{datagram-envelope}
+use Rattle.dn_open.specs.{Arrivals.{IsRead, is_alike, on_opened}, OpenGames.{answer_if, arrived_if}, Sealed.sealing_of, declared.arrived.Arrived.Arrived}
+use Rattle.dn_open.proofs.Deliveries.{same_game}
+use Rattle.dn_game.specs.{Applied.IsAfter, Arrived.{Opening, IsArrived}, Contents.Contents, Represents.Represents}
+use Rattle.dn_game.proofs.Standing.{places, made_at}
+use Rattle.dn_packet.specs.Read as packet
+use Rattle.dn_machine.specs.Game as machine
+use Rattle.dn_machine.specs.Node as exact
 use Rattle.dn_node.specs.Contents as node_in
 use Rattle.dn_node.specs.Steps as step
-use Rattle.dn_seal.specs.declared.opened.Opened.{Opened}
-use Rattle.dn_seal.specs.declared.opened.SealFault.{SealFault}
-use Rattle.dn_seal.specs.declared.seal.Seal.{Seal}
-use Rattle.dn_seal.specs.Opening.{Sealing, IsOpenedAs, letter_to, told_body}
-use Rattle.dn_seal.proofs.Envelopes.{datagram-envelope}
-use Rattle.dn_open.specs.Arrivals.{IsRead, is_alike, on_opened}
-use Rattle.dn_open.specs.OpenGames.{answer_if, arrived_if}
-use Rattle.dn_open.specs.Sealed.{sealing_of}
-use Rattle.dn_open.specs.declared.arrived.Arrived.{Arrived}
-use Rattle.dn_open.proofs.Deliveries.{same_game}
-use Rattle.dn_game.specs.Applied.{IsAfter}
-use Rattle.dn_game.specs.Arrived.{Opening, IsArrived}
-use Rattle.dn_game.specs.Contents.{Contents}
-use Rattle.dn_game.specs.Represents.{Represents}
-use Rattle.dn_game.proofs.Moving.{places}
-use Rattle.dn_game.proofs.Standing.{made_at}
 
 -- what was opened so is read as something
 abbrev Reads : Result Opened SealFault → Type 0

@@ -1,34 +1,17 @@
 -- The events of a game that stand for one open event, and what they do.
 use Rattle.std.proofs.Common.{◌≡◌, ℕ, List, [], ◌∷◌, ◌++◌, length, map, take, Option, Some, None, Result, Ok, Err, refl, ap, sym, ◌∙◌, subst, inl, inr}
-use Rattle.std.specs.Prelude.{slice_get}
-use Rattle.std.specs.Borrow.{Bor}
-use Rattle.std.specs.Option.{option_map}
+use Rattle.std.specs.{Prelude.slice_get, Borrow.Bor, Option.option_map}
 use Rattle.std.proofs.Math.Seq.{take-append_seam}
-use Rattle.std.proofs.lemmas.List.{length-map, map-append, append-nil}
-use Rattle.std.proofs.lemmas.Option.{none-some, same_Some, slice_get-map}
-use Rattle.dn_machine.specs.declared.answers.Heard.{Heard}
-use Rattle.dn_machine.specs.declared.events.Done.{Done}
-use Rattle.dn_machine.specs.declared.events.Event.{Event}
-use Rattle.dn_machine.specs.declared.events.Event.TheVariants.{Build, Give, Send, Deliver, Run, Quit, Stop}
-use Rattle.dn_machine.specs.declared.events.Refusal.{Refusal}
-use Rattle.dn_machine.specs.Flight as exact
-use Rattle.dn_machine.specs.Game.{Game, refused_at}
-use Rattle.dn_machine.specs.Worlds.{Rules}
+use Rattle.std.proofs.lemmas.{List.{length-map, map-append, append-nil}, Option.{none-some, same_Some, slice_get-map}}
+use Rattle.dn_machine.specs.{declared.answers.Heard.Heard, declared.events.Done.Done, declared.events.Event.Event, declared.events.Event.TheVariants.{Build, Give, Send, Deliver, Run, Quit, Stop}, declared.events.Refusal.Refusal, Game.{Game, refused_at}}
+use Rattle.dn_machine.specs.{Worlds.Rules}
 use Rattle.dn_seal.specs.declared.seal.Seal.{Seal}
-use Rattle.dn_open.specs.OpenGames as network
-use Rattle.dn_open.specs.OpenGames.{answer_if, arrived_if}
-use Rattle.dn_open.specs.declared.arrived.Arrived.{Arrived}
-use Rattle.dn_open.specs.declared.open_event.OpenEvent.{OpenEvent}
-use Rattle.dn_open.specs.declared.open_event.OpenEvent.TheVariants.{Own, Arrive}
+use Rattle.dn_open.specs.{OpenGames.{answer_if, arrived_if}, declared.arrived.Arrived.Arrived, declared.open_event.OpenEvent.OpenEvent, declared.open_event.OpenEvent.TheVariants.{Own, Arrive}}
 use Rattle.dn_open.proofs.Deliveries.{Happens}
-use Rattle.dn_game.specs.declared.flight.Flight.{Flight}
-use Rattle.dn_game.specs.declared.open_done.OpenDone.{OpenDone}
-use Rattle.dn_game.specs.InputsMade.{inputs_by, inputs_made}
-use Rattle.dn_game.specs.OpenPlayed.{AnswersOpen, ArrivesSo}
-use Rattle.dn_game.specs.OpenPromised.{StandsFor, open_inputs_by, plain_answer}
-use Rattle.dn_game.specs.Played.{Plays}
-use Rattle.dn_game.specs.Represents.{flight_of}
-use Rattle.dn_game.specs.Sealed.{IsEnvelope, IsGenuine, sealed}
+use Rattle.dn_game.specs.{declared.flight.Flight.Flight, declared.open_done.OpenDone.OpenDone, InputsMade.{inputs_by, inputs_made}, OpenPlayed.{AnswersOpen, ArrivesSo}, OpenPromised.{StandsFor, open_inputs_by, plain_answer}, Played.Plays}
+use Rattle.dn_game.specs.{Represents.flight_of, Sealed.{IsEnvelope, IsGenuine, sealed}}
+use Rattle.dn_machine.specs.Flight as exact
+use Rattle.dn_open.specs.OpenGames as network
 
 -- the packets that were sent so far are the first
 pub first_sent : (flights more all : List exact.Flight) (sent : ℕ) → all ≡ flights ++ more → sent ≡ length flights

@@ -2,14 +2,10 @@
 use Rattle.std.proofs.Common.{◌≡◌, ◌≤◌, ◌<◌, ◌++◌, ◌∷◌, [], ℕ, List, length, take, drop, Some, refl, ap, ◌∙◌, arith, length-append, length-drop}
 use Rattle.std.specs.Prelude.{All, slice_get}
 use Rattle.std.proofs.Math.Seq.{drop-append_seam, take-length}
-use Rattle.std.proofs.lemmas.Grind.{flat_map-append}
-use Rattle.std.proofs.lemmas.List.{drop-append-le, take-append-le, append-nil, map_push}
-use Rattle.std.proofs.lemmas.List.Elements.{All-head, All-tail, All-push}
+use Rattle.std.proofs.lemmas.{Grind.flat_map-append, List.{drop-append-le, take-append-le, append-nil, map_push}, List.Elements.{All-head, All-tail, All-push}}
 use Rattle.arrayvec.specs.ArrayVec.{ArrayVec}
 use Rattle.dn_lockstep.specs.declared.lockstep.aiming.Aim.{Aim}
-use Rattle.dn_game.specs.declared.flight.Flight.{Flight}
-use Rattle.dn_game.specs.declared.pool.Record.{Record}
-use Rattle.dn_game.specs.Pool.{joined, flight_in, flights_in, IsPiece, ArePacked, IsRecordOf}
+use Rattle.dn_game.specs.{declared.flight.Flight.Flight, declared.pool.Record.Record, Pool.{joined, flight_in, flights_in, IsPiece, ArePacked, IsRecordOf}}
 use Rattle.dn_game.proofs.Places.{there_is, all_at}
 
 module _ (bytes more : List ℕ) where
@@ -47,19 +43,11 @@ module _ (bytes : List ℕ) (records : List Record) (packed : ArePacked bytes re
     (datagram : List ℕ) (short : length datagram ≤ 104) where
   is_flight : flight_in (bytes ++ datagram) (newest bytes from to aim datagram)
       ≡ record { from = from; to = to; aim = aim; bytes = record { items = datagram } }
-  is_flight =
-      let same : take (length datagram) (drop (length bytes) (bytes ++ datagram))
-      ≡ datagram =
-      ap (take (length datagram)) (drop-append_seam bytes datagram)
-      ∙ take-length datagram in
-      λ i. record { from = from; to = to; aim = aim; bytes = record { items = same i } }
+  is_flight = grind (arith, drop-append_seam, take-length)
 
   pub packs_flight : flights_in (bytes ++ datagram) (records ++ newest bytes from to aim datagram ∷ [])
       ≡ flights_in bytes records ++ record { from = from; to = to; aim = aim; bytes = record { items = datagram } } ∷ []
-  packs_flight =
-      let stay = flights_stay bytes datagram records packed.pieces in
-      map_push (flight_in (bytes ++ datagram)) records (newest bytes from to aim datagram)
-      ∙ (λ i. stay i ++ is_flight i ∷ [])
+  packs_flight = grind (arith, flights_stay, map_push, is_flight)
 
   pub packs : ArePacked (bytes ++ datagram) (records ++ newest bytes from to aim datagram ∷ [])
   packs =

@@ -2,27 +2,15 @@
 use Rattle.std.proofs.Common.{◌≡◌, ◌<◌, ◌⊎◌, ℕ, Bool, true, false, length, Option, Some, None, ap, sym, ◌∙◌, arith}
 use Rattle.std.specs.Prelude.{not, if◌then◌else◌, nat_lt, slice_get, slice_index_or}
 use Rattle.std.proofs.lemmas.Bool.{cond-false}
-use Rattle.dn_machine.specs.Flight as exact
-use Rattle.dn_machine.specs.Flight.{is_near}
-use Rattle.dn_machine.specs.Node.{made}
-use Rattle.dn_machine.specs.Game as machine
-use Rattle.dn_machine.specs.Game.{refused_at, refused, refused_flight}
-use Rattle.dn_machine.specs.Worlds.{Rules}
-use Rattle.dn_tic.specs.declared.keys.Keys.{Keys}
-use Rattle.dn_tic.specs.declared.input.Command.{Command}
-use Rattle.dn_machine.specs.declared.events.Event.{Event}
-use Rattle.dn_machine.specs.declared.events.Event.TheVariants.{Build, Give, Send, Run, Quit, Stop}
-use Rattle.dn_machine.specs.declared.events.Refusal.{Refusal}
+use Rattle.dn_machine.specs.{Flight.is_near, Node.made, Game.{refused_at, refused, refused_flight}, Worlds.Rules, declared.events.Event.Event, declared.events.Event.TheVariants.{Build, Give, Send, Run, Quit, Stop}, declared.events.Refusal.Refusal}
+use Rattle.dn_tic.specs.{declared.keys.Keys.Keys, declared.input.Command.Command}
 use Rattle.dn_node.specs.declared.node.Node.{Node}
-use Rattle.dn_node.specs.Contents as node
-use Rattle.dn_lockstep.specs.Rings.{count_of}
-use Rattle.dn_lockstep.specs.Sent.{aim_of}
-use Rattle.dn_game.specs.declared.flight.Flight.{Flight}
-use Rattle.dn_game.specs.declared.pool.Record.{Record}
-use Rattle.dn_game.specs.Contents.{Contents}
-use Rattle.dn_game.specs.Pool.{IsRecordOf}
-use Rattle.dn_game.specs.Represents.{Represents, flight_of}
+use Rattle.dn_lockstep.specs.{Rings.count_of, Sent.aim_of}
+use Rattle.dn_game.specs.{declared.flight.Flight.Flight, declared.pool.Record.Record, Contents.Contents, Pool.IsRecordOf, Represents.{Represents, flight_of}}
 use Rattle.dn_game.proofs.Standing.{IsFlight, made_at, flight_at}
+use Rattle.dn_machine.specs.Flight as exact
+use Rattle.dn_machine.specs.Game as machine
+use Rattle.dn_node.specs.Contents as node
 
 -- a send to a player is refused as any event of its node is
 pub refused_send : (players : ℕ) (m : machine.Game) (node to : ℕ) → nat_lt to players ≡ true

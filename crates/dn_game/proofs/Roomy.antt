@@ -1,13 +1,8 @@
 -- Room for twice the packets that there are, and one.
-use Rattle.std.proofs.Common.{◌≡◌, ◌≤◌, ◌⊎◌, ◌+◌, ◌*◌, ◌++◌, ℕ, List, length, ap, refl, ◌∙◌, length-append, arith, inl, inr}
+use Rattle.std.proofs.Common.{◌≡◌, ◌≤◌, ◌⊎◌, ◌+◌, ◌*◌, ◌++◌, ℕ, List, refl, ◌∙◌, length-append, arith, inl, inr}
 use Rattle.std.proofs.lemmas.Grind.{flat_map-append}
-use Rattle.dn_game.specs.declared.flight.Flight.{Flight}
-use Rattle.dn_game.specs.declared.game.Game.{Game}
-use Rattle.dn_game.specs.Contents.{contents}
-use Rattle.dn_game.specs.Frame.{KeepsFlights}
-use Rattle.dn_game.specs.Room.{Continues, KeepsWhose, room_of}
-use Rattle.dn_game.proofs.Idling.{flights_on, flights_same}
-use Rattle.dn_game.specs.Pool.{Room, HasGrown, IsWithinTwice, grown, joined}
+use Rattle.dn_game.specs.{declared.flight.Flight.Flight, declared.game.Game.Game, Contents.contents, Frame.KeepsFlights, Room.{Continues, KeepsWhose, room_of}, Pool.{Room, HasGrown, IsWithinTwice, grown}}
+use Rattle.dn_game.proofs.Rounding.{flights_on, flights_same}
 
 -- what has grown for one more is within twice as many as there are, and one
 grown_within : (count more room bound : ℕ) → room ≤ bound → 2 * count + more ≤ bound
@@ -23,17 +18,7 @@ step_within count more old new bound before twice (inr more_room) =
 -- packets that were sent, and more after them
 pub stays_within : (flights more now : List Flight) (old new : Room) → IsWithinTwice flights old
     → HasGrown flights old new → now ≡ flights ++ more → IsWithinTwice now new
-stays_within flights more now old new within grows is =
-    let bytes = ap (λ (fs : List Flight). length (joined fs)) is
-    ∙ ap length (flat_map-append (λ (flight : Flight). flight.bytes.items) flights more)
-    ∙ length-append (joined flights) (joined more) in
-    let records = ap length is ∙ length-append flights more in
-    record {
-      bytes = step_within (length (joined flights)) 104 old.bytes new.bytes _ (omega (arith, bytes, within.bytes))
-          (omega (arith, bytes)) grows.bytes;
-      records = step_within (length flights) 1 old.records new.records _ (omega (arith, records, within.records))
-          (omega (arith, records)) grows.records;
-    }
+stays_within flights more now old new within grows is = grind (arith, flat_map-append, length-append, step_within)
 
 -- after an event
 pub stays : (flights now : List Flight) (old new : Room) → HasGrown flights old new

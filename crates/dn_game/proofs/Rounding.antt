@@ -1,16 +1,13 @@
 -- Good rounds are their events, applied one after another.
-use Rattle.std.proofs.Common.{◌≡◌, ◌<◌, ℕ, zero, suc, List, [], ◌∷◌, ◌++◌, length, Result, append_assoc, append-nil, refl, ap, sym, ◌∙◌, subst, inl, inr, arith}
+use Rattle.std.proofs.Common.{◌≡◌, ◌+◌, ◌++◌, ℕ, suc, List, [], ◌∷◌, Result, length, append_assoc, append-nil, ap, sym, ◌∙◌, refl, subst, inl, inr, arith, ◌<◌, zero}
+use Rattle.std.specs.Prelude.{slice_get}
 use Rattle.std.proofs.lemmas.Bool.{cases_lt}
+use Rattle.dn_machine.specs.{declared.events.Done.Done, declared.events.Event.Event, declared.events.Refusal.Refusal, Game.{Game}, Worlds.Rules}
+use Rattle.dn_machine.specs.{Progress.{after, in_order, exchange, turn, good_round, good_rounds}}
+use Rattle.dn_game.specs.{declared.flight.Flight.Flight, Applied.IsApplied, Contents.Contents, Frame.{KeepsFlights, KeepsRest, MovesNoWorld, named_in}, Fresh.worlds_of, Given.KeepsGiven}
+use Rattle.dn_game.specs.{RoundEvents.{after_all, answers_to, events_in_order, exchange_events, turn_events, round_events, rounds_events}, Rounds.KeepsIdleWorlds, Played.Plays}
+use Rattle.dn_game.proofs.Giving.{at_front, own_stays, stays_at}
 use Rattle.dn_tic.specs.declared.input.Input.{Input}
-use Rattle.dn_machine.specs.declared.events.Done.{Done}
-use Rattle.dn_machine.specs.declared.events.Event.{Event}
-use Rattle.dn_machine.specs.declared.events.Event.TheVariants.{Run}
-use Rattle.dn_machine.specs.declared.events.Refusal.{Refusal}
-use Rattle.dn_machine.specs.Game.{Game, applied}
-use Rattle.dn_machine.specs.Progress.{after, build_of, in_order, exchange, turn, good_round, good_rounds}
-use Rattle.dn_machine.specs.Worlds.{Rules}
-use Rattle.dn_game.specs.Played.{Plays}
-use Rattle.dn_game.specs.RoundEvents.{events_in_order, exchange_events, turn_events, round_events, rounds_events, after_all, answers_to}
 
 module _ {S : Type 0} (rules : Rules S) where
   -- events, and then more
@@ -22,9 +19,7 @@ module _ {S : Type 0} (rules : Rules S) where
   pub answers_after : (events more : List Event) (game : Game) → answers_to rules (events ++ more) game
       ≡ answers_to rules events game ++ answers_to rules more (after_all rules events game)
   answers_after [] more game = refl
-  answers_after (event ∷ events) more game =
-      ap (λ (answers : List (Result Done Refusal)). (applied rules game event).1 ∷ answers)
-      (answers_after events more (after rules event game))
+  answers_after (event ∷ events) more game = grind (arith, answers_after events more (after rules event game))
 
   pub answers_each : (events : List Event) (game : Game) → length events ≡ length (answers_to rules events game)
   answers_each [] game = refl
@@ -43,10 +38,7 @@ module _ {S : Type 0} (rules : Rules S) where
       → after_all rules (events_in_order step events bound game) game ≡ in_order step bound game
   unfolding in_order
   after_in_order step events each zero game = refl
-  after_in_order step events each (suc bound) game =
-      all_after (events_in_order step events bound game) (events (in_order step bound game) bound) game
-      ∙ ap (after_all rules (events (in_order step bound game) bound)) (after_in_order step events each bound game)
-      ∙ each (in_order step bound game) bound
+  after_in_order step events each (suc bound) game = grind (arith, all_after, after_in_order step events each bound game)
 
   -- the events of one step among those of all
   pub events_split : (step : Game → ℕ → Game) (events : Game → ℕ → List Event) (i bound : ℕ) (game : Game)
@@ -84,12 +76,7 @@ module _ {S : Type 0} (rules : Rules S) where
   pub after_turn : (inputs : ℕ → Input) (game : Game) (node : ℕ)
       → after_all rules (turn_events rules inputs game node) game ≡ turn rules inputs game node
   unfolding turn
-  after_turn inputs game node =
-      let built : Game = after rules (build_of node (inputs node)) game in
-      all_after (events_in_order (exchange rules node) (exchange_events node) rules.players built)
-      (Run node ∷ []) built
-      ∙ ap (after rules (Run node))
-      (after_in_order (exchange rules node) (exchange_events node) (after_exchange node) rules.players built)
+  after_turn inputs game node = grind (arith, all_after, after_in_order, after_exchange)
 
   pub after_round : (inputs : ℕ → Input) (game : Game)
       → after_all rules (round_events rules inputs game) game ≡ good_round rules inputs game
@@ -100,10 +87,7 @@ module _ {S : Type 0} (rules : Rules S) where
   pub after_rounds : (inputs : ℕ → ℕ → Input) (count : ℕ) (game : Game)
       → after_all rules (rounds_events rules inputs count game) game ≡ good_rounds rules inputs count game
   unfolding good_rounds
-  after_rounds inputs count game =
-      after_in_order (λ before round. good_round rules (inputs round) before)
-      (λ before round. round_events rules (inputs round) before)
-      (λ before round. after_round (inputs round) before) count game
+  after_rounds inputs count game = grind (arith, after_in_order, after_round)
 
   -- so these are played in good rounds
   pub plays_rounds : (inputs : ℕ → ℕ → Input) (count : ℕ) (game : Game)
@@ -113,3 +97,57 @@ module _ {S : Type 0} (rules : Rules S) where
       let events = rounds_events rules inputs count game in
       subst (Plays rules game events (answers_to rules events game)) (after_rounds inputs count game)
       (plays_all events game)
+
+-- A node that neither starts nor runs keeps its world, over whatever events.
+
+-- what follows a list stands behind it
+at_back : {X : Type 0} (xs more : List X) (k : ℕ) → slice_get (xs ++ more) (length xs + k) ≡ slice_get more k
+at_back [] more k = let e : 0 + k ≡ k = omega arith in ap (slice_get more) e
+at_back (x ∷ xs) more k = grind (arith, at_back xs more k)
+
+-- packets that stay, and others behind them
+abbrev Follow : List Flight → List Flight → Type 0
+Follow old new = (more : List Flight) × (new ≡ old ++ more)
+
+pub flights_same : (flights : List Flight) → Follow flights flights
+flights_same flights = ([], sym (append-nil flights))
+
+pub flights_on : (old mid new : List Flight) → Follow old mid → Follow mid new → Follow old new
+flights_on old mid new first then = grind (arith, append_assoc)
+
+module _ {W : Type 0} where
+  -- events with these answers, and then more
+  pub keeps_all : (worlds : List W) (events more : List Event) (answers others : List (Result Done Refusal))
+      (mid new : Contents W) → length events ≡ length answers → KeepsGiven worlds events answers mid
+      → KeepsFlights mid new → KeepsGiven (worlds_of mid.nodes) more others new
+      → KeepsGiven worlds (events ++ more) (answers ++ others) new
+  keeps_all worlds events more answers others mid new count before sent then i never =
+      then i (λ k e a here answered. never (length events + k) e a (at_back events more k ∙ here)
+      (ap (λ (n : ℕ). slice_get (answers ++ others) (n + k)) count ∙ at_back answers others k ∙ answered))
+      ∙ before i (λ k e a here answered is. never k e a (at_front events more k e here)
+      (at_front answers others k a answered) (rw sent.1 (own_stays mid.flights sent.0 e i is)))
+
+module _ {W S : Type 0} (rules : Rules S) where
+  -- events that the machine meets, and then more
+  pub idle_more : (first rest : List Event) (m : Game) (old mid new : Contents W)
+      → KeepsIdleWorlds rules m first old mid → KeepsFlights mid new
+      → KeepsIdleWorlds rules (after_all rules first m) rest mid new
+      → KeepsIdleWorlds rules m (first ++ rest) old new
+  idle_more first rest m old mid new before sent then =
+      let Kept = λ (answers : List (Result Done Refusal)).
+      KeepsGiven (worlds_of old.nodes) (first ++ rest) answers new in
+      subst Kept (sym (answers_after rules first rest m))
+      (keeps_all (worlds_of old.nodes) first rest (answers_to rules first m)
+      (answers_to rules rest (after_all rules first m)) mid new (answers_each rules first m) before sent then)
+
+  -- one event
+  pub idle_one : (state : W → S) (m : Game) (event : Event) (answer : Result Done Refusal)
+      (old new : Contents W) → KeepsRest old new event answer → IsApplied state rules old new m event answer
+      → KeepsIdleWorlds rules m (event ∷ []) old new
+  idle_one state m event answer old new left (inl done) i never =
+      stays_at named_in MovesNoWorld own_stays old new event answer left.others left.worlds left.more.0
+      left.more.1 i
+      (λ is. subst MovesNoWorld (sym done.answered)
+      (never 0 event _ refl refl (rw left.more.1 (own_stays old.flights left.more.0 event i is))))
+  idle_one state m event answer old new left (inr (free, out)) i never =
+      ap (λ (g : Contents W). slice_get (worlds_of g.nodes) i) out.same

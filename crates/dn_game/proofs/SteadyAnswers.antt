@@ -1,28 +1,14 @@
 -- No event of a game that a list of events may leave is answered by a failed check.
-use Rattle.dn_machine.specs.Limits.{IsWindow}
 use Rattle.std.proofs.Common.{◌≡◌, ◌≢◌, ℕ, ℤ, Bool, true, false, true≢false, not, List, [], ◌∷◌, cond, Option, Some, None, Result, Ok, Err, ltb, refl, ap, sym, ◌∙◌, inl, inr, arith}
 use Rattle.std.specs.Prelude.{All, slice_get}
-use Rattle.std.proofs.lemmas.List.Elements.{All-cons, All-nil}
-use Rattle.std.proofs.lemmas.Bool.{ltb-true}
+use Rattle.std.proofs.lemmas.{List.Elements.{All-cons, All-nil}, Bool.ltb-true}
+use Rattle.dn_machine.specs.{Limits.IsWindow, declared.answers.Phase.TheVariants.Ended, declared.answers.Ran.Ran, declared.events.Done.Done, declared.events.Event.Event, declared.events.Event.TheVariants.{Build, Give, Send, Deliver, Run, Quit, Stop}}
+use Rattle.dn_machine.specs.{declared.events.Refusal.Refusal, Worlds.Rules, Flight.Flight, Node.{Node, ran}, Running.on_run, Game.{Game, opening_game, posted, delivered, refused_flight, refused, on_event, applied_if, applied, on_own_run}}
 use Rattle.dn_setup.specs.Settings.{Settings}
+use Rattle.dn_machine.proofs.{Invariant.IsKept, Games.{opens, happens_keeps, applied_keeps}, Put.put_at}
+use Rattle.dn_game.specs.{Played.Plays, Promised.IsSteady}
 use Rattle.dn_machine.specs.declared.answers.Cause.TheVariants as Cause
-use Rattle.dn_machine.specs.declared.answers.Phase.TheVariants.{Ended}
-use Rattle.dn_machine.specs.declared.answers.Ran.{Ran}
-use Rattle.dn_machine.specs.declared.events.Done.{Done}
-use Rattle.dn_machine.specs.declared.events.Event.{Event}
-use Rattle.dn_machine.specs.declared.events.Event.TheVariants.{Build, Give, Send, Deliver, Run, Quit, Stop}
-use Rattle.dn_machine.specs.declared.events.Refusal.{Refusal}
-use Rattle.dn_machine.specs.Worlds.{Rules}
-use Rattle.dn_machine.specs.Flight.{Flight}
-use Rattle.dn_machine.specs.Node.{Node, ran}
-use Rattle.dn_machine.specs.Running.{on_run}
-use Rattle.dn_machine.specs.Game.{Game, opening_game, posted, delivered, refused_flight, refused, on_event, applied_if, applied, on_own_run}
-use Rattle.dn_machine.proofs.Invariant.{IsKept}
-use Rattle.dn_machine.proofs.Games.{opens, happens_keeps, applied_keeps}
 use Rattle.dn_machine.proofs.Promises
-use Rattle.dn_machine.proofs.Put.{put_at}
-use Rattle.dn_game.specs.Played.{Plays}
-use Rattle.dn_game.specs.Promised.{IsSteady}
 
 -- a run that is answered by a mark that is off ends the node for it
 off_ends : {S : Type 0} (rules : Rules S) (node : Node) (player : ℕ) (was should : ℤ)
@@ -41,10 +27,7 @@ apart : (answer is : Result Done Refusal) → is_other answer ≡ true → is_ot
 apart answer is other unlike e = true≢false (sym other ∙ ap is_other e ∙ unlike)
 
 other_steady : (answer : Result Done Refusal) → is_other answer ≡ true → IsSteady answer
-other_steady answer other = record {
-  consistent = λ player was should. apart answer _ other refl;
-  kept = λ number e. absurd (apart answer _ other refl e);
-}
+other_steady answer other = grind (arith, apart)
 
 -- an event of a number that is not refused is one of a player
 passes : (b : Bool) (x : Refusal) (rest : Option Refusal) → cond (not b) (Some x) rest ≡ None → b ≡ true
@@ -106,10 +89,7 @@ steady_from : {S : Type 0} (rules : Rules S) (settings : Settings) (events : Lis
 steady_from rules settings [] [] game last kept way = All-nil IsSteady
 steady_from rules settings [] (a ∷ answers) game last kept way = absurd way
 steady_from rules settings (e ∷ events) [] game last kept way = absurd way
-steady_from rules settings (e ∷ events) (a ∷ answers) game last kept (next, inl (same, answered), rest) =
-    All-cons IsSteady a answers (rw answered (applied_steady rules settings game kept e))
-    (steady_from rules settings events answers next last (rw same (applied_keeps rules settings game kept e))
-    rest)
+steady_from rules settings (e ∷ events) (a ∷ answers) game last kept (next, inl (same, answered), rest) = grind (arith, applied_steady, steady_from rules settings events answers next last (rw same (applied_keeps rules settings game kept e)) rest, applied_keeps)
 steady_from rules settings (e ∷ events) (a ∷ answers) game last kept
     (next, inr (free, send, same, answered), rest) =
     All-cons IsSteady a answers (rw answered (other_steady (Err Refusal.Memory) refl))

@@ -3,8 +3,7 @@ use Rattle.std.proofs.Common.{◌≡◌, ℕ, List, [], ◌∷◌, map}
 use Rattle.std.specs.List.{All}
 use Rattle.std.proofs.lemmas.List.Elements.{All-nil, All-cons, All-head, All-tail, All-map}
 use Rattle.dn_lockstep.specs.Contents.{Whose}
-use Rattle.dn_node.specs.declared.node.Node.{Node}
-use Rattle.dn_node.specs.Contents.{contents, whose, whose_of}
+use Rattle.dn_node.specs.{declared.node.Node.Node, Contents.{contents, whose, whose_of}}
 use Rattle.dn_game.specs.Fresh.{AreLimited}
 
 module _ {N : Type 0} (own : N → Whose) (limit : ℕ) where

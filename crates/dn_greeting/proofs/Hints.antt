@@ -1,14 +1,8 @@
 -- Bytes are read as one hint.
-use Rattle.std.proofs.Common.{◌≡◌, ℕ, List, [], ◌∷◌, refl, ap, sym, ◌∙◌, None, Result, Ok, Err, inl, inr}
-use Rattle.std.proofs.lemmas.Option.{same_Some, none-some}
-use Rattle.dn_greeting.specs.declared.greeting.GreetingFault.{GreetingFault}
-use Rattle.dn_greeting.specs.declared.greeting.Hint.{Hint}
+use Rattle.std.proofs.{Common.{◌≡◌, ℕ, List, [], ◌∷◌, refl, ap, sym, ◌∙◌, None, Result, Ok, Err, inl, inr}, lemmas.Option.{same_Some, none-some}}
+use Rattle.dn_greeting.specs.{declared.greeting.GreetingFault.GreetingFault, declared.greeting.Hint.Hint, declared.greeting.Hinted.Hinted, Text.{hint_byte, hinted_bytes, version_of, IsHinted}, Reading.{hint_fault, IsHintedIn}}
+use Rattle.dn_greeting.specs.{Told.{told_hint, told_hinted}, Rests.sixteen}
 use Rattle.dn_greeting.specs.declared.greeting.Hint.TheVariants as hint
-use Rattle.dn_greeting.specs.declared.greeting.Hinted.{Hinted}
-use Rattle.dn_greeting.specs.Text.{hint_byte, hinted_bytes, version_of, IsHinted}
-use Rattle.dn_greeting.specs.Reading.{hint_fault, IsHintedIn}
-use Rattle.dn_greeting.specs.Told.{told_hint, told_hinted}
-use Rattle.dn_greeting.specs.Rests.{sixteen}
 
 -- why it was not read is found again in its bytes
 hint_back : (h : Hint) → told_hint (hint_byte h) (version_of h) ≡ h

@@ -1,23 +1,12 @@
 -- Bytes are read as one greeting of a sort, and what a reader returns is that one.
-use Rattle.std.proofs.Common.{◌≡◌, ◌≢◌, ◌≤◌, ◌+◌, ◌-◌, ℕ, List, [], ◌∷◌, ◌++◌, length, take, drop, refl, ap, sym, subst, ◌∙◌, arith, Option, Some, None, Result, Ok, Err, inl, inr, Bool, true, false}
-use Rattle.std.specs.Prelude.{MatchOption, slice_index, ◌==◌, not, nat_lt, if◌then◌else◌}
-use Rattle.std.specs.Option.{ok_or}
-use Rattle.std.specs.Str.{bytes_eq}
-use Rattle.std.proofs.lemmas.Bool.{cases_lt, eq-eqb, eqb-true, le-ltb, leb-true, lt-ltb, ltb-false}
-use Rattle.std.proofs.lemmas.List.{take-append-drop, take-take, drop-take, length-append}
-use Rattle.std.proofs.lemmas.Option.{same_Some, none-some}
-use Rattle.std.proofs.lemmas.Slice.Eq.{bytes_eq-Decides}
-use Rattle.std.proofs.Math.Seq.{take-append_seam, drop-append_seam}
-use Rattle.dn_seal.specs.declared.seal.Seal.{Seal}
-use Rattle.dn_seal.specs.Hmac.{tag_of}
-use Rattle.dn_seal.specs.Keys.{suite_byte}
-use Rattle.dn_seal.specs.Opening.{told_body, told_tag}
+use Rattle.std.proofs.Common.{◌≡◌, ◌≢◌, ◌≤◌, ◌+◌, ◌-◌, ℕ, List, ◌∷◌, ◌++◌, length, take, drop, refl, ap, sym, subst, ◌∙◌, arith, Option, Some, None, Result, Ok, Err, inl, inr, Bool, true, false}
+use Rattle.std.proofs.{lemmas.Bool.{cases_lt, eq-eqb, eqb-true, le-ltb, leb-true, lt-ltb, ltb-false}, lemmas.List.{take-append-drop, take-take, drop-take, length-append}, lemmas.Option.{same_Some, none-some}}
+use Rattle.std.proofs.{lemmas.Slice.Eq.bytes_eq-Decides, Math.Seq.{take-append_seam, drop-append_seam}}
+use Rattle.std.specs.{Prelude.{MatchOption, slice_index, not, if◌then◌else◌}, Option.ok_or}
+use Rattle.dn_seal.specs.{declared.seal.Seal.Seal, Hmac.tag_of, Keys.suite_byte, Opening.{told_body, told_tag}}
 use Rattle.dn_seal.proofs.Envelopes.{length-tag}
-use Rattle.dn_greeting.specs.declared.greeting.GreetingFault.{GreetingFault}
-use Rattle.dn_greeting.specs.declared.greeting.GreetingFault.TheVariants.{Short, Kind, What, Version, Length, Suite, Tag, Form}
-use Rattle.dn_greeting.specs.Text.{kind_bytes, head_bytes, body_bytes, greeting_bytes}
-use Rattle.dn_greeting.specs.Reading.{first_fault, IsReadAs}
-use Rattle.dn_greeting.specs.Sorts.{Sort}
+use Rattle.dn_greeting.specs.{declared.greeting.GreetingFault.GreetingFault, declared.greeting.GreetingFault.TheVariants.{Short, Form}, Text.{kind_bytes, head_bytes, body_bytes, greeting_bytes}}
+use Rattle.dn_greeting.specs.{Reading.{first_fault, IsReadAs}, Sorts.Sort}
 
 -- what bytes without a fault have
 pub record Passes (seal : Seal) (what size : ℕ) (bytes : List ℕ) : Type 0 where
@@ -33,15 +22,7 @@ pub record Passes (seal : Seal) (what size : ℕ) (bytes : List ℕ) : Type 0 wh
 pub clean : (seal : Seal) (what size : ℕ) (bytes : List ℕ) → Passes seal what size bytes
     → first_fault seal what size bytes ≡ None
 unfolding first_fault
-clean seal what size bytes p =
-    let a = le-ltb (length bytes) 29 p.long in
-    let b = (bytes_eq-Decides (take 9 (drop 1 bytes)) kind_bytes).1 p.kind in
-    let c = eq-eqb (slice_index bytes 11) what p.one in
-    let d = eq-eqb (slice_index bytes 10) 1 p.version in
-    let e = eq-eqb (length bytes) size p.sized in
-    let f = eq-eqb (slice_index bytes 0) (suite_byte seal.suite) p.suite in
-    let g = (bytes_eq-Decides (told_tag bytes) (tag_of seal.key (told_body bytes))).1 p.tag in
-    rw (a, b, c, d, e, f, g) refl
+clean seal what size bytes p = grind (arith, le-ltb, bytes_eq-Decides, eq-eqb)
 
 -- one more test: without a fault it was passed, and no later one fails
 unless : (test : Bool) (fault : GreetingFault) (later : Option GreetingFault)
@@ -57,30 +38,14 @@ long_first true fault later e = absurd (none-some fault (sym e))
 pub passed : (seal : Seal) (what size : ℕ) (bytes : List ℕ) → first_fault seal what size bytes ≡ None
     → Passes seal what size bytes
 unfolding first_fault
-passed seal what size bytes none =
-    let a = long_first (nat_lt (length bytes) 29) Short _ none in
-    let b = unless (bytes_eq (take 9 (drop 1 bytes)) kind_bytes) Kind _ a.1 in
-    let c = unless (slice_index bytes 11 == what) What _ b.1 in
-    let d = unless (slice_index bytes 10 == 1) Version _ c.1 in
-    let e = unless (length bytes == size) Length _ d.1 in
-    let f = unless (slice_index bytes 0 == suite_byte seal.suite) Suite _ e.1 in
-    let g = unless (bytes_eq (told_tag bytes) (tag_of seal.key (told_body bytes))) Tag None f.1 in
-    record {
-      long = ltb-false (length bytes) 29 a.0;
-      kind = (bytes_eq-Decides (take 9 (drop 1 bytes)) kind_bytes).0 b.0;
-      one = eqb-true (slice_index bytes 11) what c.0;
-      version = eqb-true (slice_index bytes 10) 1 d.0;
-      sized = eqb-true (length bytes) size e.0;
-      suite = eqb-true (slice_index bytes 0) (suite_byte seal.suite) f.0;
-      tag = (bytes_eq-Decides (told_tag bytes) (tag_of seal.key (told_body bytes))).0 g.0;
-    }
+passed seal what size bytes none = grind (arith, long_first, unless, ltb-false, bytes_eq-Decides, eqb-true)
 
 -- the twelve bytes of the head
 head_is : (seal : Seal) (what : ℕ) (bytes : List ℕ) → 12 ≤ length bytes → take 9 (drop 1 bytes) ≡ kind_bytes
     → slice_index bytes 11 ≡ what → slice_index bytes 10 ≡ 1 → slice_index bytes 0 ≡ suite_byte seal.suite
     → take 12 bytes ≡ head_bytes seal what
 head_is seal what (s ∷ a ∷ b ∷ c ∷ d ∷ e ∷ f ∷ g ∷ h ∷ i ∷ v ∷ w ∷ rest) long kind one version suite =
-    λ x. suite x ∷ (kind x ++ version x ∷ one x ∷ [])
+    grind arith
 head_is seal what _ long kind one version suite = absurd (omega arith)
 
 -- bytes without a fault are a greeting of what stands behind the head
@@ -120,16 +85,7 @@ module _ (seal : Seal) (what : ℕ) (rest : List ℕ) where
   its_rest = ap (drop 12) its_body
 
   pub its_tests : (size : ℕ) → length rest + 28 ≡ size → 29 ≤ size → Passes seal what size text
-  its_tests size long enough =
-      record {
-        long = omega (arith, length-text, long, enough);
-        kind = refl;
-        one = refl;
-        version = refl;
-        sized = length-text ∙ long;
-        suite = refl;
-        tag = its_tag ∙ ap (tag_of seal.key) (sym its_body);
-      }
+  its_tests size long enough = grind (arith, length-text, its_tag, its_body)
 
 module _ {T : Type 0} (sort : Sort T) (seal : Seal) (bytes : List ℕ) where
   abbrev Reads : Result T GreetingFault → Type 0
@@ -189,9 +145,4 @@ module _ {T : Type 0} (sort : Sort T) (seal : Seal) (bytes : List ℕ) where
 pub long_fault : (seal : Seal) (what size : ℕ) (bytes : List ℕ) (f : GreetingFault)
     → first_fault seal what size bytes ≡ Some f → f ≢ Short → 29 ≤ length bytes
 unfolding first_fault
-long_fault seal what size bytes f first other = elim (cases_lt (length bytes) 29) [
-  | inl few ↦
-      let short = lt-ltb (length bytes) 29 few in
-      absurd (other (sym (same_Some Short f (rw short at first))))
-  | inr long ↦ long
-]
+long_fault seal what size bytes f first other = grind (arith, cases_lt, lt-ltb, same_Some)

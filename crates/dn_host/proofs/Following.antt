@@ -1,17 +1,12 @@
 -- A game follows its seats, and forgets who is absent.
-use Rattle.std.proofs.Common.{◌≡◌, ℕ, List, Bool, true, false, Option, Some, Result, refl, ap, sym, subst, ◌∙◌}
+use Rattle.std.proofs.Common.{◌≡◌, ℕ, List, Option, Some, true, refl, sym, ap, subst, ◌∙◌, Bool, false, Result}
 use Rattle.std.specs.Prelude.{IfErr, IfOk, is_ok, map}
-use Rattle.dn_link.specs.Linked.{Linked}
-use Rattle.dn_link.specs.Linking.{linked}
-use Rattle.dn_greeting.specs.declared.greeting.Address.{Address}
-use Rattle.dn_greeting.specs.declared.seats.Place.{Place}
-use Rattle.dn_greeting.specs.Lobby.{HearsCall, Lobby}
-use Rattle.dn_host.specs.declared.ends.Ending.{Ending}
-use Rattle.dn_host.specs.declared.game.Game.{Game}
-use Rattle.dn_host.specs.declared.letter.Letter.{Letter}
-use Rattle.dn_host.specs.declared.ends.HostFault.{HostFault}
-use Rattle.dn_host.specs.Keepers.{FollowsAll, FollowsSeats, Holding, IsAnother, IsNoEnding, IsRenewed, KeeperGreets, closed_by, is_any_spoiled, mark_at, seconds_of, without_absent, without_left}
-use Rattle.dn_host.specs.Peers.{AreFollowed, holder_address}
+use Rattle.dn_seal.specs.declared.seal.Seal.{Seal}
+use Rattle.dn_link.specs.{declared.link.Link.Link, Linking.seal_of, Linked.Linked, Linking.linked}
+use Rattle.dn_host.specs.{declared.game.Game.Game, Parts.IsPart, Seals.IsSealedUnder, Seals.game_seal, declared.ends.Ending.Ending, declared.letter.Letter.Letter, declared.ends.HostFault.HostFault, Keepers.FollowsAll}
+use Rattle.dn_host.specs.{Keepers.FollowsSeats, Keepers.Holding, Keepers.IsAnother, Keepers.IsNoEnding, Keepers.IsRenewed, Keepers.KeeperGreets, Keepers.closed_by, Keepers.is_any_spoiled, Keepers.mark_at}
+use Rattle.dn_host.specs.{Keepers.seconds_of, Keepers.without_absent, Keepers.without_left, Peers.AreFollowed, Peers.holder_address}
+use Rattle.dn_greeting.specs.{declared.greeting.Address.Address, declared.seats.Place.Place, Lobby.HearsCall, Lobby.Lobby}
 
 -- nothing but its link has changed
 abbrev pub IsLinkAlone : Game → Game → Type 0
@@ -108,3 +103,18 @@ greets_by letter old new maybe game after result at table heard reply before fou
       follows_by before _ (record old { table = heard }) new heard game after found done seats refl found_is follows,
       none,
     )
+
+-- A session's part in its game goes on.
+
+-- a link of the same seal
+pub still_sealed : (secret : Option (List ℕ)) (old new : Link) → seal_of new ≡ seal_of old
+    → IsSealedUnder secret old → IsSealedUnder secret new
+still_sealed secret old new same is = same ∙ is ∙ ap (λ (s : Seal). game_seal secret s.game) (sym same)
+
+-- a host's part, which there is
+pub still_part : (secret : Option (List ℕ)) (game : Option Game) (old new : Game) → game ≡ Some old
+    → (IsSealedUnder secret old.play.link → IsSealedUnder secret new.play.link) → IsPart true secret game
+    → IsPart true secret (Some new)
+still_part secret game old new is sealed part =
+    let one : IsPart true secret (Some old) = subst (λ (game : Option Game). IsPart true secret game) is part in
+    record { there = λ hosts. refl; sealed = sealed one.sealed }

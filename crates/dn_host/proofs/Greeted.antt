@@ -19,10 +19,5 @@ module _ {A : Type 0} (Greets : A → A → Type 0) where
   is_open opened before after old new is fewer greets =
       subst (λ (b : Bool). Opens Greets b before after old new) (sym is) (fewer, greets)
 
-  pub is_spared : (opened : Bool) (before after : ℕ) (old new : A) → opened ≡ false → after ≡ before → new ≡ old
-      → Opens Greets opened before after old new
-  is_spared opened before after old new is same stays =
-      subst (λ (b : Bool). Opens Greets b before after old new) (sym is) (same, stays)
-
   pub few : (left : ℕ) (old new : A) → HasGreeted left old new → GreetsFew Greets old new
   few left old new (times, sum, greeted) = (times, omega (arith, sum), greeted)

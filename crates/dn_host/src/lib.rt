@@ -33,8 +33,6 @@ mod seals;
 mod sending;
 mod session;
 mod showing;
-#[cfg(test)]
-mod tests;
 mod ticking;
 mod turns;
 mod udp;

@@ -1,50 +1,26 @@
 -- What packets leave that ask for nothing, where there is no gap behind what was there of the maker of any.
 use Rattle.std.proofs.Common.{◌≡◌, ◌≢◌, ◌<◌, ◌≤◌, ◌+◌, ◌-◌, ◌/◌, ◌⊎◌, ◌&&◌, ℕ, Bool, true, false, List, [], ◌∷◌, length, refl, ap, sym, ◌∙◌, subst, arith, Option, Some, None, All, inl, inr}
 use Rattle.std.specs.Prelude.{Ok, max, nat_lt, not, slice_get}
-use Rattle.std.proofs.lemmas.Bool.{cases_eq, ltb-true, not-false, true≢false}
-use Rattle.std.proofs.lemmas.List.Elements.{All-head, All-tail}
+use Rattle.std.proofs.lemmas.{Bool.cases_eq, Bool.ltb-true, Bool.not-false, Bool.true≢false, List.Elements.All-head, List.Elements.All-tail}
 use Rattle.dn_packet.proofs.Texts.{length-commands}
 use Rattle.dn_packet.specs.Text.{text}
 use Rattle.dn_tic.specs.declared.command.Move.{Move}
 use Rattle.dn_setup.specs.Settings.{Settings}
-use Rattle.dn_machine.specs.declared.answers.Heard.{Heard}
-use Rattle.dn_machine.specs.declared.answers.Phase.TheVariants.{Playing}
-use Rattle.dn_machine.specs.declared.peer.Peer.{Peer}
+use Rattle.dn_machine.specs.{declared.answers.Heard.Heard, declared.answers.Phase.TheVariants.Playing, declared.peer.Peer.Peer, Game.Game, Hearing.on_packet, Limits.Limits, Node.is_ended, Worlds.Rules}
 use Rattle.dn_machine.specs.Flight.{Kind, SetUp, Play, Exit, Flight, packet_of, packet_of_kind, is_close, is_request_close, distance, end_of}
-use Rattle.dn_machine.specs.Game.{Game}
-use Rattle.dn_machine.specs.Hearing.{on_packet}
-use Rattle.dn_machine.specs.Limits.{Limits}
 use Rattle.dn_machine.specs.Node as machine
-use Rattle.dn_machine.specs.Node.{is_ended}
-use Rattle.dn_machine.specs.Worlds.{Rules}
 use Rattle.dn_machine.proofs.Relays
-use Rattle.dn_machine.proofs.Invariant.{IsKept, history_of}
+use Rattle.dn_machine.proofs.{Invariant.IsKept, Invariant.history_of, Put.put_at, Put.put_off}
 use Rattle.dn_machine.proofs.Lists
 use Rattle.dn_machine.proofs.Promises
-use Rattle.dn_machine.proofs.Put.{put_at, put_off}
-use Rattle.dn_lockstep.specs.Contents.{Contents}
-use Rattle.dn_lockstep.specs.Marking.{Marking}
-use Rattle.dn_lockstep.specs.Near.{IsFair}
-use Rattle.dn_lockstep.specs.OneGame.{AreOneGame, beside}
-use Rattle.dn_lockstep.specs.Represents.{Represents}
-use Rattle.dn_lockstep.specs.Session.{Session, with_lockstep}
-use Rattle.dn_lockstep.specs.Told.{got}
-use Rattle.dn_lockstep.proofs.OneGame.{hear_quiet}
-use Rattle.dn_lockstep.proofs.Nearby.{told_by, told_is, near_received}
-use Rattle.dn_lockstep.proofs.Shown.{has}
+use Rattle.dn_lockstep.specs.{Contents.Contents, Marking.Marking, Near.IsFair, OneGame.AreOneGame, OneGame.beside, Represents.Represents, Session.Session, Session.with_lockstep, Told.got}
+use Rattle.dn_lockstep.proofs.{OneGame.hear_quiet, Nearby.told_by, Nearby.told_is, Nearby.near_received, Shown.has}
 use Rattle.dn_seal.specs.declared.opened.Opened.{Opened}
 use Rattle.dn_open.specs.Arrivals.{HearsOpened, IsRead, SparesSealed, heard, on_opened}
-use Rattle.dn_open.specs.declared.arrived.Arrived.{Arrived}
-use Rattle.dn_open.specs.Sealed.{opened_of}
-use Rattle.dn_open.proofs.Alikes.{alike}
-use Rattle.dn_open.proofs.Deliveries.{near_if}
-use Rattle.dn_link.specs.Bundles.{WasGiven}
-use Rattle.dn_link.specs.CaughtUp.{told_end}
-use Rattle.dn_link.specs.Hearing.{ByTest, HearsAll, HearsUntil, is_start}
-use Rattle.dn_link.specs.Onward.{next_to}
-use Rattle.dn_link.proofs.Hearer.{IsSpared, Leaves, settings_leave, word_leaves, word_reaches}
-use Rattle.dn_link.proofs.Keeping.{LettersKeep, keeps_one}
-use Rattle.dn_link.proofs.Makers.{HaveNoGaps, ends_of, then_end}
+use Rattle.dn_open.specs.{declared.arrived.Arrived.Arrived, Sealed.opened_of}
+use Rattle.dn_open.proofs.{Alikes.alike, Deliveries.near_if}
+use Rattle.dn_link.specs.{Bundles.WasGiven, CaughtUp.told_end, Hearing.ByTest, Hearing.HearsAll, Hearing.HearsUntil, Hearing.is_start, Onward.next_to}
+use Rattle.dn_link.proofs.{Hearer.IsSpared, Hearer.Leaves, Hearer.settings_leave, Hearer.word_leaves, Hearer.word_reaches, Keeping.LettersKeep, Keeping.keeps_one, Makers.HaveNoGaps, Makers.ends_of, Makers.then_end}
 
 -- who starts is told so
 started_is : (told : Heard) → is_start (Arrived.Heard told) ≡ true → told ≡ Heard.Started
@@ -288,11 +264,10 @@ module _ (letters : LettersKeep) (marking : Marking) (limits : Limits) (settings
 
       leaves : Leaves limits player m flight asked sender apart (told_end (opened_of flight))
           (on_packet limits player m flight).0 (on_packet limits player m flight).1
-      leaves = by_kind flight
-          (λ chosen kind. subst (λ (n : ℕ). Leaves limits player m flight asked sender apart n
-          (on_packet limits player m flight).0 (on_packet limits player m flight).1) (sym (settings_end flight chosen kind))
-          (settings_leave limits player m flight asked sender apart chosen kind))
-          (λ kind same. subst (λ (n : ℕ). Leaves limits player m flight asked sender apart n
+      leaves = by_kind flight (λ chosen kind. subst (λ (n : ℕ). Leaves limits player m flight asked sender apart
+          n (on_packet limits player m flight).0 (on_packet limits player m flight).1)
+          (sym (settings_end flight chosen kind)) (settings_leave limits player m flight asked sender apart
+          chosen kind)) (λ kind same. subst (λ (n : ℕ). Leaves limits player m flight asked sender apart n
           (on_packet limits player m flight).0 (on_packet limits player m flight).1) (sym same)
           (word_leaves limits player m flight asked sender apart))
 
@@ -327,16 +302,13 @@ module _ (letters : LettersKeep) (marking : Marking) (limits : Limits) (settings
           let result = heard_as (m, Arrived.Late) step in
           let away : is_close (machine.made player m) flight.start ≡ false =
           apart_from (is_close (machine.made player m) flight.start) flight.request asked far in
-          late (subst (λ (a : Arrived). SparesSealed now next a) result.1 spares)
-          (λ plays.
+          late (subst (λ (a : Arrived). SparesSealed now next a) result.1 spares) (λ plays.
           let all = subst (λ (k : ℕ). (game.last.nodes k).phase ≡ Playing
           → is_close (machine.made k (game.last.nodes k)) flight.start ≡ false
           → told_end (opened_of flight) ≤ length ((game.last.nodes k).held flight.from)) to
           (far_has (beside marking limits) settings game.last kept which flight there (told_end (opened_of flight))
-          (no_later flight) (short_of flight fair))
-          (sym shows.stands.phase ∙ plays) away in
-          omega (arith, all, count flight.from sender))
-          (ap is_start result.1)
+          (no_later flight) (short_of flight fair)) (sym shows.stands.phase ∙ plays) away in
+          omega (arith, all, count flight.from sender)) (ap is_start result.1)
         where
           apart_from : (test : Bool) (request : Option ℕ) → request ≡ None
               → (test && is_request_close (machine.made player m) request) ≡ false → test ≡ false
@@ -387,9 +359,8 @@ module _ (letters : LettersKeep) (marking : Marking) (limits : Limits) (settings
             omega (arith, has_it, ap (λ (n : Contents). got n p) same);
       }
   until_hears (packet ∷ packets) now new started tics game none all behind (next, answer, hears, spares, then) =
-      go (is_start answer) refl
-      (λ not later. until_hears packets next new started (then_end tics packet) step.game step.wants
-      (All-tail IsQuiet packet packets all) (behind_on not) later) then
+      go (is_start answer) refl (λ not later. until_hears packets next new started (then_end tics packet)
+      step.game step.wants (All-tail IsQuiet packet packets all) (behind_on not) later) then
     where
       quiet : IsQuiet packet
       quiet = All-head IsQuiet packet packets all

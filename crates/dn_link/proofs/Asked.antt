@@ -1,25 +1,15 @@
 -- A packet asks for commands again from the tic that its datagram tells, or not at all.
 use Rattle.std.proofs.Common.{◌≡◌, ◌≢◌, ◌≤◌, ◌<◌, ◌/◌, ◌%◌, ◌⊎◌, ◌&&◌, ◌||◌, ℕ, Bool, true, false, List, refl, ap, sym, ◌∙◌, arith, Option, Some, None, inl, inr}
 use Rattle.std.specs.Prelude.{if◌then◌else◌, not, ◌==◌, bit_and, is_some, nat_lt, slice_index, Result, Ok, Err}
-use Rattle.std.proofs.lemmas.Bool.{and_parts, eq-eqb, eqb-true, true≢false}
-use Rattle.std.proofs.lemmas.Option.{none-some}
+use Rattle.std.proofs.lemmas.{Bool.and_parts, Bool.eq-eqb, Bool.eqb-true, Bool.true≢false, Option.none-some}
 use Rattle.dn_tic.specs.Tics.{exact_tic}
-use Rattle.dn_packet.specs.declared.packet.Packet.{Packet}
-use Rattle.dn_packet.specs.declared.packet.PacketFault.{PacketFault}
+use Rattle.dn_packet.specs.{declared.packet.Packet.Packet, declared.packet.PacketFault.PacketFault, Text.text}
 use Rattle.dn_packet.specs.Flags as flag
-use Rattle.dn_packet.specs.Text.{text}
-use Rattle.dn_setup.specs.Settings.{Settings}
-use Rattle.dn_setup.specs.declared.setup.SetupFault.{SetupFault}
-use Rattle.dn_machine.specs.declared.answers.Phase.{Phase}
+use Rattle.dn_setup.specs.{Settings.Settings, declared.setup.SetupFault.SetupFault}
+use Rattle.dn_machine.specs.{declared.answers.Phase.Phase, Limits.Limits, Flight.Flight, Flight.is_close, Flight.is_request_close, Flight.request_byte, Hearing.on_packet, Node.made}
 use Rattle.dn_machine.specs.Drops as drops
-use Rattle.dn_machine.specs.Limits.{Limits}
-use Rattle.dn_machine.specs.Flight.{Flight, is_close, is_request_close, request_byte}
-use Rattle.dn_machine.specs.Hearing.{on_packet}
 use Rattle.dn_machine.specs.Node as machine
-use Rattle.dn_machine.specs.Node.{made}
-use Rattle.dn_lockstep.specs.Reading.{has_flag, request_in}
-use Rattle.dn_lockstep.specs.Phases.{hears_none}
-use Rattle.dn_lockstep.specs.Received.{flight_from, heard_as, read_flight, received}
+use Rattle.dn_lockstep.specs.{Reading.has_flag, Reading.request_in, Phases.hears_none, Received.flight_from, Received.heard_as, Received.read_flight, Received.received}
 use Rattle.dn_seal.specs.declared.opened.Opened.{Opened}
 use Rattle.dn_open.specs.Arrivals.{IsRead, asks_alike, flag_in, heard, is_alike, on_opened}
 use Rattle.dn_open.specs.declared.arrived.Arrived.{Arrived}
@@ -116,8 +106,7 @@ module _ (limits : Limits) (me : ℕ) (m : machine.Node) (to : ℕ) (opened : Op
   heard_as_told : (packet : Packet) (result : Result Flight ℕ)
       → ((flight : Flight) → result ≡ Ok flight → IsOf opened.from (made me m) packet flight × (opened.from ≢ me))
       → packet.flags < 16 → opened.datagram.items ≡ text packet → is_alike opened ≡ true
-      → is_request_close (made me m) opened.ask ≡ true
-      → Answers (heard (heard_as limits me m m.phase result))
+      → is_request_close (made me m) opened.ask ≡ true → Answers (heard (heard_as limits me m m.phase result))
   unfolding on_packet
   heard_as_told packet (Err number) of few is alike close = (refl, inl refl)
   heard_as_told packet (Ok flight) of few is alike close =
@@ -147,8 +136,7 @@ module _ (limits : Limits) (me : ℕ) (m : machine.Node) (to : ℕ) (opened : Op
       refl refl read is
     where
       go : (near close alike : Bool) → is_request_close (made me m) opened.ask ≡ close → is_alike opened ≡ alike
-          → (read : Result Packet PacketFault) → IsRead (Ok opened) read told
-          → Answers (if near && close
+          → (read : Result Packet PacketFault) → IsRead (Ok opened) read told → Answers (if near && close
           then (if alike then heard (received limits me m opened.from told read) else (m, Arrived.Unlike))
           else (m, Arrived.Late))
       go false close alike c a read is = (refl, inl refl)

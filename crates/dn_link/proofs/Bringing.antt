@@ -1,50 +1,55 @@
 -- A datagram brings all that its sender made by then.
-use Rattle.std.proofs.Common.{◌≡◌, ◌≢◌, ◌<◌, ◌≤◌, ◌+◌, ℕ, Bool, true, false, List, [], ◌∷◌, ◌++◌, length, map, take, append-nil, refl, ap, sym, ◌∙◌, subst, arith, Option, Some, None, inl, inr}
-use Rattle.std.specs.Prelude.{◌&&◌, if◌then◌else◌, not}
-use Rattle.std.specs.Option.{option_map}
+use Rattle.std.proofs.Common.{◌≡◌, ℕ, List, [], ◌∷◌, ◌++◌, map, append-nil, refl, ap, ◌∙◌, All, ◌≢◌, ◌<◌, ◌≤◌, ◌+◌, Bool, true, false, length, take, sym, arith, Option, Some, None, inl, inr}
+use Rattle.std.specs.List.{flat_map}
+use Rattle.std.proofs.lemmas.Grind.{flat_map-append}
+use Rattle.std.proofs.lemmas.List.Elements.{All-head, All-tail}
+use Rattle.std.specs.Prelude.{if◌then◌else◌}
 use Rattle.std.proofs.lemmas.Bool.{cases_lt, lt-ltb, ne_eqb, true≢false}
 use Rattle.std.proofs.lemmas.List.{length-map}
 use Rattle.std.proofs.Math.Seq.{take-append_seam}
+use Rattle.dn_seal.specs.{declared.opened.Opened.Opened, declared.seal.Seal.Seal}
+use Rattle.dn_link.specs.{declared.bundle.Identity.Identity, declared.bundle.Part.Part, declared.bundle.Part.TheVariants.Whole, declared.bundle.Part.TheVariants.Run, declared.bundle.Part.TheVariants.Relay}
+use Rattle.dn_link.specs.{Linked.Gives, Linked.Linked, Paced.PaceState, Packets.own_in, Packets.own_of, Packets.packets_of, Packing.IsNeeded, Relays.Handed, Relays.handed_part, declared.bundle.Bundle.Bundle}
+use Rattle.dn_link.specs.{declared.bundle.Carried.Carried, Counting.has_ended, Giving.carried_of, Kept.going, Kept.taken_by, Kept.takes_packet, LinkedGame.AreLinked, Onward.next_to, Packets.opened_from}
+use Rattle.dn_link.specs.{Text.parts_bytes, CaughtUp.AreCaughtUp, CaughtUp.Brings, CaughtUp.HasGrown, CaughtUp.IsInStep, CaughtUp.last_end}
 use Rattle.dn_setup.specs.Settings.{Settings}
-use Rattle.dn_machine.specs.declared.answers.Phase.{Phase}
-use Rattle.dn_machine.specs.declared.answers.Phase.TheVariants.{Playing}
-use Rattle.dn_machine.specs.declared.peer.Peer.{Peer}
-use Rattle.dn_machine.specs.Flight.{Play, Flight}
-use Rattle.dn_machine.specs.Limits.{Limits}
-use Rattle.dn_machine.specs.Node as machine
-use Rattle.dn_machine.specs.Node.{put}
-use Rattle.dn_machine.specs.Sending.{after_sent, commands_flight, on_send, request_to}
+use Rattle.dn_machine.specs.{declared.answers.Phase.TheVariants.Playing, declared.peer.Peer.Peer, Flight.Play, Limits.Limits, Node.put, Sending.after_sent, Sending.commands_flight, Sending.on_send, Sending.request_to}
 use Rattle.dn_machine.proofs.Put.{put_off}
-use Rattle.dn_lockstep.specs.Marking.{Marking}
-use Rattle.dn_lockstep.specs.Represents.{Represents}
-use Rattle.dn_lockstep.specs.Sent.{sent_to}
-use Rattle.dn_lockstep.specs.Session.{Session}
-use Rattle.dn_lockstep.specs.Told.{got, made}
+use Rattle.dn_lockstep.specs.{Marking.Marking, Represents.Represents, Sent.sent_to, Session.Session, Told.got, Told.made}
 use Rattle.dn_lockstep.proofs.Counting.{made_is}
-use Rattle.dn_seal.specs.declared.opened.Opened.{Opened}
-use Rattle.dn_seal.specs.declared.seal.Seal.{Seal}
-use Rattle.dn_link.specs.declared.bundle.Bundle.{Bundle}
-use Rattle.dn_link.specs.declared.bundle.Carried.{Carried}
-use Rattle.dn_link.specs.declared.bundle.Identity.{Identity}
-use Rattle.dn_link.specs.CaughtUp.{AreCaughtUp, Brings, HasGrown, IsInStep, last_end}
-use Rattle.dn_link.specs.Counting.{has_ended}
-use Rattle.dn_link.specs.Giving.{SendsCarried, carried_of}
-use Rattle.dn_link.specs.Hearing.{ByTest}
-use Rattle.dn_link.specs.Kept.{going, taken_by, takes_packet}
+use Rattle.dn_link.proofs.{Catching.not_yet, Chains.chain_goes, Chains.later_goes, Following.gone_or_idle, Sending.Follows, Sending.follows}
+use Rattle.dn_machine.specs.Node as machine
 use Rattle.dn_link.specs.Kept as keep
-use Rattle.dn_link.specs.Linked.{Gives, Linked, all_ready, holds_back, is_gathering}
-use Rattle.dn_link.specs.LinkedGame.{AreLinked}
-use Rattle.dn_link.specs.Onward.{next_to}
-use Rattle.dn_link.specs.Paced.{PaceState}
-use Rattle.dn_link.specs.Packets.{opened_from, own_in}
-use Rattle.dn_link.specs.Text.{parts_bytes}
-use Rattle.dn_link.specs.declared.bundle.Part.{Part}
-use Rattle.dn_link.proofs.OwnParts.{gives_own}
 use Rattle.dn_link.proofs.Linking as base
-use Rattle.dn_link.proofs.Catching.{not_yet}
-use Rattle.dn_link.proofs.Chains.{chain_goes, later_goes}
-use Rattle.dn_link.proofs.Following.{gone_or_idle}
-use Rattle.dn_link.proofs.Sending.{Follows, follows}
+
+-- What a datagram carries of its sender's own packets.
+
+-- parts that packets were written as are all the sender's own
+own_only : (from : ℕ) (parts : List Part) → All (IsNeeded from) parts
+    → flat_map (own_of from) parts ≡ flat_map (packets_of from) parts
+own_only from [] needed = refl
+own_only from (part ∷ parts) needed =
+    (λ i. first part (All-head (IsNeeded from) part parts needed) i
+    ++ own_only from parts (All-tail (IsNeeded from) part parts needed) i)
+  where
+    first : (part : Part) → IsNeeded from part → own_of from part ≡ packets_of from part
+    first (Whole packet) needed = refl
+    first (Run run) needed = refl
+    first (Relay relay) needed = absurd needed
+
+-- and what is handed on is not
+none_own : (from : ℕ) (handed : List Handed) → flat_map (own_of from) (map handed_part handed) ≡ []
+none_own from [] = refl
+none_own from (one ∷ handed) = none_own from handed
+
+pub gives_own : (seal : Seal) (identity : Identity) (pace : PaceState) (to : ℕ) (old new : Linked) (bytes : List ℕ)
+    → (gives : Gives seal identity pace to old new bytes)
+    → own_in gives.bundle ≡ flat_map (packets_of old.node.me) gives.own
+gives_own seal identity pace to old new bytes gives =
+    (λ i. flat_map (own_of (gives.from i)) (gives.parts i))
+    ∙ flat_map-append (own_of old.node.me) gives.own (map handed_part gives.handed)
+    ∙ ap (λ (ps : List Opened). flat_map (own_of old.node.me) gives.own ++ ps) (none_own old.node.me gives.handed)
+    ∙ append-nil (flat_map (own_of old.node.me) gives.own) ∙ own_only old.node.me gives.own gives.packed.needed
 
 -- they end no earlier behind a later tic
 pub last_up : (tic later : ℕ) (packets : List Opened) → tic ≤ later → last_end tic packets ≤ last_end later packets
@@ -59,25 +64,12 @@ last_of me tic (other ∷ packets) packet = last_of me (keep.end_of other) packe
 -- what is so of a datagram stays so
 pub in_step_on : (limits : Limits) (links later : ℕ → Linked) (bundle : Bundle) → HasGrown limits links later
     → IsInStep limits links bundle → IsInStep limits later bundle
-in_step_on limits links later bundle grown is =
-    record {
-      sender = is.sender;
-      receiver = is.receiver;
-      apart = is.apart;
-      asks = is.asks;
-      follows = λ e. later_goes (got (links bundle.to).node bundle.from) (got (later bundle.to).node bundle.from)
-          (own_in bundle) (grown.got bundle.to bundle.from is.receiver is.sender)
-          (is.follows (not_yet (grown.ended bundle.to is.receiver) e));
-    }
+in_step_on limits links later bundle grown is = grind (arith, follows, later_goes, not_yet)
 
 pub brings_on : (limits : Limits) (links later : ℕ → Linked) (bundle : Bundle) (count : ℕ)
     → HasGrown limits links later → bundle.from < limits.players → bundle.to < limits.players
     → Brings count links bundle → Brings count later bundle
-brings_on limits links later bundle count grown from to was e =
-    let before = was (not_yet (grown.ended bundle.to to) e) in
-    let more = last_up (got (links bundle.to).node bundle.from) (got (later bundle.to).node bundle.from)
-    (own_in bundle) (grown.got bundle.to bundle.from to from) in
-    omega (arith, before, more)
+brings_on limits links later bundle count grown from to was e = grind (arith, not_yet, last_up)
 
 -- a playing node gives its commands
 plays_sent : (limits : Limits) (me : ℕ) (m : machine.Node) (to : ℕ) → to < limits.players → me ≢ to
@@ -90,8 +82,7 @@ module _ (marking : Marking) (limits : Limits) (settings : Settings) (session : 
     (player : ℕ) (linked : AreLinked marking limits settings session links) (mine : player < limits.players)
     (were : AreCaughtUp limits links) (to : ℕ) (below : to < limits.players) (apart : to ≢ player) (seal : Seal)
     (identity : Identity) (pace : PaceState) (new : Linked) (bytes : List ℕ)
-    (gives : Gives seal identity pace to (links player) new bytes)
-    (in_time : has_ended (links to).node ≡ false
+    (gives : Gives seal identity pace to (links player) new bytes) (in_time : has_ended (links to).node ≡ false
     → made (links player).node ≤ next_to (links player).node to + (links player).node.places)
     (near : made (links player).node ≤ next_to (links player).node to + 12)
     (plays : (links player).node.phase ≡ Playing)
@@ -119,22 +110,15 @@ module _ (marking : Marking) (limits : Limits) (settings : Settings) (session : 
         | inr none ↦ none
       ] in
       let count : gives.packed.count ≡ length told = omega (arith, long, all, gives.packed.some) in
-      gives_own seal identity pace to old new bytes gives ∙ gives.packed.front
-      ∙ ap (λ (k : ℕ). take k told) count ∙ ap (take (length told)) (sym (append-nil told))
-      ∙ take-append_seam told []
+      gives_own seal identity pace to old new bytes gives ∙ gives.packed.front ∙ ap (λ (k : ℕ). take k told)
+      count ∙ ap (take (length told)) (sym (append-nil told)) ∙ take-append_seam told []
 
   -- the packet of the moment
   abbrev packet : Carried
   packet = carried_of (commands_flight limits player m to Play (request_to m to))
 
   given : gives.given ≡ Some packet
-  given =
-      let held : holds_back old ≡ false = ap (λ (p : Phase). is_gathering p && not (all_ready old)) plays in
-      let step = subst (λ (test : Bool). ByTest test ((new.node ≡ old.node) × (gives.given ≡ None))
-      (SendsCarried to old.node new.node gives.given)) held gives.step in
-      let after = step.step limits player m shows in
-      after.answer ∙ ap (λ (r : machine.Node × Option Flight). option_map carried_of r.1)
-      (plays_sent limits player m to below (λ e. apart (sym e)) (sym shows.stands.phase ∙ plays))
+  given = grind (arith, shows, plays_sent)
 
   count : made old.node ≡ machine.made player m
   count = made_is limits player old.node m shows (omega (arith, mine, shows.whose.number, shows.whose.players))

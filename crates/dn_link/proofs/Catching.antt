@@ -1,51 +1,28 @@
 -- The links of a game stay caught up where one is another now.
 use Rattle.std.proofs.Common.{ℤ, ◌≡◌, ◌≢◌, ◌<◌, ◌≤◌, ◌++◌, [], ◌∷◌, ℕ, Bool, true, false, List, length, refl, ap, sym, ◌∙◌, subst, arith, inl, inr}
-use Rattle.std.proofs.lemmas.Bool.{cases_eq, true≢false}
-use Rattle.std.proofs.lemmas.List.{length-append}
-use Rattle.dn_tic.specs.declared.command.TicCmd.{TicCmd}
-use Rattle.dn_tic.specs.declared.input.Input.{Input}
-use Rattle.dn_machine.specs.declared.peer.Peer.{Peer}
-use Rattle.dn_machine.specs.Building.{on_build}
-use Rattle.dn_machine.specs.Limits.{Limits}
+use Rattle.std.proofs.lemmas.{Bool.cases_eq, Bool.true≢false, List.length-append}
+use Rattle.dn_tic.specs.{declared.command.TicCmd.TicCmd, declared.input.Input.Input}
+use Rattle.dn_machine.specs.{Building.on_build, Limits.Limits, Node.put, Running.on_run, Running.on_quit, Running.row_held}
 use Rattle.dn_machine.specs.Node as machine
-use Rattle.dn_machine.specs.Node.{put}
-use Rattle.dn_machine.specs.Running.{on_run, on_quit, row_held}
-use Rattle.dn_machine.proofs.Calls.{build_cases, run_cases, quit_cases}
-use Rattle.dn_machine.proofs.Put.{put_at, put_off}
-use Rattle.dn_lockstep.specs.Contents.{Contents}
-use Rattle.dn_lockstep.specs.Represents.{Represents}
-use Rattle.dn_lockstep.specs.Session.{Session}
-use Rattle.dn_lockstep.specs.Told.{got}
+use Rattle.dn_machine.proofs.{Calls.build_cases, Calls.run_cases, Calls.quit_cases, Put.put_at, Put.put_off}
+use Rattle.dn_remain.proofs.Vanished.Put.{at_put}
+use Rattle.dn_lockstep.specs.{Contents.Contents, Represents.Represents, Session.Session, Told.got}
 use Rattle.dn_lockstep.proofs.Shown.{has}
-use Rattle.dn_link.specs.CaughtUp.{AreCaughtUp, IsCaughtUp, IsKeptChain, StayCaughtUp}
-use Rattle.dn_link.specs.Counting.{has_ended}
-use Rattle.dn_link.specs.Kept.{IsKeptRising, Unacknowledged}
-use Rattle.dn_link.specs.Linked.{Linked}
-use Rattle.dn_link.specs.LinkedGame.{IsLater}
-use Rattle.dn_link.specs.Onward.{next_to}
+use Rattle.dn_link.specs.{CaughtUp.AreCaughtUp, CaughtUp.IsCaughtUp, CaughtUp.IsKeptChain, CaughtUp.StayCaughtUp, Counting.has_ended, Kept.IsKeptRising, Kept.Unacknowledged, Linked.Linked, LinkedGame.IsLater, Onward.next_to}
 
 -- one who has not ended had not
 pub not_yet : {old new : Bool} → (old ≡ true → new ≡ true) → new ≡ false → old ≡ false
-not_yet {old} {new} stays is = go old refl
-  where
-    go : (test : Bool) → old ≡ test → old ≡ false
-    go true was = absurd (true≢false (sym (stays was) ∙ is))
-    go false was = was
+not_yet {old} {new} stays is = grind (arith, true≢false)
 
 -- who had ended has, in a later session
 pub ends_on : (session later : Session) (player : ℕ) (old new : Contents) → old ≡ session.locksteps player
     → later.locksteps ≡ put session.locksteps player new → IsLater session later
     → has_ended old ≡ true → has_ended new ≡ true
-ends_on session later player old new node locksteps is was =
-    sym (ap (λ (f : ℕ → Contents). has_ended (f player)) locksteps
-    ∙ ap has_ended (put_at session.locksteps player player new refl)) ∙ is.ended player (ap has_ended (sym node) ∙ was)
+ends_on session later player old new node locksteps is was = grind (arith, put_at)
 
 grown : (held : ℕ → List TicCmd) (player : ℕ) (more : List TicCmd)
     → length (held player) ≤ length (put held player (held player ++ more) player)
-grown held player more =
-    let at = ap (length {A = TicCmd}) (put_at held player player (held player ++ more) refl)
-    ∙ length-append (held player) more in
-    omega (arith, at)
+grown held player more = grind (arith, put_at, length-append)
 
 module _ (limits : Limits) (links : ℕ → Linked) (player : ℕ) (new : Linked) (mine : player < limits.players)
     (were : AreCaughtUp limits links) where
@@ -58,61 +35,24 @@ module _ (limits : Limits) (links : ℕ → Linked) (player : ℕ) (new : Linked
       → old.node.ran ≤ new.node.ran
       → ((which : ℕ) → which < limits.players → which ≢ player → has_ended (links which).node ≡ false
       → next_to old.node which ≤ next_to new.node which)
-      → (has_ended old.node ≡ true → has_ended new.node ≡ true)
-      → StayCaughtUp limits links player new
+      → (has_ended old.node ≡ true → has_ended new.node ≡ true) → StayCaughtUp limits links player new
   relinked pairs more further sends_on stays = (
-    (λ one other one_in other_in apart. elim (cases_eq one player) [
-      | inl at ↦
-          let away : other ≢ player = (λ e. apart (e ∙ sym at)) in
-          subst (λ (l : Linked). IsCaughtUp limits one other l (put links player new other))
-          (sym (put_at links player one new at))
-          (subst (λ (l : Linked). IsCaughtUp limits one other new l) (sym (put_off links player other new away))
-          (subst (λ (k : ℕ). IsCaughtUp limits k other new (links other)) (sym at) (pairs other other_in away)))
-      | inr off ↦
-          subst (λ (l : Linked). IsCaughtUp limits one other l (put links player new other))
-          (sym (put_off links player one new off)) (elim (cases_eq other player) [
-            | inl at ↦ subst (λ (l : Linked). IsCaughtUp limits one other (links one) l)
-                (sym (put_at links player other new at))
-                (subst (λ (k : ℕ). IsCaughtUp limits one k (links one) new) (sym at) (to_it one one_in off))
-            | inr away ↦ subst (λ (l : Linked). IsCaughtUp limits one other (links one) l)
-                (sym (put_off links player other new away)) (were one other one_in other_in apart)
-          ])
-    ]),
+    (λ one other one_in other_in. at_put (λ (k : ℕ) (l : Linked). k < limits.players → other ≢ k
+        → IsCaughtUp limits k other l (put links player new other)) links player new
+        (λ inside away. at_put (λ (j : ℕ) (l : Linked). j < limits.players → j ≢ player → IsCaughtUp limits player j new l)
+        links player new (λ l n. absurd (n refl)) (λ j off. pairs j) other other_in away)
+        (λ k off inside away. at_put (λ (j : ℕ) (l : Linked). j < limits.players → j ≢ k → IsCaughtUp limits k j (links k) l)
+        links player new (λ l n. to_it k inside off) (λ j apart l n. were k j inside l n) other other_in away) one one_in),
     record {
-      got = λ one which one_in which_in. elim (cases_eq one player) [
-        | inl at ↦
-            let now = ap (λ (l : Linked). got l.node which) (put_at links player one new at) in
-            let was = ap (λ (k : ℕ). got (links k).node which) at in
-            let grown = more which which_in in
-            omega (arith, now, was, grown)
-        | inr off ↦
-            let now = ap (λ (l : Linked). got l.node which) (put_off links player one new off) in
-            omega (arith, now)
-      ];
-      ran = λ one one_in. elim (cases_eq one player) [
-        | inl at ↦ omega (
-          arith,
-          ap (λ (l : Linked). l.node.ran) (put_at links player one new at),
-          ap (λ (k : ℕ). (links k).node.ran) at,
-          further,
-        )
-        | inr off ↦ omega (arith, ap (λ (l : Linked). l.node.ran) (put_off links player one new off))
-      ];
-      sends = λ one which one_in which_in apart goes_on. elim (cases_eq one player) [
-        | inl at ↦
-            let now = ap (λ (l : Linked). next_to l.node which) (put_at links player one new at) in
-            let was = ap (λ (k : ℕ). next_to (links k).node which) at in
-            let up = sends_on which which_in (λ e. apart (e ∙ sym at)) goes_on in
-            omega (arith, now, was, up)
-        | inr off ↦
-            let now = ap (λ (l : Linked). next_to l.node which) (put_off links player one new off) in
-            omega (arith, now)
-      ];
-      ended = λ one one_in was. elim (cases_eq one player) [
-        | inl at ↦ ap (λ (l : Linked). has_ended l.node) (put_at links player one new at)
-            ∙ stays (ap (λ (k : ℕ). has_ended (links k).node) (sym at) ∙ was)
-        | inr off ↦ ap (λ (l : Linked). has_ended l.node) (put_off links player one new off) ∙ was
-      ];
+      got = λ one which one_in which_in. at_put (λ (k : ℕ) (l : Linked). got (links k).node which ≤ got l.node which)
+          links player new (more which which_in) (λ k off. omega arith) one;
+      ran = λ one one_in. at_put (λ (k : ℕ) (l : Linked). (links k).node.ran ≤ l.node.ran) links player new further
+          (λ k off. omega arith) one;
+      sends = λ one which one_in which_in. at_put (λ (k : ℕ) (l : Linked). which ≢ k → has_ended (links which).node ≡ false
+          → next_to (links k).node which ≤ next_to l.node which) links player new (sends_on which which_in)
+          (λ k off apart goes_on. omega arith) one;
+      ended = λ one one_in. at_put (λ (k : ℕ) (l : Linked). has_ended (links k).node ≡ true → has_ended l.node ≡ true)
+          links player new stays (λ k off was. was) one;
     },
   )
     where
@@ -168,17 +108,7 @@ module _ (limits : Limits) (links : ℕ → Linked) (player : ℕ) (new : Linked
 
   pub shows_still : (m after : machine.Node) → Represents limits player old.node m → Represents limits player new.node after
       → IsQuiet m after → IsStill
-  shows_still m after was now quiet =
-      let own_was = has limits player old.node m was player mine in
-      let own_now = has limits player new.node after now player mine in
-      record {
-        others = λ p l n. has limits player new.node after now p l ∙ quiet.0 p n
-            ∙ sym (has limits player old.node m was p l);
-        own = omega (arith, own_was, own_now, quiet.1.0);
-        sends = λ p l. ap (λ (x : Peer). x.resend) (now.peers.known p l ∙ quiet.1.1 p ∙ sym (was.peers.known p l));
-        wants = λ p l. ap (λ (x : Peer). x.want) (now.peers.known p l ∙ quiet.1.1 p ∙ sym (was.peers.known p l));
-        ran = omega (arith, was.table.ran, now.table.ran, quiet.1.2);
-      }
+  shows_still m after was now quiet = grind (arith, has)
 
   quiet_same : (m : machine.Node) → IsQuiet m m
   quiet_same m = ((λ p n. refl), (omega arith, (λ p. refl), omega arith))

@@ -3,54 +3,26 @@ use Rattle.std.proofs.Common.{◌≡◌, ◌≢◌, ◌<◌, ◌≤◌, ◌+◌,
 use Rattle.std.specs.Prelude.{◌==◌, ◌||◌, if◌then◌else◌, is_some, min, nat_le, nat_lt, not, slice_index, unwrap_or, Result, Ok, Err}
 use Rattle.std.proofs.lemmas.Bool.{and_from, and_parts, and_right, cases_eq, eq-eqb, ne_eqb, leb-true, lt-ltb, ltb-true, true≢false}
 use Rattle.dn_setup.specs.Settings.{Settings}
-use Rattle.dn_machine.specs.Limits.{Limits}
-use Rattle.dn_machine.specs.declared.answers.Phase.TheVariants as phase
-use Rattle.dn_machine.specs.Node.{is_ended, put}
+use Rattle.dn_machine.specs.{Limits.Limits, Node.is_ended, Node.put}
 use Rattle.dn_machine.proofs.Put.{put_at, put_off}
-use Rattle.dn_lockstep.specs.Agreed.{AreAgreed}
-use Rattle.dn_lockstep.specs.Contents.{Contents, end_in}
-use Rattle.dn_lockstep.specs.Marking.{Marking}
-use Rattle.dn_lockstep.specs.OneGame.{AreOneGame}
-use Rattle.dn_lockstep.specs.Rings.{count_of}
-use Rattle.dn_lockstep.specs.Session.{Session, with_lockstep}
-use Rattle.dn_lockstep.specs.Told.{got, made}
-use Rattle.dn_seal.specs.declared.seal.Seal.{Seal}
-use Rattle.dn_seal.specs.Opening.{Sealing}
+use Rattle.dn_lockstep.specs.{Agreed.AreAgreed, Contents.Contents, Contents.end_in, Marking.Marking, OneGame.AreOneGame, Rings.count_of, Session.Session, Session.with_lockstep, Told.got, Told.made}
+use Rattle.dn_seal.specs.{declared.seal.Seal.Seal, Opening.Sealing}
 use Rattle.dn_open.specs.Sealed.{sealing_of}
-use Rattle.dn_link.specs.declared.bundle.Bundle.{Bundle}
-use Rattle.dn_link.specs.declared.bundle.BundleFault.{BundleFault}
-use Rattle.dn_link.specs.declared.bundle.Identity.{Identity}
-use Rattle.dn_link.specs.declared.presence.Presence.{Presence}
-use Rattle.dn_link.specs.declared.presence.Presence.TheVariants.{Unknown, There, Playing, Different, Away, Left, Forgotten}
-use Rattle.dn_link.specs.declared.received.Received.{Received}
-use Rattle.dn_link.specs.declared.received.Received.TheVariants.{GivenUp, Stranger}
-use Rattle.dn_link.specs.declared.bundle.Message.{Message}
-use Rattle.dn_link.specs.declared.bundle.Message.TheVariants.{Game}
-use Rattle.dn_link.specs.Bundles.{HasReached, IsGenuineDatagram, WasGiven}
-use Rattle.dn_link.specs.CaughtUp.{AreCaughtUp, Brings, HasNoGap, IsCaughtUp, IsInStep, IsInStepTo, IsKeptChain, StayCaughtUp, last_end}
-use Rattle.dn_link.specs.Counting.{has_ended, has_of, held_of, reached, with_end}
-use Rattle.dn_link.specs.Hearing.{ByTest, HearsAll}
-use Rattle.dn_link.specs.Kept.{IsKeptRising, Unacknowledged, acknowledged}
-use Rattle.dn_link.specs.Linked.{IsTakenIn, Linked, PeerState, Receives, ReceivesAs, TakesIn, all_ready, certain, done_with, has_given_up, hears, is_gathering, is_peer, known_by, met, takes}
-use Rattle.dn_link.specs.LinkedGame.{AreLinked, IsLater}
-use Rattle.dn_link.specs.Onward.{next_to}
-use Rattle.dn_link.specs.Paced.{PaceState}
+use Rattle.dn_link.specs.{declared.bundle.Bundle.Bundle, declared.bundle.BundleFault.BundleFault, declared.bundle.Identity.Identity, declared.presence.Presence.Presence, declared.received.Received.Received}
+use Rattle.dn_link.specs.{declared.received.Received.TheVariants.GivenUp, declared.received.Received.TheVariants.Stranger, declared.bundle.Message.Message, declared.bundle.Message.TheVariants.Game, Bundles.HasReached}
+use Rattle.dn_link.specs.{Bundles.IsGenuineDatagram, Bundles.WasGiven, Hearing.ByTest, Hearing.HearsAll, Kept.IsKeptRising, Kept.Unacknowledged, Kept.acknowledged, LinkedGame.AreLinked, LinkedGame.IsLater}
+use Rattle.dn_link.specs.{Onward.next_to, Paced.PaceState, Packets.heard_in, Packets.own_in, Packets.packets_in, Reading.IsBundledAs, Reading.IsDatagramOf, Text.IsBundle, Text.sealed_bytes}
+use Rattle.dn_link.specs.{declared.presence.Presence.TheVariants.Unknown, declared.presence.Presence.TheVariants.There, declared.presence.Presence.TheVariants.Playing, declared.presence.Presence.TheVariants.Different}
+use Rattle.dn_link.specs.{declared.presence.Presence.TheVariants.Away, declared.presence.Presence.TheVariants.Left, declared.presence.Presence.TheVariants.Forgotten, CaughtUp.AreCaughtUp, CaughtUp.Brings}
+use Rattle.dn_link.specs.{CaughtUp.HasNoGap, CaughtUp.IsCaughtUp, CaughtUp.IsInStep, CaughtUp.IsInStepTo, CaughtUp.IsKeptChain, CaughtUp.StayCaughtUp, CaughtUp.last_end, Counting.has_ended, Counting.has_of}
+use Rattle.dn_link.specs.{Counting.held_of, Counting.reached, Counting.with_end, Linked.IsTakenIn, Linked.Linked, Linked.PeerState, Linked.Receives, Linked.ReceivesAs, Linked.TakesIn, Linked.all_ready, Linked.certain}
+use Rattle.dn_link.specs.{Linked.done_with, Linked.has_given_up, Linked.hears, Linked.is_gathering, Linked.is_peer, Linked.known_by, Linked.met, Linked.takes, Presence.Becomes, Presence.Differs, Presence.is_fresh}
+use Rattle.dn_link.specs.{Presence.is_there, Presence.plays_on, Presence.takes_part}
+use Rattle.dn_link.proofs.{Arriving.all_hears, Catching.ends_on, Catching.not_yet, Catching.relinked, Catching.still, Chains.chain_past, Outgoing.same_bundle, Keeping.LettersKeep, Keeping.as_it_is}
+use Rattle.dn_link.proofs.{Leaving.at_most_there, Lefts.unended, Rising.rises_past, Makers.HaveNoGaps, Makers.ends_of, Makers.parts_ask, Makers.parts_go, Lefts.parts_heard}
+use Rattle.dn_machine.specs.declared.answers.Phase.TheVariants as phase
 use Rattle.dn_link.specs.declared.bundle.Relay as relay
-use Rattle.dn_link.specs.Packets.{heard_in, own_in, packets_in}
-use Rattle.dn_link.specs.Presence.{Becomes, Differs, is_fresh, is_there, plays_on, takes_part}
-use Rattle.dn_link.specs.Reading.{IsBundledAs, IsDatagramOf}
-use Rattle.dn_link.specs.Text.{IsBundle, sealed_bytes}
-use Rattle.dn_link.proofs.Arriving.{all_hears}
-use Rattle.dn_link.proofs.Catching.{ends_on, not_yet, relinked, still}
-use Rattle.dn_link.proofs.Chains.{chain_past}
-use Rattle.dn_link.proofs.Genuine.{same_bundle}
-use Rattle.dn_link.proofs.Keeping.{LettersKeep, as_it_is}
-use Rattle.dn_link.proofs.Leaving.{at_most_there}
-use Rattle.dn_link.proofs.Lefts.{unended}
 use Rattle.dn_link.proofs.Linking as base
-use Rattle.dn_link.proofs.Rising.{rises_past}
-use Rattle.dn_link.proofs.Makers.{HaveNoGaps, ends_of, parts_ask, parts_go}
-use Rattle.dn_link.proofs.Senders.{parts_heard}
 
 -- no more is certain than this, unless the peer has left
 at_most : (presence : Presence) (node : Contents) (count bound : ℕ) → ((cause : ℕ) → presence ≢ Left cause)
@@ -197,15 +169,13 @@ module _ (letters : LettersKeep) (marking : Marking) (limits : Limits) (settings
         let here : is_ended old.node.phase ≡ false → has_ended (links bundle.to).node ≡ false =
         (λ e. ap (λ (k : ℕ). has_ended (links k).node) goes ∙ going e) in
         let to : (links bundle.to).node ≡ old.node = ap (λ (k : ℕ). (links k).node) goes in
-        let go : is_ended old.node.phase ≡ false
-        → HaveNoGaps (got old.node) (heard_in (takes old) bundle)
+        let go : is_ended old.node.phase ≡ false → HaveNoGaps (got old.node) (heard_in (takes old) bundle)
         × (last_end first (own_in bundle) ≤ ends_of (got old.node) (heard_in (takes old) bundle) from) =
         (λ e. parts_go (takes old) from (got old.node) taken_low bundle.parts.items (got old.node) first (omega arith)
         (λ p. omega arith)
         (subst (λ (n : Contents). HasNoGap (got n from) (own_in bundle)) to (in_step.follows (here e)))) in
         let them = all_hears letters marking limits settings session player mine (heard_in (takes old) bundle)
-        (session.locksteps player) new.node started (got old.node)
-        (subst (AreOneGame marking limits settings)
+        (session.locksteps player) new.node started (got old.node) (subst (AreOneGame marking limits settings)
         (sym (as_it_is letters marking limits settings session player)) linked.game)
         (λ p l n. ap (λ (n : Contents). (n.peers p).want) (sym node) ∙ none p l n)
         (λ k d l. (
@@ -247,8 +217,7 @@ module _ (letters : LettersKeep) (marking : Marking) (limits : Limits) (settings
           by true heard = (came_heard started heard).0
           by false same = unheard same.0
 
-          go : (differs : Bool)
-              → ByTest (not differs && hears (met differs bundle presence old) presence)
+          go : (differs : Bool) → ByTest (not differs && hears (met differs bundle presence old) presence)
               (HearsAll (heard_in (takes old) bundle) old.node new.node started) ((new.node ≡ old.node) × (started ≡ false))
               → Came
           go true same = unheard same.0
@@ -332,10 +301,9 @@ module _ (letters : LettersKeep) (marking : Marking) (limits : Limits) (settings
           not_left : has_ended (links from).node ≡ false → (cause : ℕ) → presence ≢ Left cause
           not_left goes_on cause left =
               let here : ((put links player new player).peers from).presence ≡ Left cause =
-              ap (λ (l : Linked). (l.peers from).presence) (put_at links player player new refl)
-              ∙ ap (λ (f : ℕ → PeerState). (f from).presence) takes_it.peers
-              ∙ ap (λ (t : PeerState). t.presence) (put_at old.peers from from _ refl)
-              ∙ known_presence differs ∙ left in
+              ap (λ (l : Linked). (l.peers from).presence) (put_at links player player new refl) ∙ ap
+              (λ (f : ℕ → PeerState). (f from).presence) takes_it.peers ∙ ap (λ (t : PeerState). t.presence)
+              (put_at old.peers from from _ refl) ∙ known_presence differs ∙ left in
               let gone = after.left player from cause mine here in
               true≢false (sym gone ∙ ap has_ended (put_off session.locksteps player from new.node apart ∙ sym theirs)
               ∙ goes_on)
@@ -471,8 +439,7 @@ module _ (letters : LettersKeep) (marking : Marking) (limits : Limits) (settings
                 let one = same_bundle seal bytes bundle step.0 player is step.1 step.2 in
                 takes bundle (omega (arith, inside, count))
                 (λ e. true≢false (sym both.1 ∙ ap not (eq-eqb bundle.from old.node.me (e ∙ sym own))))
-                is.to
-                (subst (λ (k : ℕ). All (WasGiven session.given k) (packets_in bundle)) is.to all) reached
+                is.to (subst (λ (k : ℕ). All (WasGiven session.given k) (packets_in bundle)) is.to all) reached
                 (subst (IsInStep limits links) one step.3) is comes.0 comes.1 comes.2 comes.4
 
             go : (test : Bool) → is_peer old.node bundle.from ≡ test → ByTest test
@@ -519,24 +486,21 @@ module _ (letters : LettersKeep) (marking : Marking) (limits : Limits) (settings
             arith,
             step.sender,
             (base.shows marking limits settings session links player linked mine).whose.players,
-          )))
-          (ap not (ne_eqb bundle.from old.node.me (λ e. apart (e ∙ own)))) in
+          ))) (ap not (ne_eqb bundle.from old.node.me (λ e. apart (e ∙ own)))) in
           let opened : receives.0 ≡ Ok bundle =
           read_back (sealing_of seal player) bundle is.game is.fits is.to
           (subst (λ (b : List ℕ). length b ≤ 1200) is.is is.short) receives.0
           (subst (λ (b : List ℕ). IsBundledAs (sealing_of seal player) b receives.0) is.is
           (subst (λ (k : ℕ). IsBundledAs (sealing_of seal k) bytes receives.0) own receives.1)) in
           let comes = subst (λ (r : Result Bundle BundleFault). ReceivesAs identity pace r old new answer) opened receives.2 in
-          let inner = subst (λ (test : Bool). ByTest test
-          (ByTest (has_given_up old bundle.from) ((answer ≡ GivenUp bundle.from) × (new ≡ old))
-          (IsTakenIn identity pace bundle old new answer))
+          let inner = subst (λ (test : Bool). ByTest test (ByTest (has_given_up old bundle.from)
+          ((answer ≡ GivenUp bundle.from) × (new ≡ old)) (IsTakenIn identity pace bundle old new answer))
           ((answer ≡ Stranger bundle.from) × (new ≡ old))) peer comes in
           let taken : IsTakenIn identity pace bundle old new answer =
           subst (λ (test : Bool). ByTest test ((answer ≡ GivenUp bundle.from) × (new ≡ old))
           (IsTakenIn identity pace bundle old new answer)) (linked.whole player mine bundle.from) inner in
-          let last = brings bundle step.sender apart is.to
-          (subst (λ (k : ℕ). All (WasGiven session.given k) (packets_in bundle)) is.to all) reached step identity _
-          taken.0 taken.1 taken.2 taken.4 game plays in
+          let last = brings bundle step.sender apart is.to (subst (λ (k : ℕ). All (WasGiven session.given k)
+          (packets_in bundle)) is.to all) reached step identity _ taken.0 taken.1 taken.2 taken.4 game plays in
           let to : links bundle.to ≡ old = ap links is.to in
           let more = brings_it (ap (λ (l : Linked). has_ended l.node) to ∙ not_ended) in
           let same_end = ap (λ (l : Linked). last_end (got l.node bundle.from) (own_in bundle)) to in

@@ -5,49 +5,22 @@ use Rattle.std.specs.Option.{option_map}
 use Rattle.std.proofs.lemmas.Bool.{cases_eq, cond_both, true≢false}
 use Rattle.std.proofs.lemmas.List.Elements.{All-take}
 use Rattle.std.proofs.lemmas.Option.{none-some, same_Some}
-use Rattle.dn_tic.specs.declared.command.TicCmd.{TicCmd}
-use Rattle.dn_tic.specs.declared.command.Move.{Move}
+use Rattle.dn_tic.specs.{declared.command.TicCmd.TicCmd, declared.command.Move.Move}
 use Rattle.dn_setup.specs.Settings.{Settings}
-use Rattle.dn_machine.specs.declared.peer.Peer.{Peer}
-use Rattle.dn_machine.specs.Flight.{Flight}
-use Rattle.dn_machine.specs.Limits.{Limits}
-use Rattle.dn_machine.specs.Node as machine
-use Rattle.dn_machine.specs.Node.{put}
-use Rattle.dn_machine.specs.Sending.{lag, after_sent, set_up_flight}
-use Rattle.dn_machine.proofs.Calls.{send_cases}
-use Rattle.dn_machine.proofs.Put.{put_at, put_off}
-use Rattle.dn_lockstep.specs.Agreed.{AreAgreed}
-use Rattle.dn_lockstep.specs.Contents.{Contents, end_in}
-use Rattle.dn_lockstep.specs.Marking.{Marking}
-use Rattle.dn_lockstep.specs.Represents.{Represents}
-use Rattle.dn_lockstep.specs.Sent.{sent_to}
-use Rattle.dn_lockstep.specs.Session.{Session}
-use Rattle.dn_lockstep.specs.Told.{got, made}
-use Rattle.dn_lockstep.proofs.Counting.{made_is}
-use Rattle.dn_lockstep.proofs.Shown.{has}
+use Rattle.dn_machine.specs.{declared.peer.Peer.Peer, Flight.Flight, Limits.Limits, Node.put, Sending.lag, Sending.after_sent, Sending.set_up_flight}
+use Rattle.dn_machine.proofs.{Calls.send_cases, Put.put_at, Put.put_off}
+use Rattle.dn_lockstep.specs.{Agreed.AreAgreed, Contents.Contents, Contents.end_in, Marking.Marking, Represents.Represents, Sent.sent_to, Session.Session, Told.got, Told.made}
+use Rattle.dn_lockstep.proofs.{Counting.made_is, Shown.has}
 use Rattle.dn_seal.specs.declared.seal.Seal.{Seal}
-use Rattle.dn_link.specs.declared.bundle.Carried.{Carried}
-use Rattle.dn_link.specs.declared.bundle.Identity.{Identity}
-use Rattle.dn_link.specs.declared.presence.Presence.TheVariants.{Left}
-use Rattle.dn_link.specs.CaughtUp.{AreCaughtUp, HasNoGap, IsCaughtUp, IsInStep, IsKeptChain, StayCaughtUp, WasInStep}
-use Rattle.dn_link.specs.Counting.{has_ended}
-use Rattle.dn_link.specs.Giving.{SendsCarried, carried_of}
-use Rattle.dn_link.specs.Hearing.{ByTest}
-use Rattle.dn_link.specs.Kept.{IsKeptRising, Unacknowledged, going, is_news, kept_after, taken_by}
+use Rattle.dn_link.specs.{declared.bundle.Carried.Carried, declared.bundle.Identity.Identity, declared.presence.Presence.TheVariants.Left, Counting.has_ended, Giving.SendsCarried, Giving.carried_of, Hearing.ByTest}
+use Rattle.dn_link.specs.{Kept.IsKeptRising, Kept.Unacknowledged, Kept.going, Kept.is_news, Kept.kept_after, Kept.taken_by, Linked.Gives, Linked.Linked, Linked.PeerState, Linked.holds_back, Linked.is_gathering}
+use Rattle.dn_link.specs.{LinkedGame.AreLinked, Onward.GoesOn, Onward.IsInTime, Onward.StillGoesOn, Onward.next_to, Paced.PaceState, Packets.opened_from, Packets.own_in, CaughtUp.AreCaughtUp, CaughtUp.HasNoGap}
+use Rattle.dn_link.specs.{CaughtUp.IsCaughtUp, CaughtUp.IsInStep, CaughtUp.IsKeptChain, CaughtUp.StayCaughtUp, CaughtUp.WasInStep}
+use Rattle.dn_link.proofs.{Catching.relinked, Bringing.gives_own, Following.covers, Following.kept_rises, Lefts.unended, Outgoing.taken_given, Sending.Sends, Sending.sends, Chains.IsQuiet, Chains.first_goes}
+use Rattle.dn_link.proofs.{Chains.going_asks, Chains.going_goes, Chains.keeps_chain, Chains.later_goes}
+use Rattle.dn_machine.specs.Node as machine
 use Rattle.dn_link.specs.Kept as keep
-use Rattle.dn_link.specs.Linked.{Gives, Linked, PeerState, holds_back, is_gathering}
-use Rattle.dn_link.specs.LinkedGame.{AreLinked}
-use Rattle.dn_link.specs.Onward.{GoesOn, IsInTime, StillGoesOn, next_to}
-use Rattle.dn_link.specs.Paced.{PaceState}
-use Rattle.dn_link.specs.Packets.{opened_from, own_in}
-use Rattle.dn_link.proofs.Catching.{relinked}
-use Rattle.dn_link.proofs.Chains.{IsQuiet, first_goes, going_asks, going_goes, keeps_chain, later_goes}
-use Rattle.dn_link.proofs.OwnParts.{gives_own}
-use Rattle.dn_link.proofs.Following.{covers, kept_rises}
-use Rattle.dn_link.proofs.Lefts.{unended}
 use Rattle.dn_link.proofs.Linking as base
-use Rattle.dn_link.proofs.Outgoing.{taken_given}
-use Rattle.dn_link.proofs.Sending.{Sends, sends}
 
 -- a node that is asked for a packet has what it had, and asks for nothing if it wants nothing
 module _ (limits : Limits) (me : ℕ) (m : machine.Node) (to : ℕ) where
@@ -85,10 +58,9 @@ module _ (limits : Limits) (me : ℕ) (m : machine.Node) (to : ℕ) where
   set_up (Some chosen) one e = ap (λ (f : Flight). f.request) (sym (same_Some _ one e))
 
   pub is_sent : IsSent (sent_to to limits me m)
-  is_sent = cond_both (nat_lt to limits.players) _ _ IsSent
-      (λ below. send_cases limits me m IsSent to (same None (λ one e. absurd (none-some one e)))
-      (λ other e. same (set_up_flight me to m.settings) (set_up m.settings))
-      (λ other e. sent _ (λ none. rw none refl)) (λ other e. sent _ (λ none. refl)))
+  is_sent = cond_both (nat_lt to limits.players) _ _ IsSent (λ below. send_cases limits me m IsSent to
+      (same None (λ one e. absurd (none-some one e))) (λ other e. same (set_up_flight me to m.settings)
+      (set_up m.settings)) (λ other e. sent _ (λ none. rw none refl)) (λ other e. sent _ (λ none. refl)))
       (λ past. same None (λ one e. absurd (none-some one e)))
 
 -- what is kept is for the same commands
@@ -150,8 +122,7 @@ module _ (marking : Marking) (limits : Limits) (settings : Settings) (session : 
     (agreed : AreAgreed limits settings session.inputs session.locksteps) (were : AreCaughtUp limits links)
     (four : limits.players ≤ 4) (to : ℕ) (below : to < limits.players) (apart : to ≢ player) (seal : Seal)
     (identity : Identity) (pace : PaceState) (new : Linked) (bytes : List ℕ)
-    (gives : Gives seal identity pace to (links player) new bytes)
-    (in_time : has_ended (links to).node ≡ false
+    (gives : Gives seal identity pace to (links player) new bytes) (in_time : has_ended (links to).node ≡ false
     → made (links player).node ≤ next_to (links player).node to + (links player).node.places) where
   abbrev old : Linked
   old = links player
@@ -245,9 +216,7 @@ module _ (marking : Marking) (limits : Limits) (settings : Settings) (session : 
     time : IsInTime to old
     time = record {
       there = in_time goes_on;
-      few = let back = linked.game.window.back in
-          let more = lead in
-          omega (arith, back, more, mades, was.near);
+      few = let back = linked.game.window.back in let more = lead in omega (arith, back, more, mades, was.near);
     }
 
     goes : GoesOn limits player to old
@@ -314,9 +283,8 @@ module _ (marking : Marking) (limits : Limits) (settings : Settings) (session : 
             of (sent_to to limits player m) (sent_sends) after.answer
           where
             sent_sends : Sends limits player m to (sent_to to limits player m).0 (sent_to to limits player m).1
-            sent_sends = cond_both (nat_lt to limits.players) _ _
-                (λ (x : machine.Node × Option Flight). Sends limits player m to x.0 x.1)
-                (λ below. sends limits player m to (sym shows.whose.most)
+            sent_sends = cond_both (nat_lt to limits.players) _ _ (λ (x : machine.Node × Option Flight). Sends
+                limits player m to x.0 x.1) (λ below. sends limits player m to (sym shows.whose.most)
                 (let time = in_time goes_on in omega (arith, time, next, count, shows.whose.places)))
                 (λ past. inl (refl, (λ one e. absurd (none-some one e))))
 
@@ -358,9 +326,8 @@ module _ (marking : Marking) (limits : Limits) (settings : Settings) (session : 
             of (sent_to to limits player m) sent_sends after.node
           where
             sent_sends : Sends limits player m to (sent_to to limits player m).0 (sent_to to limits player m).1
-            sent_sends = cond_both (nat_lt to limits.players) _ _
-                (λ (x : machine.Node × Option Flight). Sends limits player m to x.0 x.1)
-                (λ below. sends limits player m to (sym shows.whose.most)
+            sent_sends = cond_both (nat_lt to limits.players) _ _ (λ (x : machine.Node × Option Flight). Sends
+                limits player m to x.0 x.1) (λ below. sends limits player m to (sym shows.whose.most)
                 (let time = in_time goes_on in omega (arith, time, next, count, shows.whose.places)))
                 (λ past. inl (refl, (λ one e. absurd (none-some one e))))
 

@@ -1,13 +1,11 @@
 -- Packets without a gap, that are kept and that go to a peer.
 use Rattle.std.proofs.Common.{◌≡◌, ◌≤◌, ◌&&◌, ℕ, zero, suc, Bool, true, false, List, [], ◌∷◌, ◌++◌, length, map, take, refl, sym, subst, arith, Option, Some, None, All}
 use Rattle.std.specs.Prelude.{if◌then◌else◌, max, nat_le, nat_lt}
-use Rattle.std.proofs.lemmas.Bool.{and_parts, leb-true, leb-false}
-use Rattle.std.proofs.lemmas.List.Elements.{All-nil, All-cons}
+use Rattle.std.proofs.lemmas.{Bool.and_parts, Bool.leb-true, Bool.leb-false, List.Elements.All-nil, List.Elements.All-cons}
 use Rattle.dn_seal.specs.declared.opened.Opened.{Opened}
-use Rattle.dn_link.specs.declared.bundle.Carried.{Carried}
+use Rattle.dn_link.specs.{declared.bundle.Carried.Carried, Packets.opened_from}
 use Rattle.dn_link.specs.CaughtUp.{HasNoGap, IsChain, IsKeptChain, last_end, told_end}
 use Rattle.dn_link.specs.Kept.{IsRising, Unacknowledged, end_of, going, is_news, kept_after, without}
-use Rattle.dn_link.specs.Packets.{opened_from}
 use Rattle.dn_link.proofs.Rising.{few}
 
 -- the peer needs fewer

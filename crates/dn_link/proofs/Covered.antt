@@ -6,18 +6,9 @@ use Rattle.std.proofs.lemmas.Bool.{and_from, and_parts, and_right, cases_lt, le-
 use Rattle.std.proofs.Math.Seq.{take-append_seam}
 use Rattle.std.proofs.lemmas.List.{length-map}
 use Rattle.dn_machine.proofs.Put.{put_at}
-use Rattle.dn_seal.specs.declared.opened.Opened.{Opened}
-use Rattle.dn_seal.specs.declared.seal.Seal.{Seal}
-use Rattle.dn_link.specs.declared.bundle.Carried.{Carried}
-use Rattle.dn_link.specs.declared.bundle.Identity.{Identity}
-use Rattle.dn_link.specs.declared.peer.Peer.{Peer}
+use Rattle.dn_seal.specs.{declared.opened.Opened.Opened, declared.seal.Seal.Seal}
+use Rattle.dn_link.specs.{declared.bundle.Carried.Carried, declared.bundle.Identity.Identity, declared.peer.Peer.Peer, Linked.Gives, Linked.Linked, Linked.PeerState, Linking.peers_of, Paced.PaceState, Packets.opened_from, Packets.packets_of, Packing.ArePacked, Text.parts_bytes}
 use Rattle.dn_link.specs.Kept.{IsCovering, Reaches, Unacknowledged, acknowledged, end_of, going, has_tic, is_news, kept_after, taken_by, with_packet, without}
-use Rattle.dn_link.specs.Linked.{Gives, Linked, PeerState}
-use Rattle.dn_link.specs.Linking.{peers_of}
-use Rattle.dn_link.specs.Paced.{PaceState}
-use Rattle.dn_link.specs.Packets.{opened_from, packets_of}
-use Rattle.dn_link.specs.Packing.{ArePacked}
-use Rattle.dn_link.specs.Text.{parts_bytes}
 
 -- the packet has it
 abbrev lies : ℕ → Carried → Bool
@@ -35,44 +26,25 @@ has_more tic (packet ∷ packets) more has = elim (or_cases (lies tic packet) (h
 -- the last has it
 pub has_last : (tic : ℕ) (packets : List Carried) (packet : Carried) → packet.start ≤ tic → tic < end_of packet
     → has_tic tic (packets ++ packet ∷ []) ≡ true
-has_last tic [] packet from before =
-    or_left (lies tic packet) false (and_from (nat_le packet.start tic) (nat_lt tic (end_of packet))
-    (le-leb packet.start tic from) (lt-ltb tic (end_of packet) before))
+has_last tic [] packet from before = grind (arith, or_left, and_from, le-leb, lt-ltb)
 has_last tic (other ∷ packets) packet from before =
     or_right (lies tic other) (has_tic tic (packets ++ packet ∷ [])) (has_last tic packets packet from before)
 
 -- a packet that ends before does not have it
 pub has_behind : (tic : ℕ) (packet : Carried) (packets : List Carried) → end_of packet ≤ tic
     → has_tic tic (packet ∷ packets) ≡ true → has_tic tic packets ≡ true
-has_behind tic packet packets ends has = elim (or_cases (lies tic packet) (has_tic tic packets) has) [
-  | inl here ↦ absurd (true≢false (sym here ∙ and_right (nat_le packet.start tic) (nat_lt tic (end_of packet))
-      (le-ltb tic (end_of packet) ends)))
-  | inr behind ↦ behind
-]
+has_behind tic packet packets ends has = grind (arith, or_cases, true≢false, and_right, le-ltb)
 
 -- a packet that goes on where the others end is kept
 pub covers_more : (kept : Unacknowledged) (packet : Carried) → IsCovering kept → is_news kept packet ≡ true
     → IsCovering (record kept { packets = kept.packets ++ packet ∷ []; covered = end_of packet })
-covers_more kept packet covers news tic needed before = elim (cases_lt tic kept.covered) [
-  | inl was ↦ has_more tic kept.packets (packet ∷ []) (covers tic needed was)
-  | inr past ↦ has_last tic kept.packets packet (reaches (leb-true packet.start kept.covered
-      (and_parts (nat_le packet.start kept.covered) _ news).0) past) before
-]
-  where
-    reaches : {a b c : ℕ} → a ≤ b → b ≤ c → a ≤ c
-    reaches one other = omega (arith, one, other)
+covers_more kept packet covers news tic needed before = grind (arith, has_more, has_last, leb-true, and_parts)
 
 -- what goes to the peer has all that is kept afterwards
 pub goes_covering : (kept : Unacknowledged) (packet : Option Carried) → IsCovering kept → (tic : ℕ)
     → kept.done ≤ tic → tic < (kept_after kept packet).covered → has_tic tic (going kept packet) ≡ true
 goes_covering kept None covers tic needed before = covers tic needed before
-goes_covering kept (Some packet) covers tic needed before = go (is_news kept packet) refl before
-  where
-    go : (test : Bool) → is_news kept packet ≡ test
-        → tic < (if test then record kept { packets = kept.packets ++ packet ∷ []; covered = end_of packet } else kept).covered
-        → has_tic tic (kept.packets ++ packet ∷ []) ≡ true
-    go true news before = covers_more kept packet covers news tic needed before
-    go false old before = has_more tic kept.packets (packet ∷ []) (covers tic needed before)
+goes_covering kept (Some packet) covers tic needed before = grind (arith, covers_more, has_more)
 
 -- the peer needs fewer
 without_covers : (packets : List Carried) (count tic : ℕ) → count ≤ tic → has_tic tic packets ≡ true
@@ -90,9 +62,7 @@ without_covers (packet ∷ packets) count tic needed has =
     go false past behind = has
 
 pub covers_less : (kept : Unacknowledged) (count : ℕ) → IsCovering kept → IsCovering (acknowledged kept count)
-covers_less kept count covers tic needed before =
-    without_covers kept.packets count tic (omega (arith, needed))
-    (covers tic (omega (arith, needed)) (omega (arith, needed, before)))
+covers_less kept count covers tic needed before = grind (arith, without_covers)
 
 -- for each peer
 pub all_covering : (peers : List Peer) (place : ℕ) → IsCovering (peers_of peers place).kept
@@ -103,34 +73,7 @@ all_covering (peer ∷ peers) (suc place) = all_covering peers place
 -- what is covered reaches a packet that is given
 pub reached : (kept : Unacknowledged) (packet : Carried)
     → (end_of packet ≤ (with_packet kept packet).covered) ↔ Reaches kept packet
-reached kept packet = go (is_news kept packet) refl
-  where
-    go : (test : Bool) → is_news kept packet ≡ test
-        → (end_of packet ≤ (if test then record kept { packets = kept.packets ++ packet ∷ []; covered = end_of packet } else kept).covered)
-        ↔ Reaches kept packet
-    go true news =
-        let room : Bool = nat_lt kept.covered (end_of packet) && nat_lt (length kept.packets) 24 in
-        let parts = and_parts (nat_le packet.start kept.covered) room news in
-        let inner = and_parts (nat_lt kept.covered (end_of packet)) (nat_lt (length kept.packets) 24) parts.1 in (
-          λ e. inr (leb-true packet.start kept.covered parts.0, ltb-true (length kept.packets) 24 inner.1),
-          λ r. omega arith,
-        )
-    go false old = (
-      λ before. inl before,
-      λ r. elim r [
-        | inl before ↦ before
-        | inr there ↦ elim (cases_lt kept.covered (end_of packet)) [
-          | inl more ↦
-              let room : Bool = nat_lt kept.covered (end_of packet) && nat_lt (length kept.packets) 24 in
-              let news : is_news kept packet ≡ true = and_from (nat_le packet.start kept.covered) room
-              (le-leb packet.start kept.covered there.0) (and_from (nat_lt kept.covered (end_of packet))
-              (nat_lt (length kept.packets) 24) (lt-ltb kept.covered (end_of packet) more)
-              (lt-ltb (length kept.packets) 24 there.1)) in
-              absurd (true≢false (sym news ∙ old))
-          | inr none ↦ none
-        ]
-      ],
-    )
+reached kept packet = grind (arith, and_parts, leb-true, ltb-true, and_from, le-leb, lt-ltb, true≢false)
 
 -- and a datagram has all of them, where it has room
 pub carries : (seal : Seal) (identity : Identity) (pace : PaceState) (to : ℕ) (old new : Linked) (bytes : List ℕ)
@@ -155,9 +98,8 @@ carries seal identity pace to old new bytes gives covers few short =
     ap (λ (f : ℕ → PeerState). (f to).kept.covered) gives.peers
     ∙ ap (λ (t : PeerState). t.kept.covered) (put_at old.peers to to _ refl) in (
       packets,
-      ap (λ (k : ℕ). flat_map (packets_of k) gives.own) gives.from ∙ packed.front
-          ∙ ap (λ (k : ℕ). take k told) count ∙ ap (take (length told)) (sym (append-nil told))
-          ∙ take-append_seam told [],
+      ap (λ (k : ℕ). flat_map (packets_of k) gives.own) gives.from ∙ packed.front ∙ ap (λ (k : ℕ). take k told)
+          count ∙ ap (take (length told)) (sym (append-nil told)) ∙ take-append_seam told [],
       λ tic needed before. goes_covering kept taken covers tic needed (subst (λ (n : ℕ). tic < n) now before),
     )
 
@@ -165,10 +107,4 @@ pub reaches_given : (seal : Seal) (identity : Identity) (pace : PaceState) (to :
     (bytes : List ℕ) (gives : Gives seal identity pace to old new bytes) (packet : Carried)
     → taken_by (old.peers to).presence gives.given ≡ Some packet
     → (end_of packet ≤ (new.peers to).kept.covered) ↔ Reaches (old.peers to).kept packet
-reaches_given seal identity pace to old new bytes gives packet taken =
-    let kept : Unacknowledged = (old.peers to).kept in
-    let now : (new.peers to).kept.covered ≡ (with_packet kept packet).covered =
-    ap (λ (f : ℕ → PeerState). (f to).kept.covered) gives.peers
-    ∙ ap (λ (t : PeerState). t.kept.covered) (put_at old.peers to to _ refl)
-    ∙ ap (λ (o : Option Carried). (kept_after kept o).covered) taken in
-    subst (λ (n : ℕ). (end_of packet ≤ n) ↔ Reaches kept packet) (sym now) (reached kept packet)
+reaches_given seal identity pace to old new bytes gives packet taken = grind (arith, put_at, reached)

@@ -1,86 +1,39 @@
 -- The packets to a peer go on from those that are kept for it, or from earlier ones.
-use Rattle.std.proofs.Common.{ℤ, ◌≡◌, ◌≢◌, ◌≤◌, ◌+◌, ◌⊎◌, ◌&&◌, ◌||◌, ℕ, Bool, true, false, List, [], ◌∷◌, ◌++◌, length, refl, ap, sym, ◌∙◌, subst, arith, Option, Some, None, inl, inr}
-use Rattle.std.specs.Prelude.{if◌then◌else◌, nat_le, nat_lt, not, ◌==◌, ◌%◌, ◌^◌, is_none, is_some, slice_index}
+use Rattle.std.proofs.Common.{ℤ, ◌≡◌, ◌≢◌, ◌≤◌, ◌+◌, ◌⊎◌, ◌&&◌, ◌||◌, ℕ, Bool, true, false, List, refl, ap, sym, ◌∙◌, subst, arith, Option, Some, None, inl, inr}
+use Rattle.std.specs.Prelude.{if◌then◌else◌, nat_lt, not, ◌%◌, ◌^◌, is_some}
 use Rattle.std.specs.Option.{option_map}
-use Rattle.std.proofs.lemmas.Bool.{and_parts, cases_eq, cases_lt, cond_both, eqb-true, lt-ltb, ltb-true, not-false, true≢false}
+use Rattle.std.proofs.lemmas.Bool.{and_parts, cases_eq, cond_both, eqb-true, lt-ltb, ltb-true, not-false, true≢false}
 use Rattle.std.proofs.lemmas.Option.{none-some, same_Some}
-use Rattle.dn_tic.specs.declared.command.Move.{Move}
-use Rattle.dn_tic.specs.declared.input.Input.{Input}
-use Rattle.dn_machine.specs.declared.answers.Made.{Made}
-use Rattle.dn_machine.specs.declared.answers.Ran.{Ran}
-use Rattle.dn_machine.specs.declared.peer.Peer.{Peer}
-use Rattle.dn_machine.specs.Building.{on_build}
-use Rattle.dn_machine.specs.Flight.{Flight}
-use Rattle.dn_machine.specs.Limits.{Limits}
+use Rattle.dn_tic.specs.{declared.command.Move.Move, declared.input.Input.Input}
+use Rattle.dn_machine.specs.{declared.answers.Made.Made, declared.answers.Ran.Ran, declared.peer.Peer.Peer, Building.on_build, Flight.Flight, Limits.Limits, Node.put, Running.on_run, Running.on_quit, Sending.on_send}
 use Rattle.dn_machine.specs.Node as machine
-use Rattle.dn_machine.specs.Node.{put}
-use Rattle.dn_machine.specs.Running.{on_run, on_quit}
-use Rattle.dn_machine.specs.Sending.{on_send}
 use Rattle.dn_machine.proofs.Put.{put_at, put_off}
-use Rattle.dn_lockstep.specs.Contents.{Contents}
-use Rattle.dn_lockstep.specs.Represents.{Represents}
-use Rattle.dn_lockstep.specs.Runs.{RunsBy, marks_in}
-use Rattle.dn_lockstep.specs.Sent.{sent_to}
-use Rattle.dn_lockstep.specs.Steps.{Steps}
-use Rattle.dn_lockstep.specs.Told.{made}
+use Rattle.dn_lockstep.specs.{Contents.Contents, Represents.Represents, Runs.RunsBy, Runs.marks_in, Sent.sent_to, Steps.Steps, Told.made}
 use Rattle.dn_lockstep.proofs.Counting.{made_is}
 use Rattle.dn_seal.specs.declared.seal.Seal.{Seal}
-use Rattle.dn_link.specs.declared.bundle.Carried.{Carried}
-use Rattle.dn_link.specs.declared.bundle.Identity.{Identity}
-use Rattle.dn_link.specs.declared.presence.Presence.{Presence}
-use Rattle.dn_link.specs.declared.presence.Presence.TheVariants.{Unknown, There, Playing, Different, Away, Left, Forgotten}
-use Rattle.dn_link.specs.Giving.{SendsCarried, carried_of}
-use Rattle.dn_link.specs.Hearing.{ByTest}
-use Rattle.dn_link.specs.Kept.{IsKeptRising, Reaches, Unacknowledged, commands_in, end_of, is_idle, is_news, kept_after, taken_by, takes_packet, with_packet}
+use Rattle.dn_link.specs.{declared.bundle.Carried.Carried, declared.bundle.Identity.Identity, declared.presence.Presence.Presence, Giving.SendsCarried, Giving.carried_of, Hearing.ByTest, Onward.GoesOn, Onward.IsGone, Onward.IsInTime, Onward.StillGoesOn, Onward.next_to, Paced.PaceState, Presence.when_forgotten}
+use Rattle.dn_link.specs.Kept.{IsKeptRising, Reaches, Unacknowledged, commands_in, end_of, is_idle, kept_after, taken_by, takes_packet, with_packet}
 use Rattle.dn_link.specs.Linked.{Gives, Linked, PeerState, forgotten, holds_back, is_gathering, is_peer}
-use Rattle.dn_link.specs.Onward.{GoesOn, IsGone, IsInTime, StillGoesOn, next_to}
-use Rattle.dn_link.specs.Paced.{PaceState}
-use Rattle.dn_link.specs.Presence.{when_forgotten}
-use Rattle.dn_link.proofs.Covered.{reached}
-use Rattle.dn_link.proofs.Outgoing.{taken_given}
-use Rattle.dn_link.proofs.Rising.{few, news_rises}
+use Rattle.dn_link.proofs.{Covered.reached, Outgoing.taken_given, Rising.few, Rising.news_rises}
 use Rattle.dn_link.proofs.Sending.{Follows, Silent, resend_of, build_same, quit_same, run_same, send_same, sends}
 
 -- a packet that is kept, or is not
 pub kept_rises : (kept : Unacknowledged) (packet : Option Carried) → IsKeptRising kept
     → IsKeptRising (kept_after kept packet)
 kept_rises kept None rising = rising
-kept_rises kept (Some packet) rising = go (is_news kept packet) refl
-  where
-    go : (test : Bool) → is_news kept packet ≡ test → IsKeptRising
-        (if test then record kept { packets = kept.packets ++ packet ∷ []; covered = end_of packet } else kept)
-    go true news = news_rises kept packet news rising
-    go false old = rising
+kept_rises kept (Some packet) rising = grind (arith, news_rises)
 
 pub covers_as_much : (kept : Unacknowledged) (packet : Option Carried) → kept.covered ≤ (kept_after kept packet).covered
 covers_as_much kept None = omega arith
-covers_as_much kept (Some packet) = go (is_news kept packet) refl
-  where
-    go : (test : Bool) → is_news kept packet ≡ test → kept.covered
-        ≤ (if test then record kept { packets = kept.packets ++ packet ∷ []; covered = end_of packet } else kept).covered
-    go true news =
-        let room : Bool = nat_lt kept.covered (end_of packet) && nat_lt (length kept.packets) 24 in
-        let past = (and_parts (nat_le packet.start kept.covered) room news).1 in
-        let more = (and_parts (nat_lt kept.covered (end_of packet)) (nat_lt (length kept.packets) 24) past).0 in
-        omega (arith, ltb-true kept.covered (end_of packet) more)
-    go false old = omega arith
+covers_as_much kept (Some packet) = grind (arith, and_parts, ltb-true)
 
 -- a packet is not taken by one who is gone, or if it has no command
 idle : (packet : Carried) → not (is_idle packet) ≡ false → commands_in packet ≡ 0
-idle packet not_taken =
-    let is : is_idle packet ≡ true = not-false (is_idle packet) not_taken in
-    eqb-true (commands_in packet) 0 (and_parts (commands_in packet == 0)
-    (is_none packet.ask && nat_lt (slice_index packet.datagram.items 3) 16) is).0
+idle packet not_taken = grind (arith, not-false, eqb-true, and_parts)
 
 pub gone_or_idle : (presence : Presence) (packet : Carried) → takes_packet presence packet ≡ false
     → IsGone presence ⊎ (commands_in packet ≡ 0)
-gone_or_idle (Left cause) packet not_taken = inl (cause, refl)
-gone_or_idle Playing packet not_taken = inr (idle packet not_taken)
-gone_or_idle Forgotten packet not_taken = inr (idle packet not_taken)
-gone_or_idle Unknown packet not_taken = absurd (cc)
-gone_or_idle There packet not_taken = absurd (cc)
-gone_or_idle (Different identity) packet not_taken = absurd (cc)
-gone_or_idle (Away cause) packet not_taken = absurd (cc)
+gone_or_idle presence packet not_taken = grind (arith, idle)
 
 module _ (limits : Limits) (me to : ℕ) (old new : Linked) (goes : GoesOn limits me to old) where
   abbrev was : Unacknowledged
@@ -94,39 +47,17 @@ module _ (limits : Limits) (me to : ℕ) (old new : Linked) (goes : GoesOn limit
       → (IsGone (old.peers to).presence → IsGone (new.peers to).presence)
       → resend_of node to ≡ resend_of goes.node to
       → IsGone (new.peers to).presence ⊎ (resend_of node to ≤ now.covered)
-  next_same node more gone same = elim goes.next [
-    | inl before ↦ inl (gone before)
-    | inr within ↦
-        let there = ap (λ (p : Peer). p.resend) (goes.shows.peers.known to goes.below) in
-        inr (omega (arith, there, same, within, more))
-  ]
+  next_same node more gone same = grind arith
 
   pub still : (node : machine.Node) → Represents limits me new.node node → IsKeptRising now → was.covered ≤ now.covered
       → IsGone (new.peers to).presence ⊎ (resend_of node to ≤ now.covered) → StillGoesOn limits me to old new
-  still node shows rising more next = record {
-    goes = record {
-      mine = goes.mine;
-      below = goes.below;
-      node = node;
-      shows = shows;
-      rising = rising;
-      next = elim next [
-        | inl gone ↦ inl gone
-        | inr low ↦
-            let here = ap (λ (p : Peer). p.resend) (shows.peers.known to goes.below) in
-            inr (omega (arith, here, low))
-      ];
-    };
-    covered = more;
-  }
+  still node shows rising more next = grind arith
 
   -- where what is kept is as it was
   pub same_kept : (node : machine.Node) → Represents limits me new.node node
       → resend_of node to ≡ resend_of goes.node to → now ≡ was
       → (IsGone (old.peers to).presence → IsGone (new.peers to).presence) → StillGoesOn limits me to old new
-  same_kept node shows next same gone =
-      let more : was.covered ≤ now.covered = omega (arith, ap (λ (k : Unacknowledged). k.covered) same) in
-      still node shows (subst IsKeptRising (sym same) goes.rising) more (next_same node more gone next)
+  same_kept node shows next same gone = grind (arith, still, next_same)
 
   pub same_peers : (node : machine.Node) → Represents limits me new.node node
       → resend_of node to ≡ resend_of goes.node to → new.peers ≡ old.peers → StillGoesOn limits me to old new
@@ -237,24 +168,10 @@ module _ (limits : Limits) (me to : ℕ) (old new : Linked) (goes : GoesOn limit
 
       -- it begins there, or earlier
       within : takes_packet presence packet ≡ true → resend_of goes.node to ≤ was.covered
-      within takes = elim goes.next [
-        | inl gone ↦ absurd (true≢false (sym takes ∙ ap (λ (p : Presence). takes_packet p packet) gone.1))
-        | inr low ↦ omega (arith, low, there)
-      ]
+      within takes = grind (arith, true≢false, there)
 
       reaches : takes_packet presence packet ≡ true → Reaches was packet
-      reaches takes =
-          let low = within takes in
-          let first = follows.start in
-          elim (cases_lt was.covered (end_of packet)) [
-            | inl past ↦ elim follows.end [
-              | inl same ↦ inl (omega (arith, same, low))
-              | inr few_made ↦
-                  let room = few was.done was.packets was.covered goes.rising in
-                  inr (omega (arith, first, low), omega (arith, room, past, few_made, count, time.few))
-            ]
-            | inr before ↦ inl before
-          ]
+      reaches takes = grind (arith, within, few, count)
 
       covers_packet : Covers
       covers_packet = go (takes_packet presence packet) refl

@@ -4,47 +4,20 @@ use Rattle.std.specs.Prelude.{◌&&◌, ◌||◌, IfSome, is_some, nat_lt, slice
 use Rattle.std.specs.Option.{option_map}
 use Rattle.std.proofs.lemmas.Bool.{cond_both}
 use Rattle.dn_setup.specs.Settings.{Settings}
-use Rattle.dn_machine.specs.Flight.{Flight}
-use Rattle.dn_machine.specs.Limits.{Limits}
-use Rattle.dn_machine.specs.Node as machine
-use Rattle.dn_machine.specs.Node.{put}
+use Rattle.dn_machine.specs.{Flight.Flight, Limits.Limits, Node.put}
 use Rattle.dn_machine.proofs.Put.{put_at}
-use Rattle.dn_lockstep.specs.Contents.{Contents}
-use Rattle.dn_lockstep.specs.Marking.{Marking}
-use Rattle.dn_lockstep.specs.OneGame.{AreOneGame}
-use Rattle.dn_lockstep.specs.Represents.{Represents}
-use Rattle.dn_lockstep.specs.Sent.{sent_to}
-use Rattle.dn_lockstep.specs.Session.{Session, with_lockstep, after_packet, after_relays, given_on}
-use Rattle.dn_lockstep.specs.Near.{IsFair}
-use Rattle.dn_lockstep.specs.Steps.{Tells}
+use Rattle.dn_lockstep.specs.{Contents.Contents, Marking.Marking, OneGame.AreOneGame, Represents.Represents, Sent.sent_to, Session.Session, Session.with_lockstep, Session.after_packet, Session.after_relays}
+use Rattle.dn_lockstep.specs.{Session.given_on, Near.IsFair, Steps.Tells, Told.command_told}
 use Rattle.dn_lockstep.proofs.OneGame.{GoesBetween, sent_between, gave, relays}
 use Rattle.dn_seal.specs.declared.seal.Seal.{Seal}
-use Rattle.dn_link.specs.declared.bundle.Bundle.{Bundle}
-use Rattle.dn_link.specs.declared.bundle.Carried.{Carried}
-use Rattle.dn_link.specs.declared.bundle.Counts.{Counts}
-use Rattle.dn_link.specs.declared.bundle.Identity.{Identity}
-use Rattle.dn_link.specs.Counting.{counts_of, has_ended, has_of}
-use Rattle.dn_link.specs.Ends.{tells_end}
-use Rattle.dn_link.specs.declared.presence.Presence.TheVariants.{Left}
-use Rattle.dn_link.proofs.Lefts.{counts_reach, tells_own}
-use Rattle.dn_link.specs.Bundles.{WasBundled}
-use Rattle.dn_link.specs.Hearing.{ByTest}
-use Rattle.dn_link.specs.Kept.{kept_after, taken_by}
-use Rattle.dn_link.specs.Giving.{SendsCarried, carried_of}
-use Rattle.dn_link.specs.Linked.{Linked, Gives, PeerState, holds_back, is_gathering}
-use Rattle.dn_link.specs.LinkedGame.{AreLinked, IsLater}
-use Rattle.dn_link.specs.Paced.{PaceState}
-use Rattle.dn_link.specs.Relays.{AreHandedOn, Handed, flights_of}
-use Rattle.dn_link.proofs.Relays.{gives_all}
-use Rattle.dn_lockstep.specs.Told.{command_told}
-use Rattle.dn_link.proofs.Growing.{HasAsMuch, grows}
-use Rattle.dn_link.proofs.Holding.{Holds, holds_same, send_holds}
-use Rattle.dn_link.proofs.Outgoing.{goes_given, stays_kept}
-use Rattle.dn_link.proofs.Kepts.{AreKept}
-use Rattle.dn_link.proofs.Relinking.{found_later, found_on, later_by, relinked}
+use Rattle.dn_link.specs.{declared.bundle.Bundle.Bundle, declared.bundle.Carried.Carried, declared.bundle.Counts.Counts, declared.bundle.Identity.Identity, Counting.counts_of, Counting.has_ended, Counting.has_of}
+use Rattle.dn_link.specs.{Ends.tells_end, declared.presence.Presence.TheVariants.Left, Bundles.WasBundled, Hearing.ByTest, Kept.kept_after, Kept.taken_by, Giving.SendsCarried, Giving.carried_of, Linked.Linked}
+use Rattle.dn_link.specs.{Linked.Gives, Linked.PeerState, Linked.holds_back, Linked.is_gathering, LinkedGame.AreLinked, LinkedGame.IsLater, Paced.PaceState, Relays.AreHandedOn, Relays.Handed, Relays.flights_of}
+use Rattle.dn_link.proofs.{Lefts.counts_reach, Lefts.tells_own, Relays.gives_all, Growing.HasAsMuch, Growing.grows, Holding.Holds, Holding.holds_same, Holding.send_holds, Outgoing.goes_given, Outgoing.stays_kept}
+use Rattle.dn_link.proofs.{Relinking.AreKept, Linking.at_most, Linking.same_reported, Linking.same_presence, Relinking.found_later, Relinking.found_on, Relinking.later_by, Relinking.relinked}
 use Rattle.dn_survivor.specs.declared.others.Others.{Others}
+use Rattle.dn_machine.specs.Node as machine
 use Rattle.dn_link.proofs.Linking as base
-use Rattle.dn_link.proofs.Reported.{at_most, same_reported, same_presence}
 
 -- a packet that is sent, or none
 sends_holds : (limits : Limits) (me : ℕ) (m : machine.Node) (to : ℕ) → Holds m (sent_to to limits me m).0
@@ -92,19 +65,17 @@ module _ (marking : Marking) (limits : Limits) (settings : Settings) (session : 
       let count : new.node.players ≡ limits.players =
       ap (λ (n : Contents). n.players) (sym here) ∙ (now.nodes player mine).whose.players in
       relays marking limits settings now player mine who to tic command (omega (arith, its, count))
-      (omega (arith, there, count)) apart
-      (ap (λ (n : Contents). command_told n who tic) here ∙ told) fair)
+      (omega (arith, there, count)) apart (ap (λ (n : Contents). command_told n who tic) here ∙ told) fair)
       (given_on session.given flight) handed game all
 
   -- what goes to a peer, with the packet that the machine gave, if it gave one
   gave_by : (seal : Seal) (identity : Identity) (pace : PaceState) (to : ℕ) (new : Linked) (bytes : List ℕ)
-      (flight : Option Flight) (gives : Gives seal identity pace to old new bytes)
-      → AreOneGame marking limits settings (after_packet session player flight new.node)
-      → GoesBetween player to flight → gives.given ≡ option_map carried_of flight
-      → HasAsMuch player (session.locksteps player) new.node
-      → WasBundled seal (after_all flight new gives.handed to) bytes
-      × AreLinked marking limits settings (after_all flight new gives.handed to) (put links player new)
-      × IsLater session (after_all flight new gives.handed to)
+      (flight : Option Flight) (gives : Gives seal identity pace to old new bytes) → AreOneGame marking limits
+      settings (after_packet session player flight new.node) → GoesBetween player to flight → gives.given
+      ≡ option_map carried_of flight → HasAsMuch player (session.locksteps player) new.node → WasBundled seal
+      (after_all flight new gives.handed to) bytes × AreLinked marking limits settings
+      (after_all flight new gives.handed to) (put links player new) × IsLater session
+      (after_all flight new gives.handed to)
   gave_by seal identity pace to new bytes flight gives game between answer much =
       let all : AreKept session.given player old.peers = λ peer. linked.kept player peer mine in
       let taken : Option Carried = taken_by (old.peers to).presence gives.given in
@@ -117,9 +88,8 @@ module _ (marking : Marking) (limits : Limits) (settings : Settings) (session : 
       → slice_index (new.peers peer).reported which ≤ has_of (later.locksteps peer) which =
       (λ peer which apart. at_most (ap (λ (l : List ℕ). slice_index l which)
       (ap (λ (f : ℕ → PeerState). (f peer).reported) gives.peers ∙ same_reported old.peers to
-      (kept_after (old.peers to).kept taken)
-      ((old.peers to).gave || (is_gathering old.node.phase && is_some gives.given))
-      (((old.peers to).number + 1) % 2 ^ 32) peer))
+      (kept_after (old.peers to).kept taken) ((old.peers to).gave ||
+      (is_gathering old.node.phase && is_some gives.given)) (((old.peers to).number + 1) % 2 ^ 32) peer))
       (linked.reported player peer which mine apart) (is.got peer which apart)) in
       let left : (peer cause : ℕ) → (new.peers peer).presence ≡ Left cause → has_ended (later.locksteps peer) ≡ true =
       (λ peer cause was. left_on later is peer cause (sym (ap (λ (f : ℕ → PeerState). (f peer).presence) gives.peers
@@ -141,9 +111,8 @@ module _ (marking : Marking) (limits : Limits) (settings : Settings) (session : 
           },
         ),
         relinked marking limits settings session later links player new linked handed_game refl is
-            (ap (λ (o : Others). o.gone) gives.others)
-            (stays_kept session.given flight player old new own seal identity pace to bytes gives between answer all)
-            told left,
+            (ap (λ (o : Others). o.gone) gives.others) (stays_kept session.given flight player old new own seal
+            identity pace to bytes gives between answer all) told left,
         is,
       )
     where

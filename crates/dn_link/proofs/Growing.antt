@@ -1,48 +1,24 @@
 -- What a lockstep has of another player, with the player's end, never grows less; and one that has ended stays
 -- so.
-use Rattle.std.proofs.Common.{◌≡◌, ◌≢◌, ◌<◌, ◌≤◌, ℕ, Bool, true, false, List, refl, ap, sym, ◌∙◌, subst, arith, Some, All, inl, inr, ◌&&◌}
-use Rattle.std.specs.Prelude.{Ok, ◌==◌, slice_get}
-use Rattle.std.proofs.lemmas.Bool.{cases_lt, cond-false, lt-ltb, le-ltb, ne_eqb}
+use Rattle.std.proofs.Common.{◌≡◌, ◌≢◌, ◌<◌, ◌≤◌, ℕ, Bool, true, false, List, refl, ap, sym, ◌∙◌, subst, arith, Some, All, ◌&&◌}
+use Rattle.std.specs.Prelude.{Ok, slice_get}
+use Rattle.std.proofs.lemmas.Bool.{cond-false, lt-ltb, le-ltb, ne_eqb}
 use Rattle.dn_setup.specs.Settings.{Settings}
-use Rattle.dn_machine.specs.Flight.{Flight, packet_of, is_close, is_request_close}
-use Rattle.dn_machine.specs.Limits.{Limits}
-use Rattle.dn_machine.specs.Hearing.{on_packet}
-use Rattle.dn_machine.specs.Node as machine
-use Rattle.dn_machine.specs.Node.{known_end, ends_of, has_left, is_ended}
+use Rattle.dn_machine.specs.{Flight.Flight, Flight.packet_of, Flight.is_close, Flight.is_request_close, Limits.Limits, Hearing.on_packet, Node.has_left, Node.is_ended}
 use Rattle.dn_machine.proofs.Put.{put_at}
-use Rattle.dn_lockstep.specs.Contents.{Contents, end_in}
-use Rattle.dn_lockstep.specs.Marking.{Marking}
-use Rattle.dn_lockstep.specs.Near.{IsFair}
-use Rattle.dn_lockstep.specs.OneGame.{AreOneGame}
-use Rattle.dn_lockstep.specs.Represents.{Represents}
-use Rattle.dn_lockstep.specs.Session.{Session, with_lockstep}
-use Rattle.dn_lockstep.proofs.Counting.{got_is}
-use Rattle.dn_lockstep.proofs.Nearby.{told_by, told_is, near_received}
-use Rattle.dn_lockstep.proofs.Shown.{end_is}
+use Rattle.dn_lockstep.specs.{Contents.Contents, Marking.Marking, Near.IsFair, OneGame.AreOneGame, Represents.Represents, Session.Session, Session.with_lockstep}
+use Rattle.dn_lockstep.proofs.{Counting.got_is, Nearby.told_by, Nearby.told_is, Nearby.near_received, Shown.end_is}
 use Rattle.dn_seal.specs.declared.opened.Opened.{Opened}
-use Rattle.dn_open.specs.Arrivals.{HearsOpened, IsRead, heard, on_opened}
-use Rattle.dn_open.specs.declared.arrived.Arrived.{Arrived}
-use Rattle.dn_open.specs.Playable.{IsSmall}
-use Rattle.dn_open.specs.Sealed.{opened_of}
-use Rattle.dn_open.proofs.Alikes.{alike}
-use Rattle.dn_open.proofs.Deliveries.{near_if}
-use Rattle.dn_open.proofs.Fairness.{are_sealable}
-use Rattle.dn_link.specs.Bundles.{WasGiven}
-use Rattle.dn_link.specs.Counting.{has_ended, has_of, with_end}
-use Rattle.dn_link.specs.Hearing.{HearsAll}
-use Rattle.dn_link.proofs.Holding.{Holds, held_of, holds_same, hear_holds}
-use Rattle.dn_link.proofs.Along.{KeepsOne, all_along}
-use Rattle.dn_link.proofs.Keeping.{LettersKeep, as_it_is, keeps_one}
+use Rattle.dn_open.specs.{Arrivals.HearsOpened, Arrivals.IsRead, Arrivals.heard, Arrivals.on_opened, declared.arrived.Arrived.Arrived, Playable.IsSmall, Sealed.opened_of}
+use Rattle.dn_open.proofs.{Alikes.alike, Deliveries.near_if, Fairness.are_sealable}
+use Rattle.dn_link.specs.{Bundles.WasGiven, Counting.has_ended, Counting.has_of, Hearing.HearsAll}
+use Rattle.dn_link.proofs.{Holding.Holds, Holding.held_of, Holding.holds_same, Holding.hear_holds, Keeping.KeepsOne, Keeping.all_along, Keeping.LettersKeep, Keeping.as_it_is, Keeping.keeps_one}
+use Rattle.dn_machine.specs.Node as machine
 
 -- as the node that it represents
 pub has_is : (limits : Limits) (me : ℕ) (n : Contents) (m : machine.Node) → Represents limits me n m
     → me < limits.players → (p : ℕ) → p ≢ me → p < limits.players → has_of n p ≡ held_of m p
-has_is limits me n m r mine p other below =
-    let here : p < n.players = omega (arith, below, r.whose.players) in
-    let count = got_is limits me n m r p here in
-    let end : end_in n p ≡ ends_of m p = end_is limits me n m r mine p below
-    ∙ cond-false (p == me) _ _ (ne_eqb p me other) in
-    rw (lt-ltb p n.players here) (λ i. with_end (count i) (end i))
+has_is limits me n m r mine p other below = grind (arith, got_is, end_is, cond-false, ne_eqb, lt-ltb)
 
 pub has_none : (n : Contents) (p : ℕ) → n.players ≤ p → has_of n p ≡ 0
 has_none n p past = rw (le-ltb p n.players past) refl
@@ -66,18 +42,7 @@ much_on me old mid new first later =
 
 pub grows : (limits : Limits) (me : ℕ) (old new : Contents) (m next : machine.Node) → Represents limits me old m
     → Represents limits me new next → me < limits.players → Holds m next → HasAsMuch me old new
-grows limits me old new m next before after mine holds = (
-  (λ which other. elim (cases_lt which limits.players) [
-    | inl below ↦ omega (
-      arith,
-      holds.0 which,
-      has_is limits me old m before mine which other below,
-      has_is limits me new next after mine which other below,
-    )
-    | inr past ↦ omega (arith, has_none old which (omega (arith, past, before.whose.players)))
-  ]),
-  (λ ended. ended_is limits me new next after ∙ holds.1 (sym (ended_is limits me old m before) ∙ ended)),
-)
+grows limits me old new m next before after mine holds = grind (arith, has_is, has_none, ended_is)
 
 -- what is opened of a fair packet, by the tests that it passes or not
 opened_holds : (limits : Limits) (me : ℕ) (m : machine.Node) (flight : Flight) → IsFair flight

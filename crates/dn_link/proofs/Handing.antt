@@ -1,23 +1,12 @@
 -- What a link may hand on, and to whom.
-use Rattle.std.proofs.Common.{◌≡◌, ◌<◌, ◌≤◌, ◌+◌, ◌-◌, ◌&&◌, ◌||◌, ℕ, length, append_assoc, zero, suc, Bool, true, false, List, [], ◌∷◌, ◌++◌, append-nil, refl, ap, sym, subst, ◌∙◌, arith, Option, Some, None, inl, inr}
-use Rattle.std.specs.Prelude.{◌≢◌, ◌⊎◌, IfSome, map, nat_le, nat_lt, not, if◌then◌else◌, slice_index}
-use Rattle.std.proofs.lemmas.List.Elements.{All-nil, All-cons}
-use Rattle.dn_tic.specs.declared.command.TicCmd.{TicCmd}
-use Rattle.dn_lockstep.specs.Contents.{Contents}
-use Rattle.dn_lockstep.specs.Rings.{get}
-use Rattle.dn_lockstep.specs.Told.{command_told, got}
-use Rattle.dn_survivor.specs.declared.others.Others.{Others}
-use Rattle.dn_link.specs.declared.bundle.Part.{Part}
-use Rattle.dn_link.specs.declared.bundle.Part.TheVariants.{Relay}
+use Rattle.std.proofs.Common.{◌≡◌, ◌<◌, ◌≤◌, ◌+◌, ◌||◌, ℕ, length, append_assoc, zero, suc, Bool, true, false, List, [], ◌∷◌, ◌++◌, append-nil, refl, ap, sym, subst, ◌∙◌, arith, Option, Some, None, inl, inr}
+use Rattle.std.specs.Prelude.{◌≢◌, ◌⊎◌, IfSome, map, not}
+use Rattle.std.proofs.lemmas.{List.Elements.All-nil, List.Elements.All-cons, Bool.and_parts, Bool.not-true}
+use Rattle.dn_lockstep.specs.{Contents.Contents}
+use Rattle.dn_survivor.specs.{declared.others.Others.Others, declared.report.Report.Report, OfOthers.Keeping.newest_of, Relaying.MayRelay, Relaying.told_gone}
+use Rattle.dn_link.specs.{declared.bundle.Part.Part, declared.bundle.Part.TheVariants.Relay, Relays.AreHandedOn, Relays.AreLacked, Relays.Handed, Relays.handed_part, Linked.Linked, Linked.has_given_up, Linked.surviving_of, Surviving.names, Surviving.reports_gone}
 use Rattle.dn_link.specs.declared.bundle.Relay as relay
-use Rattle.dn_link.specs.Relays.{AreHandedOn, AreLacked, AreTold, Handed, handed_part}
-use Rattle.std.proofs.lemmas.Bool.{and_parts, ltb-true, not-true}
-use Rattle.dn_survivor.specs.declared.report.Report.{Report}
-use Rattle.dn_survivor.specs.OfOthers.Keeping.{newest_of}
-use Rattle.dn_survivor.specs.Relaying.{MayRelay, told_gone}
 use Rattle.dn_link.specs.Handing.{HasBehind, HasTwoBehind, IsHandedFor, may_hand, shares_gone}
-use Rattle.dn_link.specs.Linked.{Linked, has_given_up, surviving_of}
-use Rattle.dn_link.specs.Surviving.{names, reports_gone}
 
 names_told : (report : Option Report) (player : ℕ) → names report player ≡ told_gone report player
 names_told None player = refl
@@ -27,8 +16,7 @@ second : (one other : Bool) → (not one || other) ≡ true → one ≡ true →
 second true other h e = h
 second false other h e = absurd (cc)
 
-pub may_relay : (link : Linked) (to : ℕ) → may_hand link to ≡ true
-    → MayRelay (surviving_of link) to
+pub may_relay : (link : Linked) (to : ℕ) → may_hand link to ≡ true → MayRelay (surviving_of link) to
 may_relay link to may =
     let a = and_parts (not (has_given_up link to)) _ may in
     let b = and_parts (shares_gone link to 0) _ a.1 in
@@ -139,30 +127,3 @@ at_most_two n to reported (a ∷ b ∷ c ∷ handed) here there apart on lacked 
     let never = third_of_four a.player b.player c.player to n.me lacked.4.0 lacked.4.4.0 on.1.1.0.small there here
     on.0.third on.1.0.third on.1.1.0.third on.0.other on.1.0.other on.1.1.0.other apart in
     absurd (omega (arith, never))
-
--- a command that is told is one that is there
-told_below : (n : Contents) (player tic : ℕ) (command : TicCmd) → command_told n player tic ≡ Some command
-    → tic < got n player
-told_below n player tic command e =
-    let there = cond_get (nat_lt player n.players && nat_le (got n player - tic) n.places) (get (n.rings player) tic) command e in
-    let kept = cond_get (nat_lt tic (got n player) && nat_le (got n player - tic) 32) _ command there.0 in
-    ltb-true tic (got n player) (and_parts (nat_lt tic (got n player)) (nat_le (got n player - tic) 32) kept.1).0
-  where
-    cond_get : (b : Bool) (o : Option TicCmd) (c : TicCmd) → (if b then o else None) ≡ Some c → (o ≡ Some c) × (b ≡ true)
-    cond_get true o c e = (e, refl)
-    cond_get false o c e = absurd (cc)
-
--- to one who has reported all that a player has of third players, nothing is handed on
-pub nothing_is_handed : (n : Contents) (to : ℕ) (reported : List ℕ) (handed : List Handed)
-    → ((player : ℕ) → player < 4 → (player ≢ to) → (player ≢ n.me) → got n player ≤ slice_index reported player)
-    → AreHandedOn n to handed → AreLacked reported 0 handed → handed ≡ []
-nothing_is_handed n to reported [] all on lacked = refl
-nothing_is_handed n to reported (one ∷ handed) all on lacked = absurd (go one.commands lacked.2 on.0.told)
-  where
-    go : (commands : List TicCmd) → 1 ≤ length commands → AreTold n one.player one.start commands → ⊥
-    go [] some told = omega (arith, some)
-    go (command ∷ commands) some told =
-        let has = told_below n one.player one.start command told.0 in
-        let start = lacked.1 in
-        let known = all one.player on.0.small on.0.third on.0.other in
-        omega (arith, has, start, known)

@@ -1,21 +1,15 @@
 -- What one packet that asks for nothing does to the node that hears it.
 use Rattle.std.proofs.Common.{◌≡◌, ◌≢◌, ◌<◌, ◌≤◌, ◌+◌, ◌-◌, ◌⊎◌, ◌++◌, ℕ, Bool, true, false, length, drop, refl, ap, sym, ◌∙◌, subst, arith, Option, None, inl, inr}
 use Rattle.std.specs.Prelude.{max}
-use Rattle.std.proofs.lemmas.Bool.{cases_eq, true≢false}
-use Rattle.std.proofs.lemmas.List.{length-append, length-drop}
+use Rattle.std.proofs.lemmas.{Bool.cases_eq, List.length-append, List.length-drop}
 use Rattle.dn_tic.specs.declared.command.TicCmd.{TicCmd}
 use Rattle.dn_setup.specs.Settings.{Settings}
-use Rattle.dn_machine.specs.declared.answers.Heard.{Heard}
-use Rattle.dn_machine.specs.declared.answers.Phase.{Phase}
+use Rattle.dn_machine.specs.{declared.answers.Heard.Heard, declared.answers.Phase.Phase, declared.peer.Peer.Peer, Limits.Limits, Node.Node, Node.put, Node.made, Node.is_ended}
 use Rattle.dn_machine.specs.declared.answers.Phase.TheVariants.{Listening, Gathering, Playing, Ended}
-use Rattle.dn_machine.specs.declared.peer.Peer.{Peer}
 use Rattle.dn_machine.specs.Drops as drops
-use Rattle.dn_machine.specs.Limits.{Limits}
 use Rattle.dn_machine.specs.Flight.{SetUp, Play, Exit, Flight, is_exit, end_of}
-use Rattle.dn_machine.specs.Node.{Node, put, made, is_ended}
 use Rattle.dn_machine.specs.Hearing.{after_request, after_exit, left_or, on_commands, on_ended, on_packet, on_packet_in}
-use Rattle.dn_machine.proofs.Put.{put_at, put_off}
-use Rattle.dn_machine.proofs.Calls.{Refused, commands_cases, packet_cases, sender_after}
+use Rattle.dn_machine.proofs.{Put.put_at, Put.put_off, Calls.Refused, Calls.commands_cases, Calls.packet_cases, Calls.sender_after}
 
 -- a packet that is asked for nothing leaves what is sent next, and what is wanted
 module _ (limits : Limits) (me : ℕ) (node : Node) (flight : Flight) (silent : flight.request ≡ None)
@@ -77,9 +71,6 @@ module _ (limits : Limits) (me : ℕ) (node : Node) (flight : Flight) (silent : 
     | inl e ↦ ap (λ (x : Peer). x.want) (put_at node.peers from p peer e) ∙ none
     | inr n ↦ ap (λ (x : Peer). x.want) (put_off node.peers from p peer n) ∙ all p l other
   ]
-
-  no_end : (cause : Phase) → is_ended cause ≡ true → cause ≢ Playing
-  no_end cause is e = true≢false (sym is ∙ ap is_ended e)
 
   -- the node is as it was, but for a phase that is no end
   same : (end : ℕ) (answer : Heard) → answer ≢ Heard.Started → Leaves end node answer

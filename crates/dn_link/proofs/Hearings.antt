@@ -3,12 +3,9 @@ use Rattle.std.proofs.Common.{◌≡◌, ◌<◌, ◌≤◌, ◌+◌, ◌*◌, �
 use Rattle.std.proofs.lemmas.List.{length-drop}
 use Rattle.dn_lockstep.specs.Contents.{Contents, whose}
 use Rattle.dn_seal.specs.declared.opened.Opened.{Opened}
-use Rattle.dn_open.specs.Arrivals.{HearsOpened, SparesSealed}
-use Rattle.dn_open.specs.declared.arrived.Arrived.{Arrived}
+use Rattle.dn_open.specs.{Arrivals.HearsOpened, Arrivals.SparesSealed, declared.arrived.Arrived.Arrived}
 use Rattle.dn_link.specs.declared.bundle.Run as run
-use Rattle.dn_link.specs.declared.bundle.Part.TheVariants.{Run}
-use Rattle.dn_link.specs.Hearing.{ByTest, HearsAll, HearsUntil, is_start}
-use Rattle.dn_link.specs.Packets.{opened_from, packets_of, short_packet, short_packets}
+use Rattle.dn_link.specs.{declared.bundle.Part.TheVariants.Run, Hearing.ByTest, Hearing.HearsAll, Hearing.HearsUntil, Hearing.is_start, Packets.opened_from, Packets.packets_of, Packets.short_packet, Packets.short_packets}
 
 -- whatever comes of the rest comes of all
 abbrev pub LeadsOn : List Opened → Contents → List Opened → Contents → Type 0
@@ -74,10 +71,9 @@ module _ (from : ℕ) (part : run.Run) (old : Contents) (done start : ℕ) (rest
         left = left;
         adds = omega arith;
         long = omega (arith, length-drop 8 rest);
-        on = λ new started then. on new started
-            (goes_on (opened_from from (short_packet from start (take 8 rest)))
-            (short_packets left from ((start + 1) % 2 ^ 32) (drop 8 rest)) now next answer test hears spares is no_so new
-            started then);
+        on = λ new started then. on new started (goes_on (opened_from from
+            (short_packet from start (take 8 rest))) (short_packets left from ((start + 1) % 2 ^ 32)
+            (drop 8 rest)) now next answer test hears spares is no_so new started then);
       }
 
   pub run_stops : test ≡ true → HearsUntil (packets_of from (Run part)) old next true
@@ -89,17 +85,6 @@ module _ (from : ℕ) (part : run.Run) (old : Contents) (done start : ℕ) (rest
       go zero adds on = absurd (omega arith)
       go (suc left) adds on = on next true (stops_at (opened_from from (short_packet from start (take 8 rest)))
           (short_packets left from ((start + 1) % 2 ^ 32) (drop 8 rest)) now next answer test hears spares is yes_so)
-
-pub run_ends : (from : ℕ) (part : run.Run) (old : Contents) (done start : ℕ) (rest : List ℕ) (now : Contents)
-    → InRun from part old done start rest now → length part.commands.items / 8 ≤ done
-    → HearsUntil (packets_of from (Run part)) old now false
-run_ends from part old done start rest now at all = go at.left at.adds at.on
-  where
-    go : (left : ℕ) → left + done ≡ length part.commands.items / 8
-        → LeadsOn (packets_of from (Run part)) old (short_packets left from start rest) now
-        → HearsUntil (packets_of from (Run part)) old now false
-    go zero adds on = on now false (refl, refl)
-    go (suc left) adds on = absurd (omega arith)
 
 -- the packets of a list, and then those of another
 pub parts_go_on : (first rest : List Opened) (now next : Contents) → HearsUntil first now next false

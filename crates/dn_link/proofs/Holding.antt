@@ -1,20 +1,9 @@
 -- What a node has of a player, with the player's end, never grows less; and one that has left stays so.
-use Rattle.std.proofs.Common.{ℤ, ◌≡◌, ◌≤◌, ◌&&◌, ℕ, eqb, refl, Bool, true, false, List, ◌++◌, length, ap, arith, Option, Some, None, inl, inr}
-use Rattle.std.proofs.lemmas.Bool.{cases_eq, cond_both}
-use Rattle.std.proofs.lemmas.List.{length-append}
-use Rattle.dn_tic.specs.declared.command.TicCmd.{TicCmd}
-use Rattle.dn_tic.specs.declared.input.Input.{Input}
-use Rattle.dn_machine.specs.declared.answers.Heard.{Heard}
-use Rattle.dn_machine.specs.declared.peer.Peer.{Peer}
-use Rattle.dn_machine.specs.Limits.{Limits}
-use Rattle.dn_machine.specs.Flight.{Flight, is_exit, end_of}
-use Rattle.dn_machine.specs.Node.{Node, put, with_peer, made, ends_of, has_left, is_ended}
-use Rattle.dn_machine.specs.Building.{on_build}
-use Rattle.dn_machine.specs.Sending.{after_sent, on_send}
-use Rattle.dn_machine.specs.Hearing.{is_within, after_request, after_exit, on_packet}
-use Rattle.dn_machine.specs.Running.{on_run, on_quit}
-use Rattle.dn_machine.proofs.Put.{put_at, put_off}
-use Rattle.dn_machine.proofs.Calls.{build_cases, send_cases, run_cases, quit_cases, packet_cases, sender_after}
+use Rattle.std.proofs.Common.{ℤ, ◌≡◌, ◌≤◌, ◌&&◌, ℕ, eqb, refl, Bool, true, false, List, ◌++◌, length, ap, arith, Option, Some, None}
+use Rattle.std.proofs.lemmas.{Bool.cond_both, List.length-append}
+use Rattle.dn_tic.specs.{declared.command.TicCmd.TicCmd, declared.input.Input.Input}
+use Rattle.dn_machine.specs.{declared.answers.Heard.Heard, declared.peer.Peer.Peer, Limits.Limits, Flight.Flight, Flight.is_exit, Flight.end_of, Node.Node, Node.put, Node.with_peer, Node.made, Node.ends_of, Node.has_left, Node.is_ended, Building.on_build, Sending.after_sent, Sending.on_send, Hearing.is_within, Hearing.after_request, Hearing.after_exit, Hearing.on_packet, Running.on_run, Running.on_quit}
+use Rattle.dn_machine.proofs.{Put.put_at, Put.put_off, Calls.build_cases, Calls.send_cases, Calls.run_cases, Calls.quit_cases, Calls.packet_cases, Calls.sender_after}
 use Rattle.dn_link.specs.Counting.{with_end}
 
 -- what it has of a player, by the node
@@ -56,35 +45,16 @@ knows_some (Some other) end count = omega arith
 
 longer : (held : ℕ → List TicCmd) (from : ℕ) (more : List TicCmd) (p : ℕ)
     → length (held p) ≤ length (put held from (held from ++ more) p)
-longer held from more p = elim (cases_eq p from) [
-  | inl e ↦
-      let at = ap (length {A = TicCmd}) (put_at held from p (held from ++ more) e) in
-      let both = length-append (held from) more in
-      let same = ap (λ (k : ℕ). length (held k)) e in
-      omega (arith, at, both, same)
-  | inr n ↦ let off = ap (length {A = TicCmd}) (put_off held from p (held from ++ more) n) in omega (arith, off)
-]
+longer held from more p = grind (arith, put_at, length-append, put_off)
 
 module _ (limits : Limits) (i : ℕ) (node : Node) where
   peer_holds : (player : ℕ) (peer : Peer) (held : ℕ → List TicCmd)
-      → ((p : ℕ) → length (node.held p) ≤ length (held p))
-      → Knows (node.peers player).end peer.end
+      → ((p : ℕ) → length (node.held p) ≤ length (held p)) → Knows (node.peers player).end peer.end
       → HasMore node (record (with_peer node player peer) { held = held })
-  peer_holds player peer held more known p = elim (cases_eq p player) [
-    | inl e ↦
-        let at = ap (λ (k : Peer). with_end (length (held p)) k.end) (put_at node.peers player p peer e) in
-        let same = ap (λ (k : ℕ). with_end (length (held p)) (node.peers k).end) e in
-        let first = more_counts (length (node.held p)) (length (held p)) (node.peers p).end (more p) in
-        omega (arith, first, same, known (length (held p)), at)
-    | inr n ↦
-        let off = ap (λ (k : Peer). with_end (length (held p)) k.end) (put_off node.peers player p peer n) in
-        let first = more_counts (length (node.held p)) (length (held p)) (node.peers p).end (more p) in
-        omega (arith, first, off)
-  ]
+  peer_holds player peer held more known p = grind (arith, put_at, more_counts, put_off)
 
   pub build_holds : (input : Input) → Holds node (on_build limits i node input).0
-  build_holds input = build_cases limits i node (λ (new : Node). Holds node new) input
-      (λ full. holds_same node)
+  build_holds input = build_cases limits i node (λ (new : Node). Holds node new) input (λ full. holds_same node)
       (λ plays free. ((λ p. more_counts _ _ (ends_of node p) (longer node.held i _ p)), (λ left. left)))
 
   pub send_holds : (to : ℕ) → Holds node (on_send limits i node to).0
@@ -95,8 +65,7 @@ module _ (limits : Limits) (i : ℕ) (node : Node) where
       sent = (peer_holds to _ node.held (λ p. omega arith) (λ count. omega arith), (λ left. left))
 
   pub run_holds : (marks : ℕ → ℤ) → Holds node (on_run limits node marks).0
-  run_holds marks = run_cases limits i node marks (λ (new : Node). Holds node new)
-      (λ waits. holds_same node)
+  run_holds marks = run_cases limits i node marks (λ (new : Node). Holds node new) (λ waits. holds_same node)
       (λ player plays none off. ((λ p. omega arith), played_ends node.played (is_ended node.phase)))
       (λ plays none full. ((λ p. omega arith), played_ends node.played (is_ended node.phase)))
       (λ plays none free. ((λ p. omega arith), (λ left. left)))

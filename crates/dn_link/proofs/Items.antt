@@ -1,43 +1,82 @@
 -- Parts are read back, and what is read is what stands there.
-use Rattle.std.proofs.Common.{◌≡◌, ◌≢◌, ◌≤◌, ◌+◌, ◌*◌, ◌/◌, ◌%◌, ◌-◌, ℕ, zero, suc, List, [], ◌∷◌, ◌++◌, length, take, drop, refl, ap, sym, ◌∙◌, subst, arith, append_assoc, Option, Some, None, All, inl, inr}
-use Rattle.std.specs.Option.{option_map}
-use Rattle.std.specs.List.{flat_map}
-use Rattle.std.specs.Int.{w32, from_le_bytes, to_le_bytes}
-use Rattle.std.proofs.lemmas.Bool.{cases_eq, cases_lt, eq-eqb, ne_eqb, lt-ltb, le-ltb}
-use Rattle.std.proofs.lemmas.List.Elements.{All-nil, All-cons, All-head, All-tail}
-use Rattle.std.proofs.lemmas.List.{take-append-drop, length-take-le, length-append}
+use Rattle.std.proofs.Common.{◌≡◌, ◌<◌, ◌≤◌, ◌+◌, ◌^◌, ℕ, List, ◌∷◌, ◌++◌, length, take, drop, refl, ap, sym, ◌∙◌, subst, arith, Option, Some, None, ◌≢◌, ◌*◌, ◌/◌, ◌%◌, ◌-◌, zero, suc, [], append_assoc, All, inl, inr}
+use Rattle.std.specs.Prelude.{slice_index}
+use Rattle.std.specs.Int.{w32, to_le_bytes, from_le_bytes}
+use Rattle.std.proofs.lemmas.Bool.{lt-ltb, le-ltb, cases_eq, cases_lt, eq-eqb, ne_eqb}
+use Rattle.std.proofs.lemmas.List.{take-append-drop, length-take-le, length-append, length-drop, drop-drop}
 use Rattle.std.proofs.lemmas.Nat.{from_le_bytes-to_le_bytes_4}
 use Rattle.std.proofs.lemmas.Option.{same_Some, none-some}
 use Rattle.std.proofs.Math.Seq.{take-append_seam, drop-append_seam}
-use Rattle.dn_seal.proofs.Openings.{four_bytes}
-use Rattle.dn_link.specs.declared.bundle.Carried.{Carried}
-use Rattle.dn_link.specs.declared.bundle.Part.{Part}
-use Rattle.dn_link.specs.declared.bundle.Part.TheVariants.{Whole, Run, Relay}
+use Rattle.std.specs.Option.{option_map}
+use Rattle.std.specs.List.{flat_map}
+use Rattle.std.proofs.lemmas.List.Elements.{All-nil, All-cons, All-head, All-tail}
+use Rattle.dn_seal.specs.{Opening.ask_in, Envelope.ask_bytes}
+use Rattle.dn_seal.proofs.Openings.{four_bytes, ask_is, asked-small}
+use Rattle.dn_link.specs.{declared.bundle.Carried.Carried, Text.carried_bytes, Text.IsCarried, Told.number_at, Told.told_whole, declared.bundle.Part.Part, declared.bundle.Part.TheVariants.Whole}
+use Rattle.dn_link.specs.{declared.bundle.Part.TheVariants.Run, declared.bundle.Part.TheVariants.Relay, Text.part_bytes, Text.IsPart, Text.IsRelay, Text.IsRun, Told.told_run, Told.told_relay, Told.told_part}
+use Rattle.dn_link.specs.{Told.told_all}
+use Rattle.dn_link.proofs.Parts.{Fit, small, fit_drop}
 use Rattle.dn_link.specs.declared.bundle.Run as run
 use Rattle.dn_link.specs.declared.bundle.Relay as relay
-use Rattle.dn_link.specs.Text.{carried_bytes, part_bytes, IsPart, IsRelay, IsRun}
-use Rattle.dn_link.specs.Told.{number_at, told_whole, told_run, told_relay, told_part, told_all}
-use Rattle.dn_link.proofs.Parts.{Fit, fit_drop, small}
-use Rattle.dn_link.proofs.Packets.{told_first, first_told, written_first, first_is, first_fits, length-carried}
+
+-- Packets are read back, and what is read is what stands there.
+
+abbrev pub size : Carried → ℕ
+size packet = length packet.datagram.items
+
+-- the packet stands at the front of the bytes
+pub record IsFirst (bytes : List ℕ) (packet : Carried) : Type 0 where
+  pub short : size packet ≤ 104
+  pub long : 10 + size packet ≤ length bytes
+  pub told_size : slice_index bytes 9 ≡ size packet
+  pub start : number_at 0 bytes ≡ packet.start
+  pub ask : ask_in (slice_index bytes 4) (number_at 5 bytes) ≡ Some packet.ask
+  pub items : take (size packet) (drop 10 bytes) ≡ packet.datagram.items
+
+pub told_first : (bytes : List ℕ) (packet : Carried) → IsFirst bytes packet → told_whole bytes ≡ Some packet
+told_first bytes packet is = grind (arith, le-ltb)
+
+pub first_told : (bytes : List ℕ) (packet : Carried) → told_whole bytes ≡ Some packet → IsFirst bytes packet
+first_told bytes packet e = grind (arith, lt-ltb, none-some, le-ltb, same_Some, length-drop, length-take-le)
+
+pub length-carried : (packet : Carried) → length (carried_bytes packet) ≡ 10 + size packet
+length-carried packet = grind arith
+
+-- a packet that was written stands there
+pub written_first : (packet : Carried) (rest : List ℕ) → IsCarried packet
+    → IsFirst (carried_bytes packet ++ rest) packet
+written_first packet rest is = grind (arith, length-append, length-carried, from_le_bytes-to_le_bytes_4, small, take-append_seam)
+
+-- what stands there is the packet's bytes
+pub first_is : (bytes : List ℕ) (packet : Carried) → Fit bytes → IsFirst bytes packet
+    → bytes ≡ carried_bytes packet ++ drop (10 + size packet) bytes
+first_is (s0 ∷ s1 ∷ s2 ∷ s3 ∷ q ∷ a ∷ b ∷ c ∷ d ∷ n ∷ rest) packet fits is =
+    let starts = four_bytes s0 s1 s2 s3 packet.start (fits 0) (fits 1) (fits 2) (fits 3) (sym is.start) in
+    let asks = ask_is q a b c d packet.ask (fits 5) (fits 6) (fits 7) (fits 8) is.ask in
+    let items : rest ≡ packet.datagram.items ++ drop (size packet) rest =
+    sym (take-append-drop (size packet) rest) ∙ ap (λ (xs : List ℕ). xs ++ drop (size packet) rest) is.items in
+    (λ i. starts i ++ (asks i ++ (is.told_size i ∷ items i))) ∙ sewn packet.ask (drop (size packet) rest)
+    ∙ ap (λ (xs : List ℕ). carried_bytes packet ++ xs)
+    (drop-drop (size packet) 10 (s0 ∷ s1 ∷ s2 ∷ s3 ∷ q ∷ a ∷ b ∷ c ∷ d ∷ n ∷ rest))
+  where
+    sewn : (ask : Option ℕ) (more : List ℕ)
+        → to_le_bytes w32 packet.start ++ (ask_bytes ask ++ (size packet ∷ (packet.datagram.items ++ more)))
+        ≡ carried_bytes (record packet { ask = ask }) ++ more
+    sewn None more = refl
+    sewn (Some tic) more = refl
+first_is _ packet fits is = absurd (let l = is.long in omega arith)
+
+pub first_fits : (bytes : List ℕ) (packet : Carried) → Fit bytes → IsFirst bytes packet → IsCarried packet
+first_fits (s0 ∷ s1 ∷ s2 ∷ s3 ∷ q ∷ a ∷ b ∷ c ∷ d ∷ n ∷ rest) packet fits is =
+    record {
+      start = subst (λ (n : ℕ). n < 2 ^ 32) is.start (small s0 s1 s2 s3 (fits 0) (fits 1) (fits 2) (fits 3));
+      ask = asked-small q _ packet.ask (small a b c d (fits 5) (fits 6) (fits 7) (fits 8)) is.ask;
+      short = is.short;
+    }
+first_fits _ packet fits is = absurd (let l = is.long in omega arith)
 
 run_back : (r : run.Run) (rest : List ℕ) → IsRun r → told_part (part_bytes (Run r) ++ rest) ≡ Some (Run r)
-run_back r rest is =
-    let n : ℕ = length r.commands.items / 8 in
-    let whole = is.whole in
-    let some = is.some in
-    let few = is.few in
-    let off = ne_eqb n 0 (λ e. absurd (omega (arith, e, whole, some))) in
-    let low = lt-ltb n 32 (omega (arith, whole, few)) in
-    let a = le-ltb 24 n (omega (arith, whole, few)) in
-    let both = length-append (to_le_bytes w32 r.start ++ r.commands.items) rest in
-    let one = length-append (to_le_bytes w32 r.start) r.commands.items in
-    let four : length (to_le_bytes w32 r.start) ≡ 4 = refl in
-    let b = le-ltb (length (to_le_bytes w32 r.start ++ r.commands.items ++ rest)) (4 + 8 * n)
-    (omega (arith, whole, both, one, four)) in
-    let start = from_le_bytes-to_le_bytes_4 r.start is.start in
-    let items : take (8 * n) (r.commands.items ++ rest) ≡ r.commands.items =
-    ap (λ (k : ℕ). take k (r.commands.items ++ rest)) whole ∙ take-append_seam r.commands.items rest in
-    rw (off, low, a, b) (λ i. Some (Run (record { start = start i; commands = record { items = items i } })))
+run_back r rest is = grind (arith, ne_eqb, lt-ltb, le-ltb, length-append, from_le_bytes-to_le_bytes_4, take-append_seam)
 
 relay_back : (r : relay.Relay) (rest : List ℕ) → IsRelay r → told_part (part_bytes (Relay r) ++ rest) ≡ Some (Relay r)
 relay_back r rest is =
@@ -68,10 +107,7 @@ relay_back r rest is =
     })))
 
 pub part_back : (part : Part) (rest : List ℕ) → IsPart part → told_part (part_bytes part ++ rest) ≡ Some part
-part_back (Whole packet) rest is =
-    ap (option_map Whole) (told_first (carried_bytes packet ++ rest) packet (written_first packet rest is))
-part_back (Run r) rest is = run_back r rest is
-part_back (Relay r) rest is = relay_back r rest is
+part_back part rest is = grind (arith, told_first, written_first, run_back, relay_back)
 
 -- what is read as a part is that part's bytes
 pub record IsPlaced (bytes : List ℕ) (part : Part) : Type 0 where
@@ -93,8 +129,7 @@ whole_is rest part fits e = go (told_whole rest) refl e
               ∙ ap (λ (k : ℕ). carried_bytes packet ++ drop k rest) (sym (length-carried packet)));
         })
 
-run_at : (n : ℕ) (rest : List ℕ) → n ≢ 0 → Fit rest → n ≤ 24 → 4 + 8 * n ≤ length rest
-    → IsPlaced (n ∷ rest)
+run_at : (n : ℕ) (rest : List ℕ) → n ≢ 0 → Fit rest → n ≤ 24 → 4 + 8 * n ≤ length rest → IsPlaced (n ∷ rest)
     (Run (record { start = number_at 0 rest; commands = record { items = take (8 * n) (drop 4 rest) } }))
 run_at n (s0 ∷ s1 ∷ s2 ∷ s3 ∷ more) some fits few long =
     let start : ℕ = from_le_bytes w32 (s0 ∷ s1 ∷ s2 ∷ s3 ∷ []) in
@@ -122,21 +157,7 @@ run_at n _ some fits few long = absurd (omega arith)
 
 run_is : (n : ℕ) (rest : List ℕ) (part : Part) → n ≢ 0 → Fit rest → told_run n rest ≡ Some part
     → IsPlaced (n ∷ rest) part
-run_is n rest part some fits e = elim (cases_lt 24 n) [
-  | inl many ↦
-      let a = lt-ltb 24 n many in
-      let none : ◌≡◌ {A = Option Part} None (Some part) = rw a at e in absurd (none-some part none)
-  | inr few ↦
-      let a = le-ltb 24 n few in
-      elim (cases_lt (length rest) (4 + 8 * n)) [
-        | inl less ↦
-            let b = lt-ltb (length rest) (4 + 8 * n) less in
-            let none : ◌≡◌ {A = Option Part} None (Some part) = rw (a, b) at e in absurd (none-some part none)
-        | inr long ↦
-            let b = le-ltb (length rest) (4 + 8 * n) long in
-            subst (IsPlaced (n ∷ rest)) (same_Some _ part (rw (a, b) at e)) (run_at n rest some fits few long)
-      ]
-]
+run_is n rest part some fits e = grind (arith, lt-ltb, none-some, le-ltb, same_Some, run_at)
 
 relay_at : (n : ℕ) (rest : List ℕ) → 32 ≤ n → n ≤ 159 → n % 32 ≢ 0 → n % 32 ≤ 24 → Fit rest
     → 4 + 8 * (n % 32) ≤ length rest
@@ -175,37 +196,7 @@ relay_at n _ high low some few fits long = absurd (omega arith)
 
 relay_is : (n : ℕ) (rest : List ℕ) (part : Part) → 32 ≤ n → Fit rest → told_relay n rest ≡ Some part
     → IsPlaced (n ∷ rest) part
-relay_is n rest part high fits e = elim (cases_lt 159 n) [
-  | inl many ↦
-      let a = lt-ltb 159 n many in
-      let none : ◌≡◌ {A = Option Part} None (Some part) = rw a at e in absurd (none-some part none)
-  | inr low ↦
-      let a = le-ltb 159 n low in
-      elim (cases_eq (n % 32) 0) [
-        | inl zero_is ↦
-            let z = eq-eqb (n % 32) 0 zero_is in
-            let none : ◌≡◌ {A = Option Part} None (Some part) = rw (a, z) at e in absurd (none-some part none)
-        | inr some ↦
-            let z = ne_eqb (n % 32) 0 some in
-            elim (cases_lt 24 (n % 32)) [
-              | inl lots ↦
-                  let c = lt-ltb 24 (n % 32) lots in
-                  let none : ◌≡◌ {A = Option Part} None (Some part) = rw (a, z, c) at e in absurd (none-some part none)
-              | inr few ↦
-                  let c = le-ltb 24 (n % 32) few in
-                  elim (cases_lt (length rest) (4 + 8 * (n % 32))) [
-                    | inl less ↦
-                        let b = lt-ltb (length rest) (4 + 8 * (n % 32)) less in
-                        let none : ◌≡◌ {A = Option Part} None (Some part) = rw (a, z, c, b) at e in
-                        absurd (none-some part none)
-                    | inr long ↦
-                        let b = le-ltb (length rest) (4 + 8 * (n % 32)) long in
-                        subst (IsPlaced (n ∷ rest)) (same_Some _ part (rw (a, z, c, b) at e))
-                        (relay_at n rest high low some few fits long)
-                  ]
-            ]
-      ]
-]
+relay_is n rest part high fits e = grind (arith, lt-ltb, none-some, le-ltb, eq-eqb, ne_eqb, same_Some, relay_at)
 
 pub part_is : (bytes : List ℕ) (part : Part) → Fit bytes → told_part bytes ≡ Some part → IsPlaced bytes part
 part_is [] part fits e = absurd (none-some part e)
@@ -225,14 +216,6 @@ part_is (n ∷ rest) part fits e = elim (cases_eq n 0) [
             relay_is n rest part third (fit_drop 1 (n ∷ rest) fits) (rw (off, high) at e)
       ]
 ]
-
--- a part that is read lies within the bytes
-pub part_room : (bytes : List ℕ) (part : Part) → Fit bytes → told_part bytes ≡ Some part
-    → length (part_bytes part) ≤ length bytes
-part_room bytes part fits e =
-    let all = ap (length {A = ℕ}) (part_is bytes part fits e).spelled in
-    let both = length-append (part_bytes part) (drop (length (part_bytes part)) bytes) in
-    omega (arith, all, both)
 
 -- what follows a part, or none
 abbrev pub opened : ℕ → List ℕ → Option Part → Option (List Part)
@@ -288,10 +271,8 @@ all_is (suc n) bytes parts fits e =
     first : Recur n → (one : Option Part) → told_part bytes ≡ one
         → (elim one [
           | None ↦ None
-          | Some part ↦ option_map (λ parts. part ∷ parts)
-              (told_all n (drop (length (part_bytes part)) bytes))
-        ]) ≡ Some parts
-        → Alls (suc n) bytes parts
+          | Some part ↦ option_map (λ parts. part ∷ parts) (told_all n (drop (length (part_bytes part)) bytes))
+        ]) ≡ Some parts → Alls (suc n) bytes parts
     first recur None is e = absurd (none-some parts e)
     first recur (Some part) is e =
         next recur part (part_is bytes part fits is) (told_all n (drop (length (part_bytes part)) bytes)) refl e
@@ -300,19 +281,10 @@ all_is (suc n) bytes parts fits e =
 module _ (bytes whole : List ℕ) (rest : List Part) (part : Part) (after : List Part) (split : rest ≡ part ∷ after)
     (so : bytes ++ flat_map part_bytes rest ≡ whole) where
   pub part_fits : length whole ≤ 1200 → length bytes + length (part_bytes part) ≤ 1200
-  part_fits room =
-      let both = length-append bytes (flat_map part_bytes rest) in
-      let all = ap (length {A = ℕ}) so in
-      let one = ap (λ (xs : List Part). length (flat_map part_bytes xs)) split in
-      let two = length-append (part_bytes part) (flat_map part_bytes after) in
-      omega (arith, both, all, one, two, room)
+  part_fits room = grind (arith, length-append)
 
   pub one_more : (new : List ℕ) → new ≡ bytes ++ part_bytes part → new ++ flat_map part_bytes after ≡ whole
-  one_more new e =
-      ap (λ (xs : List ℕ). xs ++ flat_map part_bytes after) e
-      ∙ append_assoc bytes (part_bytes part) (flat_map part_bytes after)
-      ∙ ap (λ (xs : List Part). bytes ++ flat_map part_bytes xs) (sym split)
-      ∙ so
+  one_more new e = grind (arith, append_assoc)
 
   pub still_fit : All IsPart rest → All IsPart after
   still_fit fit = All-tail IsPart part after (subst (All IsPart) split fit)

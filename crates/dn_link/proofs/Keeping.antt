@@ -1,22 +1,39 @@
 -- The locksteps of one game stay those of one game where one hears a datagram.
-use Rattle.std.proofs.Common.{◌≡◌, ℕ, Bool, List, ap, sym, ◌∙◌, subst, arith, Some, All}
+use Rattle.std.proofs.Common.{arith, ◌≡◌, Bool, true, false, List, [], ◌∷◌, sym, subst, All, ℕ, ap, ◌∙◌, Some}
+use Rattle.std.proofs.lemmas.List.Elements.{All-head, All-tail}
 use Rattle.std.specs.Prelude.{slice_get}
-use Rattle.dn_setup.specs.Settings.{Settings}
-use Rattle.dn_machine.specs.Flight.{Flight}
-use Rattle.dn_machine.specs.Limits.{Limits}
-use Rattle.dn_machine.specs.Node.{put}
-use Rattle.dn_machine.proofs.Put.{put_at}
-use Rattle.dn_lockstep.specs.Contents.{Contents}
-use Rattle.dn_lockstep.specs.Marking.{Marking}
-use Rattle.dn_lockstep.specs.OneGame.{AreOneGame}
-use Rattle.dn_lockstep.specs.Session.{Session, with_lockstep}
+use Rattle.dn_lockstep.specs.{Contents.Contents, Marking.Marking, OneGame.AreOneGame, Session.Session, Session.with_lockstep}
 use Rattle.dn_seal.specs.declared.opened.Opened.{Opened}
-use Rattle.dn_open.specs.Arrivals.{HearsOpened}
-use Rattle.dn_open.specs.declared.arrived.Arrived.{Arrived}
-use Rattle.dn_open.specs.Sealed.{opened_of}
-use Rattle.dn_link.specs.Bundles.{WasGiven}
-use Rattle.dn_link.specs.Hearing.{HearsAll}
-use Rattle.dn_link.proofs.Along.{all_along}
+use Rattle.dn_open.specs.{Arrivals.HearsOpened, Arrivals.SparesSealed, declared.arrived.Arrived.Arrived, Sealed.opened_of}
+use Rattle.dn_link.specs.{Hearing.ByTest, Hearing.HearsUntil, Hearing.HearsAll, Hearing.is_start, Bundles.WasGiven}
+use Rattle.dn_setup.specs.Settings.{Settings}
+use Rattle.dn_machine.specs.{Flight.Flight, Limits.Limits, Node.put}
+use Rattle.dn_machine.proofs.Put.{put_at}
+
+-- What each packet of a datagram keeps, all of them keep.
+
+-- one of these packets keeps it
+abbrev pub KeepsOne : (Opened → Type 0) → (Contents → Type 0) → Type 0
+KeepsOne Fits Holds =
+    (packet : Opened) (now next : Contents) (answer : Arrived) → Holds now → Fits packet
+    → HearsOpened packet now next answer → SparesSealed now next answer → Holds next
+
+module _ (Fits : Opened → Type 0) (Holds : Contents → Type 0) (one : KeepsOne Fits Holds) where
+  pub until_along : (packets : List Opened) (now new : Contents) (started : Bool) → Holds now → All Fits packets
+      → HearsUntil packets now new started → Holds new
+  until_along [] now new started here all hears = subst Holds (sym hears.0) here
+  until_along (packet ∷ packets) now new started here all (next, answer, hears, spares, then) =
+      let after : Holds next = one packet now next answer here (All-head Fits packet packets all) hears spares in
+      go (is_start answer) after (until_along packets next new started after (All-tail Fits packet packets all)) then
+    where
+      go : (test : Bool) → Holds next → (HearsUntil packets next new started → Holds new)
+          → ByTest test ((new ≡ next) × (started ≡ true)) (HearsUntil packets next new started) → Holds new
+      go true after later then = subst Holds (sym then.0) after
+      go false after later then = later then
+
+  pub all_along : (packets : List Opened) (now new : Contents) (started : Bool) → Holds now → All Fits packets
+      → HearsAll packets now new started → Holds new
+  all_along packets now new started here all (next, first, then) = grind (arith, until_along)
 
 put_same : {A : Type 0} (f : ℕ → A) (i : ℕ) → put f i (f i) ≡ f
 put_same f i = grind arith
@@ -28,10 +45,9 @@ put_twice f i x y = grind arith
 abbrev pub LettersKeep : Type 0
 LettersKeep =
     (marking : Marking) (limits : Limits) (settings : Settings) (session : Session) (which : ℕ)
-    (flight : Flight) (new : Contents) (answer : Arrived)
-    → AreOneGame marking limits settings session → slice_get session.given which ≡ Some flight
-    → HearsOpened (opened_of flight) (session.locksteps flight.to) new answer
-    → AreOneGame marking limits settings (with_lockstep session flight.to new)
+    (flight : Flight) (new : Contents) (answer : Arrived) → AreOneGame marking limits settings session
+    → slice_get session.given which ≡ Some flight → HearsOpened (opened_of flight) (session.locksteps flight.to)
+    new answer → AreOneGame marking limits settings (with_lockstep session flight.to new)
 
 module _ (letters : LettersKeep) (marking : Marking) (limits : Limits) (settings : Settings) (session : Session)
     (player : ℕ) where

@@ -1,22 +1,13 @@
 -- Who may leave is needed by nobody who has not left, and what is acknowledged is there.
 use Rattle.std.proofs.Common.{◌≡◌, ◌≢◌, ◌<◌, ◌≤◌, ◌+◌, ◌-◌, ℕ, zero, suc, Bool, true, false, refl, ap, sym, ◌∙◌, arith, Option, Some, None, ◌&&◌, ◌||◌}
 use Rattle.std.specs.Prelude.{◌==◌, if◌then◌else◌, is_some, min, nat_lt, slice_index}
-use Rattle.std.proofs.lemmas.Bool.{lt-ltb, ltb-true, ne_eqb}
-use Rattle.std.proofs.lemmas.Option.{none-some}
+use Rattle.std.proofs.lemmas.{Bool.lt-ltb, Bool.ltb-true, Bool.ne_eqb, Option.none-some}
 use Rattle.dn_setup.specs.Settings.{Settings}
 use Rattle.dn_machine.specs.Limits.{Limits}
-use Rattle.dn_lockstep.specs.Agreed.{AreAgreed}
-use Rattle.dn_lockstep.specs.Contents.{Contents, end_in}
-use Rattle.dn_lockstep.specs.Marking.{Marking}
-use Rattle.dn_lockstep.specs.Rings.{count_of}
-use Rattle.dn_lockstep.specs.Session.{Session}
-use Rattle.dn_lockstep.specs.Told.{got, made}
-use Rattle.dn_link.specs.declared.presence.Presence.{Presence}
+use Rattle.dn_lockstep.specs.{Agreed.AreAgreed, Contents.Contents, Contents.end_in, Marking.Marking, Rings.count_of, Session.Session, Told.got, Told.made}
+use Rattle.dn_link.specs.{declared.presence.Presence.Presence, Counting.has_ended, Counting.has_of, Counting.with_end, LinkedGame.AreLinked, Presence.has_gone, Presence.has_left}
 use Rattle.dn_link.specs.declared.presence.Presence.TheVariants.{Unknown, There, Playing, Different, Away, Left, Forgotten}
-use Rattle.dn_link.specs.Counting.{has_ended, has_of, with_end}
 use Rattle.dn_link.specs.Linked.{Linked, certain, has_given_up, is_out, may_leave, needs_nothing, never_played, none_needs}
-use Rattle.dn_link.specs.LinkedGame.{AreLinked}
-use Rattle.dn_link.specs.Presence.{has_gone, has_left}
 use Rattle.dn_link.proofs.Lefts.{unended}
 
 clash : {A : Type 0} {test : Bool} → test ≡ true → test ≡ false → A
@@ -74,8 +65,7 @@ module _ (marking : Marking) (limits : Limits) (settings : Settings) (session : 
   node = linked.nodes player mine
 
   -- it has told that it has one more than all
-  has_told : needs_nothing link other ≡ true → end_in link.node other ≡ None
-      → is_out link other ≡ false
+  has_told : needs_nothing link other ≡ true → end_in link.node other ≡ None → is_out link other ≡ false
       → made link.node < slice_index (link.peers other).reported link.node.me
   has_told needs stays here =
       let number : link.node.me ≡ player = ap (λ (n : Contents). n.me) node ∙ agreed.numbers player mine in
@@ -136,8 +126,7 @@ module _ (marking : Marking) (limits : Limits) (settings : Settings) (session : 
       go (Away cause) is = refl
 
   leaves : limits.players ≤ 4 → may_leave link ≡ true → never_played link.node ≡ false → end_in link.node other ≡ None
-      → is_out link other ≡ false
-      → (got (session.locksteps other) player ≡ made (session.locksteps player))
+      → is_out link other ≡ false → (got (session.locksteps other) player ≡ made (session.locksteps player))
       × (end_in (session.locksteps other) player ≡ Some (made (session.locksteps player)))
   leaves few all played stays here =
       let needs = each_needs link (or_other (never_played link.node) (none_needs link) played all) other (omega (arith, few, below)) in

@@ -2,41 +2,20 @@
 use Rattle.std.proofs.Common.{◌≡◌, ◌<◌, ◌&&◌, ℕ, Bool, true, false, refl, ap, sym, ◌∙◌, subst, arith, Some}
 use Rattle.std.specs.Prelude.{Result, Ok, slice_get}
 use Rattle.std.proofs.lemmas.Bool.{both_ways}
-use Rattle.dn_packet.specs.declared.packet.Packet.{Packet}
-use Rattle.dn_packet.specs.declared.packet.PacketFault.{PacketFault}
-use Rattle.dn_setup.specs.Settings.{Settings}
-use Rattle.dn_setup.specs.declared.setup.SetupFault.{SetupFault}
-use Rattle.dn_machine.specs.declared.answers.Heard.{Heard}
-use Rattle.dn_machine.specs.Flight.{Flight, packet_of, is_close, is_request_close}
-use Rattle.dn_machine.specs.Limits.{Limits}
-use Rattle.dn_machine.specs.Node as machine
-use Rattle.dn_machine.specs.Node.{put}
+use Rattle.dn_packet.specs.{declared.packet.Packet.Packet, declared.packet.PacketFault.PacketFault}
+use Rattle.dn_setup.specs.{Settings.Settings, declared.setup.SetupFault.SetupFault}
+use Rattle.dn_machine.specs.{declared.answers.Heard.Heard, Flight.Flight, Flight.packet_of, Flight.is_close, Flight.is_request_close, Limits.Limits, Node.put}
 use Rattle.dn_machine.proofs.Put.{put_at}
-use Rattle.dn_lockstep.specs.Contents.{Contents}
-use Rattle.dn_lockstep.specs.Hearing.{HearsAny, Spares}
-use Rattle.dn_lockstep.specs.Marking.{Marking}
-use Rattle.dn_lockstep.specs.Received.{received}
-use Rattle.dn_lockstep.specs.Represents.{Represents}
-use Rattle.dn_lockstep.specs.Sent.{bytes_of}
-use Rattle.dn_lockstep.specs.Steps.{IsAfter}
-use Rattle.dn_lockstep.specs.Told.{made}
-use Rattle.dn_lockstep.proofs.Counting.{made_is}
-use Rattle.dn_lockstep.proofs.Nearby.{near_from_any, told_by, told_is}
-use Rattle.dn_survivor.specs.declared.others.Others.{Others}
-use Rattle.dn_survivor.specs.OfOthers.Keeping.{has}
-use Rattle.dn_survivor.specs.OneGame.{AreRemaining}
-use Rattle.dn_survivor.specs.Session.{Session, with_survivor}
-use Rattle.dn_survivor.specs.Surviving.{Surviving, has_given_up}
-use Rattle.dn_survivor.proofs.OneGame as one_game
+use Rattle.dn_lockstep.specs.{Contents.Contents, Hearing.HearsAny, Hearing.Spares, Marking.Marking, Received.received, Represents.Represents, Sent.bytes_of, Steps.IsAfter, Told.made}
+use Rattle.dn_lockstep.proofs.{Counting.made_is, Nearby.near_from_any, Nearby.told_by, Nearby.told_is}
+use Rattle.dn_survivor.specs.{declared.others.Others.Others, OfOthers.Keeping.has, OneGame.AreRemaining, Session.Session, Session.with_survivor, Surviving.Surviving, Surviving.has_given_up}
 use Rattle.dn_seal.specs.declared.opened.Opened.{Opened}
-use Rattle.dn_open.specs.Arrivals.{HearsOpened, IsRead, SparesSealed, heard, on_opened}
-use Rattle.dn_open.specs.declared.arrived.Arrived.{Arrived}
-use Rattle.dn_open.specs.Sealed.{opened_of}
-use Rattle.dn_open.proofs.Alikes.{alike}
-use Rattle.dn_open.proofs.Deliveries.{near_if}
+use Rattle.dn_open.specs.{Arrivals.HearsOpened, Arrivals.IsRead, Arrivals.SparesSealed, Arrivals.heard, Arrivals.on_opened, declared.arrived.Arrived.Arrived, Sealed.opened_of}
+use Rattle.dn_open.proofs.{Alikes.alike, Deliveries.near_if}
 use Rattle.dn_link.specs.Bundles.{WasGiven}
-use Rattle.dn_link.proofs.Along.{KeepsOne}
-use Rattle.dn_link.proofs.Keeping.{put_twice}
+use Rattle.dn_link.proofs.Keeping.{KeepsOne, put_twice}
+use Rattle.dn_machine.specs.Node as machine
+use Rattle.dn_survivor.proofs.OneGame as one_game
 
 same_heard : (one other : Heard) → ◌≡◌ {A = Arrived} (Arrived.Heard one) (Arrived.Heard other) → one ≡ other
 same_heard one other e = cc
@@ -96,9 +75,7 @@ module _ (marking : Marking) (limits : Limits) (settings : Settings) {session : 
   count = made_is limits flight.to old.lockstep m shows own
 
   reads : IsRead (Ok (opened_of flight)) (Ok (packet_of flight)) (told_by flight.kind)
-  reads =
-      let fair = game.fair which flight found in
-      ((fair.packet, refl), told_is flight flight.kind fair.kind)
+  reads = let fair = game.fair which flight found in ((fair.packet, refl), told_is flight flight.kind fair.kind)
 
   same_as : new.lockstep ≡ old.lockstep → new ≡ old
   same_as same = λ i. record { lockstep = same i; others = others i }
@@ -116,9 +93,8 @@ module _ (marking : Marking) (limits : Limits) (settings : Settings) {session : 
       let dropped : Spares old.lockstep new.lockstep told =
       subst (SparesSealed old.lockstep new.lockstep) is spares in
       one_game.hears marking limits settings game which flight found new told
-      (near_if (made old.lockstep) flight close)
-      (λ here. near_from_any old.lockstep new.lockstep flight.from (bytes_of flight) told any own)
-      (λ barred. absurd (both_ways (has_given_up old flight.from) free barred))
+      (near_if (made old.lockstep) flight close) (λ here. near_from_any old.lockstep new.lockstep flight.from
+      (bytes_of flight) told any own) (λ barred. absurd (both_ways (has_given_up old flight.from) free barred))
       (λ number is_dropped. same_as (dropped number is_dropped)) others
 
   far_keeps : close_to (made old.lockstep) flight ≡ false

@@ -8,13 +8,10 @@ use Rattle.std.proofs.lemmas.List.Elements.{All-append, All-cons, All-head, All-
 use Rattle.dn_machine.specs.Node.{put}
 use Rattle.dn_machine.proofs.Put.{put_at, put_off}
 use Rattle.dn_seal.specs.declared.opened.Opened.{Opened}
-use Rattle.dn_link.specs.declared.bundle.Part.{Part}
-use Rattle.dn_link.specs.declared.bundle.Part.TheVariants.{Whole, Run, Relay}
+use Rattle.dn_link.specs.{declared.bundle.Part.Part, declared.bundle.Part.TheVariants.Whole, declared.bundle.Part.TheVariants.Run, declared.bundle.Part.TheVariants.Relay, CaughtUp.HasNoGap, CaughtUp.last_end}
+use Rattle.dn_link.specs.{CaughtUp.told_end, Packets.heard_of, Packets.opened_from, Packets.own_of, Packets.packets_of, Packets.short_packet, Packets.short_packets}
+use Rattle.dn_link.proofs.{Chains.IsQuiet, Lefts.All-back, Lefts.All-front}
 use Rattle.dn_link.specs.declared.bundle.Relay as relay
-use Rattle.dn_link.specs.CaughtUp.{HasNoGap, last_end, told_end}
-use Rattle.dn_link.specs.Packets.{heard_of, opened_from, own_of, packets_of, short_packet, short_packets}
-use Rattle.dn_link.proofs.Chains.{IsQuiet}
-use Rattle.dn_link.proofs.Senders.{All-back, All-front}
 
 -- where the packets of each maker end then
 abbrev pub then_end : (ℕ → ℕ) → Opened → ℕ → ℕ

@@ -2,21 +2,12 @@
 use Rattle.std.proofs.Common.{◌≡◌, ◌≢◌, ◌<◌, ℕ, List, [], ◌∷◌, length, ap, sym, ◌∙◌, subst, Option, Some, None, inl, inr}
 use Rattle.std.specs.Prelude.{IfSome, Result, Ok, Err, slice_get}
 use Rattle.std.specs.Option.{option_map}
-use Rattle.std.proofs.lemmas.Bool.{cases_eq}
-use Rattle.std.proofs.lemmas.Option.{none-some, same_Some}
-use Rattle.dn_survivor.specs.declared.report.Report.{Report}
-use Rattle.dn_survivor.specs.ReportBytes.Text.{IsReport}
+use Rattle.std.proofs.lemmas.{Bool.cases_eq, Option.none-some, Option.same_Some}
+use Rattle.dn_survivor.specs.{declared.report.Report.Report, ReportBytes.Text.IsReport, Session.Given, Session.Session, Session.after_report, Session.reports_on}
 use Rattle.dn_seal.specs.declared.seal.Seal.{Seal}
-use Rattle.dn_link.specs.declared.notice.fault.ReportDatagramFault.{ReportDatagramFault}
-use Rattle.dn_link.specs.declared.notice.fault.ReportDatagramFault.TheVariants.{Receiver}
-use Rattle.dn_link.specs.SealedReports.Opening.{IsOpenedAs, IsReportFrom}
-use Rattle.dn_link.specs.SealedReports.Text.{sealed_report_bytes}
-use Rattle.dn_link.proofs.SealedReports.Openings.{one_opening}
-use Rattle.dn_link.proofs.SealedReports.Sealed.{its_to, of_game}
+use Rattle.dn_link.specs.{declared.notice.fault.ReportDatagramFault.ReportDatagramFault, declared.notice.fault.ReportDatagramFault.TheVariants.Receiver, SealedReports.Opening.IsOpenedAs, SealedReports.Opening.IsReportFrom, SealedReports.Text.sealed_report_bytes, RemainingLinks.WasSealedIn}
+use Rattle.dn_link.proofs.{SealedReports.Openings.one_opening, SealedReports.Sealed.its_to, SealedReports.Sealed.of_game, Relinking.found_on, Relinking.last_at}
 use Rattle.dn_open.specs.Sealed.{sealing_of}
-use Rattle.dn_survivor.specs.Session.{Given, Session, after_report, reports_on}
-use Rattle.dn_link.specs.RemainingLinks.{WasSealedIn}
-use Rattle.dn_link.proofs.Relinking.{found_on, last_at}
 
 -- what is opened is one report of one player
 same_opened : (one other : ℕ) (report told : Report)

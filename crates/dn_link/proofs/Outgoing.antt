@@ -1,41 +1,65 @@
 -- What goes to a peer was given, and what is kept for it.
-use Rattle.std.proofs.Common.{◌≡◌, ℕ, Bool, true, false, List, ◌++◌, sym, ◌∙◌, subst, Option, Some, None, All}
-use Rattle.std.specs.Prelude.{if◌then◌else◌, map, slice_get}
+use Rattle.std.proofs.Common.{◌≡◌, ℕ, List, [], ◌∷◌, refl, sym, ◌∙◌, Some, All, arith, ◌++◌, subst, Option, None}
+use Rattle.std.specs.Prelude.{slice_get, map}
+use Rattle.std.proofs.lemmas.List.Elements.{All-nil, All-cons, All-head, All-tail, All-append}
+use Rattle.std.proofs.lemmas.Option.{same_Some, none-some}
 use Rattle.std.specs.List.{flat_map}
 use Rattle.std.proofs.lemmas.Grind.{flat_map-append}
-use Rattle.std.proofs.lemmas.List.Elements.{All-append}
 use Rattle.std.specs.Option.{option_map}
-use Rattle.std.proofs.lemmas.Option.{none-some}
 use Rattle.dn_machine.specs.Flight.{Flight}
-use Rattle.dn_lockstep.specs.Session.{given_on}
+use Rattle.dn_lockstep.specs.Session.{Session, given_on}
+use Rattle.dn_seal.specs.{declared.opened.Opened.Opened, declared.seal.Seal.Seal}
+use Rattle.dn_open.specs.Sealed.{sealing_of}
+use Rattle.dn_link.specs.{declared.bundle.Bundle.Bundle, Bundles.WasGiven, Bundles.WasBundled, LinkedGame.IsLater, Packets.packets_in, Reading.IsDatagramOf, Text.IsBundle, Text.sealed_bytes}
+use Rattle.dn_link.specs.{declared.bundle.Carried.Carried, declared.bundle.Identity.Identity, declared.presence.Presence.Presence, Giving.carried_of, Kept.going, Kept.taken_by, Linked.Gives, Linked.Linked}
+use Rattle.dn_link.specs.{Linked.PeerState, Paced.PaceState, Packets.packets_of, Relays.flights_of, Relays.handed_part, declared.bundle.Part.Part, Packing.ArePacked}
+use Rattle.dn_link.proofs.{Openings.its_bundle, Linking.at_most, Relays.all_given, Relinking.AreKept, Relinking.put_kept, Relinking.all_later, Relinking.all_stay, Relinking.found_on, Relinking.keeps_given}
+use Rattle.dn_link.proofs.{Relinking.packs_given}
 use Rattle.dn_lockstep.proofs.OneGame.{GoesBetween}
-use Rattle.dn_seal.specs.declared.seal.Seal.{Seal}
-use Rattle.dn_link.specs.declared.bundle.Carried.{Carried}
-use Rattle.dn_link.specs.declared.bundle.Identity.{Identity}
-use Rattle.dn_link.specs.declared.presence.Presence.{Presence}
-use Rattle.dn_link.specs.Bundles.{WasGiven}
-use Rattle.dn_link.specs.Giving.{carried_of}
-use Rattle.dn_link.specs.Kept.{going, taken_by, takes_packet}
-use Rattle.dn_link.specs.Linked.{Gives, Linked, PeerState}
-use Rattle.dn_link.specs.Paced.{PaceState}
-use Rattle.dn_link.specs.Packets.{packets_in, packets_of}
-use Rattle.dn_link.specs.Relays.{flights_of, handed_part}
-use Rattle.dn_link.specs.declared.bundle.Part.{Part}
-use Rattle.dn_link.proofs.Genuine.{opened_later}
-use Rattle.dn_link.proofs.Relays.{all_given}
-use Rattle.dn_link.specs.Packing.{ArePacked}
-use Rattle.dn_link.proofs.Kepts.{AreKept, put_kept}
-use Rattle.dn_link.proofs.Relinking.{all_later, all_stay, found_on, keeps_given, packs_given}
+
+-- What was sealed stays so, and has one bundle.
+
+-- two bundles of one text are one
+pub same_bundle : (seal : Seal) (bytes : List ℕ) (one other : Bundle) (player : ℕ)
+    → IsDatagramOf (sealing_of seal player) bytes one → IsBundle other → bytes ≡ sealed_bytes seal other
+    → other ≡ one
+same_bundle seal bytes one other player is fits spelled =
+    same_Some other one (sym (its_bundle (sealing_of seal other.to) bytes other (record {
+      game = is.game;
+      fits = fits;
+      short = is.short;
+      to = refl;
+      is = spelled;
+    })) ∙ its_bundle (sealing_of seal player) bytes one is)
+
+-- what was sealed stays so
+pub opened_later : (given later : List Flight) → ((which : ℕ) (flight : Flight) → slice_get given which ≡ Some flight
+    → slice_get later which ≡ Some flight) → (to : ℕ) (packets : List Opened)
+    → All (WasGiven given to) packets → All (WasGiven later to) packets
+opened_later given later stay to [] all = All-nil (WasGiven later to)
+opened_later given later stay to (packet ∷ packets) all =
+    let was = All-head (WasGiven given to) packet packets all in
+    All-cons (WasGiven later to) packet packets (was.0, was.1, stay was.0 was.1 was.2, was.3, was.4)
+    (opened_later given later stay to packets (All-tail (WasGiven given to) packet packets all))
+
+pub bundled_on : (seal : Seal) (session later : Session) (bytes : List ℕ) → IsLater session later
+    → WasBundled seal session bytes → WasBundled seal later bytes
+bundled_on seal session later bytes is was = (
+  was.0,
+  was.1,
+  was.2,
+  opened_later session.given later.given is.given was.0.to (packets_in was.0) was.3,
+  record {
+    got = λ which apart. at_most refl (was.4.got which apart) (is.got was.0.from which apart);
+    end = λ tells. is.ended was.0.from (was.4.end tells);
+  },
+)
 
 -- what a peer takes was given
 pub taken_given : (presence : Presence) (given : Option Carried) (carried : Carried)
     → taken_by presence given ≡ Some carried → Some carried ≡ given
 taken_given presence None carried is = absurd (none-some carried is)
-taken_given presence (Some packet) carried is = go (takes_packet presence packet) is
-  where
-    go : (test : Bool) → (if test then Some packet else None) ≡ Some carried → Some carried ≡ Some packet
-    go true is = sym is
-    go false is = absurd (none-some carried is)
+taken_given presence (Some packet) carried is = grind (arith, none-some)
 
 module _ (given : List Flight) (flight : Option Flight) (player : ℕ) (old new : Linked)
     (own : old.node.me ≡ player) (seal : Seal) (identity : Identity) (pace : PaceState) (to : ℕ) (bytes : List ℕ)

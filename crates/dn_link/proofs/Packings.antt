@@ -1,18 +1,115 @@
 -- Packets are written as parts, one after the other.
-use Rattle.std.proofs.Common.{◌≡◌, ◌<◌, ◌≤◌, ◌+◌, ◌*◌, ◌/◌, ◌%◌, ◌^◌, ℕ, zero, suc, List, [], ◌∷◌, ◌++◌, length, map, take, drop, refl, ap, sym, ◌∙◌, subst, arith, append_assoc, append-nil}
+use Rattle.std.proofs.Common.{◌≡◌, ◌<◌, ◌≤◌, ◌+◌, ◌^◌, ℕ, List, [], ◌∷◌, ◌++◌, length, refl, ap, sym, ◌∙◌, subst, arith, All, append-nil, ◌*◌, inl, inr, ◌/◌, ◌%◌, zero, suc, map, take, drop, append_assoc}
+use Rattle.std.specs.Int.{w32, to_le_bytes}
 use Rattle.std.specs.List.{flat_map}
 use Rattle.std.proofs.lemmas.Grind.{flat_map-append}
 use Rattle.std.proofs.lemmas.List.{length-append, length-drop, map-append, take-append-le, drop-append-le}
+use Rattle.std.proofs.lemmas.List.Elements.{All-nil, All-cons, All-append}
+use Rattle.std.proofs.lemmas.Bool.{cases_lt}
 use Rattle.std.proofs.Math.Seq.{take-append_seam}
+use Rattle.arrayvec.specs.ArrayVec.{ArrayVec}
+use Rattle.dn_link.specs.{declared.bundle.Part.Part, declared.bundle.Part.TheVariants.Run, declared.packing.Packing.Packing, OpenPacking.IsPacking, Text.IsPart, Text.part_bytes, Text.parts_bytes, OpenPacking.IsOpen}
+use Rattle.dn_link.specs.{OpenPacking.part_of, Packing.runs, Packing.runs_last, declared.bundle.Carried.Carried, Packets.opened_from, Packets.packets_of, Packets.short_packet, Packets.short_packets, Packing.ArePacked}
+use Rattle.dn_link.specs.{OpenPacking.packed, OpenPacking.IsTight}
+use Rattle.dn_link.proofs.Tight.{is_part, is_none, IsClosed, closed}
 use Rattle.dn_seal.specs.declared.opened.Opened.{Opened}
-use Rattle.dn_link.specs.declared.bundle.Carried.{Carried}
-use Rattle.dn_link.specs.declared.bundle.Part.TheVariants.{Whole, Run}
-use Rattle.dn_link.specs.declared.packing.Packing.{Packing}
-use Rattle.dn_link.specs.Packets.{opened_from, packets_of, short_packet, short_packets}
-use Rattle.dn_link.specs.OpenPacking.{packed, part_of, IsOpen, IsTight, IsPacking}
-use Rattle.dn_link.specs.Packing.{ArePacked}
-use Rattle.dn_link.proofs.Lasts.{ended_full}
-use Rattle.dn_link.proofs.Tight.{IsClosed, closed}
+use Rattle.dn_link.specs.declared.bundle.Run as run
+
+-- The last of the parts, and the bytes that are left behind it.
+
+-- Parts that are written fit.
+
+-- parts with one more
+pub pushed_bytes : (parts : List Part) (part : Part)
+    → length (parts_bytes (parts ++ part ∷ [])) ≡ length (parts_bytes parts) + length (part_bytes part)
+pushed_bytes parts part =
+    let split = ap (length {A = ℕ}) (flat_map-append part_bytes parts (part ∷ [])) in
+    let both = length-append (flat_map part_bytes parts) (part_bytes part ++ []) in
+    let one = ap (length {A = ℕ}) (append-nil (part_bytes part)) in
+    omega (arith, split, both, one)
+
+pub pushed_all : (parts : List Part) (part : Part) → All IsPart parts → IsPart part → All IsPart (parts ++ part ∷ [])
+pushed_all parts part all is =
+    All-append IsPart parts (part ∷ []) all (All-cons IsPart part [] is (All-nil IsPart))
+
+pub run_length : (r : run.Run) → length (part_bytes (Run r)) ≡ 5 + length r.commands.items
+run_length r =
+    let four : length (to_le_bytes w32 r.start) ≡ 4 = refl in
+    omega (arith, length-append (to_le_bytes w32 r.start) r.commands.items, four)
+
+-- the run is ended
+pub ended : (p q : Packing) → IsPacking p → length p.parts.items ≤ 23 → 1 ≤ length p.run.commands.items
+    → q.parts.items ≡ p.parts.items ++ Run p.run ∷ []
+    → q.bytes ≡ p.bytes + (5 + length p.run.commands.items) → q.run.start < 2 ^ 32 → q.run.commands.items ≡ []
+    → IsPacking q
+ended p q is few some parts bytes start none =
+    let count = ap (length {A = Part}) parts in
+    let more = length-append p.parts.items (Run p.run ∷ []) in
+    let empty = ap (length {A = ℕ}) none in
+    let whole = is.run.whole in
+    let written = ap (λ (ps : List Part). length (parts_bytes ps)) parts in
+    record {
+      parts = subst (All IsPart) (sym parts) (pushed_all p.parts.items (Run p.run) is.parts (record {
+        start = is.run.start;
+        some = omega (arith, whole, some);
+        few = is.run.few;
+        whole = is.run.whole;
+      }));
+      run = record { start = start; few = omega (arith, empty); whole = omega (arith, empty) };
+      bytes = omega (arith, bytes, is.bytes, written, pushed_bytes p.parts.items (Run p.run), run_length p.run);
+      few = omega (arith, count, more, few);
+      fit = omega (arith, bytes, is.run_fits some);
+      run_fits = λ more. absurd (omega (arith, more, empty));
+    }
+
+pub run_fits : (p q : Packing) (command : List ℕ) → IsPacking p → length command ≡ 8
+    → length p.run.commands.items ≤ 184 → p.bytes + 5 + length p.run.commands.items + 8 ≤ 1118
+    → q.parts ≡ p.parts → q.bytes ≡ p.bytes → q.run.start ≡ p.run.start
+    → q.run.commands.items ≡ p.run.commands.items ++ command → IsPacking q
+run_fits p q command is eight few room parts bytes begin more =
+    let whole = is.run.whole in
+    let grown = ap (length {A = ℕ}) more in
+    let both = length-append p.run.commands.items command in
+    let items = ap (λ (v : ArrayVec Part). v.items) parts in
+    record {
+      parts = subst (All IsPart) (sym items) is.parts;
+      run = record {
+        start = omega (arith, begin, is.run.start);
+        few = omega (arith, grown, both, eight, few);
+        whole = omega (arith, grown, both, eight, whole);
+      };
+      bytes = bytes ∙ is.bytes ∙ ap (λ (ps : List Part). length (parts_bytes ps)) (sym items);
+      few = subst (λ (ps : List Part). length ps ≤ 24) (sym items) is.few;
+      fit = omega (arith, bytes, is.fit);
+      run_fits = λ some. omega (arith, bytes, grown, both, eight, room);
+    }
+
+pub last_of : (parts : List Part) (part : Part) → runs_last (parts ++ part ∷ []) ≡ runs part
+last_of [] part = refl
+last_of (a ∷ []) part = refl
+last_of (a ∷ b ∷ parts) part = last_of (b ∷ parts) part
+
+-- where a run may have been ended, and there was no room for another packet
+pub ended_full : (p : Packing) (parts : List Part) → IsPacking p → IsOpen p
+    → parts ≡ p.parts.items ++ part_of p.run
+    → (length p.parts.items < 22 → 1118 < p.bytes + 5 + length p.run.commands.items + 115)
+    → length parts < 22 + runs_last parts → 1118 + 5 * runs_last parts < length (parts_bytes parts) + (5 + 115)
+ended_full p parts is going now full few = elim (cases_lt 0 (length p.run.commands.items)) [
+  | inl some ↦
+      let same : parts ≡ p.parts.items ++ Run p.run ∷ [] =
+      now ∙ ap (λ (last : List Part). p.parts.items ++ last) (is_part p.run some) in
+      let last : runs_last parts ≡ 1 = ap runs_last same ∙ last_of p.parts.items (Run p.run) in
+      let count = ap (length {A = Part}) same ∙ length-append p.parts.items (Run p.run ∷ []) in
+      let written = ap (λ (ps : List Part). length (parts_bytes ps)) same ∙ pushed_bytes p.parts.items (Run p.run) in
+      omega (arith, full (omega (arith, few, last, count)), last, written, run_length p.run, is.bytes)
+  | inr none ↦
+      let same : parts ≡ p.parts.items =
+      now ∙ ap (λ (last : List Part). p.parts.items ++ last) (is_none p.run none) ∙ append-nil p.parts.items in
+      let last : runs_last parts ≡ 0 = ap runs_last same ∙ going (omega (arith, none)) in
+      let count = ap (length {A = Part}) same in
+      let written = ap (λ (ps : List Part). length (parts_bytes ps)) same in
+      omega (arith, full (omega (arith, few, last, count)), last, written, none, is.bytes)
+]
 
 -- the tic after so many
 later_tic : (start n : ℕ) → ((start + 1) % 2 ^ 32 + n) % 2 ^ 32 ≡ (start + suc n) % 2 ^ 32
@@ -24,8 +121,7 @@ take_all xs eight =
 
 -- a run with one more command
 pub longer : (n from start : ℕ) (commands command : List ℕ) → start < 2 ^ 32 → length commands ≡ 8 * n
-    → length command ≡ 8
-    → short_packets (suc n) from start (commands ++ command)
+    → length command ≡ 8 → short_packets (suc n) from start (commands ++ command)
     ≡ short_packets n from start commands ++ opened_from from (short_packet from ((start + n) % 2 ^ 32) command) ∷ []
 longer zero from start [] command small none eight =
     let same : (start + 0) % 2 ^ 32 ≡ start = omega (arith, small) in
@@ -55,29 +151,12 @@ run_goes_on p q from start command is eight few follows parts begin more =
     let both = length-append p.run.commands.items command in
     let count : length q.run.commands.items / 8 ≡ suc n = omega (arith, grown, both, eight, whole) in
     let one = longer n from p.run.start p.run.commands.items command is.run.start (omega (arith, whole)) eight in
-    (λ i. flat_map (packets_of from) (parts i).items
-    ++ short_packets (count i) from (begin i) (more i))
-    ∙ ap (λ (ps : List Opened). flat_map (packets_of from) p.parts.items ++ ps) one
+    (λ i. flat_map (packets_of from) (parts i).items ++ short_packets (count i) from (begin i) (more i)) ∙ ap
+    (λ (ps : List Opened). flat_map (packets_of from) p.parts.items ++ ps) one
     ∙ (λ i. flat_map (packets_of from) p.parts.items ++ (short_packets n from p.run.start p.run.commands.items
-    ++ opened_from from (short_packet from (follows i) command) ∷ []))
-    ∙ sym (append_assoc (flat_map (packets_of from) p.parts.items)
-    (short_packets n from p.run.start p.run.commands.items)
-    (opened_from from (short_packet from start command) ∷ []))
-
--- after an ended run, a packet as it is
-pub whole_goes_on : (p q : Packing) (from : ℕ) (packet : Carried) → p.run.commands.items ≡ []
-    → q.run ≡ p.run → q.parts.items ≡ p.parts.items ++ Whole packet ∷ []
-    → packed from q ≡ packed from p ++ opened_from from packet ∷ []
-whole_goes_on p q from packet none same parts =
-    let empty : packets_of from (Run p.run) ≡ [] =
-    ap (λ (cs : List ℕ). short_packets (length cs / 8) from p.run.start cs) none in
-    (λ i. flat_map (packets_of from) (parts i) ++ packets_of from (Run (same i)))
-    ∙ ap (λ (ps : List Opened). flat_map (packets_of from) (p.parts.items ++ Whole packet ∷ []) ++ ps) empty
-    ∙ append-nil (flat_map (packets_of from) (p.parts.items ++ Whole packet ∷ []))
-    ∙ flat_map-append (packets_of from) p.parts.items (Whole packet ∷ [])
-    ∙ ap (λ (ps : List Opened). ps ++ opened_from from packet ∷ [])
-    (sym (append-nil (flat_map (packets_of from) p.parts.items))
-    ∙ ap (λ (ps : List Opened). flat_map (packets_of from) p.parts.items ++ ps) (sym empty))
+    ++ opened_from from (short_packet from (follows i) command) ∷ [])) ∙ sym
+    (append_assoc (flat_map (packets_of from) p.parts.items) (short_packets n from p.run.start
+    p.run.commands.items) (opened_from from (short_packet from start command) ∷ []))
 
 -- where the loop over packets is
 pub record InPacking (from : ℕ) (packets : List Carried) (p : Packing) (rest : List Carried) : Type 0 where
@@ -110,10 +189,8 @@ module _ (from : ℕ) (packets : List Carried) (p : Packing) (rest : List Carrie
 
   -- the run is ended, and no packet is left, or there is no room
   pub packs_all : (q : Packing) → q.run.commands.items ≡ [] → packed from q ≡ packed from p
-      → q.parts.items ≡ p.parts.items ++ part_of p.run
-      → (1 ≤ length rest → length p.parts.items < 22
-      → 1118 < p.bytes + 5 + length p.run.commands.items + 115)
-      → ArePacked from packets q.parts.items
+      → q.parts.items ≡ p.parts.items ++ part_of p.run → (1 ≤ length rest → length p.parts.items < 22
+      → 1118 < p.bytes + 5 + length p.run.commands.items + 115) → ArePacked from packets q.parts.items
   packs_all q none same now full =
       let count = ap (length {A = Carried}) at.split in
       let both = length-append at.done rest in

@@ -3,19 +3,12 @@ use Rattle.std.proofs.Common.{◌≡◌, ◌<◌, ◌≤◌, ◌+◌, ◌^◌, �
 use Rattle.std.specs.Prelude.{Bool, true, false}
 use Rattle.std.specs.Option.{option_map}
 use Rattle.std.specs.Int.{w32, from_le_bytes, to_le_bytes}
-use Rattle.std.proofs.lemmas.Bool.{cases_eq, cases_lt, eq-eqb, ne_eqb, lt-ltb, le-ltb}
+use Rattle.std.proofs.lemmas.{Bool.cases_eq, Bool.eq-eqb, Bool.ne_eqb, Bool.lt-ltb, Bool.le-ltb, List.take-append-drop, List.length-take-le, List.length-append, List.get_or-drop, Nat.from_le_bytes-to_le_bytes_4, Option.same_Some, Option.none-some}
 use Rattle.std.proofs.lemmas.List.Elements.{All-nil, All-cons, All-head, All-tail}
-use Rattle.std.proofs.lemmas.List.{take-append-drop, length-take-le, length-append, get_or-drop}
-use Rattle.std.proofs.lemmas.Nat.{from_le_bytes-to_le_bytes_4}
-use Rattle.std.proofs.lemmas.Option.{same_Some, none-some}
 use Rattle.std.proofs.Math.Seq.{take-append_seam}
 use Rattle.dn_seal.proofs.Openings.{four_bytes}
-use Rattle.dn_link.specs.declared.bundle.Counts.{Counts}
-use Rattle.dn_link.specs.declared.bundle.Identity.{Identity}
-use Rattle.dn_link.specs.declared.bundle.Message.{Message}
-use Rattle.dn_link.specs.declared.bundle.Message.TheVariants.{Hello, Game, Goodbye}
+use Rattle.dn_link.specs.{declared.bundle.Counts.Counts, declared.bundle.Identity.Identity, declared.bundle.Message.Message, declared.bundle.Message.TheVariants.Game, Told.told_counts, Told.told_flag, Told.told_identity, Told.told_hello, Told.told_goodbye, Told.told_message}
 use Rattle.dn_link.specs.Text.{counts_bytes, flag_byte, identity_bytes, message_bytes, AreCounts, IsIdentity, IsMessage}
-use Rattle.dn_link.specs.Told.{told_counts, told_flag, told_identity, told_hello, told_goodbye, told_message}
 
 -- each number of the list is a byte
 abbrev pub Fit : List ℕ → Type 0
@@ -88,19 +81,7 @@ counts_is (m0 ∷ m1 ∷ m2 ∷ m3 ∷ r0 ∷ r1 ∷ r2 ∷ r3 ∷ a0 ∷ a1 ∷
 counts_is _ fits long = absurd (omega arith)
 
 flag_is : (byte : ℕ) (flag : Bool) → told_flag byte ≡ Some flag → byte ≡ flag_byte flag
-flag_is byte flag e = elim (cases_eq byte 1) [
-  | inl one ↦ let on = eq-eqb byte 1 one in one ∙ ap flag_byte (same_Some true flag (rw on at e))
-  | inr other ↦
-      let off = ne_eqb byte 1 other in
-      elim (cases_eq byte 0) [
-        | inl none ↦
-            let on = eq-eqb byte 0 none in none ∙ ap flag_byte (same_Some false flag (rw (off, on) at e))
-        | inr more ↦
-            let off_0 = ne_eqb byte 0 more in
-            let none : ◌≡◌ {A = Option Bool} None (Some flag) = rw (off, off_0) at e in
-            absurd (none-some flag none)
-      ]
-]
+flag_is byte flag e = grind (arith, eq-eqb, same_Some, ne_eqb, none-some)
 
 pub length-identity : (identity : Identity) → length identity.host ≡ 16 → length (identity_bytes identity) ≡ 23
 length-identity identity host = omega (arith, host)
@@ -160,15 +141,7 @@ identity_is _ identity fits long e = absurd (omega arith)
 
 pub message_back : (message : Message) (rest : List ℕ) → IsMessage message
     → told_message (message_bytes message ++ rest) ≡ Some message
-message_back (Hello identity) rest is =
-    let long = length-append (identity_bytes identity) rest in
-    let size = length-identity identity is.host in
-    let test = le-ltb (length (identity_bytes identity ++ rest)) 23 (omega (arith, long, size)) in
-    rw test (ap (option_map Hello) (identity_back identity rest is))
-message_back Game rest is = refl
-message_back (Goodbye cause) rest is =
-    let test = le-ltb (length (cause ∷ rest)) 1 (omega arith) in
-    rw test refl
+message_back message rest is = grind (arith, length-append, length-identity, le-ltb, identity_back)
 
 -- what is read as a message is that message's bytes
 pub record IsSpelled (bytes : List ℕ) (message : Message) : Type 0 where
@@ -177,31 +150,11 @@ pub record IsSpelled (bytes : List ℕ) (message : Message) : Type 0 where
 
 hello_is : (rest : List ℕ) (message : Message) → Fit rest → told_hello rest ≡ Some message
     → IsSpelled (0 ∷ rest) message
-hello_is rest message fits e = elim (cases_lt (length rest) 23) [
-  | inl few ↦ let test = lt-ltb (length rest) 23 few in
-      let none : ◌≡◌ {A = Option Message} None (Some message) = rw test at e in absurd (none-some message none)
-  | inr long ↦ let test = le-ltb (length rest) 23 long in go long (told_identity rest) refl (rw test at e)
-]
-  where
-    go : 23 ≤ length rest → (told : Option Identity) → told_identity rest ≡ told
-        → option_map Hello told ≡ Some message → IsSpelled (0 ∷ rest) message
-    go long None is e = absurd (none-some message e)
-    go long (Some identity) is e =
-        let spelled = identity_is rest identity fits long is in
-        let size = length-identity identity spelled.is.host in
-        subst (IsSpelled (0 ∷ rest)) (same_Some (Hello identity) message e) (record {
-          is = spelled.is;
-          spelled = ap (λ (xs : List ℕ). 0 ∷ xs) (spelled.spelled
-              ∙ ap (λ (n : ℕ). identity_bytes identity ++ drop n rest) (sym size));
-        })
+hello_is rest message fits e = grind (arith, lt-ltb, none-some, le-ltb, identity_is, length-identity, same_Some)
 
 goodbye_is : (rest : List ℕ) (message : Message) → told_goodbye rest ≡ Some message
     → IsSpelled (2 ∷ rest) message
-goodbye_is [] message e = absurd (none-some message e)
-goodbye_is (x ∷ rest) message e =
-    let test = le-ltb (length (x ∷ rest)) 1 (omega arith) in
-    let told : Goodbye x ≡ message = same_Some _ message (rw test at e) in
-    subst (IsSpelled (2 ∷ x ∷ rest)) told (record { is = tt; spelled = refl })
+goodbye_is rest message e = grind (arith, none-some, le-ltb, same_Some)
 
 pub message_is : (bytes : List ℕ) (message : Message) → Fit bytes → told_message bytes ≡ Some message
     → IsSpelled bytes message

@@ -1,10 +1,9 @@
 -- Things by their place.
-use Rattle.std.proofs.Common.{◌≡◌, ◌<◌, ◌≤◌, ℕ, zero, suc, List, [], ◌∷◌, length, set, get_or, refl, ap, sym, ◌∙◌, arith}
-use Rattle.std.proofs.Common.{inl, inr}
+use Rattle.std.proofs.Common.{◌≡◌, ◌<◌, ℕ, List, length, set, get_or, ◌≤◌, zero, suc, [], ◌∷◌, refl, ap, sym, ◌∙◌, arith, inl, inr}
 use Rattle.std.proofs.lemmas.Bool.{cases_eq}
 use Rattle.dn_machine.specs.Node.{put}
+use Rattle.dn_link.specs.{declared.peer.Peer.Peer, Linking.new_peer, Linking.peers_of, Linking.state_of, Places.by_place}
 use Rattle.dn_machine.proofs.Put.{put_at, put_off, same_functions}
-use Rattle.dn_link.specs.Places.{by_place}
 
 module _ {A B : Type 0} (view : A → B) (none : B) where
   -- one of them
@@ -45,3 +44,15 @@ module _ {A B : Type 0} (view : A → B) (none : B) where
       go (item ∷ items) (suc place) below (suc other) =
           go items place (omega arith) other
           ∙ one_on (by_place view none (item ∷ items)) (by_place view none items) place other (view new) refl
+
+-- What a link keeps of its peers.
+
+-- one of them
+pub peer_at : (peers : List Peer) (place : ℕ) (other : Peer) → place < length peers
+    → state_of (get_or peers place other) ≡ peers_of peers place
+peer_at = place_at state_of new_peer
+
+-- one of them is another now
+pub peers_put : (peers : List Peer) (place : ℕ) (new : Peer) → place < length peers
+    → peers_of (set peers place new) ≡ put (peers_of peers) place (state_of new)
+peers_put = place_put state_of new_peer

@@ -5,16 +5,9 @@ use Rattle.std.specs.Int.{w8, w32, cast_unsigned, to_le_bytes}
 use Rattle.std.proofs.Math.Nat.{mod-lt}
 use Rattle.std.proofs.lemmas.List.Elements.{All-nil, All-cons, All-head, All-tail, All-append, All-take, All-drop}
 use Rattle.byteorder.specs.Endian.{little_bytes}
-use Rattle.dn_packet.specs.Read.{AreBytes}
-use Rattle.dn_packet.specs.Text.{sum_of}
-use Rattle.dn_seal.specs.declared.opened.Opened.{Opened}
-use Rattle.dn_seal.specs.declared.seal.Seal.{Seal}
-use Rattle.dn_seal.specs.Envelope.{ask_bytes}
-use Rattle.dn_seal.specs.Hmac.{tag_of}
-use Rattle.dn_seal.specs.Sealing.{front_bytes}
-use Rattle.dn_link.specs.declared.bundle.Bundle.{Bundle}
-use Rattle.dn_link.specs.declared.bundle.Part.{Part}
-use Rattle.dn_link.specs.declared.bundle.Part.TheVariants.{Whole, Run, Relay}
+use Rattle.dn_packet.specs.{Read.AreBytes, Text.sum_of}
+use Rattle.dn_seal.specs.{declared.opened.Opened.Opened, declared.seal.Seal.Seal, Envelope.ask_bytes, Hmac.tag_of, Sealing.front_bytes}
+use Rattle.dn_link.specs.{declared.bundle.Bundle.Bundle, declared.bundle.Part.Part, declared.bundle.Part.TheVariants.Whole, declared.bundle.Part.TheVariants.Run, declared.bundle.Part.TheVariants.Relay}
 use Rattle.dn_link.specs.Packets.{packets_in, packets_of, short_body, short_packet, short_packets, opened_from}
 use Rattle.dn_link.specs.Text.{relay_head, run_bytes, bundle_bytes, carried_bytes, counts_bytes, message_bytes, part_bytes, parts_bytes, sealed_bytes}
 
@@ -50,9 +43,8 @@ short_bytes : (from start : ℕ) (command : List ℕ) → from < 256 → AreByte
     → IsSpelled (opened_from from (short_packet from start command))
 short_bytes from start command low all =
     All-append IsByte (little_bytes 4 (sum_of (short_body from start command))) (short_body from start command)
-    (sum_bytes (sum_of (short_body from start command)))
-    (All-cons IsByte 0 (start % 256 ∷ from ∷ 1 ∷ command) (omega arith)
-    (All-cons IsByte (start % 256) (from ∷ 1 ∷ command) (mod-lt start (omega arith))
+    (sum_bytes (sum_of (short_body from start command))) (All-cons IsByte 0 (start % 256 ∷ from ∷ 1 ∷ command)
+    (omega arith) (All-cons IsByte (start % 256) (from ∷ 1 ∷ command) (mod-lt start (omega arith))
     (All-cons IsByte from (1 ∷ command) low (All-cons IsByte 1 command (omega arith) all))))
 
 shorts_bytes : (n from start : ℕ) (commands : List ℕ) → from < 256 → AreBytes commands
@@ -65,12 +57,10 @@ shorts_bytes (suc n) from start commands low all =
 -- what a part stands for
 part_of_bytes : (from : ℕ) (part : Part) → from < 256 → AreBytes (part_bytes part) → All IsSpelled (packets_of from part)
 part_of_bytes from (Whole packet) low all =
-    All-cons IsSpelled (opened_from from packet) []
-    (All-tail IsByte (length packet.datagram.items) packet.datagram.items
-    (after (ask_bytes packet.ask) (length packet.datagram.items ∷ packet.datagram.items)
-    (after (to_le_bytes w32 packet.start) (ask_bytes packet.ask ++ length packet.datagram.items ∷ packet.datagram.items)
-    (All-tail IsByte 0 (carried_bytes packet) all))))
-    (All-nil IsSpelled)
+    All-cons IsSpelled (opened_from from packet) [] (All-tail IsByte (length packet.datagram.items)
+    packet.datagram.items (after (ask_bytes packet.ask) (length packet.datagram.items ∷ packet.datagram.items)
+    (after (to_le_bytes w32 packet.start) (ask_bytes packet.ask ++ length packet.datagram.items
+    ∷ packet.datagram.items) (All-tail IsByte 0 (carried_bytes packet) all)))) (All-nil IsSpelled)
 part_of_bytes from (Run run) low all =
     shorts_bytes (length run.commands.items / 8) from run.start run.commands.items low
     (after (to_le_bytes w32 run.start) run.commands.items (All-tail IsByte (length run.commands.items / 8)
@@ -119,6 +109,5 @@ packets_of_bytes seal bundle all =
     let ends = before (to_ends seal bundle) (to_le_bytes w32 bundle.number) number in
     let low = All-head IsByte bundle.from (bundle.to ∷ [])
     (after (front_bytes seal 2) (bundle.from ∷ bundle.to ∷ []) ends) in
-    all_of_bytes bundle.from bundle.parts.items low
-    (All-tail IsByte (length bundle.parts.items) (flat_map part_bytes bundle.parts.items)
-    (after (to_message seal bundle) parts whole))
+    all_of_bytes bundle.from bundle.parts.items low (All-tail IsByte (length bundle.parts.items)
+    (flat_map part_bytes bundle.parts.items) (after (to_message seal bundle) parts whole))

@@ -3,40 +3,20 @@ use Rattle.std.proofs.Common.{◌≡◌, ◌<◌, ◌≤◌, ◌≢◌, ℕ, Boo
 use Rattle.std.specs.Prelude.{◌&&◌, not, Result, Ok, Err, slice_index}
 use Rattle.std.proofs.lemmas.Bool.{cases_eq}
 use Rattle.dn_setup.specs.Settings.{Settings}
-use Rattle.dn_machine.specs.Limits.{Limits}
-use Rattle.dn_machine.specs.Node.{put}
+use Rattle.dn_machine.specs.{Limits.Limits, Node.put}
 use Rattle.dn_machine.proofs.Put.{put_at, put_off}
-use Rattle.dn_lockstep.specs.Contents.{Contents}
-use Rattle.dn_lockstep.specs.Marking.{Marking}
-use Rattle.dn_lockstep.specs.OneGame.{AreOneGame}
-use Rattle.dn_lockstep.specs.Session.{Session, with_lockstep}
+use Rattle.dn_lockstep.specs.{Contents.Contents, Marking.Marking, OneGame.AreOneGame, Session.Session, Session.with_lockstep}
 use Rattle.dn_seal.specs.declared.seal.Seal.{Seal}
 use Rattle.dn_open.specs.Sealed.{sealing_of}
-use Rattle.dn_link.specs.declared.bundle.Bundle.{Bundle}
-use Rattle.dn_link.specs.declared.bundle.BundleFault.{BundleFault}
-use Rattle.dn_link.specs.declared.bundle.Identity.{Identity}
-use Rattle.dn_link.specs.declared.presence.Presence.{Presence}
-use Rattle.dn_link.specs.Counting.{has_ended, has_of, held_of}
-use Rattle.dn_link.specs.declared.presence.Presence.TheVariants.{Left}
-use Rattle.dn_link.proofs.Lefts.{becomes_left}
-use Rattle.dn_link.specs.declared.received.Received.{Received}
-use Rattle.dn_link.specs.declared.received.Received.TheVariants.{GivenUp, Stranger}
-use Rattle.dn_link.specs.Bundles.{HasReached, WasGiven, IsGenuineDatagram}
-use Rattle.dn_link.specs.Hearing.{ByTest, HearsAll}
-use Rattle.dn_link.specs.Linked.{IsTakenIn, Linked, Receives, ReceivesAs, TakesIn, PeerState, has_given_up, hears, is_peer, known_by, met, takes}
-use Rattle.dn_link.specs.LinkedGame.{AreLinked, IsLater}
-use Rattle.dn_link.specs.Paced.{PaceState}
-use Rattle.dn_link.specs.Packets.{heard_in, packets_in}
-use Rattle.dn_link.proofs.Senders.{parts_heard}
-use Rattle.dn_link.specs.Reading.{IsBundledAs}
-use Rattle.dn_link.proofs.Keeping.{LettersKeep, all_keeps}
-use Rattle.dn_link.proofs.Growing.{HasAsMuch, all_grows}
-use Rattle.dn_link.proofs.Kepts.{AreKept, met_kept, reached_kept}
-use Rattle.dn_link.proofs.Relinking.{later_by, relinked}
+use Rattle.dn_link.specs.{declared.bundle.Bundle.Bundle, declared.bundle.BundleFault.BundleFault, declared.bundle.Identity.Identity, declared.presence.Presence.Presence, Counting.has_ended, Counting.has_of}
+use Rattle.dn_link.specs.{Counting.held_of, declared.presence.Presence.TheVariants.Left, declared.received.Received.Received, declared.received.Received.TheVariants.GivenUp}
+use Rattle.dn_link.specs.{declared.received.Received.TheVariants.Stranger, Bundles.HasReached, Bundles.WasGiven, Bundles.IsGenuineDatagram, Hearing.ByTest, Hearing.HearsAll, LinkedGame.AreLinked, LinkedGame.IsLater}
+use Rattle.dn_link.specs.{Paced.PaceState, Packets.heard_in, Packets.packets_in, Reading.IsBundledAs, Linked.IsTakenIn, Linked.Linked, Linked.Receives, Linked.ReceivesAs, Linked.TakesIn, Linked.PeerState}
+use Rattle.dn_link.specs.{Linked.has_given_up, Linked.hears, Linked.is_peer, Linked.known_by, Linked.met, Linked.takes}
+use Rattle.dn_link.proofs.{Lefts.becomes_left, Lefts.parts_heard, Keeping.LettersKeep, Keeping.all_keeps, Growing.HasAsMuch, Growing.all_grows, Relinking.AreKept, Relinking.met_kept, Relinking.reached_kept}
+use Rattle.dn_link.proofs.{Relinking.later_by, Relinking.relinked, Linking.at_most, Linking.larger_most, Outgoing.same_bundle}
 use Rattle.dn_survivor.specs.declared.others.Others.{Others}
 use Rattle.dn_link.proofs.Linking as base
-use Rattle.dn_link.proofs.Reported.{at_most, larger_most}
-use Rattle.dn_link.proofs.Genuine.{same_bundle}
 
 module _ (marking : Marking) (limits : Limits) (settings : Settings) (session : Session) (links : ℕ → Linked)
     (player : ℕ) (linked : AreLinked marking limits settings session links) (mine : player < limits.players) where
@@ -73,9 +53,8 @@ module _ (marking : Marking) (limits : Limits) (settings : Settings) (session : 
     -- its packets are heard, or none
     by_heard : (bundle : Bundle) (new : Linked) (started : Bool) → All (WasGiven session.given player) (packets_in bundle)
         → (test : Bool) → ByTest test (HearsAll (heard_in (takes old) bundle) old.node new.node started)
-        ((new.node ≡ old.node) × (started ≡ false))
-        → AreOneGame marking limits settings (with_lockstep session player new.node)
-        × HasAsMuch player (session.locksteps player) new.node
+        ((new.node ≡ old.node) × (started ≡ false)) → AreOneGame marking limits settings
+        (with_lockstep session player new.node) × HasAsMuch player (session.locksteps player) new.node
     by_heard bundle new started all true hears =
         let packets = heard_in (takes old) bundle in
         let heard = subst (λ (n : Contents). HearsAll packets n new.node started) node hears in
@@ -132,8 +111,7 @@ module _ (marking : Marking) (limits : Limits) (settings : Settings) (session : 
               ∙ ap (λ (t : PeerState). t.presence) (put_off old.peers bundle.from peer _ off)) ∙ is_left)
         ]) in (
           relinked marking limits settings session later links player new linked game refl is
-              (ap (λ (o : Others). o.gone) takes.others)
-              (subst (AreKept session.given player) (sym takes.peers)
+              (ap (λ (o : Others). o.gone) takes.others) (subst (AreKept session.given player) (sym takes.peers)
               (reached_kept session.given player new.node (met differs bundle presence old).peers
               (met_kept session.given player old differs bundle presence (λ peer. linked.kept player peer mine))))
               told left,
@@ -173,8 +151,7 @@ module _ (marking : Marking) (limits : Limits) (settings : Settings) (session : 
 
         go : (test : Bool) → ByTest test
             (ByTest (has_given_up old bundle.from) ((answer ≡ GivenUp bundle.from) × (new ≡ old))
-            (IsTakenIn identity pace bundle old new answer))
-            ((answer ≡ Stranger bundle.from) × (new ≡ old))
+            (IsTakenIn identity pace bundle old new answer)) ((answer ≡ Stranger bundle.from) × (new ≡ old))
             → AreLinked marking limits settings (with_lockstep session player new.node) (put links player new)
             × IsLater session (with_lockstep session player new.node)
         go true comes = of_peer (has_given_up old bundle.from) comes

@@ -1,42 +1,21 @@
 -- The commands of third players that are handed on were given, and their packets are in the datagram.
-use Rattle.std.proofs.Common.{◌≡◌, ◌≢◌, ◌<◌, ◌≤◌, ◌+◌, ◌*◌, ◌/◌, ◌%◌, ◌^◌, ℕ, negsuc, List, [], ◌∷◌, ◌++◌, length, map, refl, ap, sym, ◌∙◌, subst, arith, append_assoc, append-nil, Some, None, All}
+use Rattle.std.proofs.Common.{◌≡◌, ◌≢◌, ◌<◌, ◌≤◌, ◌+◌, ◌*◌, ◌/◌, ◌%◌, ◌^◌, ℕ, negsuc, List, [], ◌∷◌, ◌++◌, length, map, refl, ap, sym, ◌∙◌, subst, arith, append_assoc, append-nil, Some, All}
 use Rattle.std.specs.Prelude.{slice_get}
 use Rattle.std.specs.List.{flat_map}
 use Rattle.std.proofs.Math.Nat.{mod-lt}
-use Rattle.std.proofs.lemmas.List.{length-append}
-use Rattle.std.proofs.lemmas.Grind.{flat_map-append}
-use Rattle.std.proofs.lemmas.List.Elements.{All-nil, All-cons, All-append}
-use Rattle.dn_tic.specs.Command.{IsCommand, command_bytes}
-use Rattle.dn_tic.specs.declared.command.TicCmd.{TicCmd}
-use Rattle.dn_machine.specs.Flight.{Flight}
-use Rattle.dn_machine.specs.Relaying.{packet_of_one}
-use Rattle.dn_lockstep.specs.Contents.{Contents}
-use Rattle.dn_lockstep.specs.Near.{IsFair}
-use Rattle.dn_lockstep.specs.Told.{command_told}
+use Rattle.std.proofs.lemmas.{List.length-append, Grind.flat_map-append, List.Elements.All-nil, List.Elements.All-cons, List.Elements.All-append}
+use Rattle.dn_tic.specs.{Command.IsCommand, Command.command_bytes, declared.command.TicCmd.TicCmd}
+use Rattle.dn_machine.specs.{Flight.Flight, Relaying.packet_of_one}
+use Rattle.dn_lockstep.specs.{Contents.Contents, Near.IsFair, Told.command_told}
 use Rattle.dn_lockstep.proofs.Keeping.{none_stops}
-use Rattle.dn_seal.specs.declared.opened.Opened.{Opened}
 use Rattle.dn_open.specs.Sealed.{opened_of}
-use Rattle.dn_link.specs.Bundles.{WasGiven}
-use Rattle.byteorder.specs.Endian.{little_bytes}
-use Rattle.dn_packet.specs.Text.{sum_of}
-use Rattle.dn_link.specs.Packets.{opened_from, packets_of, short_body, short_packet, short_packets}
+use Rattle.dn_link.specs.{Bundles.WasGiven, Packets.opened_from, Packets.packets_of, Packets.short_packet, Packets.short_packets}
 use Rattle.dn_link.specs.Relays.{AreHandedOn, AreTold, Handed, flights_of, handed_part, run_flights}
 
 -- a packet of one command can be carried
 pub fair_one : (player to tic : ℕ) (command : TicCmd) → player < 4 → IsCommand command
     → (command.forward ≢ negsuc 127) → IsFair (packet_of_one player to tic command)
-fair_one player to tic command small is no_stop = record {
-  packet = record {
-    flags = omega arith;
-    ask = omega arith;
-    start = mod-lt tic (omega arith);
-    player = omega (arith, small);
-    count = omega arith;
-    commands = All-cons IsCommand command [] is (All-nil IsCommand);
-  };
-  kind = none_stops (command ∷ []) (All-cons (λ (c : TicCmd). c.forward ≢ negsuc 127) command [] no_stop
-      (All-nil (λ (c : TicCmd). c.forward ≢ negsuc 127)));
-}
+fair_one player to tic command small is no_stop = grind (arith, mod-lt, All-cons, All-nil, none_stops, negsuc)
 
 -- whatever is kept by each packet of a command that is told is kept by all
 module _ (n : Contents) (to : ℕ) (Game : List Flight → Type 0)
@@ -48,10 +27,9 @@ module _ (n : Contents) (to : ℕ) (Game : List Flight → Type 0)
   gives_run given player start [] game its there small apart told = subst Game (sym (append-nil given)) game
   gives_run given player start (command ∷ commands) game its there small apart told =
       subst Game (append_assoc given (packet_of_one player to start command ∷ [])
-      (run_flights player to (start + 1) commands))
-      (gives_run (given ++ packet_of_one player to start command ∷ []) player (start + 1) commands
-      (one given player start command game its there apart told.0 (fair_one player to start command small told.1 told.2))
-      its there small apart told.3)
+      (run_flights player to (start + 1) commands)) (gives_run (given ++ packet_of_one player to start command
+      ∷ []) player (start + 1) commands (one given player start command game its there apart told.0
+      (fair_one player to start command small told.1 told.2)) its there small apart told.3)
 
   pub gives_all : (given : List Flight) (handed : List Handed) → Game given → AreHandedOn n to handed
       → Game (given ++ flights_of to handed)
@@ -86,18 +64,13 @@ each_back : (given xs ys : List Flight) → Each given (xs ++ ys) → Each given
 each_back given [] ys all = all
 each_back given (x ∷ xs) ys all = each_back given xs ys all.1
 
-abbrev spelled : (player tic : ℕ) → List ℕ → Opened
-spelled player tic bytes = record { from = player; start = tic; ask = None; datagram = record { items = bytes } }
-
 none_more : (k : ℕ) → 0 + k ≡ k
 none_more k = omega arith
 
 -- the packet of one command, by its eight bytes
 one_is : (player to tic : ℕ) (command : TicCmd)
     → opened_from player (short_packet player tic (command_bytes command)) ≡ opened_of (packet_of_one player to tic command)
-one_is player to tic command =
-    let body : List ℕ = short_body player tic (command_bytes command) in
-    sym (ap (λ (k : ℕ). spelled player tic (little_bytes 4 k ++ body)) (none_more (sum_of body)))
+one_is player to tic command = grind (arith, none_more)
 
 run_given : (given : List Flight) (player to start : ℕ) (commands : List TicCmd) → start + length commands ≤ 2 ^ 32
     → Each given (run_flights player to start commands)
@@ -112,17 +85,15 @@ run_given given player to start (command ∷ commands) low each =
   where
     go : (more : List TicCmd) → more ≡ commands
         → (start + 1 + length commands ≤ 2 ^ 32 → All (WasGiven given to) (short_packets (length commands) player
-        (start + 1) (flat_map command_bytes commands)))
-        → All (WasGiven given to) (short_packets (length commands) player ((start + 1) % 2 ^ 32)
-        (flat_map command_bytes commands))
+        (start + 1) (flat_map command_bytes commands))) → All (WasGiven given to)
+        (short_packets (length commands) player ((start + 1) % 2 ^ 32) (flat_map command_bytes commands))
     go [] e rest = subst (λ (cs : List TicCmd). All (WasGiven given to) (short_packets (length cs) player
         ((start + 1) % 2 ^ 32) (flat_map command_bytes cs))) e (All-nil (WasGiven given to))
     go (c ∷ more) e rest =
         let long = ap (length {A = TicCmd}) e in
         let next : start + 1 ≡ (start + 1) % 2 ^ 32 = omega (arith, low, long) in
         subst (λ (k : ℕ). All (WasGiven given to) (short_packets (length commands) player k
-        (flat_map command_bytes commands))) next
-        (rest (omega (arith, low)))
+        (flat_map command_bytes commands))) next (rest (omega (arith, low)))
 
 pub length_commands : (commands : List TicCmd) → length (flat_map command_bytes commands) ≡ 8 * length commands
 length_commands [] = refl
@@ -152,9 +123,7 @@ all_given n given from to handed all =
 told_more : (n : Contents) (player start : ℕ) (commands : List TicCmd) (command : TicCmd)
     → AreTold n player start commands → command_told n player (start + length commands) ≡ Some command
     → IsCommand command → (command.forward ≢ negsuc 127) → AreTold n player start (commands ++ command ∷ [])
-told_more n player start [] command told here is no_stop =
-    let same : start + 0 ≡ start = omega arith in
-    (ap (command_told n player) (sym same) ∙ here, is, no_stop, tt)
+told_more n player start [] command told here is no_stop = grind arith
 told_more n player start (c ∷ commands) command told here is no_stop =
     let same : start + 1 + length commands ≡ start + length (c ∷ commands) = omega arith in (
       told.0,
@@ -165,9 +134,7 @@ told_more n player start (c ∷ commands) command told here is no_stop =
 
 bytes_more : (commands : List TicCmd) (command : TicCmd)
     → flat_map command_bytes (commands ++ command ∷ []) ≡ flat_map command_bytes commands ++ command_bytes command
-bytes_more commands command =
-    flat_map-append command_bytes commands (command ∷ [])
-    ∙ ap (λ (xs : List ℕ). flat_map command_bytes commands ++ xs) (append-nil (command_bytes command))
+bytes_more commands command = grind (arith, flat_map-append, append-nil)
 
 -- where the loop over the tics is
 pub record SoFar (n : Contents) (player start done : ℕ) (items : List ℕ) : Type 0 where
@@ -176,11 +143,6 @@ pub record SoFar (n : Contents) (player start done : ℕ) (items : List ℕ) : T
   pub told : AreTold n player start commands
   pub many : length commands ≡ done
   pub low : start + done ≤ 2 ^ 32
-
-pub so_begins : (n : Contents) (player start : ℕ) (items : List ℕ) → start < 2 ^ 32 → items ≡ []
-    → SoFar n player start 0 items
-so_begins n player start items low none =
-    record { commands = []; bytes = none; told = tt; many = refl; low = omega (arith, low) }
 
 pub so_goes_on : (n : Contents) (player start done : ℕ) (items new : List ℕ) (command : TicCmd)
     → SoFar n player start done items → start + done < 2 ^ 32 → command_told n player (start + done) ≡ Some command
@@ -197,12 +159,3 @@ so_goes_on n player start done items new command so low here is no_stop adds =
       many = length-append so.commands (command ∷ []) ∙ ap (λ (k : ℕ). k + 1) long;
       low = omega (arith, low);
     }
-
-pub so_ends : (n : Contents) (player start done most : ℕ) (items : List ℕ) → SoFar n player start done items
-    → done ≤ most
-    → (commands : List TicCmd) × (items ≡ flat_map command_bytes commands) × AreTold n player start commands
-    × (start + length commands ≤ 2 ^ 32) × (length commands ≤ most)
-so_ends n player start done most items so few =
-    let long = so.many in
-    let low = so.low in
-    (so.commands, so.bytes, so.told, omega (arith, long, low), omega (arith, long, few))

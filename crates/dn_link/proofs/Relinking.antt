@@ -1,35 +1,34 @@
 -- The links of one game stay those of one game.
-use Rattle.std.proofs.Common.{◌≡◌, ◌≢◌, ◌≤◌, ℕ, zero, suc, Bool, true, false, List, [], ◌∷◌, ◌++◌, length, map, refl, ap, sym, ◌∙◌, subst, arith, Option, Some, None, All, inl, inr}
+use Rattle.std.proofs.Common.{arith, ℕ, Bool, true, false, List, ◌≡◌, ap, ◌∙◌, ◌≢◌, ◌<◌, ◌≤◌, zero, suc, [], ◌∷◌, ◌++◌, length, map, refl, sym, subst, Option, Some, None, All}
 use Rattle.std.specs.Prelude.{if◌then◌else◌, nat_le, slice_get, slice_index}
 use Rattle.std.specs.List.{flat_map}
 use Rattle.std.specs.Option.{option_map}
-use Rattle.std.proofs.lemmas.Bool.{cases_eq}
 use Rattle.std.proofs.lemmas.List.Elements.{All-nil, All-cons, All-head, All-tail, All-append, All-take, All-map}
 use Rattle.std.proofs.lemmas.Option.{none-some, same_Some}
+use Rattle.dn_machine.specs.{Flight.Flight, Node.put, Limits.Limits}
+use Rattle.dn_remain.proofs.Vanished.Put.{at_put, at_both}
+use Rattle.dn_link.specs.{declared.bundle.Bundle.Bundle, declared.presence.Presence.Presence, Counting.reached, Linked.Linked, Linked.PeerState, Linked.known_by, Linked.met, Linked.with_reached, Linked.IsWhole}
+use Rattle.dn_link.specs.{declared.bundle.Part.Part, declared.bundle.Carried.Carried, Bundles.WasGiven, Giving.carried_of, Kept.Unacknowledged, Kept.going, Kept.is_news, Kept.kept_after, Kept.without, Kept.end_of}
+use Rattle.dn_link.specs.{Counting.has_ended, Counting.has_of, declared.presence.Presence.TheVariants.Left, LinkedGame.AreLinked, LinkedGame.IsLater, Packets.opened_from, Packets.packets_of, Packing.ArePacked}
+use Rattle.dn_lockstep.specs.{Contents.Contents, Marking.Marking, OneGame.AreOneGame, Session.Session, Session.given_on}
+use Rattle.dn_survivor.specs.{OfOthers.Keeping.has, OfOthers.Keeping.nothing_kept, declared.others.Others.Others}
 use Rattle.dn_setup.specs.Settings.{Settings}
-use Rattle.dn_machine.specs.Flight.{Flight}
-use Rattle.dn_machine.specs.Limits.{Limits}
-use Rattle.dn_machine.specs.Node.{put}
-use Rattle.dn_machine.proofs.Put.{put_at, put_off}
-use Rattle.dn_lockstep.specs.Contents.{Contents}
-use Rattle.dn_lockstep.specs.Marking.{Marking}
-use Rattle.dn_lockstep.specs.OneGame.{AreOneGame}
-use Rattle.dn_lockstep.specs.Session.{Session, given_on}
 use Rattle.dn_lockstep.proofs.OneGame.{GoesBetween}
 use Rattle.dn_seal.specs.declared.opened.Opened.{Opened}
-use Rattle.dn_link.specs.declared.bundle.Part.{Part}
-use Rattle.dn_link.specs.declared.bundle.Carried.{Carried}
-use Rattle.dn_link.specs.Bundles.{WasGiven}
-use Rattle.dn_link.specs.Giving.{carried_of}
-use Rattle.dn_link.specs.Kept.{Unacknowledged, going, is_news, kept_after, without, end_of}
-use Rattle.dn_link.specs.Linked.{IsWhole, Linked}
-use Rattle.dn_link.specs.Counting.{has_ended, has_of}
-use Rattle.dn_link.specs.declared.presence.Presence.TheVariants.{Left}
-use Rattle.dn_link.specs.LinkedGame.{AreLinked, IsLater}
-use Rattle.dn_link.specs.Packets.{opened_from, packets_of}
-use Rattle.dn_link.specs.Packing.{ArePacked}
 use Rattle.dn_link.proofs.Growing.{HasAsMuch}
-use Rattle.dn_link.proofs.Whole.{still_whole}
+
+-- Links that have given up nobody.
+
+-- nobody is given up at first
+nobody : (player : ℕ) → has nothing_kept.gone player ≡ false
+nobody player = grind arith
+
+pub new_whole : (link : Linked) → link.others ≡ nothing_kept → IsWhole link
+new_whole link is player = ap (λ (o : Others). has o.gone player) is ∙ nobody player
+
+-- and nobody where none is given up since
+pub still_whole : (old new : Linked) → new.others.gone ≡ old.others.gone → IsWhole old → IsWhole new
+still_whole old new same whole player = ap (λ (gone : List Bool). has gone player) same ∙ whole player
 
 -- the last of a list, and what was found is found still
 pub last_at : {A : Type 0} (xs : List A) (x : A) → slice_get (xs ++ x ∷ []) (length xs) ≡ Some x
@@ -45,9 +44,7 @@ found_on (y ∷ xs) more (suc which) x found = found_on xs more which x found
 -- what was given was given, when more is
 pub stays_given : (given : List Flight) (flight : Option Flight) (to : ℕ) (packet : Opened)
     → WasGiven given to packet → WasGiven (given_on given flight) to packet
-stays_given given None to packet was = was
-stays_given given (Some one) to packet was =
-    (was.0, was.1, found_on given (one ∷ []) was.0 was.1 was.2, was.3, was.4)
+stays_given given flight to packet was = grind (arith, found_on)
 
 -- each of some packets of a player
 abbrev pub AreGiven : List Flight → ℕ → ℕ → List Carried → Type 0
@@ -56,12 +53,7 @@ AreGiven given from to packets = All (λ packet. WasGiven given to (opened_from 
 pub all_stay : (given : List Flight) (flight : Option Flight) (from to : ℕ) (packets : List Carried)
     → AreGiven given from to packets → AreGiven (given_on given flight) from to packets
 all_stay given flight from to [] all = All-nil (λ packet. WasGiven (given_on given flight) to (opened_from from packet))
-all_stay given flight from to (packet ∷ packets) all =
-    All-cons (λ packet. WasGiven (given_on given flight) to (opened_from from packet)) packet packets
-    (stays_given given flight to (opened_from from packet)
-    (All-head (λ packet. WasGiven given to (opened_from from packet)) packet packets all))
-    (all_stay given flight from to packets
-    (All-tail (λ packet. WasGiven given to (opened_from from packet)) packet packets all))
+all_stay given flight from to (packet ∷ packets) all = grind (arith, All-cons, stays_given, All-head, All-tail)
 
 -- without those that are acknowledged
 pub without_given : (given : List Flight) (from to count : ℕ) (packets : List Carried)
@@ -129,8 +121,7 @@ all_later given later stay from to [] all = All-nil (λ packet. WasGiven later t
 all_later given later stay from to (packet ∷ packets) all =
     let was = All-head (λ packet. WasGiven given to (opened_from from packet)) packet packets all in
     All-cons (λ packet. WasGiven later to (opened_from from packet)) packet packets
-    (was.0, was.1, stay was.0 was.1 was.2, was.3, was.4)
-    (all_later given later stay from to packets
+    (was.0, was.1, stay was.0 was.1 was.2, was.3, was.4) (all_later given later stay from to packets
     (All-tail (λ packet. WasGiven given to (opened_from from packet)) packet packets all))
 
 pub found_later : (given : List Flight) (flight : Option Flight) (which : ℕ) (one : Flight)
@@ -144,27 +135,15 @@ pub later_by : (session later : Session) (player : ℕ) (new : Contents)
     → ((which : ℕ) (flight : Flight) → slice_get session.given which ≡ Some flight
     → slice_get later.given which ≡ Some flight)
     → HasAsMuch player (session.locksteps player) new → IsLater session later
-later_by session later player new locksteps given much =
-    record {
-      given = given;
-      got = λ other which apart. elim (cases_eq other player) [
-        | inl at ↦
-            let now = ap (λ (f : ℕ → Contents). has_of (f other) which) locksteps
-            ∙ ap (λ (n : Contents). has_of n which) (put_at session.locksteps player other new at) in
-            let was = ap (λ (k : ℕ). has_of (session.locksteps k) which) at in
-            let more = much.0 which (subst (λ (k : ℕ). which ≢ k) at apart) in
-            omega (arith, now, was, more)
-        | inr off ↦
-            let now = ap (λ (f : ℕ → Contents). has_of (f other) which) locksteps
-            ∙ ap (λ (n : Contents). has_of n which) (put_off session.locksteps player other new off) in
-            omega (arith, now)
-      ];
-      ended = λ other was. ap (λ (f : ℕ → Contents). has_ended (f other)) locksteps ∙ elim (cases_eq other player) [
-        | inl at ↦ ap has_ended (put_at session.locksteps player other new at)
-            ∙ much.1 (ap (λ (k : ℕ). has_ended (session.locksteps k)) (sym at) ∙ was)
-        | inr off ↦ ap has_ended (put_off session.locksteps player other new off) ∙ was
-      ];
-    }
+later_by session later player new locksteps given much = record {
+  given = given;
+  got = subst (λ (f : ℕ → Contents). (k which : ℕ) → which ≢ k → has_of (session.locksteps k) which ≤ has_of (f k) which)
+      (sym locksteps) (at_put (λ (k : ℕ) (n : Contents). (which : ℕ) → which ≢ k
+      → has_of (session.locksteps k) which ≤ has_of n which) session.locksteps player new much.0 (λ k off which apart. omega arith));
+  ended = subst (λ (f : ℕ → Contents). (k : ℕ) → has_ended (session.locksteps k) ≡ true → has_ended (f k) ≡ true)
+      (sym locksteps) (at_put (λ (k : ℕ) (n : Contents). has_ended (session.locksteps k) ≡ true → has_ended n ≡ true)
+      session.locksteps player new much.1 (λ k off was. was));
+}
 
 -- what the links keep was given later, too, where what another link keeps that takes the place of one was
 pub all_put : (given later : List Flight) → ((which : ℕ) (flight : Flight) → slice_get given which ≡ Some flight
@@ -172,14 +151,10 @@ pub all_put : (given later : List Flight) → ((which : ℕ) (flight : Flight) �
     → ((peer : ℕ) → AreGiven later player peer (new.peers peer).kept.packets) → (other peer : ℕ)
     → AreGiven given other peer ((links other).peers peer).kept.packets
     → AreGiven later other peer ((put links player new other).peers peer).kept.packets
-all_put given later stay links player new kept other peer was = elim (cases_eq other player) [
-  | inl at ↦ subst (λ (l : Linked). AreGiven later other peer (l.peers peer).kept.packets)
-      (sym (put_at links player other new at))
-      (subst (λ (k : ℕ). AreGiven later k peer (new.peers peer).kept.packets) (sym at) (kept peer))
-  | inr off ↦ subst (λ (l : Linked). AreGiven later other peer (l.peers peer).kept.packets)
-      (sym (put_off links player other new off))
-      (all_later given later stay other peer ((links other).peers peer).kept.packets was)
-]
+all_put given later stay links player new kept other peer = at_put (λ (k : ℕ) (l : Linked).
+    AreGiven given k peer ((links k).peers peer).kept.packets → AreGiven later k peer (l.peers peer).kept.packets)
+    links player new (λ was. kept peer)
+    (λ k off. all_later given later stay k peer ((links k).peers peer).kept.packets) other
 
 -- a link is another now, and the session another
 pub relinked : (marking : Marking) (limits : Limits) (settings : Settings) (session later : Session)
@@ -187,40 +162,57 @@ pub relinked : (marking : Marking) (limits : Limits) (settings : Settings) (sess
     → AreOneGame marking limits settings later → later.locksteps ≡ put session.locksteps player new.node
     → IsLater session later → new.others.gone ≡ (links player).others.gone
     → ((peer : ℕ) → AreGiven later.given player peer (new.peers peer).kept.packets)
-    → ((peer which : ℕ) → which ≢ peer
-    → slice_index (new.peers peer).reported which ≤ has_of (later.locksteps peer) which)
-    → ((peer cause : ℕ) → (new.peers peer).presence ≡ Left cause → has_ended (later.locksteps peer) ≡ true)
-    → AreLinked marking limits settings later (put links player new)
+    → ((peer which : ℕ) → which ≢ peer → slice_index (new.peers peer).reported which ≤ has_of
+    (later.locksteps peer) which) → ((peer cause : ℕ) → (new.peers peer).presence ≡ Left cause → has_ended
+    (later.locksteps peer) ≡ true) → AreLinked marking limits settings later (put links player new)
 relinked marking limits settings session later links player new linked game locksteps is others kept told left =
     record {
       game = game;
-      nodes = λ other below. elim (cases_eq other player) [
-        | inl at ↦ ap (λ (l : Linked). l.node) (put_at links player other new at)
-            ∙ sym (ap (λ (f : ℕ → Contents). f other) locksteps ∙ put_at session.locksteps player other new.node at)
-        | inr off ↦ ap (λ (l : Linked). l.node) (put_off links player other new off) ∙ linked.nodes other below
-            ∙ sym (ap (λ (f : ℕ → Contents). f other) locksteps ∙ put_off session.locksteps player other new.node off)
-      ];
+      nodes = λ other below. at_both (λ (k : ℕ) (l : Linked) (n : Contents). k < limits.players → l.node ≡ n)
+          links session.locksteps player new new.node (λ l. refl) (λ k off. linked.nodes k) other below
+          ∙ sym (ap (λ (f : ℕ → Contents). f other) locksteps);
       kept = λ other peer below. all_put session.given later.given is.given links player new kept other peer
           (linked.kept other peer below);
-      reported = λ other peer which below apart. elim (cases_eq other player) [
-        | inl at ↦ subst (λ (l : Linked). slice_index (l.peers peer).reported which ≤ has_of (later.locksteps peer) which)
-            (sym (put_at links player other new at)) (told peer which apart)
-        | inr off ↦ subst (λ (l : Linked). slice_index (l.peers peer).reported which ≤ has_of (later.locksteps peer) which)
-            (sym (put_off links player other new off))
-            (still (linked.reported other peer which below apart) (is.got peer which apart))
-      ];
-      left = λ other peer cause below. elim (cases_eq other player) [
-        | inl at ↦ subst (λ (l : Linked). (l.peers peer).presence ≡ Left cause → has_ended (later.locksteps peer) ≡ true)
-            (sym (put_at links player other new at)) (left peer cause)
-        | inr off ↦ subst (λ (l : Linked). (l.peers peer).presence ≡ Left cause → has_ended (later.locksteps peer) ≡ true)
-            (sym (put_off links player other new off)) (λ was. is.ended peer (linked.left other peer cause below was))
-      ];
-      whole = λ other below. elim (cases_eq other player) [
-        | inl at ↦ subst IsWhole (sym (put_at links player other new at))
-            (still_whole (links player) new others (subst (λ (k : ℕ). IsWhole (links k)) at (linked.whole other below)))
-        | inr off ↦ subst IsWhole (sym (put_off links player other new off)) (linked.whole other below)
-      ];
+      reported = λ other peer which. at_put (λ (k : ℕ) (l : Linked). k < limits.players → which ≢ peer
+          → slice_index (l.peers peer).reported which ≤ has_of (later.locksteps peer) which) links player new
+          (λ l. told peer which)
+          (λ k off below apart. still (linked.reported k peer which below apart) (is.got peer which apart)) other;
+      left = λ other peer cause. at_put (λ (k : ℕ) (l : Linked). k < limits.players
+          → (l.peers peer).presence ≡ Left cause → has_ended (later.locksteps peer) ≡ true) links player new
+          (λ l. left peer cause) (λ k off below was. is.ended peer (linked.left k peer cause below was)) other;
+      whole = at_put (λ (k : ℕ) (l : Linked). k < limits.players → IsWhole l) links player new
+          (λ mine. still_whole (links player) new others (linked.whole player mine)) (λ k off. linked.whole k);
     }
   where
     still : {a b c : ℕ} → a ≤ b → b ≤ c → a ≤ c
     still one other = omega (arith, one, other)
+
+-- What is kept for peers was given, where one of them is another now.
+
+module _ (given : List Flight) (player : ℕ) where
+  -- what is kept for each peer was given to it
+  abbrev pub AreKept : (ℕ → PeerState) → Type 0
+  AreKept peers = (peer : ℕ) → AreGiven given player peer (peers peer).kept.packets
+
+  pub put_kept : (peers : ℕ → PeerState) (to : ℕ) (new : PeerState) → AreKept peers
+      → AreGiven given player to new.kept.packets → AreKept (put peers to new)
+  put_kept peers to new all here = at_put (λ (p : ℕ) (t : PeerState). AreGiven given player p t.kept.packets) peers to new
+      here (λ p off. all p)
+
+  -- where the counts of a datagram are taken, or are not
+  known_given : (old : Linked) (differs : Bool) (bundle : Bundle) (presence : Presence)
+      → AreGiven given player bundle.from (old.peers bundle.from).kept.packets
+      → AreGiven given player bundle.from
+      (known_by differs old.node bundle presence (old.peers bundle.from)).kept.packets
+  known_given old true bundle presence all = all
+  known_given old false bundle presence all = grind (arith, without_given)
+
+  -- where what was heard acknowledges
+  pub reached_kept : (node : Contents) (peers : ℕ → PeerState) → AreKept peers → AreKept (with_reached node peers)
+  reached_kept node peers all peer =
+      without_given given player peer (reached node peer) (peers peer).kept.packets (all peer)
+
+  pub met_kept : (old : Linked) (differs : Bool) (bundle : Bundle) (presence : Presence) → AreKept old.peers
+      → AreKept (met differs bundle presence old).peers
+  met_kept old differs bundle presence all =
+      put_kept old.peers bundle.from _ all (known_given old differs bundle presence (all bundle.from))

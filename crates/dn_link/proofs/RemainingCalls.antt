@@ -2,39 +2,17 @@
 use Rattle.std.proofs.Common.{◌≡◌, ◌<◌, ℕ, ℤ, pos, Bool, true, false, List, get_or, refl, ap, sym, ◌∙◌, subst, Option, Some, inl, inr}
 use Rattle.std.specs.Prelude.{slice_get}
 use Rattle.std.proofs.lemmas.Bool.{cases_eq}
-use Rattle.dn_tic.specs.declared.command.Move.{Move}
-use Rattle.dn_tic.specs.declared.input.Input.{Input}
-use Rattle.dn_survivor.specs.declared.report.Report.{Report}
+use Rattle.dn_tic.specs.{declared.command.Move.Move, declared.input.Input.Input}
+use Rattle.dn_survivor.specs.{declared.report.Report.Report, Calls.GivesUp, Calls.HearsReport, OneGame.AreRemaining, Surviving.Surviving, Surviving.has_given_up, Telling.report_for, declared.answers.GivenUp.GivenUp}
+use Rattle.dn_survivor.specs.{declared.answers.Reported.Reported, Session.Given, Session.Session, Session.after_build, Session.after_report, Session.after_run, Session.with_survivor}
 use Rattle.dn_setup.specs.Settings.{Settings}
-use Rattle.dn_machine.specs.declared.answers.Made.{Made}
-use Rattle.dn_machine.specs.declared.answers.Ran.{Ran}
-use Rattle.dn_machine.specs.Building.{on_build}
-use Rattle.dn_machine.specs.Flight.{Flight}
-use Rattle.dn_machine.specs.Limits.{Limits}
-use Rattle.dn_machine.specs.Node.{put}
-use Rattle.dn_machine.specs.Running.{is_over, on_quit, on_run_but}
+use Rattle.dn_machine.specs.{declared.answers.Made.Made, declared.answers.Ran.Ran, Building.on_build, Flight.Flight, Limits.Limits, Node.put, Running.is_over, Running.on_quit, Running.on_run_but}
 use Rattle.dn_machine.proofs.Put.{put_at, put_off}
-use Rattle.dn_lockstep.specs.Contents.{end_in}
-use Rattle.dn_lockstep.specs.Marking.{Marking}
-use Rattle.dn_lockstep.specs.OneGame.{world_told}
-use Rattle.dn_lockstep.specs.Runs.{RunsBy}
-use Rattle.dn_lockstep.specs.Steps.{Steps}
-use Rattle.dn_survivor.specs.Calls.{GivesUp, HearsReport}
-use Rattle.dn_survivor.specs.OneGame.{AreRemaining}
-use Rattle.dn_survivor.specs.Session.{Given, Session, after_build, after_report, after_run, with_survivor}
-use Rattle.dn_survivor.specs.Surviving.{Surviving, has_given_up}
-use Rattle.dn_survivor.specs.Telling.{report_for}
-use Rattle.dn_survivor.specs.declared.answers.GivenUp.{GivenUp}
-use Rattle.dn_survivor.specs.declared.answers.Reported.{Reported}
+use Rattle.dn_lockstep.specs.{Contents.end_in, Marking.Marking, OneGame.world_told, Runs.RunsBy, Steps.Steps}
+use Rattle.dn_link.specs.{Kept.Unacknowledged, Linked.Linked, Linked.PeerState, Linked.forgotten, Linked.surviving_of, RemainingLinks.AreRemainingLinks, RemainingLinks.KeepsGiven, Surviving.GivesUpPeer}
+use Rattle.dn_link.specs.{Surviving.forgotten_if, Surviving.is_given_up}
+use Rattle.dn_link.proofs.{Linking.forgets, Linking.forgets_node, Linking.forgets_others, Relinking.AreKept, Noticed.reports_stay, Relinking.AreGiven, Relinking.all_later, Relinking.all_put}
 use Rattle.dn_survivor.proofs.OneGame as one_game
-use Rattle.dn_link.specs.Kept.{Unacknowledged}
-use Rattle.dn_link.specs.Linked.{Linked, PeerState, forgotten, surviving_of}
-use Rattle.dn_link.specs.RemainingLinks.{AreRemainingLinks, KeepsGiven}
-use Rattle.dn_link.specs.Surviving.{GivesUpPeer, forgotten_if, is_given_up}
-use Rattle.dn_link.proofs.Forgotten.{forgets, forgets_node, forgets_others}
-use Rattle.dn_link.proofs.Kepts.{AreKept}
-use Rattle.dn_link.proofs.Noticed.{reports_stay}
-use Rattle.dn_link.proofs.Relinking.{AreGiven, all_later, all_put}
 
 -- what was given is where no more was
 pub nothing_given : (session later : Session) → later.packets ≡ session.packets → later.reports ≡ session.reports
@@ -106,14 +84,12 @@ module _ (marking : Marking) (limits : Limits) (settings : Settings) (session : 
         → later.survivors ≡ put session.survivors player (surviving_of new) → KeepsGiven session later
         → new.peers ≡ old.peers → GoOn later (put links player new)
     called later new game placed given peers =
-        relinked later player new game placed given
-        (subst (λ (f : ℕ → PeerState). AreKept later.packets player f) (sym peers)
-        (λ peer. all_later session.packets later.packets given.packets player peer (old.peers peer).kept.packets
-        (all_kept peer)))
+        relinked later player new game placed given (subst (λ (f : ℕ → PeerState). AreKept later.packets player
+        f) (sym peers) (λ peer. all_later session.packets later.packets given.packets player peer
+        (old.peers peer).kept.packets (all_kept peer)))
 
     -- and one that changes nothing but who is there, and how far each is known to be
-    pub stays : (new : Linked) → surviving_of new ≡ surviving_of old
-        → AreKept session.packets player new.peers
+    pub stays : (new : Linked) → surviving_of new ≡ surviving_of old → AreKept session.packets player new.peers
         → GoOn (with_survivor session player (surviving_of new)) (put links player new)
     stays new same kept =
         relinked (with_survivor session player (surviving_of new)) player new
@@ -134,8 +110,7 @@ module _ (marking : Marking) (limits : Limits) (settings : Settings) (session : 
         called (after_build session player input made (surviving_of new)) new
         (one_game.builds marking limits settings linked.game player mine (surviving_of new) input made
         (subst (λ (s : Surviving). Steps s.lockstep new.node (λ limits me m. on_build limits me m input)
-        (λ answer. made ≡ answer)) survivor step)
-        (others ∙ ap (λ (s : Surviving). s.others) survivor)) refl
+        (λ answer. made ≡ answer)) survivor step) (others ∙ ap (λ (s : Surviving). s.others) survivor)) refl
         (nothing_given session (after_build session player input made (surviving_of new)) refl refl) peers
 
     pub runs : (new : Linked) (marks : List ℤ) (ran : Ran) (row : Option (List (Option Move)))
@@ -144,8 +119,7 @@ module _ (marking : Marking) (limits : Limits) (settings : Settings) (session : 
         → get_or marks other (pos 0) ≡ marking (world_told limits settings (session.told player)) other)
         → RunsBy marks old.node new.node
         (λ limits m marks. on_run_but limits (has_given_up (surviving_of old)) m marks)
-        (λ answer told. (ran ≡ answer) × (row ≡ told))
-        → new.others ≡ old.others → new.peers ≡ old.peers
+        (λ answer told. (ran ≡ answer) × (row ≡ told)) → new.others ≡ old.others → new.peers ≡ old.peers
         → GoOn (after_run session player row (surviving_of new)) (put links player new)
     runs new marks ran row honest step others peers =
         called (after_run session player row (surviving_of new)) new
@@ -153,8 +127,7 @@ module _ (marking : Marking) (limits : Limits) (settings : Settings) (session : 
         (subst (λ (s : Surviving). (tic other : ℕ) → ran ≡ Ran.Ran tic → other < limits.players
         → is_over (end_in s.lockstep other) s.lockstep.ran ≡ false
         → get_or marks other (pos 0) ≡ marking (world_told limits settings (session.told player)) other)
-        survivor honest)
-        (subst (λ (s : Surviving). RunsBy marks s.lockstep new.node
+        survivor honest) (subst (λ (s : Surviving). RunsBy marks s.lockstep new.node
         (λ limits m marks. on_run_but limits (has_given_up s) m marks)
         (λ answer told. (ran ≡ answer) × (row ≡ told))) survivor step)
         (others ∙ ap (λ (s : Surviving). s.others) survivor)) refl
@@ -168,8 +141,7 @@ module _ (marking : Marking) (limits : Limits) (settings : Settings) (session : 
         called (with_survivor session player (surviving_of new)) new
         (one_game.quits marking limits settings linked.game player mine (surviving_of new) quit
         (subst (λ (s : Surviving). Steps s.lockstep new.node (λ limits me m. on_quit m) (λ answer. quit ≡ answer))
-        survivor step)
-        (others ∙ ap (λ (s : Surviving). s.others) survivor)) refl
+        survivor step) (others ∙ ap (λ (s : Surviving). s.others) survivor)) refl
         (nothing_given session (with_survivor session player (surviving_of new)) refl refl) peers
 
     pub forgot : (peer : ℕ) (new : Linked) → new ≡ forgotten peer old

@@ -1,44 +1,22 @@
 -- What a link takes in, within one game in which players may be given up.
 use Rattle.std.proofs.Common.{◌≡◌, ◌<◌, ℕ, Bool, true, false, List, refl, ap, sym, ◌∙◌, subst, arith, All, Some, inl, inr}
 use Rattle.std.specs.Prelude.{◌&&◌, not, Result, Ok, Err}
-use Rattle.dn_survivor.specs.declared.report.Report.{Report}
+use Rattle.dn_survivor.specs.{declared.report.Report.Report, declared.others.Others.Others, OfOthers.Keeping.has, OneGame.AreRemaining, Session.Given, Session.Session, Session.with_survivor}
 use Rattle.dn_setup.specs.Settings.{Settings}
-use Rattle.dn_machine.specs.Limits.{Limits}
-use Rattle.dn_machine.specs.Node.{put}
-use Rattle.dn_lockstep.specs.Contents.{Contents}
-use Rattle.dn_lockstep.specs.Marking.{Marking}
-use Rattle.dn_survivor.specs.declared.others.Others.{Others}
-use Rattle.dn_survivor.specs.OfOthers.Keeping.{has}
-use Rattle.dn_survivor.specs.OneGame.{AreRemaining}
-use Rattle.dn_survivor.specs.Session.{Given, Session, with_survivor}
-use Rattle.dn_survivor.proofs.OneGame as one_game
+use Rattle.dn_machine.specs.{Limits.Limits, Node.put}
+use Rattle.dn_lockstep.specs.{Contents.Contents, Marking.Marking}
 use Rattle.dn_seal.specs.declared.seal.Seal.{Seal}
-use Rattle.dn_link.specs.declared.notice.fault.ReportDatagramFault.{ReportDatagramFault}
-use Rattle.dn_link.specs.SealedReports.Opening.{IsOpenedAs}
+use Rattle.dn_link.specs.{declared.notice.fault.ReportDatagramFault.ReportDatagramFault, SealedReports.Opening.IsOpenedAs, declared.bundle.Bundle.Bundle, declared.bundle.BundleFault.BundleFault}
+use Rattle.dn_link.specs.{declared.bundle.Identity.Identity, declared.presence.Presence.Presence, declared.received.Received.Received, declared.received.Received.TheVariants.GivenUp}
+use Rattle.dn_link.specs.{declared.received.Received.TheVariants.Stranger, Bundles.WasGiven, Counting.held_of, Hearing.ByTest, Hearing.HearsAll, Notices.HearsNotice, Notices.HearsNoticeAs, Notices.is_notice}
+use Rattle.dn_link.specs.{Paced.PaceState, Packets.heard_in, Packets.packets_in, Reading.IsBundledAs, Reading.IsDatagramOf, RemainingLinks.AreRemainingLinks, RemainingLinks.CarriesGiven, RemainingLinks.IsGenuineIn}
+use Rattle.dn_link.specs.{Linked.IsTakenIn, Linked.Linked, Linked.Receives, Linked.ReceivesAs, Linked.TakesIn, Linked.PeerState, Linked.has_given_up, Linked.hears, Linked.is_peer, Linked.met, Linked.surviving_of}
+use Rattle.dn_link.specs.{Linked.takes}
 use Rattle.dn_open.specs.Sealed.{sealing_of}
-use Rattle.dn_link.specs.declared.bundle.Bundle.{Bundle}
-use Rattle.dn_link.specs.declared.bundle.BundleFault.{BundleFault}
-use Rattle.dn_link.specs.declared.bundle.Identity.{Identity}
-use Rattle.dn_link.specs.declared.presence.Presence.{Presence}
-use Rattle.dn_link.specs.declared.received.Received.{Received}
-use Rattle.dn_link.specs.declared.received.Received.TheVariants.{GivenUp, Stranger}
-use Rattle.dn_link.specs.Bundles.{WasGiven}
-use Rattle.dn_link.specs.Counting.{held_of}
-use Rattle.dn_link.specs.Hearing.{ByTest, HearsAll}
-use Rattle.dn_link.specs.Linked.{IsTakenIn, Linked, Receives, ReceivesAs, TakesIn, PeerState, has_given_up, hears, is_peer, met, surviving_of, takes}
-use Rattle.dn_link.specs.Notices.{HearsNotice, HearsNoticeAs, is_notice}
-use Rattle.dn_link.specs.Paced.{PaceState}
-use Rattle.dn_link.specs.Packets.{heard_in, packets_in}
-use Rattle.dn_link.specs.Reading.{IsBundledAs, IsDatagramOf}
-use Rattle.dn_link.specs.RemainingLinks.{AreRemainingLinks, CarriesGiven, IsGenuineIn}
-use Rattle.dn_link.proofs.Along.{all_along}
-use Rattle.dn_link.proofs.Genuine.{same_bundle}
-use Rattle.dn_link.proofs.Kepts.{AreKept, met_kept, reached_kept}
-use Rattle.dn_link.proofs.Letters.{AreWith, MayBeHeard, packet_keeps}
-use Rattle.dn_link.proofs.Noticed.{opened_given}
+use Rattle.dn_link.proofs.{Keeping.all_along, Outgoing.same_bundle, Relinking.AreKept, Relinking.met_kept, Relinking.reached_kept, Letters.AreWith, Letters.MayBeHeard, Letters.packet_keeps, Noticed.opened_given}
+use Rattle.dn_link.proofs.{RemainingCalls.GoOn, RemainingCalls.nothing_given, Lefts.parts_from, Lefts.parts_heard}
+use Rattle.dn_survivor.proofs.OneGame as one_game
 use Rattle.dn_link.proofs.RemainingCalls as base
-use Rattle.dn_link.proofs.RemainingCalls.{GoOn, nothing_given}
-use Rattle.dn_link.proofs.Senders.{parts_from, parts_heard}
 
 module _ (marking : Marking) (limits : Limits) (settings : Settings) (session : Session) (links : ℕ → Linked)
     (linked : AreRemainingLinks marking limits settings session links) (player : ℕ)
@@ -73,9 +51,8 @@ module _ (marking : Marking) (limits : Limits) (settings : Settings) (session : 
       ((new.node ≡ old.node) × (started ≡ false)) → AreHere new.node
   by_heard bundle new started all free true hears =
       all_along (MayBeHeard marking limits settings session player old.others) AreHere
-      (packet_keeps marking limits settings session player old.others) (heard_in (takes old) bundle)
-      old.node new.node started
-      here
+      (packet_keeps marking limits settings session player old.others) (heard_in (takes old) bundle) old.node
+      new.node started here
       (λ k d below. (
         parts_heard (has_given_up old) (held_of old.node) bundle.from (WasGiven session.packets player) bundle.parts.items all k d below,
         elim (parts_from (has_given_up old) (held_of old.node) bundle.from bundle.parts.items k d below) [
@@ -86,17 +63,15 @@ module _ (marking : Marking) (limits : Limits) (settings : Settings) (session : 
   by_heard bundle new started all free false stays = subst AreHere (sym stays.0) here
 
   taken_in : (identity : Identity) (fresh : Bool) (bundle : Bundle) (new : Linked) (presence : Presence)
-      (differs started : Bool) → All (WasGiven session.packets player) (packets_in bundle)
-      → has old.others.gone bundle.from ≡ false → TakesIn identity fresh bundle old new presence differs started
-      → HasTaken new
+      (differs started : Bool) → All (WasGiven session.packets player) (packets_in bundle) → has old.others.gone
+      bundle.from ≡ false → TakesIn identity fresh bundle old new presence differs started → HasTaken new
   taken_in identity fresh bundle new presence differs started all free takes =
       let game = by_heard bundle new started all free
       (not differs && hears (met differs bundle presence old) presence) takes.heard in
-      base.relinked marking limits settings session links linked
-      (with_survivor session player (surviving_of new)) player new
-      (subst (λ (o : Others). AreRemaining marking limits settings
-      (with_survivor session player (record { lockstep = new.node; others = o }))) (sym takes.others) game)
-      refl (nothing_given session (with_survivor session player (surviving_of new)) refl refl)
+      base.relinked marking limits settings session links linked (with_survivor session player
+      (surviving_of new)) player new (subst (λ (o : Others). AreRemaining marking limits settings
+      (with_survivor session player (record { lockstep = new.node; others = o }))) (sym takes.others) game) refl
+      (nothing_given session (with_survivor session player (surviving_of new)) refl refl)
       (subst (λ (f : ℕ → PeerState). AreKept session.packets player f) (sym takes.peers)
       (reached_kept session.packets player new.node (met differs bundle presence old).peers
       (met_kept session.packets player old differs bundle presence

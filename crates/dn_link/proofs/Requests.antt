@@ -3,52 +3,24 @@ use Rattle.std.proofs.Common.{◌≡◌, ◌≢◌, ◌≤◌, ◌⊎◌, ◌&&�
 use Rattle.std.specs.Prelude.{IfSome, not, Result, Ok, Err, slice_index}
 use Rattle.std.proofs.lemmas.Bool.{cases_eq}
 use Rattle.std.proofs.lemmas.List.Elements.{All-head, All-tail}
-use Rattle.dn_packet.specs.declared.packet.Packet.{Packet}
-use Rattle.dn_packet.specs.declared.packet.PacketFault.{PacketFault}
-use Rattle.dn_packet.specs.Read.{AreBytes, Reading}
-use Rattle.dn_setup.specs.Settings.{Settings}
-use Rattle.dn_setup.specs.Setup.{Told}
-use Rattle.dn_setup.specs.declared.setup.SetupFault.{SetupFault}
-use Rattle.dn_setup.specs.declared.setup.SetupFault.TheVariants.{NotSetup}
-use Rattle.dn_machine.specs.Limits.{Limits}
-use Rattle.dn_machine.specs.Node as machine
-use Rattle.dn_machine.specs.Node.{made, put}
+use Rattle.dn_packet.specs.{declared.packet.Packet.Packet, declared.packet.PacketFault.PacketFault, Read.AreBytes, Read.Reading}
+use Rattle.dn_setup.specs.{Settings.Settings, Setup.Told, declared.setup.SetupFault.SetupFault, declared.setup.SetupFault.TheVariants.NotSetup}
+use Rattle.dn_machine.specs.{Limits.Limits, Node.made}
 use Rattle.dn_machine.proofs.Put.{put_at, put_off}
-use Rattle.dn_lockstep.specs.Contents.{Contents}
-use Rattle.dn_lockstep.specs.Received.{IsTold}
-use Rattle.dn_lockstep.specs.Represents.{Represents}
-use Rattle.dn_lockstep.specs.Told.{made as made_in}
+use Rattle.dn_lockstep.specs.{Contents.Contents, Received.IsTold, Represents.Represents, Told.made as made_in}
 use Rattle.dn_lockstep.proofs.Counting.{made_is}
-use Rattle.dn_seal.specs.declared.opened.Opened.{Opened}
-use Rattle.dn_seal.specs.declared.seal.Seal.{Seal}
-use Rattle.dn_open.specs.Arrivals.{HearsOpened}
-use Rattle.dn_open.specs.declared.arrived.Arrived.{Arrived}
-use Rattle.dn_open.specs.Sealed.{sealing_of}
-use Rattle.dn_link.specs.declared.bundle.Bundle.{Bundle}
-use Rattle.dn_link.specs.declared.bundle.BundleFault.{BundleFault}
-use Rattle.dn_link.specs.declared.bundle.Identity.{Identity}
-use Rattle.dn_link.specs.declared.bundle.Message.{Message}
-use Rattle.dn_link.specs.declared.bundle.Message.TheVariants.{Hello, Game, Goodbye}
-use Rattle.dn_link.specs.declared.presence.Presence.{Presence}
-use Rattle.dn_link.specs.declared.presence.Presence.TheVariants.{Left}
-use Rattle.dn_link.specs.declared.received.Received.{Received}
-use Rattle.dn_link.specs.declared.received.Received.TheVariants.{GivenUp, Stranger}
-use Rattle.dn_link.specs.Counting.{held_of, reached}
-use Rattle.dn_link.specs.Ends.{tells_end}
-use Rattle.dn_link.specs.Hearing.{ByTest, HearsAll, HearsUntil, is_start}
-use Rattle.dn_link.specs.Kept.{IsKeptRising}
-use Rattle.dn_link.specs.Linked.{IsTakenIn, Linked, PeerState, Receives, ReceivesAs, TakesIn, done_with, has_given_up, hears, is_peer, known_by, met, takes, with_reached}
-use Rattle.dn_link.specs.Onward.{AskWithin, AsksWithin, GoesOn, IsGone, StillGoesOn}
-use Rattle.dn_link.specs.Paced.{PaceState}
-use Rattle.dn_link.specs.Packets.{heard_in, packets_in}
-use Rattle.dn_link.specs.Presence.{Becomes, Greets, goes, may_come, plays_on}
-use Rattle.dn_link.specs.Reading.{IsBundledAs}
-use Rattle.dn_link.proofs.Asked.{opened_asked}
-use Rattle.dn_link.proofs.Following.{next_same, same_peers, still}
-use Rattle.dn_link.proofs.Ranged.{IsSpelled, packets_of_bytes}
-use Rattle.dn_link.proofs.Senders.{parts_from, parts_heard}
-use Rattle.dn_link.proofs.Rising.{rises_past}
-use Rattle.dn_link.proofs.Sending.{resend_of}
+use Rattle.dn_seal.specs.{declared.opened.Opened.Opened, declared.seal.Seal.Seal}
+use Rattle.dn_open.specs.{Arrivals.HearsOpened, declared.arrived.Arrived.Arrived, Sealed.sealing_of}
+use Rattle.dn_link.specs.{declared.bundle.Bundle.Bundle, declared.bundle.BundleFault.BundleFault, declared.bundle.Identity.Identity, declared.bundle.Message.Message, declared.bundle.Message.TheVariants.Hello}
+use Rattle.dn_link.specs.{declared.bundle.Message.TheVariants.Game, declared.bundle.Message.TheVariants.Goodbye, declared.presence.Presence.Presence, declared.presence.Presence.TheVariants.Left}
+use Rattle.dn_link.specs.{declared.received.Received.Received, declared.received.Received.TheVariants.GivenUp, declared.received.Received.TheVariants.Stranger, Counting.held_of, Counting.reached, Ends.tells_end}
+use Rattle.dn_link.specs.{Hearing.ByTest, Hearing.HearsAll, Hearing.HearsUntil, Hearing.is_start, Kept.IsKeptRising, Onward.AskWithin, Onward.AsksWithin, Onward.GoesOn, Onward.IsGone, Onward.StillGoesOn}
+use Rattle.dn_link.specs.{Paced.PaceState, Packets.heard_in, Packets.packets_in, Reading.IsBundledAs, Linked.IsTakenIn, Linked.Linked, Linked.PeerState, Linked.Receives, Linked.ReceivesAs, Linked.TakesIn}
+use Rattle.dn_link.specs.{Linked.done_with, Linked.has_given_up, Linked.hears, Linked.is_peer, Linked.known_by, Linked.met, Linked.takes, Linked.with_reached, Presence.Becomes, Presence.Greets, Presence.goes}
+use Rattle.dn_link.specs.{Presence.may_come, Presence.plays_on}
+use Rattle.dn_link.proofs.{Asked.opened_asked, Following.next_same, Following.same_peers, Following.still, Ranged.IsSpelled, Ranged.packets_of_bytes, Lefts.parts_from, Lefts.parts_heard, Rising.rises_past}
+use Rattle.dn_link.proofs.{Sending.resend_of}
+use Rattle.dn_machine.specs.Node as machine
 
 -- any bytes are read as something
 pub record AreRead : Type 0 where
@@ -126,8 +98,7 @@ module _ (are : AreRead) (limits : Limits) (me to bound : ℕ) where
       let first = one_heeds packet packets now next answer m shows (All-head IsSpelled packet packets all) within one in
       go (is_start answer) first
       (λ later. heeds_on m first.0 new first.2 first.3 (until_heeds packets next new started first.0 first.1
-      (All-tail IsSpelled packet packets all)
-      (within_on m first.0 (packet ∷ packets) packets first.2
+      (All-tail IsSpelled packet packets all) (within_on m first.0 (packet ∷ packets) packets first.2
       (λ asks. All-tail AsksLittle packet packets asks) within) later)) then
     where
       go : (test : Bool) → Heeds m next → (HearsUntil packets next new started → Heeds m new)
@@ -164,8 +135,7 @@ becomes_gone own gave fresh bundle (Hello identity) old new becomes gone =
     go true true same = (gone.0, same)
     go true false same = (gone.0, same)
     go false gave same = (gone.0, same)
-becomes_gone own gave fresh bundle Game old new becomes gone =
-    (gone.0, becomes ∙ ap (plays_on fresh) gone.1)
+becomes_gone own gave fresh bundle Game old new becomes gone = (gone.0, becomes ∙ ap (plays_on fresh) gone.1)
 becomes_gone own gave fresh bundle (Goodbye why) old new becomes gone = go (fresh || tells_end bundle) becomes
   where
     go : (test : Bool) → ByTest test (new ≡ goes (tells_end bundle) why old) (new ≡ old) → IsGone new
@@ -251,8 +221,7 @@ module _ (are : AreRead) (limits : Limits) (me to : ℕ) (old new : Linked) (goe
       (ap (λ (l : Linked). l.peers) same)
 
   taken_in : (identity : Identity) (fresh : Bool) (bundle : Bundle) (presence : Presence) (differs started : Bool)
-      → All IsSpelled (packets_in bundle)
-      → (made me goes_old.node ≤ (new.peers to).kept.covered)
+      → All IsSpelled (packets_in bundle) → (made me goes_old.node ≤ (new.peers to).kept.covered)
       ⊎ (bundle.from ≡ to → AskWithin (new.peers to).kept.covered (packets_in bundle))
       → TakesIn identity fresh bundle old new presence differs started → StillGoesOn limits me to old new
   taken_in identity fresh bundle presence differs started all within takes_it =
@@ -302,8 +271,7 @@ module _ (are : AreRead) (limits : Limits) (me to : ℕ) (old new : Linked) (goe
           (omega (arith, goes_old.mine, goes_old.shows.whose.number, goes_old.shows.whose.players))
 
       of_peer : (test : Bool) → ByTest test ((answer ≡ GivenUp bundle.from) × (new ≡ old))
-          (IsTakenIn identity pace bundle old new answer)
-          → StillGoesOn limits me to old new
+          (IsTakenIn identity pace bundle old new answer) → StillGoesOn limits me to old new
       of_peer true comes = nothing comes.1
       of_peer false comes =
           taken_in identity _ bundle comes.0 comes.1 comes.2
@@ -314,8 +282,7 @@ module _ (are : AreRead) (limits : Limits) (me to : ℕ) (old new : Linked) (goe
 
       go : (test : Bool) → ByTest test
           (ByTest (has_given_up old bundle.from) ((answer ≡ GivenUp bundle.from) × (new ≡ old))
-          (IsTakenIn identity pace bundle old new answer))
-          ((answer ≡ Stranger bundle.from) × (new ≡ old))
+          (IsTakenIn identity pace bundle old new answer)) ((answer ≡ Stranger bundle.from) × (new ≡ old))
           → StillGoesOn limits me to old new
       go true comes = of_peer (has_given_up old bundle.from) comes
       go false comes = nothing comes.1

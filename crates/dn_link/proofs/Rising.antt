@@ -1,11 +1,8 @@
 -- Each packet that is kept for a peer ends past those before it.
 use Rattle.std.proofs.Common.{◌≡◌, ◌<◌, ◌≤◌, ◌+◌, ℕ, zero, suc, Bool, true, false, List, [], ◌∷◌, ◌++◌, length, refl, subst, arith}
-use Rattle.std.specs.Prelude.{if◌then◌else◌, nat_le, nat_lt, max}
+use Rattle.std.specs.Prelude.{if◌then◌else◌, nat_le, max}
 use Rattle.std.proofs.lemmas.Bool.{and_parts, leb-true, leb-false, ltb-true}
-use Rattle.dn_link.specs.declared.bundle.Carried.{Carried}
-use Rattle.dn_link.specs.declared.peer.Peer.{Peer}
-use Rattle.dn_link.specs.Kept.{IsKeptRising, IsRising, Unacknowledged, end_of, is_news, without}
-use Rattle.dn_link.specs.Linking.{peers_of}
+use Rattle.dn_link.specs.{declared.bundle.Carried.Carried, declared.peer.Peer.Peer, Kept.IsKeptRising, Kept.IsRising, Kept.Unacknowledged, Kept.end_of, Kept.is_news, Kept.without, Linking.peers_of}
 
 -- so there are no more of them than commands that they cover and the peer needs
 pub few : (done : ℕ) (packets : List Carried) (covered : ℕ) → IsRising done packets covered
@@ -31,11 +28,7 @@ rises_on done (other ∷ packets) covered packet past (first, rest) =
 pub news_rises : (kept : Unacknowledged) (packet : Carried) → is_news kept packet ≡ true
     → IsRising kept.done kept.packets kept.covered
     → IsRising kept.done (kept.packets ++ packet ∷ []) (end_of packet)
-news_rises kept packet news rising =
-    let past = (and_parts (nat_le packet.start kept.covered) _ news).1 in
-    let more = ltb-true kept.covered (end_of packet)
-    (and_parts (nat_lt kept.covered (end_of packet)) (nat_lt (length kept.packets) 24) past).0 in
-    rises_on kept.done kept.packets kept.covered packet more rising
+news_rises kept packet news rising = grind (arith, and_parts, ltb-true, rises_on)
 
 -- the peer needs fewer
 pub rises_past : (done : ℕ) (packets : List Carried) (covered count : ℕ) → IsRising done packets covered

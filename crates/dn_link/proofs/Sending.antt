@@ -1,29 +1,14 @@
 -- Which tic a node sends to a peer next, after each call.
-use Rattle.std.proofs.Common.{ℤ, ◌≡◌, ◌≢◌, ◌≤◌, ◌+◌, ◌-◌, ◌/◌, ◌⊎◌, ◌&&◌, ℕ, Bool, true, false, List, [], ◌++◌, length, drop, refl, ap, sym, ◌∙◌, subst, arith, Option, Some, None, inl, inr}
-use Rattle.std.specs.Prelude.{if◌then◌else◌, min, nat_le, nat_lt, not, ◌==◌}
-use Rattle.std.proofs.lemmas.Bool.{and_parts, cases_eq, cases_lt, cond_both, le-ltb, leb-true}
-use Rattle.std.proofs.lemmas.List.{length-take, length-drop}
-use Rattle.std.proofs.lemmas.Option.{none-some, same_Some}
-use Rattle.dn_tic.specs.declared.command.TicCmd.{TicCmd}
-use Rattle.dn_tic.specs.declared.input.Input.{Input}
-use Rattle.dn_packet.specs.Flags as flag
-use Rattle.dn_packet.specs.Text.{text}
+use Rattle.std.proofs.Common.{ℤ, ◌≡◌, ◌≢◌, ◌≤◌, ◌+◌, ◌-◌, ◌⊎◌, ℕ, Bool, true, false, List, ◌++◌, length, drop, refl, ap, sym, ◌∙◌, arith, Option, Some, None, inl, inr}
+use Rattle.std.specs.Prelude.{if◌then◌else◌, min, nat_lt, not}
+use Rattle.std.proofs.lemmas.{Bool.and_parts, Bool.cases_lt, Bool.cond_both, Bool.le-ltb, Bool.leb-true, List.length-take, List.length-drop, Option.none-some, Option.same_Some}
+use Rattle.dn_tic.specs.{declared.command.TicCmd.TicCmd, declared.input.Input.Input}
 use Rattle.dn_packet.proofs.Texts.{length-commands}
 use Rattle.dn_setup.specs.Settings.{Settings}
-use Rattle.dn_machine.specs.declared.answers.Heard.{Heard}
-use Rattle.dn_machine.specs.declared.peer.Peer.{Peer}
-use Rattle.dn_machine.specs.Limits.{Limits}
-use Rattle.dn_machine.specs.Flight.{Kind, SetUp, Play, Exit, Flight, commands_packet, is_exit, end_of}
-use Rattle.dn_machine.specs.Node.{Node, put, with_peer, got, made}
-use Rattle.dn_machine.specs.Building.{on_build}
+use Rattle.dn_machine.specs.{declared.answers.Heard.Heard, declared.peer.Peer.Peer, Limits.Limits, Flight.Kind, Flight.Play, Flight.Exit, Flight.Flight, Node.Node, Node.put, Node.with_peer, Node.got, Node.made, Building.on_build, Hearing.after_request, Hearing.after_exit, Hearing.on_packet, Running.on_run, Running.on_quit}
 use Rattle.dn_machine.specs.Sending.{after_sent, commands_flight, first_sent, lag, last_sent, left_kind, on_send, request_to, set_up_flight}
-use Rattle.dn_machine.specs.Hearing.{is_within, after_request, after_exit, on_packet}
-use Rattle.dn_machine.specs.Running.{on_run, on_quit}
-use Rattle.dn_machine.proofs.Put.{put_at, put_off}
-use Rattle.dn_machine.proofs.Stages.{lag_low}
-use Rattle.dn_machine.proofs.Calls.{build_cases, send_cases, run_cases, quit_cases, packet_cases, sender_after}
-use Rattle.dn_link.specs.declared.bundle.Carried.{Carried}
-use Rattle.dn_link.specs.Giving.{carried_of}
+use Rattle.dn_machine.proofs.{Put.put_at, Put.put_off, Stages.lag_low, Calls.build_cases, Calls.send_cases, Calls.run_cases, Calls.quit_cases, Calls.packet_cases, Calls.sender_after}
+use Rattle.dn_link.specs.{declared.bundle.Carried.Carried, Giving.carried_of}
 use Rattle.dn_link.specs.Kept as kept
 
 -- the tic from which it sends next
@@ -62,15 +47,7 @@ module _ (limits : Limits) (me : ℕ) (node : Node) (to : ℕ) where
   request_asked : (request : Option ℕ) (peer : Peer)
       → ((after_request limits.places (made me node) peer request).resend ≡ peer.resend)
       ⊎ IsAsked request (after_request limits.places (made me node) peer request).resend
-  request_asked None peer = inl (grind arith)
-  request_asked (Some tic) peer = cond_both (peer.pause == 0 && is_within limits.places (made me node) (Some tic)) _ _
-      (λ (p : Peer). (p.resend ≡ peer.resend) ⊎ IsAsked (Some tic) p.resend)
-      (λ met. inr (
-        refl,
-        leb-true tic (made me node) (and_parts (nat_le tic (made me node))
-            (nat_le (made me node - limits.places) tic) (and_parts (peer.pause == 0)
-            (is_within limits.places (made me node) (Some tic)) met).1).0,
-      )) (λ not_met. inl refl)
+  request_asked request peer = grind (arith, cond_both, leb-true, and_parts)
 
   exit_same : (peer : Peer) (exit : Bool) (end : ℕ) → (after_exit peer exit end).resend ≡ peer.resend
   exit_same peer true end = refl
@@ -80,25 +57,11 @@ module _ (limits : Limits) (me : ℕ) (node : Node) (to : ℕ) where
     placed : (peer : Peer) (held : ℕ → List TicCmd)
         → (peer.resend ≡ resend_of node flight.from) ⊎ IsAsked flight.request peer.resend
         → Asked flight (record (with_peer node flight.from peer) { held = held })
-    placed peer held is = elim (cases_eq to flight.from) [
-      | inl e ↦
-          let now = ap (λ (p : Peer). p.resend) (put_at node.peers flight.from to peer e) in
-          elim is [
-            | inl same ↦ inl (now ∙ same ∙ ap (resend_of node) (sym e))
-            | inr asks ↦ inr (sym e, (asks.0 ∙ ap Some (sym now), omega (arith, asks.1, now)))
-          ]
-      | inr n ↦ inl (peer_same flight.from peer n)
-    ]
+    placed peer held is = grind (arith, put_at, peer_same)
 
     sender_asked : ((sender_after limits me node flight).resend ≡ resend_of node flight.from)
         ⊎ IsAsked flight.request (sender_after limits me node flight).resend
-    sender_asked =
-        let ends = exit_same (after_request limits.places (made me node) (node.peers flight.from) flight.request)
-        (is_exit flight.kind) (end_of flight) in
-        elim (request_asked flight.request (node.peers flight.from)) [
-          | inl same ↦ inl (ends ∙ same)
-          | inr asks ↦ inr (asks.0 ∙ ap Some (sym ends), omega (arith, asks.1, ends))
-        ]
+    sender_asked = grind (arith, exit_same, request_asked)
 
     pub packet_asked : Asked flight (on_packet limits me node flight).0
     packet_asked = packet_cases limits me node flight (λ (r : Node × Heard). Asked flight r.0) (record {
@@ -151,14 +114,7 @@ module _ (limits : Limits) (me : ℕ) (node : Node) (to : ℕ) where
 
   set_up_silent : (settings : Option Settings) → Silent node (set_up_flight me to settings)
   set_up_silent None = (refl, (λ one e. absurd (none-some one e)))
-  set_up_silent (Some settings) = (
-    refl,
-    (λ one e. ap (λ (f : Flight). kept.end_of (carried_of f)) (sym (same_Some (settings_flight settings) one e))),
-  )
-    where
-      settings_flight : Settings → Flight
-      settings_flight s =
-          record { from = me; to = to; kind = SetUp s; start = 0; request = None; commands = [] }
+  set_up_silent (Some settings) = grind (arith, same_Some)
 
   module _ (most : limits.most ≡ 12) (there : made me node ≤ resend_of node to + limits.places) where
     first_is : first_sent limits me node to ≡ resend_of node to
@@ -174,22 +130,7 @@ module _ (limits : Limits) (me : ℕ) (node : Node) (to : ℕ) where
 
     commands_are : (kind : Kind) (request : Option ℕ) (exits : Bool) → kind ≡ (if exits then Exit else Play)
         → kept.commands_in (carried kind request) ≡ min 12 (made me node - resend_of node to)
-    commands_are kind request exits is = go exits is
-      where
-        -- by the kind, which tells the flags alone
-        by_kind : (commands : List TicCmd) (flags : ℕ) (flight : Flight) → flight.commands ≡ commands
-            → (length (text (commands_packet flags flight)) - 8) / 8 ≡ length commands
-        by_kind commands flags flight same =
-            let long = length-commands flight.commands in
-            let count = ap (length {A = TicCmd}) same in
-            omega (arith, long, count)
-
-        go : (test : Bool) → kind ≡ (if test then Exit else Play)
-            → kept.commands_in (carried kind request) ≡ min 12 (made me node - resend_of node to)
-        go true e = subst (λ (k : Kind). kept.commands_in (carried k request) ≡ min 12 (made me node - resend_of node to))
-            (sym e) (by_kind _ flag.exit (commands_flight limits me node to Exit request) refl ∙ many)
-        go false e = subst (λ (k : Kind). kept.commands_in (carried k request) ≡ min 12 (made me node - resend_of node to))
-            (sym e) (by_kind _ 0 (commands_flight limits me node to Play request) refl ∙ many)
+    commands_are kind request exits is = grind (arith, length-commands, many)
 
     abbrev after : Node
     after = after_sent limits me node to
@@ -219,8 +160,7 @@ module _ (limits : Limits) (me : ℕ) (node : Node) (to : ℕ) where
 
     pub sends : Sends (on_send limits me node to).0 (on_send limits me node to).1
     sends = send_cases limits me node (λ (r : Node × Option Flight). Sends r.0 r.1) to
-        (inl (refl, (λ one e. absurd (none-some one e))))
-        (λ other e. inl (set_up_silent node.settings))
+        (inl (refl, (λ one e. absurd (none-some one e)))) (λ other e. inl (set_up_silent node.settings))
         (λ other e. inr (_, refl, follows Play (request_to node to) false refl))
         (λ other left. inr (
           _,

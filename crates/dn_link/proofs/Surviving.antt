@@ -1,11 +1,6 @@
 -- Whose a survivor is stays.
 use Rattle.std.proofs.Common.{◌≡◌, ℕ, Option, Some, None, ap}
-use Rattle.dn_survivor.specs.declared.report.Report.{Report}
-use Rattle.dn_survivor.specs.declared.others.Others.{Others}
-use Rattle.dn_survivor.specs.Calls.{GivesUp, GivesUpUnless, HearsReport, HearsReportUnless, refused_give_up, refused_report}
-use Rattle.dn_survivor.specs.Surviving.{Surviving}
-use Rattle.dn_survivor.specs.declared.answers.GivenUp.{GivenUp}
-use Rattle.dn_survivor.specs.declared.answers.Reported.{Reported}
+use Rattle.dn_survivor.specs.{declared.report.Report.Report, declared.others.Others.Others, Calls.GivesUp, Calls.GivesUpUnless, Calls.HearsReport, Calls.HearsReportUnless, Calls.refused_give_up, Calls.refused_report, Surviving.Surviving, declared.answers.GivenUp.GivenUp, declared.answers.Reported.Reported}
 
 -- and whom it has given up, where it hears a report
 pub hears_same : (from : ℕ) (report : Report) (old new : Surviving) (answer : Reported)

@@ -1,28 +1,10 @@
 -- Packets are written as no more parts than they need.
-use Rattle.std.proofs.Common.{◌≡◌, ◌<◌, ◌≤◌, ◌+◌, ◌/◌, ◌%◌, ◌^◌, ℕ, List, [], ◌∷◌, ◌++◌, length, take, drop, refl, ap, sym, ◌∙◌, subst, arith, All, append-nil, inl, inr}
-use Rattle.std.proofs.lemmas.Bool.{cases_lt, lt-ltb, le-ltb}
-use Rattle.std.proofs.lemmas.List.Elements.{All-nil, All-cons, All-append}
-use Rattle.std.proofs.Math.Seq.{take-append_seam}
+use Rattle.std.proofs.Common.{◌≡◌, ◌<◌, ◌≤◌, ◌+◌, ◌/◌, ◌%◌, ◌^◌, ℕ, List, [], ◌∷◌, ◌++◌, length, refl, sym, ◌∙◌, subst, arith, All, append-nil, inl, inr}
+use Rattle.std.proofs.lemmas.{Bool.cases_lt, Bool.lt-ltb, Bool.le-ltb, List.Elements.All-nil, List.Elements.All-cons, List.Elements.All-append}
 use Rattle.arrayvec.specs.ArrayVec.{ArrayVec}
-use Rattle.dn_link.specs.declared.bundle.Carried.{Carried}
-use Rattle.dn_link.specs.declared.bundle.Part.{Part}
-use Rattle.dn_link.specs.declared.bundle.Part.TheVariants.{Whole, Run, Relay}
+use Rattle.dn_link.specs.{declared.bundle.Carried.Carried, declared.bundle.Part.Part, declared.bundle.Part.TheVariants.Whole, declared.bundle.Part.TheVariants.Run, declared.bundle.Part.TheVariants.Relay, declared.packing.Packing.Packing, Packing.AreEnded, Packing.IsEnded, Packing.IsNeeded}
 use Rattle.dn_link.specs.declared.bundle.Run as run
-use Rattle.dn_link.specs.declared.packing.Packing.{Packing}
-use Rattle.dn_link.specs.Packets.{short_packet}
 use Rattle.dn_link.specs.OpenPacking.{IsPacking, IsTight, MayFollow, part_of}
-use Rattle.dn_link.specs.Packing.{AreEnded, IsEnded, IsNeeded}
-
--- the command of a packet that a command tells
-pub its_command : (from start : ℕ) (command : List ℕ) → length command ≡ 8
-    → take 8 (drop 8 (short_packet from start command).datagram.items) ≡ command
-its_command from start command eight =
-    ap (λ (k : ℕ). take k command) (sym eight) ∙ ap (take (length command)) (sym (append-nil command))
-    ∙ take-append_seam command []
-
-pub its_size : (from start : ℕ) (command : List ℕ) → length command ≡ 8
-    → length (short_packet from start command).datagram.items ≡ 16
-its_size from start command eight = omega (arith, eight)
 
 -- with one more part behind the last
 pub more_ended : (parts : List Part) (one other : Part) → AreEnded (parts ++ one ∷ []) → IsEnded one other

@@ -1,9 +1,7 @@
 -- Parts are read one after the other.
 use Rattle.std.proofs.Common.{◌≡◌, ◌<◌, ◌+◌, ℕ, zero, suc, List, [], ◌∷◌, ◌++◌, length, drop, refl, ap, sym, ◌∙◌, subst, arith, Option, Some, None, append_assoc, append-nil}
 use Rattle.std.specs.Option.{option_map}
-use Rattle.dn_link.specs.declared.bundle.Part.{Part}
-use Rattle.dn_link.specs.Text.{part_bytes}
-use Rattle.dn_link.specs.Told.{told_part, told_all}
+use Rattle.dn_link.specs.{declared.bundle.Part.Part, Text.part_bytes, Told.told_part, Told.told_all}
 use Rattle.dn_link.proofs.Items.{opened}
 
 -- what is found, with what the rest tells, is what all tells
@@ -20,8 +18,7 @@ begins count bytes found none = subst (SoFar count bytes 0 bytes) (sym none) (re
     go (Some more) = refl
 
 module _ (count : ℕ) (bytes : List ℕ) (done : ℕ) (rest : List ℕ) (found : List Part) where
-  pub goes_on : (part : Part) → done < count → SoFar count bytes done rest found
-      → told_part rest ≡ Some part
+  pub goes_on : (part : Part) → done < count → SoFar count bytes done rest found → told_part rest ≡ Some part
       → SoFar count bytes (done + 1) (drop (length (part_bytes part)) rest) (found ++ part ∷ [])
   goes_on part below so one = go so.left so.adds so.told
     where
@@ -62,17 +59,6 @@ module _ (count : ℕ) (bytes : List ℕ) (done : ℕ) (rest : List ℕ) (found 
       go zero adds told = absurd (omega arith)
       go (suc left) adds told =
           told ∙ ap (λ (o : Option Part). option_map (λ (more : List Part). found ++ more) (opened left rest o)) one
-
-pub too_long : (count : ℕ) (bytes rest : List ℕ) (found : List Part) → 0 < length rest
-    → SoFar count bytes count rest found → told_all count bytes ≡ None
-too_long count bytes rest found some so = go so.left rest so.adds some so.told
-  where
-    go : (left : ℕ) (xs : List ℕ) → left + count ≡ count → 0 < length xs
-        → told_all count bytes ≡ option_map (λ (more : List Part). found ++ more) (told_all left xs)
-        → told_all count bytes ≡ None
-    go zero [] adds some told = absurd (omega arith)
-    go zero (x ∷ xs) adds some told = told
-    go (suc left) xs adds some told = absurd (omega arith)
 
 pub ends : (count : ℕ) (bytes rest : List ℕ) (found : List Part) → length rest ≡ 0
     → SoFar count bytes count rest found → told_all count bytes ≡ Some found

@@ -3,21 +3,11 @@ use Rattle.std.proofs.Common.{◌≡◌, ◌<◌, ◌≤◌, ◌+◌, ◌^◌, �
 use Rattle.std.specs.Prelude.{slice_index, FitsSigned}
 use Rattle.std.specs.Option.{option_map}
 use Rattle.std.specs.Int.{w32, cast_signed, cast_unsigned, to_le_bytes}
-use Rattle.std.proofs.lemmas.Bool.{cases_lt, lt-ltb, le-ltb}
-use Rattle.std.proofs.lemmas.Int.{to_z-of_z, of_z-to_z}
-use Rattle.std.proofs.lemmas.List.{take-append-drop, length-drop, drop-drop}
-use Rattle.std.proofs.lemmas.Nat.{from_le_bytes-to_le_bytes_4}
-use Rattle.std.proofs.lemmas.Option.{same_Some, none-some}
+use Rattle.std.proofs.lemmas.{Bool.cases_lt, Bool.lt-ltb, Bool.le-ltb, Int.to_z-of_z, Int.of_z-to_z, List.take-append-drop, List.length-drop, List.drop-drop, Nat.from_le_bytes-to_le_bytes_4, Option.same_Some, Option.none-some}
 use Rattle.std.proofs.Math.Seq.{drop-append_seam}
-use Rattle.dn_seal.specs.declared.seal.Seal.{Seal}
-use Rattle.dn_seal.specs.Keys.{suite_byte}
-use Rattle.dn_seal.specs.Opening.{told_game}
-use Rattle.dn_seal.proofs.Envelopes.{eight}
-use Rattle.dn_seal.proofs.Openings.{four_bytes}
-use Rattle.dn_link.specs.declared.bundle.Bundle.{Bundle}
-use Rattle.dn_link.specs.declared.bundle.Message.{Message}
-use Rattle.dn_link.specs.declared.bundle.Part.{Part}
-use Rattle.dn_link.specs.Text.{counts_bytes, message_bytes, parts_bytes, bundle_bytes, IsBundle, IsPart}
+use Rattle.dn_seal.specs.{declared.seal.Seal.Seal, Keys.suite_byte, Opening.told_game}
+use Rattle.dn_seal.proofs.{Envelopes.eight, Openings.four_bytes}
+use Rattle.dn_link.specs.{declared.bundle.Bundle.Bundle, declared.bundle.Message.Message, declared.bundle.Part.Part, Text.counts_bytes, Text.message_bytes, Text.parts_bytes, Text.bundle_bytes, Text.IsBundle, Text.IsPart}
 use Rattle.dn_link.specs.Told.{number_at, told_counts, told_message, told_parts, bundle_with, told_with, told_bundle}
 use Rattle.dn_link.proofs.Parts.{Fit, fit_drop, small, counts_back, length-counts, counts_is, message_back, message_is}
 use Rattle.dn_link.proofs.Items.{all_back, all_is}
@@ -36,16 +26,11 @@ abbrev pub rest_bytes : Bundle → List ℕ
 rest_bytes b = counts_bytes b.counts ++ (message_bytes b.message ++ parts_bytes b.parts.items)
 
 pub parted : (seal : Seal) (b : Bundle) → bundle_bytes seal b ≡ head_bytes seal b ++ rest_bytes b
-parted seal b =
-    append_assoc (head_bytes seal b ++ counts_bytes b.counts) (message_bytes b.message)
-    (parts_bytes b.parts.items)
-    ∙ append_assoc (head_bytes seal b) (counts_bytes b.counts)
-    (message_bytes b.message ++ parts_bytes b.parts.items)
+parted seal b = grind (arith, append_assoc)
 
 module _ (seal : Seal) (b : Bundle) (long : 8 ≤ length seal.game) where
   -- what is told by the bytes in front, whatever the game's number is
-  pub by_head : {A : Type 0} (f : List ℕ → A) (a : A)
-      → ((x0 x1 x2 x3 x4 x5 x6 x7 : ℕ)
+  pub by_head : {A : Type 0} (f : List ℕ → A) (a : A) → ((x0 x1 x2 x3 x4 x5 x6 x7 : ℕ)
       → f (headed (suite_byte seal.suite) (x0 ∷ x1 ∷ x2 ∷ x3 ∷ x4 ∷ x5 ∷ x6 ∷ x7 ∷ []) b ++ rest_bytes b) ≡ a)
       → f (bundle_bytes seal b) ≡ a
   by_head f a each =
@@ -77,9 +62,7 @@ module _ (seal : Seal) (b : Bundle) (long : 8 ≤ length seal.game) (is : IsBund
       ∙ drop-append_seam (message_bytes b.message) (parts_bytes b.parts.items)
 
   parts_back : told_parts (parts_bytes b.parts.items) ≡ Some b.parts.items
-  parts_back =
-      let few = le-ltb 24 (length b.parts.items) is.few in
-      rw few (all_back b.parts.items is.parts)
+  parts_back = grind (arith, le-ltb, all_back)
 
   from : slice_index (bundle_bytes seal b) 10 ≡ b.from
   from = by_head seal b long (λ xs. slice_index xs 10) b.from (λ x0 x1 x2 x3 x4 x5 x6 x7. refl)
@@ -99,25 +82,14 @@ module _ (seal : Seal) (b : Bundle) (long : 8 ≤ length seal.game) (is : IsBund
   holes = by_head seal b long (λ xs. slice_index xs 17) b.holes (λ x0 x1 x2 x3 x4 x5 x6 x7. refl)
 
   pub bundle_back : told_bundle (bundle_bytes seal b) ≡ Some b
-  bundle_back =
-      let body : List ℕ = bundle_bytes seal b in
-      let message : told_message (drop 42 body) ≡ Some b.message =
-      ap told_message after_counts ∙ message_back b.message (parts_bytes b.parts.items) is.message in
-      let parts : told_parts (drop (42 + length (message_bytes b.message)) body) ≡ Some b.parts.items =
-      ap told_parts after_message ∙ parts_back in
-      let counts : told_counts (drop 18 body) ≡ b.counts =
-      ap told_counts after_head ∙ counts_back b.counts tail is.counts in
-      ap (told_with body) message
-      ∙ ap (option_map (bundle_with body b.message)) parts
-      ∙ (λ i. Some (record b { from = from i; to = to i; number = number i; lead = lead i; holes = holes i; counts = counts i }))
+  bundle_back = grind (arith, after_counts, message_back, after_message, parts_back, after_head, counts_back, from, to, number, lead, holes)
 
 -- the eighteen bytes in front, by what was tested of them
 head_is : (body : List ℕ) (seal : Seal) (b : Bundle) → Fit body → 18 ≤ length body
     → slice_index body 0 ≡ suite_byte seal.suite → slice_index body 1 ≡ 2
     → told_game body ≡ take 8 seal.game → slice_index body 10 ≡ b.from → slice_index body 11 ≡ b.to
     → b.number ≡ number_at 12 body → cast_unsigned w8 b.lead ≡ slice_index body 16
-    → slice_index body 17 ≡ b.holes
-    → take 18 body ≡ head_bytes seal b
+    → slice_index body 17 ≡ b.holes → take 18 body ≡ head_bytes seal b
 head_is (v ∷ k ∷ g0 ∷ g1 ∷ g2 ∷ g3 ∷ g4 ∷ g5 ∷ g6 ∷ g7 ∷ f ∷ t ∷ n0 ∷ n1 ∷ n2 ∷ n3 ∷ l ∷ h ∷ rest) seal b
     fits long suite kind told from to number lead holes =
     let numbers = four_bytes n0 n1 n2 n3 b.number (fits 12) (fits 13) (fits 14) (fits 15) number in
@@ -169,12 +141,10 @@ module _ (seal : Seal) (body : List ℕ) (fits : Fit body) (long : 44 ≤ length
       let head = head_is body seal bundle fits (omega arith) suite kind told refl refl refl lead refl in
       let last : drop (42 + length (message_bytes message)) body ≡ parts_bytes parts = rest.2 in
       let tail : drop 42 body ≡ message_bytes message ++ parts_bytes parts =
-      spelled.spelled
-      ∙ ap (λ (xs : List ℕ). message_bytes message ++ xs)
+      spelled.spelled ∙ ap (λ (xs : List ℕ). message_bytes message ++ xs)
       (drop-drop (length (message_bytes message)) 42 body ∙ last) in
       let middle : drop 18 body ≡ rest_bytes bundle =
-      sym (take-append-drop 24 (drop 18 body))
-      ∙ (λ i. counts.spelled i ++ (drop-drop 24 18 body ∙ tail) i) in
+      sym (take-append-drop 24 (drop 18 body)) ∙ (λ i. counts.spelled i ++ (drop-drop 24 18 body ∙ tail) i) in
       subst (IsWhole seal body) (same_Some bundle b e) (record {
         fits = record {
           number = number_small body fits (omega arith);
@@ -204,26 +174,14 @@ module _ (body : List ℕ) where
 
   pub no_parts : (message : Message) → told_message (drop 42 body) ≡ Some message
       → told_parts (drop (42 + length (message_bytes message)) body) ≡ None → None ≡ told_bundle body
-  no_parts message e none =
-      sym (ap (told_with body) e ∙ ap (option_map (bundle_with body message)) none)
+  no_parts message e none = sym (ap (told_with body) e ∙ ap (option_map (bundle_with body message)) none)
 
   pub all_told : (message : Message) (b : Bundle) → told_message (drop 42 body) ≡ Some message
       → told_parts (drop (42 + length (message_bytes message)) body) ≡ Some b.parts.items
       → b.from ≡ slice_index body 10 → b.to ≡ slice_index body 11 → b.number ≡ number_at 12 body
       → b.lead ≡ cast_signed w8 (slice_index body 16) → b.holes ≡ slice_index body 17
       → b.counts ≡ told_counts (drop 18 body) → b.message ≡ message → Some b ≡ told_bundle body
-  all_told message b e all from to number lead holes counts same =
-      sym (ap (told_with body) e ∙ ap (option_map (bundle_with body message)) all
-      ∙ (λ i. Some (record {
-        from = sym from i;
-        to = sym to i;
-        number = sym number i;
-        lead = sym lead i;
-        holes = sym holes i;
-        counts = sym counts i;
-        message = sym same i;
-        parts = record { items = b.parts.items };
-      })))
+  all_told message b e all from to number lead holes counts same = grind (arith, from, to, number, lead, holes)
 
   -- a byte that was read as signed
   pub signed : (byte : ℕ) (z : ℤ) → byte < 256 → z ≡ cast_signed w8 byte

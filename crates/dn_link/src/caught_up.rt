@@ -18,6 +18,7 @@ use dn_lockstep::locksteps_agree;
 use dn_open::letters_keep_one_game;
 
 /// New links of the same limits are caught up.
+#[tactic(auto, using(dn_lockstep::proofs::Shown::has))]
 pub fn links_open_caught_up()
     ensures { (limits : Limits) (settings : Settings) (links : ℕ → Linked)
         → ((player : ℕ) → player < limits.players → Represents limits player (links player).node (fresh settings player))

@@ -47,6 +47,7 @@ fn starts(lockstep: &mut Lockstep, from: u8, packet: &Carried) -> bool
 }
 
 /// Hears the packets of a run.
+#[tactic(auto, using(crate::proofs::Hearings::run_begins, crate::proofs::Hearings::run_goes_on, crate::proofs::Hearings::run_stops))]
 fn hear_run(lockstep: &mut Lockstep, from: u8, run: &Run) -> bool
     ensures { HearsUntil (packets_of from (of_run run.now)) (contents lockstep.old) (contents lockstep.new) result }
 {

@@ -43,6 +43,7 @@ pub fn datagrams_keep_one_game()
 
 /// New links of the same limits, one for each player, of which player 0's has these settings, are those of one
 /// game, in which nobody is given up.
+#[tactic(auto, using(crate::proofs::Relinking::new_whole))]
 pub fn linked_game_opens()
     ensures { (marking : Marking) (limits : Limits) (settings : Settings) (links : ℕ → Linked)
         → IsWindow limits

@@ -108,6 +108,7 @@ impl Link {
 
     /// As `Lockstep::build`; keys for which there is no room are owed, and those that were owed before are
     /// dropped.
+    #[tactic(auto, using(dn_survivor::proofs::Lent::lent_steps))]
     pub fn build(&mut self, keys: Keys) -> Made
         ensures step { Steps (linked self.old).node (linked self.new).node
             (λ limits me m. on_build limits me m (Pressed keys)) (λ made. result ≡ made) }
@@ -125,6 +126,7 @@ impl Link {
     }
 
     /// As `Lockstep::give`; a command for which there is no room is owed, and what was owed before is dropped.
+    #[tactic(auto, using(dn_survivor::proofs::Lent::lent_steps))]
     pub fn give(&mut self, command: Command) -> Made
         ensures step { Steps (linked self.old).node (linked self.new).node
             (λ limits me m. on_build limits me m (Given command)) (λ made. result ≡ made) }
@@ -142,6 +144,7 @@ impl Link {
     }
 
     /// As `Lockstep::quit`.
+    #[tactic(auto, using(dn_survivor::proofs::Lent::lent_steps))]
     pub fn quit(&mut self) -> bool
         ensures step { Steps (linked self.old).node (linked self.new).node
             (λ limits me m. on_quit m) (λ quit. result ≡ quit) }

@@ -23,6 +23,7 @@ use dn_setup::every_packet_is_told;
 /// twenty-four at most. So `caught_up_links_cover` (`covered`) needs neither premise, but only that no more
 /// commands were made than the node keeps. A run counts where nobody is given up; of a report, and of giving a
 /// player up for good, nothing is said here.
+#[tactic(auto, using(crate::proofs::Requests::received, crate::proofs::Following::builds, crate::proofs::Following::covers, crate::proofs::Following::forgets, crate::proofs::Following::gives_another, crate::proofs::Following::quits, crate::proofs::Following::runs))]
 pub fn given_is_covered()
     ensures opened { (limits : Limits) (settings : Settings) (me to : ℕ) (link : Linked)
         → me < limits.players → to < limits.players → Represents limits me link.node (fresh settings me)

@@ -45,6 +45,7 @@ impl Towards {
     }
 
     /// How late it reports the commands of a player.
+    #[tactic(auto, using(crate::proofs::Places::place_at))]
     fn lag(&self, player: u8) -> Lag
         requires { player < 4 }
         ensures { result ≡ lag_of self.now.lags player }

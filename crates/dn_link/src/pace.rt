@@ -62,6 +62,7 @@ impl Pace {
     }
 
     /// The line from a player.
+    #[tactic(auto, using(crate::proofs::Places::place_at))]
     pub(crate) fn line(&self, player: u8) -> &Line
         requires { player < 4 }
         ensures { line_of result.now ≡ (state_of self.now).lines player }

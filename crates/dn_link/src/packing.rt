@@ -83,6 +83,7 @@ impl Packing {
     }
 
     /// Ends the run, and begins another.
+    #[tactic(auto, using(crate::proofs::Packings::ended))]
     fn end_run(&mut self, start: u32)
         requires fits { IsPacking self.old }
         requires few { length self.old.parts.items ≤ 23 }
@@ -120,6 +121,7 @@ impl Packing {
     }
 
     /// Adds a packet that is written as its command.
+    #[tactic(auto, using(crate::proofs::Packings::run_goes_on, crate::proofs::Tight::run_tight))]
     fn add_short(&mut self, start: u32, command: &[u8; 8])
         requires fits { IsPacking self.old }
         requires room { HasRoom self.old }
@@ -135,6 +137,7 @@ impl Packing {
     }
 
     /// Adds any packet as it is.
+    #[tactic(auto, using(crate::proofs::Packings::last_of, crate::proofs::Tight::whole_tight))]
     fn add_whole(&mut self, packet: &Carried)
         requires fits { IsPacking self.old }
         requires room { HasRoom self.old }

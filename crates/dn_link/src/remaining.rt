@@ -139,6 +139,7 @@ pub fn remaining_links_go_on()
 /// What was sealed in such a game may come to any link of it at any later time, and so may bytes that a link
 /// refuses, and a datagram without packets. So whoever hands in nothing but these keeps what
 /// `remaining_links_go_on` asks of bytes that come in.
+#[tactic(auto, using(crate::proofs::SealedReports::Openings::one_opening, crate::proofs::Outgoing::opened_later, crate::proofs::Noticed::not_both, crate::proofs::Openings::only_bundle))]
 pub fn remaining_bytes_are_genuine()
     ensures stay { (seal : Seal) (session later : Session) (bytes : List ℕ) → KeepsGiven session later
         → WasSealedIn seal session bytes → WasSealedIn seal later bytes }

@@ -91,6 +91,7 @@ impl<W: World> LinkGame<W> {
     }
 
     /// A player gives its datagram to a peer, which joins those that were given; None where there is none.
+    #[tactic(auto, using(crate::proofs::Going::joins, crate::proofs::Going::keeps_all, crate::proofs::Going::stands, crate::proofs::Going::goes))]
     pub fn transmit(&mut self, player: u32, to: u8) -> Result<Option<usize>, AllocError>
         requires { player < length self.old.players.items }
         ensures goes { Goes W.state W.physics self.old self.new TakesNothing }

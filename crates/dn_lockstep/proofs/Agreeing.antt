@@ -1,42 +1,27 @@
 -- What the locksteps of one game tell of themselves agrees, since the machine's nodes that they represent do.
-use Rattle.std.proofs.Common.{◌≡◌, ◌<◌, ℕ, ◌+◌, true, false, List, [], length, take, Option, Some, ap, sym, ◌∙◌, subst, arith, ℤ}
-use Rattle.std.specs.Prelude.{unwrap_or, ◌||◌, nat_lt, Ok}
-use Rattle.std.specs.List.{take_while}
-use Rattle.std.proofs.lemmas.Bool.{cond-true}
-use Rattle.std.proofs.lemmas.List.FromFn.{fill_by_all}
-use Rattle.dn_tic.specs.Inputs.{made_by}
-use Rattle.dn_tic.specs.declared.command.Move.{Move}
-use Rattle.dn_tic.specs.declared.command.TicCmd.{TicCmd}
-use Rattle.dn_tic.specs.declared.input.Input.{Input}
+use Rattle.std.proofs.Common.{◌≡◌, ◌<◌, ℕ, ◌+◌, true, false, List, [], take, Some, ap, sym, ◌∙◌, arith, ℤ}
+use Rattle.std.proofs.{lemmas.Bool.cond-true, lemmas.List.FromFn.fill_by_all}
+use Rattle.std.specs.{Prelude.{unwrap_or, Ok}, List.take_while}
+use Rattle.dn_tic.specs.{Inputs.made_by, declared.command.TicCmd.TicCmd, declared.input.Input.Input}
 use Rattle.dn_tic.proofs.Making.{made_by-mark}
-use Rattle.dn_setup.specs.Settings.{Settings}
-use Rattle.dn_setup.specs.Starts.{start_of}
-use Rattle.dn_demo.specs.Layout.{long_tics}
-use Rattle.dn_demo.specs.Reading.{IsReadAs, written_demo}
-use Rattle.dn_demo.specs.Text.{demo_text}
-use Rattle.dn_machine.specs.Game.{Game}
-use Rattle.dn_machine.specs.Node as machine
-use Rattle.dn_machine.specs.Node.{is_ended, is_whole, has_left, demo_rows}
+use Rattle.dn_setup.specs.{Settings.Settings, Starts.start_of}
+use Rattle.dn_demo.specs.{Layout.long_tics, Reading.IsReadAs, Text.demo_text}
+use Rattle.dn_machine.specs.{Game.Game, Node.{is_ended, is_whole, has_left, demo_rows}}
 use Rattle.dn_machine.specs.Promise.{Agree, Fits, inputs_of, end_or}
 use Rattle.dn_machine.specs.Worlds.{Inputs, Rules, command, row_by_inputs}
-use Rattle.dn_machine.proofs.Invariant.{IsKept}
+use Rattle.dn_machine.specs.Node as machine
+use Rattle.dn_machine.proofs.{Invariant.IsKept, RowsByInputs.row_is}
 use Rattle.dn_machine.proofs.Promises
-use Rattle.dn_machine.proofs.RowsByInputs.{row_is}
-use Rattle.dn_lockstep.specs.Agreed.{AreAgreed}
-use Rattle.dn_lockstep.specs.Contents.{Contents, end_in}
-use Rattle.dn_lockstep.specs.Demos.{rows_to, rows_made, demo_made, is_closed}
-use Rattle.dn_lockstep.specs.Represents.{Represents}
-use Rattle.dn_lockstep.specs.Rows.{seats_of}
-use Rattle.dn_lockstep.specs.Told.{HasStarted, got, made, command_told}
-use Rattle.dn_lockstep.proofs.DemosAgreeing.{demos_of}
-use Rattle.dn_lockstep.proofs.Replaying.{read_back}
+use Rattle.dn_lockstep.specs.{Agreed.AreAgreed, Contents.{Contents, end_in}}
+use Rattle.dn_lockstep.specs.{Demos.{rows_to, rows_made, demo_made, is_closed}, Represents.Represents}
+use Rattle.dn_lockstep.specs.{Rows.seats_of, Told.{HasStarted, got, made, command_told}}
+use Rattle.dn_lockstep.proofs.{DemosAgreeing.demos_of, Replaying.read_back}
 use Rattle.dn_lockstep.proofs.Shown
 
 -- a command with any mark, and what it says of its own
 pub own_marked : (inputs : List Input) (mark : ℤ) (command : TicCmd) → command ≡ made_by inputs mark
     → command ≡ made_by inputs command.mark
-own_marked inputs mark command e =
-    e ∙ ap (made_by inputs) (sym (made_by-mark inputs mark) ∙ ap (λ (c : TicCmd). c.mark) (sym e))
+own_marked inputs mark command e = grind (arith, e, made_by-mark)
 
 module _ {S : Type 0} (rules : Rules S) (settings : Settings) (last : Game)
     (kept : IsKept rules settings last) (locksteps : ℕ → Contents)
@@ -115,30 +100,21 @@ module _ {S : Type 0} (rules : Rules S) (settings : Settings) (last : Game)
       -- its demo is the text of the rows
       text_is : n.demo.bytes ≡ demo_text long_tics (start_of settings) p (seats_of rules.players)
           (rows_made rules.players inputs n.ran) (is_closed rules.players inputs n)
-      text_is =
-          let rows = demo_rows_are in
-          let phase = sym shown.stands.phase in
-          let count = sym ran in
-          Shown.played_bytes rules.limits p n m shown settings played (settings_are played)
-          ∙ (λ k. demo_text long_tics (start_of settings) p (seats_of rules.players) (rows k)
-          (is_ended (phase k) || nat_lt (length (rows k)) (count k)))
+      text_is = grind (arith, demo_rows_are, shown, ran, played, settings_are)
 
       -- which is read back once it has ended
       reads_back : is_ended n.phase ≡ true
           → IsReadAs n.demo.bytes (Ok (demo_made rules.players settings inputs p n.ran))
       reads_back over =
-          let Reads : List (List (Option Move)) → Type 0 =
-          λ rows. IsReadAs n.demo.bytes (Ok (written_demo long_tics (start_of settings) p (seats_of rules.players) rows)) in
-          subst Reads demo_rows_are
-          (read_back rules.limits p n m settings shown played (settings_are played)
-          (ap is_ended (sym shown.stands.phase) ∙ over))
+          let back = read_back rules.limits p n m settings shown played (settings_are played)
+          (ap is_ended (sym shown.stands.phase) ∙ over) in
+          grind (arith, demo_rows_are, back)
 
   -- an end that is known
   ends : (p q end : ℕ) → p < rules.players → q < rules.players → end_in (locksteps p) q ≡ Some end
       → (end_in (locksteps q) q ≡ Some end) × (end ≡ made (locksteps q))
   ends p q end l m h =
-      let told = agree.ends p q end l m (sym (Shown.end_is rules.limits p (locksteps p) (last.nodes p)
-      (shown p l) l q m) ∙ h) in
+      let told = agree.ends p q end l m (grind (arith, shown)) in
       (own_end q m told.0 ∙ ap (λ (k : ℕ). Some k) (sym told.1), told.1 ∙ sym (makes q m))
 
   pub agreed : AreAgreed rules.limits settings inputs locksteps
@@ -153,23 +129,14 @@ module _ {S : Type 0} (rules : Rules S) (settings : Settings) (last : Game)
         counted = λ p l. makes p l ∙ kept.from_inputs.counted p l;
         told = λ p player tic c l e. told_by p l player tic c e;
         told_same = λ p q player tic a b l m e f. told_is p l player tic a e ∙ sym (told_is q m player tic b f);
-        consistent = λ p player was should l e.
-            (kept.sound p l).consistent player was should (sym (shown p l).stands.phase ∙ e);
+        consistent = grind (arith, shown);
         ends = ends;
-        ends_same = λ p q player a b l m its e f.
-            (ends p player a l its e).1 ∙ sym (ends q player b m its f).1;
-        run = λ p q l m.
-            let f = fits.run p q l m in
-            let until = end_until q m (locksteps p).ran ∙ ap (end_or last q) (ran p l) in
-            omega (arith, ran p l, has p l q m, f, until);
+        ends_same = grind (arith, ends);
+        run = grind (arith, fits, end_until, ran, has);
         unread = λ p q l m. omega (arith, ran p l, has p l q m, fits.unread p q l m);
         held = λ p q l m. omega (arith, has p l q m, makes q m, fits.held p q l m);
-        unheard = λ p q l m on.
-            let f = fits.unheard p q l m (playing_on p l on) in
-            omega (arith, has p l q m, makes q m, f);
+        unheard = grind (arith, fits, playing_on, has, makes);
         ahead = λ p l. omega (arith, ran p l, makes p l, fits.ahead p l);
-        close = λ p q l m on.
-            let f = fits.close p q l m (playing_on q m on) in
-            omega (arith, makes p l, makes q m, f);
+        close = grind (arith, fits, playing_on, makes);
         most = λ p l fit. omega (arith, ran p l, fits.most p l fit);
       }

@@ -1,18 +1,30 @@
--- The commands in the text of a demo whose rows lack nobody.
-use Rattle.std.proofs.Common.{◌≡◌, ◌<◌, ◌≤◌, ℕ, zero, suc, ◌+◌, ◌*◌, ◌/◌, Bool, true, true≢false, List, [], ◌∷◌, ◌++◌, length, map, take, drop, get_or, Option, Some, None, is_some, refl, ap, sym, ◌∙◌, arith, length-append, append_assoc}
-use Rattle.std.specs.Prelude.{if◌then◌else◌, slice_get}
-use Rattle.std.proofs.lemmas.List.{drop-drop}
-use Rattle.std.proofs.Math.Nat.{mul-div_cancel_left}
+-- How long the rows of a demo are, and the commands in the text of a demo whose rows lack nobody.
+use Rattle.std.proofs.Common.{◌≡◌, ◌<◌, ◌≤◌, ◌+◌, ◌*◌, ℕ, Bool, List, arith, zero, suc, ◌/◌, true, true≢false, [], ◌∷◌, ◌++◌, length, map, take, drop, get_or, Option, Some, None, is_some, refl, ap, sym, ◌∙◌, length-append, append_assoc}
+use Rattle.std.proofs.{lemmas.List.drop-drop, Math.Nat.mul-div_cancel_left}
 use Rattle.std.proofs.Math.Seq.{drop-append-add, take-append_seam}
+use Rattle.dn_demo.specs.{Layout.{long_tics, command_size, spell}, Recorded.recorded_size, Rows.player_count}
+use Rattle.dn_demo.specs.Places.{place, commands_in, command_in}
+use Rattle.dn_demo.specs.Text.{header_size, demo_text, marker, row_bytes, commands_of}
+use Rattle.dn_lockstep.specs.Rows.{seats_of}
+use Rattle.std.specs.Prelude.{if◌then◌else◌, slice_get}
 use Rattle.dn_tic.specs.declared.command.Move.{Move}
 use Rattle.dn_setup.specs.declared.start.Start.{Start}
-use Rattle.dn_demo.specs.Layout.{long_tics, command_size, spell}
-use Rattle.dn_demo.specs.Places.{commands_in, command_in}
-use Rattle.dn_demo.specs.Text.{header, header_size, demo_text, marker, move_bytes, row_bytes, commands_of}
-use Rattle.dn_demo.proofs.Layouts.{long_tics_sound, length-spell}
-use Rattle.dn_demo.proofs.Text.{length-row_bytes}
-use Rattle.dn_lockstep.specs.Rows.{seats_of}
-use Rattle.dn_lockstep.proofs.Room.{row_length}
+use Rattle.dn_demo.proofs.{Layouts.{long_tics_sound, length-spell}, Text.length-row_bytes}
+
+pub row_length : (seats : List Bool) (players : ℕ) → seats ≡ seats_of players → players ≤ 4
+    → command_size long_tics * player_count seats ≡ command_size long_tics * players
+row_length seats players f few = grind arith
+
+-- a demo with the rows of at most this many tics, after one row more
+pub size_more : (old new row players ran : ℕ) → new ≡ old + row → row ≡ command_size long_tics * players
+    → old ≤ place long_tics (players * ran) → new ≤ place long_tics (players * (ran + 1))
+size_more old new row players ran is long size = grind arith
+
+-- a row fits while fewer tics were run than fit
+pub row_fits : (limit players capacity ran size row : ℕ) → recorded_size players capacity ≤ limit
+    → ran < capacity
+    → size ≤ place long_tics (players * ran) → row ≡ command_size long_tics * players → size + row + 1 ≤ limit
+row_fits limit players capacity ran size row room below long e = grind arith
 
 -- each row has a move of every player, who are no more than four
 abbrev pub AreFull : ℕ → List (List (Option Move)) → Type 0
@@ -25,13 +37,7 @@ command_at : (row : List (Option Move)) (player : ℕ) (m : Move) (rest : List �
     → get_or row player None ≡ Some m → take 5 (drop (5 * player) (row_bytes long_tics row ++ rest))
     ≡ spell long_tics m
 command_at [] player m rest before e = absurd (cc)
-command_at (step ∷ row) zero m rest before e =
-    let bytes = row_bytes long_tics row in
-    ap (λ (s : Option Move). take 5 ((move_bytes long_tics s ++ bytes) ++ rest)) e
-    ∙ ap (take 5) (append_assoc (spell long_tics m) bytes rest)
-    ∙ ap (λ (n : ℕ). take n (spell long_tics m ++ (bytes ++ rest)))
-    (sym (length-spell long_tics m long_tics_sound))
-    ∙ take-append_seam (spell long_tics m) (bytes ++ rest)
+command_at (step ∷ row) zero m rest before e = grind (arith, append_assoc, length-spell, take-append_seam)
 command_at (None ∷ row) (suc player) m rest before e = absurd (true≢false (sym (before 0 (omega arith))))
 command_at (Some x ∷ row) (suc player) m rest before e =
     let size = length-spell long_tics x long_tics_sound in
@@ -82,21 +88,10 @@ module _ (players : ℕ) where
     unfolding demo_text
     behind_header = refl
 
-    text_size : length text ≡ 13 + length (commands_of long_tics rows ++ tail)
-    unfolding demo_text
-    text_size =
-        length-append (header long_tics start view (seats_of players)) (commands_of long_tics rows ++ tail)
-
-    tail_short : length tail ≤ 1
-    tail_short = grind arith
-
     -- how many commands there are
     pub commands_of_text : commands_in long_tics text ≡ players * length rows
-    commands_of_text =
-        let size = text_size in
-        let all = rows_size rows full in
-        let short = tail_short in
-        omega (arith, size, all, short, length-append (commands_of long_tics rows) tail)
+    unfolding demo_text
+    commands_of_text = grind (arith, rows_size, length-append)
 
     pub tics_of_text : 0 < players → commands_in long_tics text / players ≡ length rows
     tics_of_text some = ap (λ (n : ℕ). n / players) commands_of_text ∙ mul-div_cancel_left (length rows) some

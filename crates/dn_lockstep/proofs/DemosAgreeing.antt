@@ -1,26 +1,19 @@
 -- Demos that are the texts of the rows which one list of inputs makes agree.
-use Rattle.std.proofs.Common.{◌≡◌, ◌≢◌, ◌<◌, ◌≤◌, ◌⊎◌, ℕ, ◌+◌, ◌*◌, ◌/◌, List, [], ◌∷◌, ◌++◌, length, take, drop, Option, refl, ap, sym, ◌∙◌, inl, inr, arith}
-use Rattle.std.specs.Prelude.{slice_get, ◌↔◌}
-use Rattle.std.proofs.lemmas.Bool.{cases_lt}
-use Rattle.std.proofs.lemmas.Grind.{flat_map-append}
-use Rattle.std.proofs.lemmas.List.{take-append-drop}
+use Rattle.std.proofs.Common.{◌≡◌, ◌≢◌, ◌<◌, ◌≤◌, ◌⊎◌, ℕ, ◌*◌, ◌/◌, List, [], ◌∷◌, ◌++◌, length, take, drop, Option, refl, ap, sym, ◌∙◌, inl, inr, arith}
+use Rattle.std.proofs.{lemmas.Bool.cases_lt, lemmas.Grind.flat_map-append, lemmas.List.take-append-drop}
 use Rattle.std.proofs.lemmas.List.FromFn.{take-map-range_with_len}
+use Rattle.std.specs.Prelude.{◌↔◌}
 use Rattle.dn_tic.specs.declared.command.Move.{Move}
-use Rattle.dn_setup.specs.Settings.{Settings}
-use Rattle.dn_setup.specs.Starts.{start_of}
-use Rattle.dn_demo.specs.Layout.{long_tics, command_size, spell}
-use Rattle.dn_demo.specs.Places.{commands_in, command_in}
+use Rattle.dn_setup.specs.{Settings.Settings, Starts.start_of}
+use Rattle.dn_demo.specs.{Layout.{long_tics, command_size, spell}, Places.commands_in}
 use Rattle.dn_demo.specs.Text.{header_size, demo_text, row_bytes, commands_of}
-use Rattle.dn_machine.specs.Node.{is_whole}
-use Rattle.dn_machine.specs.Promise.{IsPrefixOf}
-use Rattle.dn_machine.specs.Worlds.{Inputs, row_by_inputs}
+use Rattle.dn_machine.specs.{Node.is_whole, Promise.IsPrefixOf, Worlds.{Inputs, row_by_inputs}}
 use Rattle.dn_machine.proofs.Demos.{front_prefix}
 use Rattle.dn_lockstep.specs.Contents.{Contents}
 use Rattle.dn_lockstep.specs.Demos.{DemosAgree, move_made, rows_to, rows_made, is_closed, tics_in, used_in, recorded}
-use Rattle.dn_lockstep.specs.Rows.{seats_of}
-use Rattle.dn_lockstep.specs.Told.{HasStarted}
+use Rattle.dn_lockstep.specs.{Rows.seats_of, Told.HasStarted}
 use Rattle.dn_lockstep.proofs.DemoTexts.{tics_of_text, recorded_in_text, command_in_text, headers_same, view_of_text}
-use Rattle.dn_lockstep.proofs.RowsMade.{rows_full, move_there, moves_before, made_by_all, is_made, no_more}
+use Rattle.dn_lockstep.proofs.RowsMade.{rows_full, move_there, made_by_all, is_made, no_more}
 
 -- a list of rows that goes on has commands that go on
 pub commands_prefix : (rows more : List (List (Option Move))) → IsPrefixOf rows more
@@ -58,10 +51,6 @@ module _ (players : ℕ) (settings : Settings) (inputs : Inputs) (locksteps : �
             ∙ take-append-drop tics all,
       )
 
-  -- nothing is recorded before the start
-  no_tics : (n : Contents) (tic : ℕ) → n.demo.bytes ≡ [] → tic < tics_in n → ⊥
-  no_tics n tic none there = grind arith
-
   none_recorded : (n : Contents) → n.demo.bytes ≡ [] → recorded n ≡ []
   none_recorded n none = grind arith
 
@@ -83,16 +72,7 @@ module _ (players : ℕ) (settings : Settings) (inputs : Inputs) (locksteps : �
 
     used_are : (tic player : ℕ) → tic < tics_in (locksteps p) → player < players
         → used_in (locksteps p) tic player ≡ spell long_tics (move_made inputs player tic)
-    used_are tic player there its = elim (begun_or (locksteps p).demo.bytes) [
-      | inr none ↦ absurd (no_tics (locksteps p) tic none there)
-      | inl started ↦
-          let count = tics_are started in
-          let inside : tic < length (rows_made players inputs ran) = omega arith in
-          (λ k. command_in long_tics (texts p below started k) (several p below k * tic + player))
-          ∙ command_in_text players _ _ _ _ (rows_full players inputs ran) tic player _ inside
-          (moves_before players inputs ran tic player inside (omega arith))
-          (move_there players inputs ran tic player inside its)
-    ]
+    used_are tic player there its = grind (arith, begun_or, tics_are, command_in_text, rows_full, move_there)
 
     tics_made : (tic : ℕ) → players ≤ 4 → HasStarted (locksteps p)
         → (tic < tics_in (locksteps p))
@@ -136,14 +116,8 @@ module _ (players : ℕ) (settings : Settings) (inputs : Inputs) (locksteps : �
         texts = texts;
         tics = λ p tic few below started. tics_made p below tic few started;
         commands = λ p tic player below there its. used_are p below tic player there its;
-        same = λ p q tic player l m there here its.
-            used_are p l tic player there its ∙ sym (used_are q m tic player here its);
+        same = grind (arith, used_are);
         prefixes = two_prefixes;
-        headers = λ p q l m started other.
-            (λ x. take 8 (texts p l started x) ++ take 4 (drop 9 (texts p l started x)))
-            ∙ headers_same (start_of settings) p q players _ _ _ _
-            ∙ sym (λ x. take 8 (texts q m other x) ++ take 4 (drop 9 (texts q m other x)));
-        views = λ p below started.
-            ap (λ (bytes : List ℕ). slice_get bytes 8) (texts p below started)
-            ∙ view_of_text (start_of settings) p players _ _;
+        headers = grind (arith, headers_same);
+        views = grind (arith, view_of_text);
       }

@@ -1,20 +1,44 @@
--- What a gathering node makes of a peer that it hears.
-use Rattle.std.proofs.Common.{◌≡◌, ◌<◌, ◌≤◌, ◌+◌, ◌-◌, ℕ, zero, suc, Bool, true, false, refl, ap, sym, ◌∙◌, subst, arith, Option, Some}
-use Rattle.std.specs.Prelude.{◌||◌, ◌&&◌, ◌==◌}
-use Rattle.std.specs.List.{list_all, range_with_len}
-use Rattle.std.proofs.lemmas.Bool.{lt-ltb, and_from}
-use Rattle.dn_setup.specs.Settings.{Settings}
-use Rattle.dn_setup.specs.Gathered.{Gathered, is_noted, is_peer, all_noted}
-use Rattle.dn_machine.specs.declared.answers.Heard.{Heard}
-use Rattle.dn_machine.specs.declared.answers.Phase.TheVariants.{Playing}
-use Rattle.dn_machine.specs.Limits.{Limits}
+-- What a gathering node makes of a peer that it hears, and of a player who is excused.
+use Rattle.std.proofs.Common.{◌≡◌, ◌≢◌, ◌<◌, ℕ, Bool, true, false, refl, sym, ◌∙◌, arith, ◌≤◌, ◌+◌, zero, suc, Some}
+use Rattle.dn_machine.specs.{declared.answers.Heard.Heard, declared.answers.Phase.TheVariants.Gathering}
+use Rattle.dn_machine.specs.{Limits.Limits, Hearing.{on_gathering, started}, Node.put}
 use Rattle.dn_machine.specs.Node as machine
-use Rattle.dn_machine.specs.Node.{put}
-use Rattle.dn_machine.specs.Hearing.{started, on_gathering}
-use Rattle.dn_lockstep.specs.Contents.{Contents}
-use Rattle.dn_lockstep.specs.Represents.{Represents}
-use Rattle.dn_lockstep.specs.Steps.{IsAfter}
+use Rattle.dn_lockstep.specs.{Contents.Contents, Represents.Represents}
+use Rattle.dn_lockstep.specs.{Settling.{is_no_peer, is_start, on_excuse, on_excuse_in}, Steps.IsAfter}
 use Rattle.dn_lockstep.proofs.After.{after}
+use Rattle.std.specs.{Prelude.{◌||◌, ◌&&◌, ◌==◌}, List.{list_all, range_with_len}}
+use Rattle.dn_setup.specs.{Settings.Settings, Gathered.{Gathered, is_noted, is_peer, all_noted}}
+
+-- another player has a number of the game
+pub peer_below : (players me player : ℕ) → is_no_peer players me player ≡ false → player < players
+peer_below players me player e = grind arith
+
+pub peer_apart : (players me player : ℕ) → is_no_peer players me player ≡ false → player ≢ me
+peer_apart players me player e same = grind arith
+
+module _ {limits : Limits} {me : ℕ} {n : Contents} {m : machine.Node} (r : Represents limits me n m)
+    (player : ℕ) where
+  pub same_test : is_no_peer n.players n.me player ≡ is_no_peer limits.players me player
+  same_test = λ i. is_no_peer (r.whose.players i) (r.whose.number i) player
+
+  pub stranger_excused : is_no_peer n.players n.me player ≡ true
+      → IsAfter limits me n (on_excuse limits me m player) (λ started. false ≡ started)
+  unfolding on_excuse
+  stranger_excused e = let test = sym same_test ∙ e in after m false (rw test refl) r refl
+
+  module _ (peer : is_no_peer n.players n.me player ≡ false) where
+    by_its_phase : on_excuse limits me m player ≡ on_excuse_in limits m player m.phase
+    unfolding on_excuse
+    by_its_phase = let test = sym same_test ∙ peer in rw test refl
+
+    pub other_excused : n.phase ≢ Gathering
+        → IsAfter limits me n (on_excuse limits me m player) (λ started. false ≡ started)
+    other_excused other = grind (arith, after, by_its_phase)
+
+    pub gathering_excused : n.phase ≡ Gathering → (heard : Heard) (new : Contents)
+        → IsAfter limits me new (on_gathering limits m player) (λ answer. heard ≡ answer)
+        → IsAfter limits me new (on_excuse limits me m player) (λ started. is_start heard ≡ started)
+    gathering_excused at heard new shows = grind (arith, by_its_phase, after)
 
 -- two tests that agree on each number of a range
 all_same : (one other : ℕ → Bool) (low count : ℕ) → ((p : ℕ) → low ≤ p → p < low + count → one p ≡ other p)
@@ -28,11 +52,7 @@ all_same one other low (suc count) same =
 -- the peers are noted by one as by the other
 noted_same : (players : ℕ) (one other : ℕ → Bool) → ((p : ℕ) → is_peer players p ≡ true → one p ≡ other p)
     → all_noted players one ≡ all_noted players other
-noted_same players one other same =
-    all_same one other 1 (players - 1) (λ p low high.
-    let some : 0 < p = omega arith in
-    let below : p < players = omega arith in
-    same p (and_from _ _ (lt-ltb 0 p some) (lt-ltb p players below)))
+noted_same players one other same = grind (arith, all_same)
 
 module _ (limits : Limits) (me : ℕ) (n : Contents) (m : machine.Node)
     (r : Represents limits me n m)
@@ -44,33 +64,11 @@ module _ (limits : Limits) (me : ℕ) (n : Contents) (m : machine.Node)
 
     pub shows_noted : Represents limits me (record n { gather = gather })
         (record m { noted = put m.noted from true })
-    shows_noted =
-        record {
-          whose = record {
-            players = r.whose.players;
-            number = r.whose.number;
-            extra = r.whose.extra;
-            capacity = r.whose.capacity;
-            gathers = players ∙ r.whose.gathers;
-            ahead = r.whose.ahead;
-            places = r.whose.places;
-            most = r.whose.most;
-          };
-          stands = r.stands;
-          commands = r.commands;
-          peers = record {
-            known = r.peers.known;
-            noted = now_noted;
-          };
-          table = r.table;
-          demo = r.demo;
-        }
+    shows_noted = grind (arith, now_noted)
 
     all_heard : (complete : Bool) → complete ≡ all_noted gather.players (is_noted gather)
         → all_noted limits.players (put m.noted from true) ≡ complete
-    all_heard complete is =
-        sym (is ∙ ap (λ (k : ℕ). all_noted k (is_noted gather)) (players ∙ r.whose.gathers)
-        ∙ noted_same limits.players (is_noted gather) (put m.noted from true) now_noted)
+    all_heard complete is = grind (arith, noted_same, now_noted)
 
     pub noted_shows : false ≡ all_noted gather.players (is_noted gather)
         → IsAfter limits me (record n { gather = gather }) (on_gathering limits m from)
@@ -85,9 +83,4 @@ module _ (limits : Limits) (me : ℕ) (n : Contents) (m : machine.Node)
         → IsAfter limits me started_as (on_gathering limits m from) (λ answer. Heard.Started ≡ answer)
     started_shows settings started_as every known shows =
         let none = all_heard true every in
-        let P : Option Settings → Type 0 = λ s.
-        Represents limits me started_as
-        (record m { phase = Playing; played = true; settings = s; noted = put m.noted from true }) in
-        after (record m { phase = Playing; played = true; noted = put m.noted from true }) Heard.Started
-        (rw none refl)
-        (subst P (sym known ∙ r.stands.settings) shows) refl
+        grind (arith, after)

@@ -1,11 +1,34 @@
--- Peers of which one is kept otherwise, and what stays true of them all.
-use Rattle.std.proofs.Common.{◌≡◌, ◌≢◌, ◌<◌, ◌≤◌, ℕ, Bool, true, false, Option, ap, sym, ◌∙◌, arith}
-use Rattle.dn_machine.specs.declared.peer.Peer.{Peer}
+-- Who is gone, and peers of which one is kept otherwise: what stays true of them all.
+use Rattle.std.proofs.Common.{◌≡◌, ◌<◌, ◌≤◌, ℕ, Bool, true, false, true≢false, Option, None, is_some, ap, sym, ◌∙◌, arith, inl, inr, ◌≢◌}
+use Rattle.std.proofs.lemmas.Bool.{cases_Bool}
+use Rattle.dn_machine.specs.{Node.lowest, Running.is_over, declared.peer.Peer.Peer}
 use Rattle.dn_machine.specs.Hearing.{after_request, after_exit, is_strange_end}
-use Rattle.dn_machine.specs.Running.{is_over}
-use Rattle.dn_machine.proofs.Peers.{asked_low, asked_end, told_resend}
-use Rattle.dn_lockstep.specs.Rows.{is_gone, has_gone}
-use Rattle.dn_lockstep.proofs.Gone.{found_too}
+use Rattle.dn_machine.proofs.Marks.{lowest_none, lowest_none_each}
+use Rattle.dn_lockstep.specs.Rows.{has_gone, is_gone}
+
+pub nobody : {A : Type 0} (o : Option A) → is_some o ≡ false → o ≡ None
+nobody o e = grind arith
+
+-- where one test is passed by somebody, so is one that fails nobody who passes it
+pub found_too : (bound : ℕ) (f g : ℕ → Bool) → ((p : ℕ) → p < bound → g p ≡ false → f p ≡ false)
+    → is_some (lowest bound f) ≡ true → is_some (lowest bound g) ≡ true
+found_too bound f g less e = elim (cases_Bool (is_some (lowest bound g))) [
+  | inl here ↦ here
+  | inr none_here ↦
+      let none =
+      lowest_none bound f
+      (λ p l. less p l (lowest_none_each bound g (nobody (lowest bound g) none_here) p l)) in
+      absurd (true≢false (sym e ∙ ap is_some none))
+]
+
+-- a tic is over if one before it was
+pub over_later : (end : Option ℕ) (tic later : ℕ) → tic ≤ later → is_over end later ≡ false
+    → is_over end tic ≡ false
+over_later end tic later l e = grind arith
+
+pub gone_later : (peers : ℕ → Peer) (players tic later : ℕ) → tic ≤ later → has_gone peers players tic ≡ true
+    → has_gone peers players later ≡ true
+gone_later peers players tic later l e = grind (arith, found_too)
 
 -- one peer's end is not put off, no resend to it starts past what was made, and the others are as they were
 pub record AreKept (old new : ℕ → Peer) (player made : ℕ) : Type 0 where
@@ -33,52 +56,17 @@ module _ {old new : ℕ → Peer} {player made : ℕ} (kept : AreKept old new pl
   -- so they are once more, where a resend is wanted of the same one, or no longer
   pub kept_wanted : {next : ℕ → Peer} (want : Bool) → next player ≡ record (new player) { want = want }
       → ((p : ℕ) → p ≢ player → next p ≡ new p) → AreKept old next player made
-  kept_wanted want is others =
-      record {
-        later = λ tic h. kept.later tic (ap (λ (q : Peer). is_over q.end tic) (sym is) ∙ h);
-        low = let same = ap (λ (q : Peer). q.resend) is in omega (arith, same, kept.low);
-        others = λ p other. others p other ∙ kept.others p other;
-      }
-
--- an end that is told where one was known is the same
-told_later : (exit : Bool) (known : Option ℕ) (got end : ℕ) (peer : Peer)
-    → ((tic : ℕ) → is_over peer.end tic ≡ false → is_over known tic ≡ false)
-    → is_strange_end exit got known end ≡ false
-    → (tic : ℕ) → is_over (after_exit peer exit end).end tic ≡ false → is_over known tic ≡ false
-told_later exit known got end peer later fine tic h = grind arith
-
--- a request leaves the known end
-asked_later : (places made : ℕ) (peer : Peer) (request : Option ℕ) (tic : ℕ)
-    → is_over (after_request places made peer request).end tic ≡ false → is_over peer.end tic ≡ false
-asked_later places made peer request tic h =
-    ap (λ (o : Option ℕ). is_over o tic) (sym (asked_end places made peer request)) ∙ h
+  kept_wanted want is others = grind arith
 
 -- peers of which one has asked
 pub kept_asked : {old new : ℕ → Peer} {player made : ℕ} (places : ℕ) (request : Option ℕ) → (old player).resend ≤ made
     → new player ≡ after_request places made (old player) request → ((p : ℕ) → p ≢ player → new p ≡ old p)
     → AreKept old new player made
-kept_asked {old} {new} {player} {made} places request low is others =
-    record {
-      later = λ tic h. asked_later places made (old player) request tic
-          (ap (λ (q : Peer). is_over q.end tic) (sym is) ∙ h);
-      low = let same = ap (λ (q : Peer). q.resend) is in
-          let asked = asked_low places made (old player) request low in
-          omega arith;
-      others = others;
-    }
+kept_asked {old} {new} {player} {made} places request low is others = grind arith
 
 -- and has told an end that is not strange
 pub kept_told : {old new next : ℕ → Peer} {player made : ℕ} (exit : Bool) (got end : ℕ)
     → AreKept old new player made → is_strange_end exit got (old player).end end ≡ false
     → next player ≡ after_exit (new player) exit end → ((p : ℕ) → p ≢ player → next p ≡ new p)
     → AreKept old next player made
-kept_told {old} {new} {next} {player} {made} exit got end kept fine is others =
-    record {
-      later = λ tic h. told_later exit (old player).end got end (new player) kept.later fine tic
-          (ap (λ (q : Peer). is_over q.end tic) (sym is) ∙ h);
-      low =
-          let same = ap (λ (q : Peer). q.resend) is in
-          let told = told_resend (new player) exit end in
-          omega (arith, same, told, kept.low);
-      others = λ p other. others p other ∙ kept.others p other;
-    }
+kept_told {old} {new} {next} {player} {made} exit got end kept fine is others = grind arith

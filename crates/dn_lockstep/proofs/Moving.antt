@@ -1,28 +1,19 @@
 -- What a node represents after a tic.
-use Rattle.std.proofs.Common.{◌≡◌, ◌≢◌, ◌<◌, ◌+◌, ◌%◌, ℕ, ℤ, Bool, true, false, not, cond, ◌||◌, List, [], ◌∷◌, ◌++◌, length, refl, ap, sym, ◌∙◌, subst, arith, inl, inr, Option, Some, None}
-use Rattle.std.specs.Prelude.{nat_lt, ◌⊎◌, All, IfSome}
-use Rattle.std.proofs.lemmas.Bool.{cases_eq, cases_Bool, le-ltb, lt-ltb, ltb-false}
-use Rattle.std.proofs.lemmas.List.{length_push}
-use Rattle.dn_tic.specs.declared.command.Move.{Move}
-use Rattle.dn_setup.specs.Settings.{Settings}
-use Rattle.dn_setup.specs.Starts.{start_of}
-use Rattle.dn_demo.specs.Recorded.{Recorded, AddsRow, Closes, is_closed}
-use Rattle.dn_demo.specs.Layout.{long_tics}
-use Rattle.dn_demo.specs.Rows.{IsMove, IsRow, AreWritable}
-use Rattle.dn_demo.specs.Text.{demo_text}
-use Rattle.dn_demo.specs.declared.recorder.Stage.{Stage}
-use Rattle.dn_demo.specs.declared.recorder.Stage.TheVariants.{Blank, Open, Closed}
-use Rattle.dn_machine.specs.declared.answers.Phase.{Phase}
-use Rattle.dn_machine.specs.Running.{is_over}
-use Rattle.dn_machine.proofs.Demos.{front_stops, front_goes_on, front_short}
+use Rattle.std.proofs.Common.{◌≡◌, ◌≢◌, ◌<◌, ◌+◌, ◌%◌, ℕ, ℤ, Bool, true, false, not, cond, List, [], ◌∷◌, ◌++◌, ap, sym, ◌∙◌, subst, arith, inl, inr, Option, Some, None, refl}
+use Rattle.std.proofs.{lemmas.Bool.{cases_Bool, le-ltb, lt-ltb}, lemmas.List.length_push}
 use Rattle.std.proofs.lemmas.List.Elements.{All-push}
-use Rattle.dn_machine.specs.declared.answers.Phase.TheVariants.{Playing}
-use Rattle.dn_machine.specs.Limits.{Limits}
+use Rattle.std.specs.Prelude.{All, IfSome}
+use Rattle.dn_tic.specs.declared.command.Move.{Move}
+use Rattle.dn_setup.specs.{Settings.Settings, Starts.start_of}
+use Rattle.dn_demo.specs.{Recorded.{Recorded, AddsRow, Closes, is_closed}, Layout.long_tics}
+use Rattle.dn_demo.specs.{Rows.{IsMove, IsRow, AreWritable}, Text.demo_text}
+use Rattle.dn_demo.specs.declared.recorder.Stage.TheVariants.{Blank, Open, Closed}
+use Rattle.dn_machine.specs.{Running.is_over, declared.answers.Phase.TheVariants.Playing, Limits.Limits}
+use Rattle.dn_machine.specs.Node.{put, ends_of, own_mark, is_whole, demo_rows}
+use Rattle.dn_machine.proofs.Demos.{front_stops, front_goes_on, front_short}
 use Rattle.dn_machine.specs.Node as machine
-use Rattle.dn_machine.specs.Node.{put, ends_of, own_mark, is_ended, is_whole, demo_rows}
 use Rattle.dn_lockstep.specs.Contents.{Contents}
-use Rattle.dn_lockstep.specs.Represents.{Represents, CanBeWritten, is_demo_closed, marked_to}
-use Rattle.dn_lockstep.specs.Rows.{seats_of}
+use Rattle.dn_lockstep.specs.{Represents.{Represents, CanBeWritten, is_demo_closed, marked_to}, Rows.seats_of}
 use Rattle.dn_lockstep.proofs.Replaying.{all_recorded, demo_is}
 use Rattle.dn_lockstep.proofs.Marked.{marked_low, marked_here, marked_next, marked_gone}
 
@@ -55,15 +46,8 @@ pub record IsWritten (limits : Limits) (old new : Recorded) (row : List (Option 
 module _ {limits : Limits} (m : machine.Node) {row : List (Option Move)} (kept : ℕ → ℤ)
     (playing : m.phase ≡ Playing) {old new : Recorded} (written : IsWritten limits old new row)
     (told : is_closed old.stage ≡ is_demo_closed limits m) where
-  -- while a node plays its demo is closed where not all rows are whole
-  closed_so : (x : machine.Node) → x.phase ≡ Playing
-      → is_demo_closed limits x ≡ nat_lt (length (demo_rows limits.players x)) (machine.ran x)
-  closed_so x on = ap (λ (p : Phase). is_ended p || nat_lt (length (demo_rows limits.players x)) (machine.ran x)) on
-
   all_rows : old.stage ≡ Open → demo_rows limits.players m ≡ m.rows
-  all_rows at =
-      all_recorded limits m (ltb-false (length (demo_rows limits.players m)) (machine.ran m)
-      (sym (closed_so m playing) ∙ sym told ∙ ap is_closed at))
+  all_rows at = grind (arith, all_recorded)
 
   more_rows : is_whole limits.players row ≡ true → demo_rows limits.players (moved m row kept) ≡ m.rows ++ row ∷ []
   more_rows each = front_goes_on (is_whole limits.players) m.rows row (all_rows (written.open_while each)) each
@@ -72,25 +56,10 @@ module _ {limits : Limits} (m : machine.Node) {row : List (Option Move)} (kept :
   same_rows lacks = front_stops (is_whole limits.players) m.rows row lacks
 
   closed_now : is_demo_closed limits (moved m row kept) ≡ not (is_whole limits.players row)
-  closed_now = elim (cases_Bool (is_whole limits.players row)) [
-    | inl each ↦
-        let long = ap (length {A = List (Option Move)}) (more_rows each) in
-        closed_so (moved m row kept) playing ∙ le-ltb (length (demo_rows limits.players (moved m row kept)))
-        (machine.ran (moved m row kept)) (omega arith) ∙ sym (ap not each)
-    | inr lacks ↦
-        let long = ap (length {A = List (Option Move)}) (same_rows lacks) in
-        let short = front_short (is_whole limits.players) m.rows in
-        let count = length_push m.rows row in
-        closed_so (moved m row kept) playing ∙ lt-ltb (length (demo_rows limits.players (moved m row kept)))
-        (machine.ran (moved m row kept)) (omega arith) ∙ sym (ap not lacks)
-  ]
-
-  stage_now : (b : Bool) → is_closed (cond b Open Closed) ≡ not b
-  stage_now true = refl
-  stage_now false = refl
+  closed_now = grind (arith, more_rows, le-ltb, same_rows, front_short, length_push, lt-ltb)
 
   pub closed_moved : is_closed new.stage ≡ is_demo_closed limits (moved m row kept)
-  closed_moved = ap is_closed written.stage ∙ stage_now (is_whole limits.players row) ∙ sym closed_now
+  closed_moved = grind (arith, closed_now)
 
   pub writable_moved : CanBeWritten limits.players (demo_rows limits.players m)
       → CanBeWritten limits.players (demo_rows limits.players (moved m row kept))
@@ -110,38 +79,13 @@ module _ {limits : Limits} (m : machine.Node) {row : List (Option Move)} (kept :
         | inr lacks ↦ subst Fits (sym (same_rows lacks)) before
       ]
 
-  stages : (s : Stage) → s ≢ Blank → (s ≡ Open) ⊎ (s ≡ Closed)
-  stages s n = grind arith
-
   module _ (me : ℕ) (settings : Settings) where
     abbrev text_with : List (List (Option Move)) → Bool → List ℕ
     text_with rows closed = demo_text long_tics (start_of settings) me (seats_of limits.players) rows closed
 
     pub demo_moved : old.bytes ≡ text_with (demo_rows limits.players m) (is_demo_closed limits m)
         → new.bytes ≡ text_with (demo_rows limits.players (moved m row kept)) (is_demo_closed limits (moved m row kept))
-    demo_moved text =
-        elim (cases_Bool (is_whole limits.players row)) [
-          | inl each ↦
-              let at = written.open_while each in
-              let before : old.bytes ≡ text_with m.rows false =
-              text ∙ ap (λ (rs : List (List (Option Move))). text_with rs (is_demo_closed limits m))
-              (all_rows at) ∙ ap (text_with m.rows) (sym told ∙ ap is_closed at) in
-              written.added each (start_of settings) me (seats_of limits.players) m.rows before
-              ∙ ap (λ (rs : List (List (Option Move))). text_with rs false) (sym (more_rows each))
-              ∙ ap (text_with (demo_rows limits.players (moved m row kept))) (sym (closed_now ∙ ap not each))
-          | inr lacks ↦
-              let after : text_with (demo_rows limits.players m) true
-              ≡ text_with (demo_rows limits.players (moved m row kept)) (is_demo_closed limits (moved m row kept)) =
-              ap (λ (rs : List (List (Option Move))). text_with rs true) (sym (same_rows lacks))
-              ∙ ap (text_with (demo_rows limits.players (moved m row kept))) (sym (closed_now ∙ ap not lacks)) in
-              elim (stages old.stage written.begun) [
-                | inl at ↦ written.closes lacks at (start_of settings) me (seats_of limits.players)
-                    (demo_rows limits.players m)
-                    (text ∙ ap (text_with (demo_rows limits.players m)) (sym told ∙ ap is_closed at)) ∙ after
-                | inr at ↦ written.stays lacks at ∙ text
-                    ∙ ap (text_with (demo_rows limits.players m)) (sym told ∙ ap is_closed at) ∙ after
-              ]
-        ]
+    demo_moved text = grind (arith, all_rows, more_rows, closed_now, same_rows)
 
 pub known_by : (settings : Option Settings) → settings ≢ None → (s : Settings) × (settings ≡ Some s)
 known_by None n = absurd (n refl)
@@ -172,32 +116,14 @@ shows_moved limits me n m row kept marks demo r on has_played has_settings new a
       table = record {
         ran = ap (λ (k : ℕ). k + 1) ran ∙ sym count;
         marks = λ p tic below low high.
-            let mine : p < n.players = omega (arith, below, r.whose.players) in
             let end = ends_of m p in
             elim (cases_Bool (is_over end (machine.ran m))) [
-              | inl gone ↦
-                  let same : marked_to (machine.ran (moved m row kept)) end ≡ marked_to (machine.ran m) end =
-                  ap (λ (k : ℕ). marked_to k end) count ∙ marked_gone (machine.ran m) end gone in
-                  let few = marked_low (machine.ran m) end in
-                  absent p (tic % 12) mine gone
-                  ∙ r.table.marks p tic below (omega (arith, low, same)) (omega (arith, high, same))
-                  ∙ sym (own_mark_before m row kept p tic (omega (arith, high, same, few)))
+              | inl gone ↦ grind (arith, marked_gone, marked_low, own_mark_before)
               | inr present ↦
                   let all = marked_here (machine.ran m) end present in
                   let next : marked_to (machine.ran (moved m row kept)) end ≡ machine.ran m + 1 =
                   ap (λ (k : ℕ). marked_to k end) count ∙ marked_next (machine.ran m) end present in
-                  elim (cases_eq tic (machine.ran m + 12)) [
-                    | inl e ↦
-                        let place : tic % 12 ≡ n.ran % 12 = omega (arith, e, ran) in
-                        ap (marks p) place ∙ new p mine present ∙ sym (own_mark_now m row kept p tic e)
-                    | inr other ↦
-                        let apart : tic % 12 ≢ n.ran % 12 =
-                        λ h. absurd (omega (arith, h, ran, low, high, next, other)) in
-                        others p (tic % 12) apart
-                        ∙ r.table.marks p tic below (omega (arith, low, next, all))
-                        (omega (arith, high, next, all, other))
-                        ∙ sym (own_mark_before m row kept p tic (omega (arith, high, next, other)))
-                  ]
+                  grind (arith, own_mark_now, own_mark_before)
             ];
       };
       demo = record {

@@ -1,45 +1,20 @@
 -- A fair flight that is near is read as it was sent.
-use Rattle.std.proofs.Common.{◌≡◌, ◌≢◌, ◌<◌, ◌+◌, ◌%◌, ℕ, Bool, true, false, List, refl, ap, sym, ◌∙◌, arith, Some, inl, inr}
-use Rattle.std.specs.Prelude.{bit_and, not, ◌==◌, Result, Ok, Err}
-use Rattle.std.specs.List.{list_any}
-use Rattle.std.proofs.lemmas.Bool.{not-false, and_parts, ne_eqb, lt-ltb, cases_Bool}
-use Rattle.dn_tic.specs.Tics.{exact_tic}
+use Rattle.std.proofs.Common.{◌≡◌, ◌≢◌, ◌<◌, ◌+◌, ℕ, Bool, true, false, List, ap, sym, ◌∙◌, arith, refl, inl, inr}
+use Rattle.std.proofs.lemmas.Bool.{and_parts, ne_eqb, lt-ltb, cases_Bool}
+use Rattle.std.specs.{Prelude.{bit_and, not, ◌==◌, Result, Ok, Err}, List.list_any}
 use Rattle.dn_packet.specs.declared.packet.Packet.{Packet}
 use Rattle.dn_packet.specs.Flags as flag
-use Rattle.dn_setup.specs.Settings.{Settings}
-use Rattle.dn_setup.specs.Setup.{IsSetupReadAs}
-use Rattle.dn_setup.specs.declared.setup.SetupFault.{SetupFault}
+use Rattle.dn_setup.specs.{Settings.Settings, Setup.IsSetupReadAs, declared.setup.SetupFault.SetupFault}
 use Rattle.dn_setup.specs.declared.setup.SetupFault.TheVariants.{NotSetup}
-use Rattle.dn_machine.specs.declared.answers.Cause.{Cause}
-use Rattle.dn_machine.specs.declared.answers.Heard.{Heard}
-use Rattle.dn_machine.specs.declared.answers.Phase.{Phase}
-use Rattle.dn_machine.specs.declared.answers.Phase.TheVariants.{Ended}
-use Rattle.dn_machine.specs.Drops as drops
-use Rattle.dn_machine.specs.Limits.{Limits}
+use Rattle.dn_machine.specs.{declared.answers.Heard.Heard, declared.answers.Phase.Phase, Limits.Limits}
 use Rattle.dn_machine.specs.Flight.{Kind, SetUp, Play, Exit, Flight, packet_of, commands_packet, is_close, is_request_close, is_near}
+use Rattle.dn_machine.specs.{Node.made, Hearing.{on_packet, on_packet_in}}
+use Rattle.dn_machine.specs.Drops as drops
 use Rattle.dn_machine.specs.Node as machine
-use Rattle.dn_machine.specs.Node.{made}
-use Rattle.dn_machine.specs.Hearing.{on_packet, on_packet_in}
-use Rattle.dn_lockstep.specs.Hearing.{HearsAny, HearsNear}
-use Rattle.dn_lockstep.specs.Near.{IsFair, IsFairKind}
-use Rattle.dn_lockstep.specs.Phases.{hears_none}
-use Rattle.dn_lockstep.specs.Reading.{has_flag, kind_in, start_at, start_in, request_in}
-use Rattle.dn_lockstep.specs.Received.{received, on_read, on_set_up}
-use Rattle.dn_lockstep.specs.Rings.{is_stop}
-use Rattle.dn_lockstep.specs.Contents.{Contents}
-use Rattle.dn_lockstep.proofs.After.{after, steps}
-use Rattle.dn_lockstep.proofs.Flags.{kind_flagged}
-use Rattle.dn_lockstep.proofs.Counting.{made_is}
-
--- a close tic is read from its low byte
-read_close : (made tic : ℕ) → is_close made tic ≡ true → exact_tic made (tic % 256) ≡ Some tic
-read_close made tic close = grind arith
-
--- and so is a close request
-read_request : (made flags : ℕ) (flight : Flight) → bit_and (flags + 0) 4 ≡ 0 → bit_and (flags + 4) 4 ≡ 4
-    → is_request_close made flight.request ≡ true
-    → request_in made (commands_packet flags flight) ≡ flight.request
-read_request made flags flight plain asks close = grind arith
+use Rattle.dn_lockstep.specs.{Hearing.{HearsAny, HearsNear}, Near.{IsFair, IsFairKind}, Phases.hears_none}
+use Rattle.dn_lockstep.specs.Reading.{has_flag, kind_in, start_in, request_in}
+use Rattle.dn_lockstep.specs.{Received.{received, on_read, on_set_up}, Rings.is_stop, Contents.Contents}
+use Rattle.dn_lockstep.proofs.{After.{after, steps}, Receiving.kind_flagged, Counting.made_is}
 
 -- a flag that a packet of commands has, or has not, whether it asks or not
 flag_is : (flight : Flight) (flags flag : ℕ) (set : Bool) → not (bit_and (flags + 0) flag == 0) ≡ set
@@ -58,10 +33,6 @@ pub told_is : (flight : Flight) (kind : Kind) → IsFairKind flight kind
 told_is flight kind fair = grind arith
 
 module _ (limits : Limits) (me : ℕ) (m : machine.Node) (flight : Flight) where
-  -- what has ended and hears has played
-  has_played : (cause : Cause) → m.phase ≡ Ended cause → hears_none m.phase m.played ≡ false → m.played ≡ true
-  has_played cause at on = not-false m.played (sym (ap (λ (p : Phase). hears_none p m.played) at) ∙ on)
-
   -- a set-up packet
   set_up_heard : (settings : Settings) (phase : Phase) → m.phase ≡ phase → flight.from ≡ 0
       → hears_none m.phase m.played ≡ false
@@ -99,31 +70,15 @@ module _ (limits : Limits) (me : ℕ) (m : machine.Node) (flight : Flight) where
       → (bit_and (flags + 0) 4 ≡ 0) × (bit_and (flags + 4) 4 ≡ 4)
       → (is_close (made me m) flight.start ≡ true) × (is_request_close (made me m) flight.request ≡ true)
       → list_any is_stop flight.commands ≡ false → IsSpelt (commands_packet flags flight) kind
-  spelt_as flags kinded plain alive asks close fine = record {
-    player = refl;
-    plain = plain;
-    alive = alive;
-    kinded = kinded;
-    begins = ap (start_at (commands_packet flags flight)) (read_close (made me m) flight.start close.0)
-        ∙ rw fine refl;
-    asks = read_request (made me m) flags flight asks.0 asks.1 close.1;
-    items = refl;
-  }
+  spelt_as flags kinded plain alive asks close fine = grind arith
 
   near_read : (kind : Kind) → flight.kind ≡ kind → IsFairKind flight kind
       → is_near (made me m) (record flight { kind = kind }) ≡ true → hears_none m.phase m.played ≡ false
       → ◌≡◌ {A = machine.Node × Heard}
       (on_read limits me m flight.from (told_by kind) (Ok (packet_of (record flight { kind = kind }))))
       (on_packet_in limits me m flight m.phase kind)
-  near_read (SetUp settings) is fair near on = set_up_heard settings m.phase refl fair.0 on
-  near_read Play is fair near on =
-      play_heard (spelt_as 0 (kind_flagged (commands_packet 0 flight) false (flag_is flight 0 8 false refl refl))
-      (flag_is flight 0 2 false refl refl) (flag_is flight 0 1 false refl refl) (refl, refl) (and_parts _ _ near) fair)
-      is m.phase refl on
-  near_read Exit is fair near on =
-      exit_heard (spelt_as 8 (kind_flagged (commands_packet 8 flight) true (flag_is flight 8 8 true refl refl))
-      (flag_is flight 8 2 false refl refl) (flag_is flight 8 1 false refl refl) (refl, refl) (and_parts _ _ near) fair)
-      is m.phase refl on
+  near_read kind is fair near on =
+      grind (arith, set_up_heard, play_heard, spelt_as, kind_flagged, flag_is, and_parts, exit_heard)
 
   ended_heard : (phase : Phase) (played : Bool) (kind : Kind) → m.played ≡ played
       → hears_none phase played ≡ true

@@ -1,62 +1,32 @@
 -- The locksteps of one game stay those of one game, call by call.
 use Rattle.std.proofs.Common.{◌≡◌, ◌≢◌, ◌<◌, ◌≤◌, ◌+◌, ◌||◌, ℕ, ℤ, pos, Bool, true, false, List, [], ◌∷◌, ◌++◌, fold, Option, Some, None, refl, ap, sym, ◌∙◌, subst, arith, inl, inr, append_assoc, append-nil}
-use Rattle.std.specs.Prelude.{◌⊎◌, nat_lt, get_or, slice_get, IfSome}
-use Rattle.std.specs.Option.{option_map}
-use Rattle.std.proofs.lemmas.Bool.{cases_eq, lt-ltb, cond_both}
-use Rattle.std.proofs.lemmas.Option.{none-some}
-use Rattle.std.proofs.Math.Seq.{take-length}
-use Rattle.dn_tic.specs.declared.command.Move.{Move}
+use Rattle.std.proofs.{lemmas.Bool.{lt-ltb, cond_both}, lemmas.Option.none-some, Math.Seq.take-length}
+use Rattle.std.specs.{Prelude.{◌⊎◌, nat_lt, get_or, slice_get, IfSome}, Option.option_map}
+use Rattle.dn_tic.specs.{declared.command.Move.Move, declared.command.TicCmd.TicCmd, declared.input.Input.Input}
 use Rattle.dn_setup.specs.Settings.{Settings}
-use Rattle.dn_machine.specs.declared.answers.Heard.{Heard}
-use Rattle.dn_machine.specs.declared.answers.Made.{Made}
-use Rattle.dn_machine.specs.declared.answers.Ran.{Ran}
+use Rattle.dn_machine.specs.{declared.answers.Heard.Heard, declared.answers.Made.Made, declared.answers.Ran.Ran}
 use Rattle.dn_machine.specs.declared.events.Event.{Event}
 use Rattle.dn_machine.specs.declared.events.Event.TheVariants.{Send, Deliver, Run, Quit}
-use Rattle.dn_machine.specs.declared.events.Refusal.{Refusal}
-use Rattle.dn_machine.specs.declared.peer.Peer.{Peer}
-use Rattle.dn_machine.specs.Building.{on_build}
-use Rattle.dn_machine.specs.Flight.{Kind, Flight, is_near}
+use Rattle.dn_machine.specs.{declared.events.Refusal.Refusal, Building.on_build, Flight.{Flight, is_near}}
 use Rattle.dn_machine.specs.Game.{fresh, opening_game, own_marks, delivered, refused_at, refused_flight, refused, applied_if, applied, on_event}
-use Rattle.dn_machine.specs.Hearing.{on_packet, on_packet_in}
-use Rattle.dn_machine.specs.Limits.{Limits, IsWindow}
-use Rattle.dn_machine.specs.Node as machine
-use Rattle.dn_machine.specs.Node.{put, is_ended}
-use Rattle.dn_machine.specs.Running.{is_over, on_run, on_quit}
-use Rattle.dn_machine.specs.Worlds.{Inputs, Rules, opening, mark_in, world_after}
-use Rattle.dn_machine.proofs.Calls.{build_cases, send_cases, packet_cases, run_cases, quit_cases}
-use Rattle.dn_machine.proofs.Relays
+use Rattle.dn_machine.specs.{Hearing.on_packet, Limits.{Limits, IsWindow}, Node.{put, is_ended}}
+use Rattle.dn_machine.specs.{Running.{is_over, on_run, on_quit}, Worlds.{Inputs, Rules, world_after}}
 use Rattle.dn_machine.specs.Relaying.{Own, Relay, CanRelay, packet_of_one, relayed, with_relayed}
-use Rattle.dn_tic.specs.declared.command.TicCmd.{TicCmd}
+use Rattle.dn_machine.specs.{Sending.set_up_flight, Nearness.is_start_near, Progress.build_of}
+use Rattle.dn_machine.specs.Node as machine
+use Rattle.dn_machine.proofs.Calls.{build_cases, send_cases, packet_cases, run_cases, quit_cases}
+use Rattle.dn_machine.proofs.{Invariant.IsKept, Put.{put_at, put_off, slice_get_push}, Asking.IsAsking}
+use Rattle.dn_machine.proofs.{Nearness.{asks, numbered}, Pairs.accepted_build}
+use Rattle.dn_machine.proofs.Relays
 use Rattle.dn_machine.proofs.Promises
 use Rattle.dn_machine.specs.Drops as drops
-use Rattle.dn_machine.proofs.Invariant.{IsKept}
-use Rattle.dn_machine.proofs.Put.{put_at, put_off, slice_get_push}
-use Rattle.dn_lockstep.specs.Contents.{Contents, end_in}
-use Rattle.dn_lockstep.specs.Hearing.{HearsNear}
-use Rattle.dn_lockstep.specs.Marking.{History, Marking, free}
-use Rattle.dn_lockstep.specs.Near.{IsFair}
-use Rattle.dn_lockstep.specs.OneGame.{beside, world_told, AreOneGame, IsGivenAs}
+use Rattle.dn_lockstep.specs.{Contents.{Contents, end_in}, Hearing.HearsNear, Marking.{History, Marking, free}}
+use Rattle.dn_lockstep.specs.{Near.IsFair, OneGame.{beside, world_told, AreOneGame, IsGivenAs}}
 use Rattle.dn_lockstep.specs.Session.{Session, opening_session, with_lockstep, taken_on, after_build, given_on, after_packet, after_relays, told_on, after_run}
-use Rattle.dn_machine.specs.declared.answers.Phase.{Phase}
-use Rattle.dn_machine.specs.Building.{on_build_in}
-use Rattle.dn_machine.specs.Sending.{set_up_flight}
-use Rattle.dn_lockstep.specs.Represents.{Represents}
-use Rattle.dn_lockstep.specs.Rings.{count_of}
-use Rattle.dn_lockstep.specs.Rows.{is_gone}
-use Rattle.dn_lockstep.specs.Runs.{marks_in, row_told, RunsBy}
-use Rattle.dn_lockstep.specs.Sent.{sent_to, bytes_of}
-use Rattle.dn_lockstep.specs.Steps.{Steps, Tells, IsAfter}
-use Rattle.dn_lockstep.specs.Told.{made, command_told}
-use Rattle.dn_lockstep.specs.Phases.{is_listening}
-use Rattle.dn_machine.specs.Nearness.{is_start_near}
-use Rattle.dn_machine.proofs.Asking.{IsAsking}
-use Rattle.dn_machine.proofs.Nearness.{asks, numbered}
-use Rattle.dn_lockstep.proofs.Counting.{got_is}
-use Rattle.dn_lockstep.proofs.Shown.{tells_held}
-use Rattle.dn_lockstep.proofs.Running.{kept_same, run_same, run_tells}
-use Rattle.dn_tic.specs.declared.input.Input.{Input}
-use Rattle.dn_machine.specs.Progress.{build_of}
-use Rattle.dn_machine.proofs.Pairs.{accepted_build}
+use Rattle.dn_lockstep.specs.{Represents.Represents, Rows.is_gone, Runs.{marks_in, RunsBy}}
+use Rattle.dn_lockstep.specs.{Sent.{sent_to, bytes_of}, Steps.{Steps, Tells, IsAfter}}
+use Rattle.dn_lockstep.specs.{Told.{made, command_told}, Phases.is_listening}
+use Rattle.dn_lockstep.proofs.{Counting.got_is, Shown.tells_held, Running.{kept_same, run_same, run_tells}}
 
 abbrev pub Rows : Type 0
 Rows = List (List (Option Move))
@@ -85,20 +55,8 @@ send_quiet limits me m to =
 
 pub hear_quiet : (limits : Limits) (me : ℕ) (m : machine.Node) (flight : Flight)
     → IsQuiet m (on_packet limits me m flight).0
-hear_quiet limits me m flight = packet_cases limits me m flight
-    (λ (x : machine.Node × Heard). IsQuiet m x.0) (record {
-      dropped = λ number why. (refl, refl);
-      starts = λ s e k. (refl, refl);
-      completes = λ word e all. (refl, refl);
-      notes = λ word e some. (refl, refl);
-      commands = λ plays. record {
-        dropped = λ number why. (refl, refl);
-        stale = λ l. (refl, refl);
-        gap = λ l. (refl, refl);
-        takes = λ l n. (refl, refl);
-      };
-      requests = λ ended. (refl, refl);
-    })
+hear_quiet limits me m flight =
+    packet_cases limits me m flight (λ (x : machine.Node × Heard). IsQuiet m x.0) (grind arith)
 
 pub quit_quiet : (limits : Limits) (me : ℕ) (m : machine.Node) → IsQuiet m (on_quit m).0
 quit_quiet limits me m = quit_cases limits me m (IsQuiet m) (refl, refl) (λ goes_on. (refl, refl))
@@ -108,23 +66,17 @@ run_inputs : (limits : Limits) (me : ℕ) (m : machine.Node) (marks : ℕ → �
 run_inputs limits me m marks = run_cases limits me m marks (λ (x : machine.Node). x.inputs ≡ m.inputs)
     (λ waits. refl) (λ player plays none off. refl) (λ plays none full. refl) (λ plays none room. refl)
 
-build_inputs_in : (limits : Limits) (me : ℕ) (m : machine.Node) (input : Input) (phase : Phase)
-    → (on_build_in limits me m input phase).0.inputs
-    ≡ taken_on m.inputs input (on_build_in limits me m input phase).1
-build_inputs_in limits me m input phase = grind arith
-
 pub build_inputs : (limits : Limits) (me : ℕ) (m : machine.Node) (input : Input)
     → (on_build limits me m input).0.inputs ≡ taken_on m.inputs input (on_build limits me m input).1
 unfolding on_build
-build_inputs limits me m input = build_inputs_in limits me m input m.phase
+build_inputs limits me m input = grind arith
 
 -- a packet goes from the node that is asked to the one that it is asked for
 abbrev pub GoesBetween : ℕ → ℕ → Option Flight → Type 0
 GoesBetween from to flight = IfSome flight (λ flight. (flight.from ≡ from) × (flight.to ≡ to))
 
 set_up_between : (me to : ℕ) (settings : Option Settings) → GoesBetween me to (set_up_flight me to settings)
-set_up_between me to None = tt
-set_up_between me to (Some settings) = (refl, refl)
+set_up_between me to settings = grind arith
 
 pub sent_between : (limits : Limits) (me : ℕ) (m : machine.Node) (to : ℕ)
     → GoesBetween me to (sent_to to limits me m).1
@@ -134,22 +86,6 @@ sent_between limits me m to =
     (λ below. send_cases limits me m P to tt (λ other e. set_up_between me to m.settings)
     (λ other e. (refl, refl)) (λ other e. (refl, refl)))
     (λ past. tt)
-
--- no node but one that listens or has ended drops a packet as one that does not play
-out_of_play_in : (limits : Limits) (me : ℕ) (m : machine.Node) (flight : Flight) (phase : Phase) (kind : Kind)
-    → (on_packet_in limits me m flight phase kind).1 ≡ Heard.Dropped drops.not_playing
-    → (is_listening phase || is_ended phase) ≡ true
-out_of_play_in limits me m flight phase kind h = grind arith
-
-out_of_play : (limits : Limits) (me : ℕ) (m : machine.Node) (flight : Flight)
-    → (on_packet limits me m flight).1 ≡ Heard.Dropped drops.not_playing
-    → (is_listening m.phase || is_ended m.phase) ≡ true
-unfolding on_packet
-out_of_play limits me m flight h = out_of_play_in limits me m flight m.phase flight.kind h
-
--- a node in its own place
-put_same : {A : Type 0} (f : ℕ → A) (i : ℕ) → put f i (f i) ≡ f
-put_same f i = grind arith
 
 -- packets that are fair, with one more that is, if one is given
 pub fair_on : (packets : List Flight)
@@ -176,12 +112,7 @@ module _ (marking : Marking) (limits : Limits) (settings : Settings) where
   pub own_is : (m : machine.Node) (p : ℕ) → m.settings ≡ Some settings
       → own_marks rules m p ≡ marking (world_told limits settings m.rows) p
   unfolding world_after
-  own_is m p known =
-      ap (λ (s : Option Settings). mark_in (free marking)
-      (option_map (λ s. world_after rules s m.rows (machine.ran m)) s) p) known
-      ∙ ap (λ (h : History). marking h p)
-      (ap (λ (rows : Rows). fold (free marking).step (opening rules settings) rows) (take-length m.rows)
-      ∙ folds (opening rules settings) m.rows)
+  own_is m p known = grind (arith, known, take-length, folds)
 
   pub opens : (locksteps : ℕ → Contents) → IsWindow limits
       → ((p : ℕ) → p < limits.players → Represents limits p (locksteps p) (fresh settings p))
@@ -219,8 +150,7 @@ module _ (marking : Marking) (limits : Limits) (settings : Settings) where
 
     pub read_same : {A : Type 0} (f : machine.Node → A) (values : ℕ → A) (i : ℕ) (m : machine.Node)
         → ((p : ℕ) → f (node p) ≡ values p) → f m ≡ f (node i) → (p : ℕ) → f (put node i m p) ≡ values p
-    read_same {A = A} f values i m each same p =
-        read_on f values i m (values i) each (same ∙ each i) p ∙ ap (λ (g : ℕ → A). g p) (put_same values i)
+    read_same {A = A} f values i m each same p = grind arith
 
     pub rows_stay : (i : ℕ) (m : machine.Node) → m.rows ≡ (node i).rows → (p : ℕ)
         → (put node i m p).rows ≡ session.told p
@@ -248,12 +178,8 @@ module _ (marking : Marking) (limits : Limits) (settings : Settings) where
         window = game.window;
         events = game.events ++ Own event ∷ [];
         last = record { nodes = put node i m; stopped = game.last.stopped; flights = flights };
-        runs = Relays.goes_on rules settings game.events (Own event) (opening_game settings) game.last _ game.runs
-            (inl (sym is));
-        nodes = λ p below. elim (cases_eq p i) [
-          | inl e ↦ rw (put_at session.locksteps i p new e, put_at node i p m e, e) shows
-          | inr n ↦ rw (put_off session.locksteps i p new n, put_off node i p m n) (game.nodes p below)
-        ];
+        runs = grind (arith, Relays.goes_on);
+        nodes = grind (arith, put_at, put_off);
         inputs = takes;
         flights = same;
         rows = tells;
@@ -279,10 +205,7 @@ module _ (marking : Marking) (limits : Limits) (settings : Settings) where
         events = game.events;
         last = game.last;
         runs = game.runs;
-        nodes = λ p below. elim (cases_eq p i) [
-          | inl e ↦ rw (put_at session.locksteps i p new e, e) shows
-          | inr n ↦ rw (put_off session.locksteps i p new n) (game.nodes p below)
-        ];
+        nodes = grind (arith, put_at, put_off);
         inputs = game.inputs;
         flights = game.flights;
         rows = game.rows;
@@ -301,9 +224,7 @@ module _ (marking : Marking) (limits : Limits) (settings : Settings) where
       builds new input made steps =
           let after = steps.step limits i (node i) (game.nodes i mine) in
           let taken : (on_build limits i (node i) input).0.inputs ≡ taken_on (session.inputs i) input made =
-          build_inputs limits i (node i) input
-          ∙ ap (λ (answer : Made). taken_on (node i).inputs input answer) (sym after.answer)
-          ∙ ap (λ (inputs : List Input). taken_on inputs input made) (game.inputs i) in
+          grind (arith, build_inputs) in
           changes (build_of i input) (on_build limits i (node i) input).0 game.last.flights session.given
           (put session.inputs i (taken_on (session.inputs i) input made)) session.told new
           (accepted_build rules game.last i input accepts) after.node
@@ -333,20 +254,10 @@ module _ (marking : Marking) (limits : Limits) (settings : Settings) where
           (on_run limits m (own_marks rules m)) =
           run_same limits m (marks_in marks) (own_marks rules m) (λ tic plays tells.
           kept_same limits m (marks_in marks) (own_marks rules m) (λ p below present.
-          let sound = kept.sound i mine in
-          duty tic p (after.answer.0 ∙ tells) below
-          (not_past (session.locksteps i) p (ap is_ended (r.stands.phase ∙ plays))
-          (ap (λ (x : ℕ). is_gone (session.locksteps i).peers x p) r.table.ran
-          ∙ ap (λ (x : Option ℕ). is_over x (machine.ran m))
-          (ap (λ (x : Peer). x.end) (r.peers.known p below)) ∙ present))
-          ∙ ap (λ (rows : Rows). marking (world_told limits settings rows) p) (sym (game.rows i))
-          ∙ sym (own_is m p (sound.played (sound.playing plays))))) in
+          let sound = kept.sound i mine in grind (arith, not_past, own_is))) in
           let shows = subst (λ (x : machine.Node × Ran). Represents limits i new x.0) same after.node in
           let tells : (on_run limits m (own_marks rules m)).0.rows ≡ told_on (session.told i) row =
-          run_tells limits m (own_marks rules m)
-          ∙ ap (λ (x : machine.Node × Ran). told_on m.rows (row_told limits m x.1)) (sym same)
-          ∙ ap (told_on m.rows) (sym after.answer.1)
-          ∙ ap (λ (rows : Rows). told_on rows row) (game.rows i) in
+          grind (arith, run_tells) in
           changes (Run i) (on_run limits m (own_marks rules m)).0 game.last.flights session.given session.inputs
           (put session.told i (told_on (session.told i) row)) new (by_event (Run i) accepts) shows
           (inputs_stay i _ (run_inputs limits i m (own_marks rules m))) game.flights game.fair
@@ -405,12 +316,10 @@ module _ (marking : Marking) (limits : Limits) (settings : Settings) where
             window = game.window;
             events = game.events ++ Relay i player to tic ∷ [];
             last = with_relayed game.last i player to tic;
-            runs = Relays.goes_on rules settings game.events (Relay i player to tic) (opening_game settings)
-                game.last _ game.runs (can, refl);
+            runs = grind (arith, Relays.goes_on);
             nodes = game.nodes;
             inputs = game.inputs;
-            flights = ap (λ (fs : List Flight). fs ++ relayed (node i) player to tic ∷ []) game.flights
-                ∙ ap (λ (f : Flight). session.given ++ f ∷ []) same;
+            flights = grind arith;
             rows = game.rows;
             fair = fair_on session.given game.fair (Some (packet_of_one player to tic command)) fair;
             going = game.going;
@@ -425,26 +334,18 @@ module _ (marking : Marking) (limits : Limits) (settings : Settings) where
       receiver_made : made (session.locksteps flight.to) ≡ machine.made flight.to (node flight.to)
       receiver_made =
           let to_it = (kept.from_inputs.pieces which flight given_there).receiver in
-          let r = game.nodes flight.to to_it in
-          ap (count_of (session.locksteps flight.to).rings) r.whose.number
-          ∙ got_is limits flight.to (session.locksteps flight.to) (node flight.to) r flight.to
-          (omega (arith, to_it, r.whose.players))
+          grind (arith, got_is)
 
       asking : IsAsking rules settings game.last
       asking = Relays.always_asking rules settings game.window game.events game.last game.runs
 
       pub numbered_near : is_start_near limits (made (session.locksteps flight.to)) flight.start ≡ true
           → is_near (made (session.locksteps flight.to)) flight ≡ true
-      numbered_near near =
-          ap (λ (k : ℕ). is_near k flight) receiver_made
-          ∙ numbered rules settings game.last asking which flight given_there
-          (ap (λ (k : ℕ). is_start_near limits k flight.start) (sym receiver_made) ∙ near)
+      numbered_near near = grind (arith, receiver_made, numbered, asking, given_there)
 
       pub asks_close : (tic : ℕ) → flight.request ≡ Some tic
           → (flight.start ≤ tic + limits.ahead) × (tic ≤ made (session.locksteps flight.to))
-      asks_close tic e =
-          subst (λ (k : ℕ). (flight.start ≤ tic + limits.ahead) × (tic ≤ k)) (sym receiver_made)
-          (asks rules settings game.last asking which flight given_there tic e)
+      asks_close tic e = grind (arith, receiver_made, asks, asking, given_there)
 
     -- and comes as it was given
     module _ (which : ℕ) (flight : Flight) (new : Contents) (heard : Heard)
@@ -460,11 +361,8 @@ module _ (marking : Marking) (limits : Limits) (settings : Settings) where
       receiver : Represents limits flight.to (session.locksteps flight.to) (node flight.to)
       receiver = game.nodes flight.to received_by
 
-      near_there : is_near (machine.made flight.to (node flight.to)) flight ≡ true
-      near_there = ap (λ (k : ℕ). is_near k flight) (sym (receiver_made which flight at)) ∙ near
-
       accepted_there : refused_flight game.last (Some flight) ≡ None
-      accepted_there = rw (near_there, game.going flight.to) refl
+      accepted_there = grind (arith, receiver_made)
 
       heard_there : IsAfter limits flight.to new (on_packet limits flight.to (node flight.to) flight)
           (λ answer. heard ≡ answer)
@@ -485,9 +383,8 @@ module _ (marking : Marking) (limits : Limits) (settings : Settings) where
       -- where it is dropped as by a lockstep that does not play, that one listens or has ended
       pub not_playing : heard ≡ Heard.Dropped drops.not_playing
           → (is_listening (session.locksteps flight.to).phase || is_ended (session.locksteps flight.to).phase) ≡ true
-      not_playing dropped =
-          ap (λ (p : Phase). is_listening p || is_ended p) (receiver.stands.phase)
-          ∙ out_of_play limits flight.to (node flight.to) flight (sym heard_there.answer ∙ dropped)
+      unfolding on_packet
+      not_playing dropped = grind (arith, receiver, heard_there)
 
       -- it is dropped only as set-up out of place, or by a lockstep that does not play
       pub steady : (number : ℕ) → heard ≡ Heard.Dropped number

@@ -1,27 +1,19 @@
 -- The demo of a lockstep that has played.
-use Rattle.std.proofs.Common.{◌≡◌, ◌≤◌, ℕ, true, length, Some, arith}
-use Rattle.std.specs.Prelude.{Ok}
-use Rattle.std.specs.List.{prefix_len}
-use Rattle.std.proofs.lemmas.List.{take_all}
+use Rattle.std.proofs.{Common.{◌≡◌, ◌≤◌, ℕ, true, length, Some, arith}, lemmas.List.take_all}
 use Rattle.std.proofs.lemmas.List.Folds.{length-prefix_len}
-use Rattle.dn_setup.specs.Settings.{Settings}
-use Rattle.dn_setup.specs.Starts.{start_of}
-use Rattle.dn_demo.specs.Layout.{long_tics}
-use Rattle.dn_demo.specs.Reading.{IsReadAs, written_demo}
-use Rattle.dn_demo.specs.Text.{demo_text}
+use Rattle.std.specs.Prelude.{Ok}
+use Rattle.dn_setup.specs.{Settings.Settings, Starts.start_of}
+use Rattle.dn_demo.specs.{Layout.long_tics, Reading.{IsReadAs, written_demo}, Text.demo_text}
 use Rattle.dn_demo.proofs.ReadBack.{long_read_back}
-use Rattle.dn_machine.specs.Limits.{Limits}
+use Rattle.dn_machine.specs.{Limits.Limits, Node.{is_ended, demo_rows}}
 use Rattle.dn_machine.specs.Node as machine
-use Rattle.dn_machine.specs.Node.{is_ended, is_whole, demo_rows}
-use Rattle.dn_lockstep.specs.Contents.{Contents}
-use Rattle.dn_lockstep.specs.Represents.{Represents, CanBeWritten, demo_of, is_demo_closed}
+use Rattle.dn_lockstep.specs.{Contents.Contents, Represents.{Represents, CanBeWritten, demo_of, is_demo_closed}}
 use Rattle.dn_lockstep.specs.Rows.{seats_of}
 
 -- where the demo has as many rows as were run, it has all
 pub all_recorded : (limits : Limits) (m : machine.Node)
     → machine.ran m ≤ length (demo_rows limits.players m) → demo_rows limits.players m ≡ m.rows
-all_recorded limits m all = let long = length-prefix_len (is_whole limits.players) m.rows in
-    take_all (prefix_len (is_whole limits.players) m.rows) m.rows (omega arith)
+all_recorded limits m all = grind (arith, length-prefix_len, take_all)
 
 module _ (limits : Limits) (m : machine.Node) (settings : Settings)
     (known : m.settings ≡ Some settings) where

@@ -1,24 +1,16 @@
 -- The rows that inputs make, up to the first that lacks a player.
-use Rattle.std.proofs.Common.{◌≡◌, ◌<◌, ◌≤◌, ◌+◌, ℕ, zero, suc, true, true≢false, cond, List, [], length, map, take, get_or, Option, Some, None, is_some, refl, ap, sym, ◌∙◌, pos, arith, inl, inr, ltb}
-use Rattle.std.specs.List.{prefix_len}
-use Rattle.std.specs.Option.{is_none, option_map}
-use Rattle.std.proofs.lemmas.Bool.{cases_lt, cond-true, lt-ltb, lt-leb, leb-false, not-false}
-use Rattle.std.proofs.lemmas.List.{get_or-take}
+use Rattle.std.proofs.Common.{◌≡◌, ◌<◌, ◌≤◌, ◌+◌, ℕ, zero, suc, true, true≢false, cond, List, [], length, take, get_or, Option, Some, None, refl, ap, sym, ◌∙◌, pos, arith, inl, inr, ltb}
+use Rattle.std.proofs.{lemmas.Bool.{cases_lt, lt-ltb, lt-leb, leb-false}, lemmas.List.get_or-take}
 use Rattle.std.proofs.lemmas.List.FromFn.{get_or-map-range_with_len, length-map-range_with_len}
-use Rattle.std.proofs.lemmas.List.Folds.{length-prefix_len}
-use Rattle.std.proofs.lemmas.List.Sums.{prefix_len_stops}
-use Rattle.dn_tic.specs.declared.command.TicCmd.{TicCmd}
-use Rattle.dn_tic.specs.declared.command.Move.{Move}
-use Rattle.dn_tic.specs.Command.{used}
+use Rattle.std.proofs.{lemmas.List.Folds.length-prefix_len, lemmas.List.Sums.prefix_len_stops}
+use Rattle.std.specs.{List.prefix_len, Option.option_map}
+use Rattle.dn_tic.specs.{declared.command.TicCmd.TicCmd, declared.command.Move.Move, Command.used}
 use Rattle.dn_tic.specs.Inputs.{made_by}
-use Rattle.dn_machine.specs.Worlds.{Inputs, if_made, row_by_inputs}
-use Rattle.dn_machine.specs.Node.{is_whole, lacks}
+use Rattle.dn_machine.specs.{Worlds.{Inputs, if_made, row_by_inputs}, Node.is_whole, Limits.row_of}
 use Rattle.dn_machine.proofs.Demos.{front_passes, front_short, if_made_is, seat_is, whole_has}
 use Rattle.dn_machine.proofs.Marks.{lowest_none}
-use Rattle.dn_lockstep.proofs.Seats.{whole_each, seats_whole}
+use Rattle.dn_lockstep.proofs.{Seats.{whole_each, seats_whole}, DemoTexts.AreFull}
 use Rattle.dn_lockstep.specs.Demos.{rows_to, rows_made, move_made}
-use Rattle.dn_lockstep.proofs.DemoTexts.{AreFull}
-use Rattle.dn_machine.specs.Limits.{row_of}
 
 -- the move at a player's seat is that of the player's command
 pub seat_at : (players : ℕ) (f : ℕ → Option TicCmd) (p : ℕ) → p < 4
@@ -32,8 +24,7 @@ seat_at players f (suc (suc (suc (suc p)))) s = absurd (omega arith)
 
 seat_move : (players : ℕ) (f : ℕ → Option TicCmd) (p : ℕ) (c : TicCmd) → p < players → p < 4 → f p ≡ Some c
     → get_or (row_of players f) p None ≡ Some (used c)
-seat_move players f p c l s e =
-    seat_at players f p s ∙ cond-true (ltb p players) _ _ (lt-ltb p players l) ∙ ap (option_map used) e
+seat_move players f p c l s e = grind (arith, seat_at, e)
 
 module _ (players : ℕ) (inputs : Inputs) where
   abbrev command : ℕ → ℕ → TicCmd
@@ -53,11 +44,7 @@ module _ (players : ℕ) (inputs : Inputs) where
 
   made_whole : (tic : ℕ) → players ≤ 4 → ((p : ℕ) → p < players → tic < length (inputs p))
       → is_whole players (row tic) ≡ true
-  made_whole tic few made =
-      ap is_none (lowest_none players (lacks (row_of players (seats tic)))
-      (λ p l. seat_is players (seats tic) p l (omega arith)
-      ∙ if_made_is (inputs p) tic (command p tic)
-      ∙ lt-leb (length (inputs p)) tic (made p l)))
+  made_whole tic few made = grind (arith, lowest_none, seat_is, if_made_is, lt-leb)
 
   -- no row has more than four seats
   whole_few : (tic : ℕ) → is_whole players (row tic) ≡ true → players ≤ 4
@@ -75,29 +62,21 @@ module _ (players : ℕ) (inputs : Inputs) where
     all = rows_to players inputs tics
 
     pub no_more : length rows ≤ tics
-    no_more = let short = front_short (is_whole players) all in
-        let long = length-map-range_with_len row 0 tics in omega arith
+    no_more = grind (arith, front_short, length-map-range_with_len)
 
     all_at : (tic : ℕ) → tic < tics → get_or all tic [] ≡ row tic
     all_at tic early = get_or-map-range_with_len row 0 tics tic tic [] early (omega arith)
 
     row_at : (tic : ℕ) → tic < length rows → get_or rows tic [] ≡ row tic
-    row_at tic l =
-        let long = length-prefix_len (is_whole players) all in
-        get_or-take (prefix_len (is_whole players) all) all tic [] (omega arith)
-        ∙ all_at tic (omega (arith, no_more))
+    row_at tic l = grind (arith, length-prefix_len, get_or-take, all_at, no_more)
 
     whole_at : (tic : ℕ) → tic < length rows → is_whole players (row tic) ≡ true
     whole_at tic l =
-        ap (is_whole players) (sym (all_at tic (omega (arith, no_more))))
-        ∙ front_passes (is_whole players) all tic [] l
+        grind (arith, all_at tic (omega (arith, no_more)), front_passes (is_whole players) all tic [] l)
 
     -- each of the rows has a move of every player
     pub rows_full : AreFull players rows
-    rows_full tic l = (
-      whole_few tic (whole_at tic l),
-      ap (map is_some) (row_at tic l) ∙ seats_whole players (seats tic) (whole_at tic l),
-    )
+    rows_full tic l = grind (arith, whole_few, whole_at, row_at, seats_whole)
 
     -- that which the player's inputs make
     pub move_there : (tic player : ℕ) → tic < length rows → player < players
@@ -106,15 +85,7 @@ module _ (players : ℕ) (inputs : Inputs) where
         let whole = whole_at tic l in
         let few = whole_few tic whole in
         let made = whole_made tic whole player below in
-        ap (λ (r : List (Option Move)). get_or r player None) (row_at tic l)
-        ∙ seat_move players (seats tic) player _ below (omega arith)
-        (cond-true (ltb tic (length (inputs player))) _ _ (lt-ltb tic (length (inputs player)) made))
-
-    pub moves_before : (tic player : ℕ) → tic < length rows → player ≤ players → (i : ℕ) → i < player
-        → is_some (get_or (get_or rows tic []) i None) ≡ true
-    moves_before tic player l below i less =
-        ap (λ (r : List (Option Move)). is_some (get_or r i None)) (row_at tic l)
-        ∙ not-false _ (whole_each players (row tic) (whole_at tic l) i (lt-ltb i players (omega arith)))
+        grind (arith, row_at tic l, seat_move)
 
     -- they are those of the tics for which every player made a command
     pub made_by_all : (tic : ℕ) → tic < length rows → (p : ℕ) → p < players → tic < length (inputs p)

@@ -1,35 +1,38 @@
 -- What a playing node makes of a packet of commands.
-use Rattle.std.proofs.Common.{◌≡◌, ◌≢◌, ◌<◌, ◌≤◌, ◌+◌, ◌-◌, ℕ, Bool, true, false, cond, List, ◌++◌, length, take, drop, refl, ap, sym, ◌∙◌, arith}
-use Rattle.std.specs.Prelude.{nat_lt, if◌then◌else◌, Ok}
-use Rattle.std.proofs.lemmas.Bool.{le-ltb, lt-ltb, le-leb}
-use Rattle.std.proofs.lemmas.List.{take_rest}
+use Rattle.std.proofs.Common.{◌≡◌, ◌-◌, ℕ, Bool, false, List, length, take, drop, ap, sym, ◌∙◌, ◌≢◌, ◌<◌, ◌≤◌, ◌+◌, true, cond, ◌++◌, refl, arith}
+use Rattle.std.proofs.lemmas.List.{take_rest, take-append-drop, length-drop}
+use Rattle.std.proofs.{lemmas.List.Folds.list_any-append, lemmas.Bool.{or_parts, le-ltb, lt-ltb, le-leb}}
+use Rattle.std.specs.{List.list_any, Prelude.{nat_lt, Ok}}
 use Rattle.dn_tic.specs.declared.command.TicCmd.{TicCmd}
 use Rattle.dn_packet.specs.declared.packet.Packet.{Packet}
 use Rattle.dn_packet.specs.Flags as flag
 use Rattle.dn_ring.specs.Ring.{Ring}
-use Rattle.dn_machine.specs.declared.answers.Heard.{Heard}
-use Rattle.dn_machine.specs.Drops as drops
-use Rattle.dn_machine.specs.Limits.{Limits}
-use Rattle.dn_machine.specs.Flight.{Play, Exit, Flight, is_exit, end_of}
-use Rattle.dn_machine.specs.Node as machine
+use Rattle.dn_machine.specs.{declared.answers.Heard.Heard, Limits.Limits, Flight.{Flight, is_exit, end_of}}
 use Rattle.dn_machine.specs.Node.{put, with_peer, ends_of}
 use Rattle.dn_machine.specs.Hearing.{on_commands, after_request, after_exit, after_flight, left_or, is_strange_end}
-use Rattle.dn_machine.specs.Running.{is_over}
-use Rattle.dn_lockstep.specs.Contents.{Contents}
-use Rattle.dn_lockstep.specs.Reading.{has_flag, start_in, request_in, flight_in}
-use Rattle.dn_lockstep.specs.Received.{on_player}
-use Rattle.dn_lockstep.proofs.Flags.{player_takes, left_asked}
-use Rattle.dn_machine.specs.declared.answers.Cause.{Cause}
-use Rattle.dn_machine.specs.declared.answers.Phase.TheVariants.{Playing, Ended}
-use Rattle.dn_lockstep.specs.Represents.{Represents, marked_to}
-use Rattle.dn_lockstep.specs.Rings.{count_of, ring_of}
+use Rattle.dn_machine.specs.{Running.is_over, declared.answers.Cause.Cause}
+use Rattle.dn_machine.specs.{declared.answers.Phase.TheVariants.{Playing, Ended}, declared.peer.Peer.Peer}
+use Rattle.dn_machine.specs.Drops as drops
+use Rattle.dn_machine.specs.Node as machine
+use Rattle.dn_lockstep.specs.{Contents.Contents, Reading.{has_flag, start_in, request_in, flight_in}}
+use Rattle.dn_lockstep.specs.{Received.on_player, Represents.{Represents, marked_to}, Rings.{count_of, ring_of}}
 use Rattle.dn_lockstep.specs.Steps.{IsAfter}
-use Rattle.dn_machine.specs.declared.peer.Peer.{Peer}
+use Rattle.dn_lockstep.proofs.{After.after, Counting.{below, got_is, made_is}}
+use Rattle.dn_lockstep.proofs.Changing.{shows_commands, shows_peer}
 use Rattle.dn_machine.proofs.Peers.{asked_end}
-use Rattle.dn_lockstep.proofs.After.{after}
-use Rattle.dn_lockstep.proofs.Counting.{below, got_is, made_is}
-use Rattle.dn_lockstep.proofs.Holding.{shows_commands}
-use Rattle.dn_lockstep.proofs.Peering.{shows_peer}
+
+-- how long it is
+pub rest_length : {A : Type 0} (xs : List A) (skip : ℕ)
+    → length (take (length xs - skip) (drop skip xs)) ≡ length xs - skip
+rest_length {A} xs skip = ap (length {A = A}) (take_rest xs skip) ∙ length-drop skip xs
+
+-- where no element passes a test, none of the rest does
+pub none_behind : {A : Type 0} (test : A → Bool) (xs : List A) (skip : ℕ) → list_any test xs ≡ false
+    → list_any test (take (length xs - skip) (drop skip xs)) ≡ false
+none_behind test xs skip e =
+    ap (list_any test) (take_rest xs skip)
+    ∙ (or_parts (list_any test (take skip xs)) _ (sym (list_any-append test (take skip xs) (drop skip xs))
+    ∙ ap (list_any test) (take-append-drop skip xs) ∙ e)).1
 
 -- what is kept of the sender after a flight
 abbrev asked : Limits → ℕ → machine.Node → Flight → Peer
@@ -51,21 +54,12 @@ node_taken limits me m f =
 
 -- what a flight does, by its numbers
 module _ (limits : Limits) (me : ℕ) (m : machine.Node) (f : Flight) where
-  over : machine.ran m + limits.places < end_of f → ◌≡◌ {A = machine.Node × Heard} (on_commands limits me m f)
-      (m, Heard.Dropped drops.overrun)
-  over past = let much = lt-ltb (machine.ran m + limits.places) (end_of f) past in rw much refl
-
   module _ (fits : nat_lt (machine.ran m + limits.places) (end_of f) ≡ false) where
-    odd : is_strange_end (is_exit f.kind) (machine.got m f.from) (ends_of m f.from) (end_of f) ≡ true
-        → ◌≡◌ {A = machine.Node × Heard} (on_commands limits me m f) (m, Heard.Dropped drops.end)
-    odd strange = rw (fits, strange) refl
-
     module _ (fine : is_strange_end (is_exit f.kind) (machine.got m f.from) (ends_of m f.from) (end_of f)
         ≡ false) where
       stale : end_of f ≤ machine.got m f.from → ◌≡◌ {A = machine.Node × Heard} (on_commands limits me m f)
           (with_peer m f.from (asked limits me m f), cond (is_exit f.kind) Heard.Left Heard.Stale)
-      stale old =
-          let known = le-leb (end_of f) (machine.got m f.from) old in rw (fits, fine, known) refl
+      stale old = grind (arith, le-leb, fits, fine)
 
       gap : machine.got m f.from < end_of f → machine.got m f.from < f.start
           → ◌≡◌ {A = machine.Node × Heard} (on_commands limits me m f)
@@ -87,20 +81,12 @@ pub record IsRead (n : Contents) (from : ℕ) (packet : Packet) (made start : �
   pub count : made ≡ count_of n.rings n.me
   pub told : start_in made packet ≡ Ok start
 
--- the packet's flag is the flight's kind
-kind_is : (set : Bool) → is_exit (if set then Exit else Play) ≡ set
-kind_is true = refl
-kind_is false = refl
-
 module _ {limits : Limits} {me : ℕ} {n : Contents} {m : machine.Node}
     (r : Represents limits me n m)
     {from : ℕ} {packet : Packet} {made start : ℕ} (read : IsRead n from packet made start)
   where
     same_made : made ≡ machine.made me m
     same_made = read.count ∙ made_is limits me n m r read.own
-
-    same_start : start_in (machine.made me m) packet ≡ Ok start
-    same_start = ap (λ (k : ℕ). start_in k packet) (sym same_made) ∙ read.told
 
     same_peer : n.peers from ≡ m.peers from
     same_peer = r.peers.known from (below limits me n m r from read.peer)
@@ -113,16 +99,7 @@ module _ {limits : Limits} {me : ℕ} {n : Contents} {m : machine.Node}
         → IsAfter limits me (record n { peers = peers }) (on_player limits me m from packet (Ended cause))
         (λ heard. Heard.Noted ≡ heard)
     leaver_asked cause peers played stays is others =
-        let asks = request_in (machine.made me m) packet in
-        let same : after_request n.places made (n.peers from) (request_in made packet)
-        ≡ after_request limits.places (machine.made me m) (m.peers from) asks =
-        λ i. after_request (r.whose.places i) (same_made i) (same_peer i) (request_in (same_made i) packet) in
-        after (with_peer m from (after_request limits.places (machine.made me m) (m.peers from) asks)) Heard.Noted
-        (left_asked limits me m from packet cause (sym r.stands.played ∙ played) start stays same_start)
-        (shows_peer r from peers
-        (ap (marked_to (machine.ran m)) (asked_end limits.places (machine.made me m) (m.peers from) asks)) (is ∙ same)
-        others)
-        refl
+        grind (arith, same_made, same_peer, after, shows_peer, asked_end)
 
     module _ {commands : List TicCmd} (items : commands ≡ packet.cmds.items) where
       abbrev f : Flight
@@ -132,18 +109,17 @@ module _ {limits : Limits} {me : ℕ} {n : Contents} {m : machine.Node}
       same_length = ap (length {A = TicCmd}) items
 
       step : ◌≡◌ {A = machine.Node × Heard} (on_player limits me m from packet Playing) (on_commands limits me m f)
-      step = player_takes limits me m from packet start same_start
+      step = grind arith
 
       pub over_shows : n.ran + n.places < start + length commands
           → IsAfter limits me n (on_player limits me m from packet Playing)
           (λ heard. Heard.Dropped drops.overrun ≡ heard)
-      over_shows past = after m (Heard.Dropped drops.overrun)
-          (step ∙ over limits me m f (omega (arith, past, r.table.ran, same_length, r.whose.places))) r refl
+      over_shows past = grind (arith, after, step, same_length, lt-ltb)
 
       module _ (room : start + length commands ≤ n.ran + n.places) {exit : Bool}
           (flagged : exit ≡ has_flag packet flag.exit) {got : ℕ} (counted : got ≡ count_of n.rings from) where
         exits_is : exit ≡ is_exit f.kind
-        exits_is = flagged ∙ sym (kind_is (has_flag packet flag.exit))
+        exits_is = grind arith
 
         fits : nat_lt (machine.ran m + limits.places) (end_of f) ≡ false
         fits = le-ltb (machine.ran m + limits.places) (end_of f) (omega (arith, room, r.table.ran, same_length, r.whose.places))
@@ -151,18 +127,14 @@ module _ {limits : Limits} {me : ℕ} {n : Contents} {m : machine.Node}
         had : got ≡ machine.got m from
         had = counted ∙ got_is limits me n m r from read.peer
 
-        same_end_of : start + length commands ≡ end_of f
-        same_end_of = ap (λ (k : ℕ). start + k) same_length
-
         odd_is : is_strange_end exit got (n.peers from).end (start + length commands)
             ≡ is_strange_end (is_exit f.kind) (machine.got m from) (ends_of m from) (end_of f)
-        odd_is = λ i. is_strange_end (exits_is i) (had i) (same_peer i).end (same_end_of i)
+        odd_is = grind arith
 
         pub odd_shows : is_strange_end exit got (n.peers from).end (start + length commands) ≡ true
             → IsAfter limits me n (on_player limits me m from packet Playing)
             (λ heard. Heard.Dropped drops.end ≡ heard)
-        odd_shows strange = after m (Heard.Dropped drops.end)
-            (step ∙ odd limits me m f fits (sym odd_is ∙ strange)) r refl
+        odd_shows strange = grind (arith, after, step, fits, odd_is)
 
         module _ (usual : is_strange_end exit got (n.peers from).end (start + length commands) ≡ false)
             {q : Peer}
@@ -178,9 +150,7 @@ module _ {limits : Limits} {me : ℕ} {n : Contents} {m : machine.Node}
           caught_up present = grind arith
 
           same_asked : q ≡ asked limits me m f
-          same_asked =
-              let places = r.whose.places in
-              grind arith
+          same_asked = grind arith
 
           pub stale_shows : start + length commands ≤ got → peers from ≡ q
               → IsAfter limits me (record n { peers = peers }) (on_player limits me m from packet Playing)
@@ -213,9 +183,7 @@ module _ {limits : Limits} {me : ℕ} {n : Contents} {m : machine.Node}
               let held = m.held from in
               let skip : ℕ = machine.got m from - start in
               let rest : rings from ≡ ring_of (held ++ drop skip packet.cmds.items) =
-              kept held (r.commands.rings from (below limits me n m r from read.peer))
-              ∙ ap (λ (xs : List TicCmd). ring_of (held ++ xs)) (take_rest commands (got - start))
-              ∙ (λ i. ring_of (held ++ drop (had i - start) (items i))) in
+              grind (arith, below, take_rest, had) in
               let counts : start + length commands - got
               ≡ start + length packet.cmds.items - machine.got m from =
               omega (arith, had, same_length) in

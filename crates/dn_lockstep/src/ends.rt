@@ -10,6 +10,7 @@ ghost use Rattle.dn_lockstep.specs.declared.lockstep.settling.Settled.TheVariant
 
 /// The last of a player's commands are enough: a node that has the first of them, and is told the others from a
 /// tic on that is not past the first that is missing, then has all, and knows the end.
+#[tactic(auto, using(crate::proofs::Wholes::no_gap, crate::proofs::Wholes::rest_missing, crate::proofs::Wholes::settles))]
 pub fn last_commands_settle()
     ensures { (limits : Limits) (me player first : ℕ) (m : machine.Node) (rest : List TicCmd)
         → let all = m.held player ++ rest in first ≤ got m player
@@ -23,6 +24,7 @@ pub fn last_commands_settle()
 /// Ends that are taken for one player after another are taken for all at once: each player who is given up has
 /// the commands that were told and an end behind the last of them, nothing more is wanted of the player, and
 /// nothing else changes.
+#[tactic(auto, using(crate::proofs::Turns::in_turn))]
 pub fn ends_settle_in_turn()
     ensures { (players : ℕ) (m : machine.Node) (gone : ℕ → Bool) (commands : ℕ → List TicCmd)
         → ((player : ℕ) → players ≤ player → gone player ≡ false)

@@ -34,6 +34,7 @@ pub fn windows_hold()
 
 /// New locksteps of the same limits, one for each player, of which player 0's has these settings, are those of
 /// one game. The limits are those of a window, as `windows_hold` says of every lockstep's.
+#[tactic(auto, using(crate::proofs::OneGame::opens))]
 pub fn one_game_opens()
     ensures { (marking : Marking) (limits : Limits) (settings : Settings) (locksteps : ℕ → Contents)
         → IsWindow limits
@@ -161,6 +162,7 @@ pub fn given_packets_are_heard()
 
 /// The demo of a lockstep that has played and ended is read back to what it was played from, with its own
 /// number as view, to its players and to the rows that it told before the first that lacks a player.
+#[tactic(auto, using(crate::proofs::Replaying::read_back))]
 pub fn ended_demos_are_read()
     ensures { (limits : Limits) (me : ℕ) (n : Contents)
         (m : machine.Node) (settings : Settings) (cause : Cause)

@@ -36,6 +36,7 @@ fn gone(peers: &Peers, player: u8, tic: u32) -> bool
 }
 
 /// The lowest player who is not gone and whose command for the tic is missing.
+#[tactic(auto, using(std::proofs::lemmas::Bool::and_from, crate::proofs::Lowest::lowest_zero, crate::proofs::Lowest::lowest_past, crate::proofs::Lowest::lowest_found))]
 pub(crate) fn awaited(rings: &Rings, peers: &Peers, players: u8, tic: u32) -> Option<u8>
     requires { players ≤ 4 }
     ensures { result ≡ lowest players (is_missing (ring_at rings.now) (peer_at peers.now) tic) }

@@ -1,26 +1,62 @@
 -- A game before or after its start, of which some may have left: what the events of a round leave of it,
 -- unless every demo is as good as full.
-use Rattle.std.proofs.Common.{◌≡◌, ℕ, ◌<◌, ◌≤◌, Bool, true, false, true≢false, length, refl, sym, ◌∙◌, ap, subst, arith, inl, inr}
+use Rattle.std.proofs.{Common.{◌≡◌, ℕ, ◌<◌, ◌≤◌, Bool, true, false, true≢false, sym, ◌∙◌, ap, arith, inl, inr, rules, length}, lemmas.Bool.cases_eq}
 use Rattle.std.specs.Prelude.{◌⊎◌}
-use Rattle.std.proofs.lemmas.Bool.{cases_eq}
 use Rattle.dn_setup.specs.Settings.{Settings}
-use Rattle.dn_machine.specs.declared.answers.Phase.TheVariants.{Playing}
-use Rattle.dn_machine.specs.declared.events.Event.{Event}
-use Rattle.dn_machine.specs.declared.events.Event.TheVariants.{Send, Deliver, Run}
-use Rattle.dn_machine.specs.Worlds.{Rules}
-use Rattle.dn_machine.specs.Node.{Node, ran, is_ended, has_left}
-use Rattle.dn_machine.specs.Game.{Game, on_own_run}
-use Rattle.dn_machine.specs.Progress.{after, exchange, turn, build_of}
+use Rattle.dn_machine.specs.{declared.answers.Phase.TheVariants.Playing, declared.events.Event.Event, declared.events.Event.TheVariants.{Run, Send, Deliver}, Worlds.Rules, Node.{Node, ran, is_ended, has_left}}
+use Rattle.dn_machine.specs.{Game.{Game, on_own_run, with_node}, Progress.{after, exchange, turn, build_of}}
 use Rattle.dn_machine.proofs.RunKeeps
-use Rattle.dn_machine.proofs.Pairs.{accepted}
+use Rattle.dn_machine.proofs.{Pairs.accepted, GoingOn.{IsLive, IsFar, StayRan, IsOn, far_after, exchange_far, full_far, ran_after, live_after, stays_in, IsRoomy, roomy_after, row_fits}, InOrder.each_of}
+use Rattle.dn_machine.proofs.{Openings.{Stands, Gathers, Listens, Plays, HasGone, IsOpen, applied_open}, EachEvent.{is_of_round, after_build, after_send, after_deliver}, Changes.{Change, build_change, send_change, hear_change}}
 use Rattle.dn_machine.proofs.Pairs
-use Rattle.dn_machine.proofs.GoingOn.{IsLive, IsFar, StayRan, IsOn, far_after, exchange_far, full_far, ran_after, live_after, stays_in}
-use Rattle.dn_machine.proofs.InOrder.{each_of}
-use Rattle.dn_machine.proofs.Roomy.{IsRoomy, roomy_after, row_fits}
-use Rattle.dn_machine.proofs.Openings.{Stands, Gathers, Listens, Plays, HasGone, IsOpen, applied_open}
-use Rattle.dn_machine.proofs.Gentle.{Gentle, gentle_same, AllGentle, placed_gentle, build_gentle, send_gentle, deliver_gentle, exchange_gentle}
 use Rattle.dn_tic.specs.declared.input.Input.{Input}
-use Rattle.dn_machine.proofs.EachEvent.{build_round, is_of_round}
+
+-- What builds, sends and packets leave of a node: it does not end, and whom it has noted stays noted.
+-- a node that ends no more, and forgets nobody
+pub record Gentle (old new : Node) : Type 0 where
+  pub there : is_ended old.phase ≡ false → is_ended new.phase ≡ false
+  pub plays : old.phase ≡ Playing → new.phase ≡ Playing
+  pub left : has_left old ≡ true → has_left new ≡ true
+  pub noted : (p : ℕ) → old.noted p ≡ true → new.noted p ≡ true
+
+pub gentle_same : (node : Node) → Gentle node node
+gentle_same node = record { there = λ h. h; plays = λ h. h; left = λ h. h; noted = λ p h. h }
+
+gentle_on : (a b c : Node) → Gentle a b → Gentle b c → Gentle a c
+gentle_on a b c first next = grind arith
+
+change_gentle : (players from : ℕ) (spoke : Type 0) (old new : Node) → Change players from spoke ⊥ old new
+    → Gentle old new
+change_gentle players from spoke old new change =
+    grind arith
+
+-- all nodes of a game so
+abbrev pub AllGentle : Game → Game → Type 0
+AllGentle old new = (q : ℕ) → Gentle (old.nodes q) (new.nodes q)
+
+pub placed_gentle : {S : Type 0} (rules : Rules S) (game : Game) (i : ℕ) (new : Node)
+    → Gentle (game.nodes i) new → AllGentle game (with_node game i new)
+placed_gentle rules game i new gentle q = grind arith
+
+module _ {S : Type 0} (rules : Rules S) (game : Game) where
+  pub build_gentle : (i : ℕ) (input : Input) → AllGentle game (after rules (build_of i input) game)
+  build_gentle i input q = after_build rules (λ (old new : Node). Gentle old new) gentle_same game q i input
+      (change_gentle _ _ _ _ _ (build_change rules.limits i (game.nodes i) input))
+
+  pub send_gentle : (i j : ℕ) → AllGentle game (after rules (Send i j) game)
+  send_gentle i j q = after_send rules (λ (old new : Node). Gentle old new) gentle_same game q i j
+      (change_gentle _ _ _ _ _ (send_change rules.limits i (game.nodes i) j))
+
+  pub deliver_gentle : (which : ℕ) → AllGentle game (after rules (Deliver which) game)
+  deliver_gentle which q = after_deliver rules (λ (old new : Node). Gentle old new) gentle_same game q which
+      (λ flight. change_gentle _ _ _ _ _ (hear_change rules.limits flight.to (game.nodes flight.to) flight))
+
+pub exchange_gentle : {S : Type 0} (rules : Rules S) (game : Game) (i j : ℕ)
+    → AllGentle game (exchange rules i game j)
+unfolding exchange
+exchange_gentle rules game i j q =
+    gentle_on (game.nodes q) _ _ (send_gentle rules game i j q)
+    (deliver_gentle rules (after rules (Send i j) game) (length game.flights) q)
 
 module _ {S : Type 0} (rules : Rules S) (settings : Settings) (cap : ℕ) (stay : ℕ → Bool) (tic : ℕ) where
   -- a game before or after its start, of which some may have left
@@ -45,10 +81,7 @@ module _ {S : Type 0} (rules : Rules S) (settings : Settings) (cap : ℕ) (stay 
 
   pub exchange_begun : (i j : ℕ) (game : Game) → IsBegun game → IsBegun (exchange rules i game j)
   unfolding exchange
-  exchange_begun i j game begun =
-      let mid : Game = after rules (Send i j) game in
-      gentle_begun (Deliver (length game.flights)) mid refl (deliver_gentle rules mid (length game.flights))
-      (gentle_begun (Send i j) game refl (send_gentle rules game i j) begun)
+  exchange_begun i j game begun = search (rules, gentle_begun, deliver_gentle, send_gentle)
 
   -- where the key player has played, each plays or has left
   pub all_play : (game : Game) → IsBegun game → (game.nodes 0).played ≡ true
@@ -88,16 +121,14 @@ module _ {S : Type 0} (rules : Rules S) (settings : Settings) (cap : ℕ) (stay 
         (λ plays there full.
         let most = row_fits rules cap tic game settings begun.live.kept r mine
         (begun.ran r mine (stays_in (game.nodes r) (stay r) (begun.left r mine) plays)) there begun.room in
-        inl (far_of (omega arith)))
+        grind (arith, far_of))
         (λ plays there free. inr (record { there = λ h. h; plays = λ h. h; left = λ h. h; noted = λ p h. h }))
 
     run_gentle : IsFar rules cap stay game ⊎ AllGentle game (after rules (Run r) game)
     run_gentle = elim runs [
       | inl far ↦ inl far
       | inr gentle ↦
-          inr (subst (λ (g : Game). AllGentle game g)
-          (sym (accepted rules game (Run r) (Pairs.accepts rules settings game begun.live r mine)))
-          (placed_gentle rules game r _ gentle))
+          inr (search (rules, accepted, Pairs.accepts, placed_gentle))
     ]
 
   -- a game of which something is so, unless every demo is as good as full
@@ -114,19 +145,16 @@ module _ {S : Type 0} (rules : Rules S) (settings : Settings) (cap : ℕ) (stay 
   module _ (Y : Game → Type 0) (stable : (old new : Game) → AllGentle old new → Y old → Y new) where
     pub keep_build : (i : ℕ) (input : Input) (g : Game) → With Y g → With Y (after rules (build_of i input) g)
     keep_build i input g (WithFar far) = WithFar (far_after rules cap stay (build_of i input) g far)
-    keep_build i input g (WithSo begun y) = let gentle = build_gentle rules g i input in
-        WithSo (gentle_begun (build_of i input) g (build_round i input) gentle begun) (stable g _ gentle y)
+    keep_build i input g (WithSo begun y) = grind (arith, build_gentle, gentle_begun)
 
     pub keep_exchange : (i j : ℕ) (g : Game) → With Y g → With Y (exchange rules i g j)
-    keep_exchange i j g = with_exchange Y Y i j g
-        (λ begun y. stable g (exchange rules i g j) (exchange_gentle rules g i j) y)
+    keep_exchange i j g = search (rules, with_exchange, exchange_gentle)
 
     pub keep_run : (i : ℕ) → i < rules.players → (g : Game) → With Y g → With Y (after rules (Run i) g)
     keep_run i l g (WithFar far) = WithFar (far_after rules cap stay (Run i) g far)
     keep_run i l g (WithSo begun y) = elim (run_gentle g begun i l) [
       | inl far ↦ WithFar (far_after rules cap stay (Run i) g far)
-      | inr gentle ↦ WithSo (gentle_begun (Run i) g refl gentle begun)
-          (stable g (after rules (Run i) g) gentle y)
+      | inr gentle ↦ grind (arith, gentle_begun)
     ]
 
     pub keep_turn : (inputs : ℕ → Input) (i : ℕ) → i < rules.players → (g : Game) → With Y g

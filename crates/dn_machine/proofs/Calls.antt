@@ -1,24 +1,14 @@
 -- The cases of each call on a node: what is so of each node that a call may leave, with its answer where that
 -- tells, is so of the one that it leaves.
-use Rattle.std.proofs.Common.{◌≡◌, ℕ, ◌+◌, ◌-◌, ◌<◌, ◌≤◌, ◌≢◌, true, false, [], ◌∷◌, ◌++◌, drop, arith, Option, Some, None, ℤ}
+use Rattle.std.proofs.{Common.{◌≡◌, ℕ, ◌+◌, ◌-◌, ◌<◌, ◌≤◌, ◌≢◌, true, false, [], ◌∷◌, ◌++◌, drop, arith, Option, Some, None, ℤ}, lemmas.Bool.{leb-true, leb-false, ltb-true, ltb-false}}
 use Rattle.std.specs.Prelude.{◌⊎◌}
-use Rattle.std.proofs.lemmas.Bool.{leb-true, leb-false, ltb-true, ltb-false}
-use Rattle.dn_setup.specs.Settings.{Settings}
-use Rattle.dn_setup.specs.Gathered.{all_noted}
-use Rattle.dn_tic.specs.Inputs.{made_by}
-use Rattle.dn_machine.specs.declared.answers.Cause.{Cause}
-use Rattle.dn_machine.specs.declared.answers.Phase.TheVariants.{Listening, Gathering, Playing, Ended}
-use Rattle.dn_machine.specs.declared.answers.Heard.{Heard}
-use Rattle.dn_machine.specs.declared.peer.Peer.{Peer}
-use Rattle.dn_machine.specs.Drops as drops
-use Rattle.dn_machine.specs.Limits.{Limits}
-use Rattle.dn_machine.specs.Flight.{Kind, SetUp, Play, Flight, is_exit, end_of}
-use Rattle.dn_machine.specs.Node.{Node, put, with_peer, ends_of, got, made, ran, held_at, own_mark, lowest, is_ended, has_left}
-use Rattle.dn_machine.specs.Building.{on_build}
-use Rattle.dn_machine.specs.Sending.{set_up_flight, left_kind, commands_flight, request_to, after_sent, on_send}
-use Rattle.dn_machine.specs.Hearing.{started, after_request, after_flight, is_strange_end, left_or, on_commands, on_packet}
+use Rattle.dn_setup.specs.{Settings.Settings, Gathered.all_noted}
+use Rattle.dn_tic.specs.{Inputs.made_by, declared.input.Input.Input}
+use Rattle.dn_machine.specs.{declared.answers.Cause.Cause, declared.answers.Phase.TheVariants.{Listening, Gathering, Playing, Ended}, declared.answers.Heard.Heard, declared.peer.Peer.Peer, Limits.Limits}
+use Rattle.dn_machine.specs.{Flight.{Kind, SetUp, Play, Flight, is_exit, end_of}, Node.{Node, put, with_peer, ends_of, got, made, ran, held_at, own_mark, lowest, is_ended, has_left}, Building.on_build}
+use Rattle.dn_machine.specs.{Sending.{set_up_flight, left_kind, commands_flight, request_to, after_sent, on_send}, Hearing.{started, after_request, after_flight, is_strange_end, left_or, on_commands, on_packet}}
 use Rattle.dn_machine.specs.Running.{marks_kept, full_at, is_awaited, first_off, row_held, on_run, on_quit}
-use Rattle.dn_tic.specs.declared.input.Input.{Input}
+use Rattle.dn_machine.specs.Drops as drops
 
 -- the packet is not set-up
 abbrev pub IsWord : Kind → Type 0

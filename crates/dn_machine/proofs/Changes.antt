@@ -1,21 +1,11 @@
 -- What each call on a node does to its phase and to whom it has noted.
-use Rattle.std.proofs.Common.{ℤ, ◌≡◌, ℕ, zero, suc, ◌+◌, ◌-◌, ◌<◌, ◌≤◌, Bool, true, false, true≢false, length, get_or, refl, sym, ◌∙◌, ap, arith, Option, inl, inr}
-use Rattle.std.specs.Prelude.{◌⊎◌}
-use Rattle.std.specs.List.{list_all, range_with_len}
-use Rattle.std.proofs.lemmas.Bool.{cases_Bool, and_from}
-use Rattle.std.proofs.lemmas.List.Folds.{list_all_at}
+use Rattle.std.proofs.{Common.{ℤ, ◌≡◌, ℕ, zero, suc, ◌+◌, ◌-◌, ◌<◌, ◌≤◌, Bool, true, false, length, get_or, refl, arith, inl, inr}, lemmas.Bool.{cases_Bool, and_from}, lemmas.List.Folds.list_all_at}
 use Rattle.std.proofs.lemmas.List.FromFn.{length-range_with_len, get_or-range_with_len}
+use Rattle.std.specs.List.{list_all, range_with_len}
 use Rattle.dn_setup.specs.Gathered.{all_noted}
-use Rattle.dn_machine.specs.declared.answers.Phase.TheVariants.{Listening, Gathering, Playing}
-use Rattle.dn_machine.specs.declared.answers.Heard.{Heard}
-use Rattle.dn_machine.specs.Limits.{Limits}
-use Rattle.dn_machine.specs.Flight.{Flight}
-use Rattle.dn_machine.specs.Node.{Node, put, is_ended}
-use Rattle.dn_machine.specs.Building.{on_build}
-use Rattle.dn_machine.specs.Sending.{on_send}
-use Rattle.dn_machine.specs.Hearing.{on_packet}
+use Rattle.dn_machine.specs.{declared.answers.Phase.TheVariants.{Listening, Gathering, Playing}, declared.answers.Heard.Heard, Limits.Limits, Flight.Flight, Node.{Node, put, is_ended}, Building.on_build, Sending.on_send, Hearing.on_packet}
 use Rattle.dn_machine.specs.Running.{on_run, on_quit}
-use Rattle.dn_machine.proofs.Calls.{IsWord, build_cases, send_cases, run_cases, quit_cases, packet_cases}
+use Rattle.dn_machine.proofs.Calls.{IsWord, build_cases, quit_cases, packet_cases}
 use Rattle.dn_tic.specs.declared.input.Input.{Input}
 
 -- all are noted: each from 1 on
@@ -32,10 +22,8 @@ each_noted players noted k e a b = elim (cases_Bool (noted k)) [
   | inl is ↦ is
   | inr not ↦
       let long = length-range_with_len 1 (players - 1) in
-      let at : get_or (range_with_len 1 (players - 1)) (k - 1) 0 ≡ k =
-      get_or-range_with_len 1 (players - 1) (k - 1) 0 (omega arith) ∙ omega arith in
-      absurd (true≢false (sym e ∙ list_all_at noted (range_with_len 1 (players - 1)) (k - 1) 0 (omega arith)
-      (ap noted at ∙ not)))
+      let at : get_or (range_with_len 1 (players - 1)) (k - 1) 0 ≡ k = grind (arith, get_or-range_with_len) in
+      grind (arith, list_all_at)
 ]
 
 pub noted_all : (players : ℕ) (noted : ℕ → Bool) → ((k : ℕ) → 0 < k → k < players → noted k ≡ true)
@@ -63,15 +51,12 @@ module _ (limits : Limits) (i : ℕ) (node : Node) where
       (λ full. Same refl refl refl (λ e. refl)) (λ plays free. Same refl refl refl (λ e. refl))
 
   pub send_change : (to : ℕ) → Change limits.players 0 ⊥ ⊥ node (on_send limits i node to).0
-  send_change to =
-      send_cases limits i node (λ (r : Node × Option Flight). Change limits.players 0 ⊥ ⊥ node r.0) to
-      (Same refl refl refl (λ e. refl)) (λ other g. Same refl refl refl (λ e. refl))
-      (λ other plays. Same refl refl refl (λ e. refl)) (λ other left. Same refl refl refl (λ e. refl))
+  unfolding on_send
+  send_change to = grind arith
 
   pub run_change : (marks : ℕ → ℤ) → Change limits.players 0 ⊥ (Unit {0}) node (on_run limits node marks).0
-  run_change marks = run_cases limits i node marks (λ (new : Node). Change limits.players 0 ⊥ (Unit {0}) node new)
-      (λ waits. Same refl refl refl (λ e. refl)) (λ player plays none off. Gone tt refl refl refl)
-      (λ plays none full. Gone tt refl refl refl) (λ plays none free. Same refl refl refl (λ g. absurd (cc)))
+  unfolding on_run
+  run_change marks = grind arith
 
   pub quit_change : Change limits.players 0 ⊥ (Unit {0}) node (on_quit node).0
   quit_change = quit_cases limits i node (λ (new : Node). Change limits.players 0 ⊥ (Unit {0}) node new)
@@ -80,22 +65,4 @@ module _ (limits : Limits) (i : ℕ) (node : Node) where
   pub hear_change : (flight : Flight) → Change limits.players flight.from (IsWord flight.kind) ⊥ node
       (on_packet limits i node flight).0
   hear_change flight = packet_cases limits i node flight
-      (λ (r : Node × Heard). Change limits.players flight.from (IsWord flight.kind) ⊥ node r.0) (record {
-        dropped = λ number why. Same refl refl refl (λ e. refl);
-        starts = λ s e k. Starts e refl refl refl;
-        completes = λ word e all. Completes word e refl refl refl all;
-        notes = λ word e some. Notes word e e refl refl some refl;
-        commands = λ plays. record {
-          dropped = λ number why. Same refl refl refl (λ e. refl);
-          stale = λ l. Same refl refl refl (λ e. refl);
-          gap = λ l. Same refl refl refl (λ e. refl);
-          takes = λ l m. Same refl refl refl (λ e. refl);
-        };
-        requests = λ ended. Same refl refl refl (λ e. refl);
-      })
-
--- whom a node has noted after it
-pub noted_of : (players from : ℕ) (spoke ends : Type 0) (old new : Node)
-    → Change players from spoke ends old new
-    → (new.noted ≡ old.noted) ⊎ (spoke × (new.noted ≡ put old.noted from true))
-noted_of players from spoke ends old new h = grind arith
+      (λ (r : Node × Heard). Change limits.players flight.from (IsWord flight.kind) ⊥ node r.0) (grind arith)

@@ -1,20 +1,10 @@
 -- Rows that lack a player, and the rows before the first of them.
-use Rattle.std.proofs.Common.{◌≡◌, ℕ, zero, suc, ◌<◌, ◌≤◌, Bool, true, false, cond, List, [], ◌∷◌, ◌++◌, length, get_or, refl, sym, ◌∙◌, ap, subst, arith, Option, Some, None, ltb, leb}
-use Rattle.std.specs.List.{take_while}
-use Rattle.std.specs.Option.{option_map, is_none}
-use Rattle.std.proofs.lemmas.Bool.{lt-ltb}
-use Rattle.std.proofs.lemmas.List.{get_or-take, get_or_past}
-use Rattle.std.proofs.lemmas.List.Sums.{take_while-cons, prefix_len_passes, prefix_len-le-length}
-use Rattle.std.proofs.lemmas.List.Folds.{length-prefix_len}
-use Rattle.dn_tic.specs.declared.command.TicCmd.{TicCmd}
-use Rattle.dn_tic.specs.Command.{used}
-use Rattle.dn_machine.specs.Worlds.{if_made}
-use Rattle.dn_machine.specs.Node.{Node, lacks, is_whole}
-use Rattle.dn_machine.specs.Running.{is_absent, row_held}
-use Rattle.dn_machine.specs.Promise.{IsPrefixOf}
+use Rattle.std.proofs.{Common.{◌≡◌, ℕ, zero, suc, ◌<◌, ◌≤◌, Bool, true, false, cond, List, [], ◌∷◌, ◌++◌, length, get_or, refl, sym, ◌∙◌, ap, subst, arith, Option, None, ltb, leb}, lemmas.Bool.lt-ltb, lemmas.List.get_or-take}
+use Rattle.std.proofs.{lemmas.List.Sums.{take_while-cons, prefix_len_passes, prefix_len-le-length}, lemmas.List.Folds.length-prefix_len}
+use Rattle.std.specs.{List.take_while, Option.{option_map, is_none}}
+use Rattle.dn_tic.specs.{declared.command.TicCmd.TicCmd, Command.used, declared.input.Input.Input}
+use Rattle.dn_machine.specs.{Worlds.if_made, Node.{Node, lacks, is_whole}, Running.{is_absent, row_held}, Promise.IsPrefixOf, Limits.{Limits, row_of}}
 use Rattle.dn_machine.proofs.Marks.{lowest_none, lowest_none_each}
-use Rattle.dn_machine.specs.Limits.{Limits, row_of}
-use Rattle.dn_tic.specs.declared.input.Input.{Input}
 
 -- the front of a longer list
 
@@ -31,9 +21,7 @@ front_grows {A} test (x ∷ xs) rest =
     subst (λ (zs : List A). IsPrefixOf (cond (test x) (x ∷ take_while test xs) []) zs)
     (sym (take_while-cons test x (xs ++ rest)))
     (cond_front (test x) x (take_while test xs) (take_while test (xs ++ rest))
-    (front_grows test xs rest)) in
-    subst (λ (zs : List A). IsPrefixOf zs (take_while test (x ∷ (xs ++ rest))))
-    (sym (take_while-cons test x xs)) longer
+    (front_grows test xs rest)) in grind (arith, take_while-cons)
 
 pub front_prefix : {A : Type 0} (test : A → Bool) (xs ys : List A) → IsPrefixOf xs ys
     → IsPrefixOf (take_while test xs) (take_while test ys)
@@ -51,13 +39,11 @@ front_stops {A} test (x ∷ xs) y h = take_while-cons test x (xs ++ y ∷ [])
 -- where all pass, and one more does
 all_pass : {A : Type 0} (b : Bool) (x : A) (front xs : List A) → cond b (x ∷ front) [] ≡ x ∷ xs
     → (b ≡ true) × (front ≡ xs)
-all_pass true x front xs e = (refl, cc)
-all_pass false x front xs e = absurd (cc)
+all_pass b x front xs e = grind arith
 
 pub front_goes_on : {A : Type 0} (test : A → Bool) (xs : List A) (y : A) → take_while test xs ≡ xs
     → test y ≡ true → take_while test (xs ++ y ∷ []) ≡ xs ++ y ∷ []
-front_goes_on test [] y e h = take_while-cons test y []
-    ∙ ap (λ (b : Bool). cond b (y ∷ take_while test []) []) h
+front_goes_on test [] y e h = grind arith
 front_goes_on {A} test (x ∷ xs) y e h =
     let parts = all_pass (test x) x (take_while test xs) xs (sym (take_while-cons test x xs) ∙ e) in
     take_while-cons test x (xs ++ y ∷ [])
@@ -67,8 +53,7 @@ front_goes_on {A} test (x ∷ xs) y e h =
 -- each element of the front passes
 pub front_passes : {A : Type 0} (test : A → Bool) (xs : List A) (k : ℕ) (d : A)
     → k < length (take_while test xs) → test (get_or xs k d) ≡ true
-front_passes test xs k d l = prefix_len_passes test xs k d (let long = length-prefix_len test xs in
-    omega arith)
+front_passes test xs k d l = grind (arith, prefix_len_passes, length-prefix_len)
 
 -- and is the element of that place
 pub front_each : {A : Type 0} (test : A → Bool) (xs : List A) (k : ℕ) (d : A)
@@ -76,14 +61,12 @@ pub front_each : {A : Type 0} (test : A → Bool) (xs : List A) (k : ℕ) (d : A
 front_each test xs k d l = grind (arith, length-prefix_len, get_or-take, front_passes)
 
 pub front_short : {A : Type 0} (test : A → Bool) (xs : List A) → length (take_while test xs) ≤ length xs
-front_short test xs = let long = length-prefix_len test xs in let low = prefix_len-le-length test xs in
-    omega arith
+front_short test xs = let long = length-prefix_len test xs in grind (arith, prefix_len-le-length)
 
 -- seats
 
 pub none_is : {A : Type 0} (o : Option A) → is_none o ≡ true → o ≡ None
-none_is None h = refl
-none_is (Some x) h = absurd (cc)
+none_is o h = grind arith
 
 seat_some : (b : Bool) (x : Option TicCmd) → b ≡ true → is_none (cond b (option_map used x) None) ≡ is_none x
 seat_some b x h = grind arith
@@ -102,7 +85,7 @@ seat_is players f (suc (suc (suc (suc p)))) l s = absurd (omega arith)
 seat_taken : (players : ℕ) (f : ℕ → Option TicCmd) (p : ℕ) → p < players
     → lacks (row_of players f) p ≡ false → (p < 4) × (is_none (f p) ≡ false)
 unfolding row_of
-seat_taken players f p l e = grind (arith, seat_is, get_or_past)
+seat_taken players f p l e = grind (arith, seat_is)
 
 pub whole_more : (players : ℕ) (f g : ℕ → Option TicCmd)
     → ((p : ℕ) → p < players → is_none (f p) ≡ false → is_none (g p) ≡ false)
@@ -110,8 +93,7 @@ pub whole_more : (players : ℕ) (f g : ℕ → Option TicCmd)
 whole_more players f g h e =
     let each = lowest_none_each players (λ p. is_none (get_or (row_of players f) p None)) (none_is _ e) in
     ap is_none (lowest_none players (λ p. is_none (get_or (row_of players g) p None))
-    (λ p l. let taken = seat_taken players f p l (each p l) in
-    seat_is players g p l taken.0 ∙ h p l taken.1))
+    (λ p l. let taken = seat_taken players f p l (each p l) in grind (arith, seat_is)))
 
 pub if_made_is : (inputs : List Input) (tic : ℕ) (command : TicCmd)
     → is_none (if_made inputs tic command) ≡ leb (length inputs) tic
@@ -123,13 +105,9 @@ whole_has players f e p l =
     (seat_taken players f p l (lowest_none_each players (λ q. is_none (get_or (row_of players f) q None))
     (none_is _ e) p l)).1
 
-absent_none : (b : Bool) (c : TicCmd) → is_none (cond b None (Some c)) ≡ b
-absent_none true c = refl
-absent_none false c = refl
-
 -- the next row of a node is whole where that of another is, and whoever is absent at the one is absent at the
 -- other
 pub whole_held : (limits : Limits) (new old : Node)
     → ((p : ℕ) → p < limits.players → is_absent new p ≡ false → is_absent old p ≡ false)
     → is_whole limits.players (row_held limits new) ≡ true → is_whole limits.players (row_held limits old) ≡ true
-whole_held limits new old h e = grind (arith, whole_more, absent_none)
+whole_held limits new old h e = grind (arith, whole_more)

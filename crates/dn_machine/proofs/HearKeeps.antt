@@ -1,25 +1,14 @@
 -- A packet that comes to a node keeps what every event keeps.
-use Rattle.std.proofs.Common.{◌≡◌, ℕ, ◌-◌, ◌<◌, ◌≤◌, ◌≢◌, false, List, ◌++◌, length, get_or, drop, refl, sym, ◌∙◌, ap, subst, arith, inl, inr, Bool, true, cond, Option, Some}
-use Rattle.std.specs.Prelude.{◌⊎◌}
+use Rattle.std.proofs.Common.{◌≡◌, ℕ, ◌-◌, ◌<◌, ◌≤◌, ◌≢◌, false, List, ◌++◌, length, get_or, drop, refl, sym, ◌∙◌, ap, arith, Bool, true, cond, Option, Some, rules}
 use Rattle.std.proofs.lemmas.List.{length-append, length-drop, get_or_append_left, get_or-append_right, get_or-drop}
+use Rattle.std.specs.Prelude.{◌⊎◌}
 use Rattle.dn_tic.specs.declared.command.TicCmd.{TicCmd}
 use Rattle.dn_setup.specs.Settings.{Settings}
-use Rattle.dn_machine.specs.Worlds.{Inputs, Rules, command}
-use Rattle.dn_machine.specs.Flight.{Flight, end_of, Kind, Exit, is_exit}
-use Rattle.dn_machine.specs.Node.{put, blank, Node, with_peer, ends_of, got, made, is_ended, has_left}
-use Rattle.dn_machine.proofs.Invariant.{History, IsPiece, ComesFromInputs, IsKept, history_of}
-use Rattle.dn_machine.proofs.Put.{put_two_at, put_two_off, both_or_not, put_off, view_put, view_kept}
+use Rattle.dn_machine.specs.{Worlds.{Inputs, Rules, command}, Flight.{Flight, end_of, Kind, Exit, is_exit}, Node.{put, blank, Node, with_peer, ends_of, got, made, is_ended, has_left}, declared.answers.Phase.Phase}
+use Rattle.dn_machine.specs.{declared.answers.Phase.TheVariants.{Listening, Gathering, Playing}, declared.answers.Heard.Heard, declared.peer.Peer.Peer, Game.{Game, with_node}, Hearing.on_packet, Running.is_over}
+use Rattle.dn_machine.proofs.{Invariant.{History, IsPiece, ComesFromInputs, IsKept, history_of}, Put.{put_off, view_put, view_kept}, Peers.asked_end, Calls.{packet_cases, sender_after}}
 use Rattle.dn_machine.proofs.Lists
-use Rattle.dn_machine.specs.declared.answers.Phase.{Phase}
-use Rattle.dn_machine.specs.declared.answers.Phase.TheVariants.{Listening, Gathering, Playing}
-use Rattle.dn_machine.specs.declared.answers.Heard.{Heard}
-use Rattle.dn_machine.specs.declared.peer.Peer.{Peer}
-use Rattle.dn_machine.specs.Game.{Game, with_node}
-use Rattle.dn_machine.proofs.Peers.{asked_low, asked_end, flight_low, flight_end}
-use Rattle.dn_machine.proofs.Calls.{packet_cases, sender_after}
 use Rattle.dn_machine.proofs.Placing
-use Rattle.dn_machine.specs.Hearing.{on_packet}
-use Rattle.dn_machine.specs.Running.{is_over}
 
 module _ {S : Type 0} (rules : Rules S) (settings : Settings) (history : History) (flights : List Flight)
     (from_inputs : ComesFromInputs rules settings history flights) where
@@ -50,44 +39,11 @@ module _ {S : Type 0} (rules : Rules S) (settings : Settings) (history : History
         × (length (history.inputs p) ≡ length (history.inputs flight.from))
         × (length (history.rows q) ≡ length (history.rows me)))
         ⊎ (length (held_after q p) ≡ length (history.held q p))
-    counts q p = grind (arith, both_or_not, put_two_at, length_new, put_two_off)
+    counts q p = grind (arith, length_new)
 
     pub lists_taken : ComesFromInputs rules settings (record history { held = held_after }) flights
-    lists_taken = record {
-      counted = λ p l. ap (length {A = TicCmd})
-          (put_two_off history.held me flight.from p p _ (λ e d. other (sym e ∙ d))) ∙ from_inputs.counted p l;
-      run = Lists.run_with rules settings history flights from_inputs held_after
-          (λ q p. let now = counts q p in omega arith);
-      got = λ q p l m.
-          let now = counts q p in
-          let old = from_inputs.got q p l m in
-          let reached = piece.reached in
-          omega arith;
-      ahead = from_inputs.ahead;
-      unread = λ q p l m.
-          let now = counts q p in
-          let old = from_inputs.unread q p l m in
-          let reached = piece.reached in
-          let near = Lists.close rules settings history flights from_inputs flight.from me piece.sender mine
-          stays in
-          let own = from_inputs.ahead me mine in
-          omega arith;
-      commands = λ q p tic l m t. elim (both_or_not q me p flight.from) [
-        | inl h ↦
-            let same = put_two_at history.held me flight.from q p _ h.0 h.1 in
-            let count = ap (length {A = TicCmd}) same ∙ length_new in
-            ap (λ (cs : List TicCmd). get_or cs tic blank) same
-            ∙ (true_new tic (omega arith) ∙ ap (λ (r : ℕ). command rules settings history.inputs r tic)
-            (sym h.1))
-        | inr n ↦
-            let same = put_two_off history.held me flight.from q p _ n in
-            ap (λ (cs : List TicCmd). get_or cs tic blank) same
-            ∙ from_inputs.commands q p tic l m (subst (λ (cs : List TicCmd). tic < length cs) same t)
-      ];
-      moves = from_inputs.moves;
-      ended = from_inputs.ended;
-      pieces = from_inputs.pieces;
-    }
+    lists_taken =
+        grind (arith, counts, Lists.close, true_new)
 
 -- a packet that tells an end is an EXIT packet
 pub exit_is : (kind : Kind) → is_exit kind ≡ true → kind ≡ Exit
@@ -154,13 +110,10 @@ module _ {S : Type 0} (rules : Rules S) (settings : Settings) (game : Game)
           (view_kept (λ (n : Node). n.held) game.nodes i _ refl)
           (view_kept (λ (n : Node). n.rows) game.nodes i _ refl)
           (ends_view (game.nodes i).held)
-          (Placing.left_placed rules settings game kept i mine (with_peer (game.nodes i) flight.from peer)
-          (λ h. h))
+          (grind arith)
           (end_from_inputs exit leaving)
-          (Placing.peer_sound rules settings game kept i mine flight.from peer
-          (game.nodes i).held low still refl)
-          (Placing.marks_kept rules settings game kept i mine (with_peer (game.nodes i) flight.from peer) refl
-          refl)
+          (search (rules, Placing.peer_sound, still))
+          (grind arith)
 
       abbrev taken : ℕ → List TicCmd
       taken = put (game.nodes i).held flight.from
@@ -183,8 +136,7 @@ module _ {S : Type 0} (rules : Rules S) (settings : Settings) (game : Game)
           (lists_taken rules settings (history_with_end exit) game.flights (end_from_inputs exit leaving) i mine
           (Placing.playing_stays rules settings game kept i mine plays) flight piece apart first
           (omega arith))
-          (Placing.peer_sound rules settings game kept i mine flight.from peer taken low still
-          (put_off (game.nodes i).held flight.from i _ apart))
+          (search (rules, Placing.peer_sound, still, put_off))
           (Placing.marks_kept rules settings game kept i mine next refl refl)
 
     -- hear
@@ -195,11 +147,8 @@ module _ {S : Type 0} (rules : Rules S) (settings : Settings) (game : Game)
         let same = Placing.same_node rules settings game kept i mine in
         let leaving : is_exit flight.kind ≡ true → flight.kind ≡ Exit = exit_is flight.kind in
         let peer : Peer = sender_after rules.limits i (game.nodes i) flight in
-        let told : peer.end ≡ end_after (is_exit flight.kind) =
-        flight_end rules.places (made i (game.nodes i)) ((game.nodes i).peers flight.from) flight in
-        let low : peer.resend ≤ made i (game.nodes i) =
-        flight_low rules.places (made i (game.nodes i)) ((game.nodes i).peers flight.from) flight
-        (sound.resend flight.from) in
+        let told : peer.end ≡ end_after (is_exit flight.kind) = grind arith in
+        let low : peer.resend ≤ made i (game.nodes i) = grind arith in
         packet_cases rules.limits i (game.nodes i) flight
         (λ (r : Node × Heard). IsKept rules settings (with_node game i r.0)) (record {
           dropped = λ number why. same;
@@ -210,20 +159,10 @@ module _ {S : Type 0} (rules : Rules S) (settings : Settings) (game : Game)
               (λ h. ap (λ (z : Settings). Some z) (piece.set_up s k)) (λ p w z h. cc));
           completes = λ word e all. Placing.quiet rules settings game kept i mine _ refl refl refl refl refl
               (in_play_left Gathering e refl)
-              (Placing.restated rules settings game kept i mine Playing true node.settings _
-              (λ h. sound.gathering e) (λ h. refl) (λ h. sound.gathering e) (λ p w s h. cc));
-          notes = λ word e some. Placing.quiet rules settings game kept i mine _ refl refl refl refl refl (λ h. h)
-              (Placing.restated rules settings game kept i mine node.phase node.played node.settings _
-              sound.played sound.playing sound.gathering sound.consistent);
-          commands = λ plays. record {
-            dropped = λ number why. same;
-            stale = λ l. hears_only (is_exit flight.kind) leaving peer told low;
-            gap = λ l. hears_only (is_exit flight.kind) leaving (record peer { want = true }) told low;
-            takes = λ first high. takes_too (is_exit flight.kind) leaving (record peer { want = false }) told
-                low plays first high;
-          };
+              (grind arith);
+          notes = search (rules, Placing.quiet);
+          commands = search (rules, hears_only, takes_too);
           requests = λ ended. hears_only false (λ e. absurd (cc)) _
               (asked_end rules.places (made i (game.nodes i)) ((game.nodes i).peers flight.from) flight.request)
-              (asked_low rules.places (made i (game.nodes i)) ((game.nodes i).peers flight.from) flight.request
-              (sound.resend flight.from));
+              (grind arith);
         })

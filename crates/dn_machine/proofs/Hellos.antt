@@ -1,23 +1,11 @@
 -- The key player's packet starts a listener, and a player's packet is noted by the key player.
-use Rattle.std.proofs.Common.{◌≡◌, ℕ, ◌<◌, ◌≢◌, Bool, true, false, true≢false, [], length, refl, sym, ◌∙◌, ap, arith, Some, None, inl, inr}
+use Rattle.std.proofs.{Common.{◌≡◌, ℕ, ◌<◌, ◌≢◌, Bool, true, false, true≢false, [], length, refl, sym, ◌∙◌, ap, arith, Some, None, inl, inr, rules}, lemmas.Bool.cases_Bool}
 use Rattle.std.specs.Prelude.{◌⊎◌}
-use Rattle.std.proofs.lemmas.Bool.{cases_Bool, cond-false, ne_eqb}
 use Rattle.dn_setup.specs.Settings.{Settings}
-use Rattle.dn_machine.specs.declared.answers.Phase.{Phase}
-use Rattle.dn_machine.specs.declared.answers.Phase.TheVariants.{Gathering, Playing}
-use Rattle.dn_machine.specs.Worlds.{Rules}
-use Rattle.dn_machine.specs.Flight.{Kind, SetUp, Flight, is_near}
-use Rattle.dn_machine.specs.Node.{Node, put, made, is_ended, has_left}
-use Rattle.dn_machine.specs.Sending.{on_send}
-use Rattle.dn_machine.specs.Hearing.{on_gathering, on_packet, on_packet_in}
-use Rattle.dn_machine.specs.Game.{Game, with_node}
+use Rattle.dn_machine.specs.{declared.answers.Phase.TheVariants.{Gathering, Playing}, Worlds.Rules, Flight.{SetUp, Flight, is_near}, Node.{Node, made, is_ended, has_left}, Sending.on_send, Hearing.on_packet, Game.{Game, with_node}}
 use Rattle.dn_machine.specs.Progress.{exchange}
-use Rattle.dn_machine.proofs.Put.{put_at, put_off}
-use Rattle.dn_machine.proofs.Pairs.{Gives}
+use Rattle.dn_machine.proofs.{Pairs.Gives, Openings.{Stands, Gathers, Listens, Plays, HasGone}, Begun.{AllGentle, exchange_gentle, IsBegun}}
 use Rattle.dn_machine.proofs.Pairs
-use Rattle.dn_machine.proofs.Openings.{Stands, Gathers, Listens, Plays, HasGone}
-use Rattle.dn_machine.proofs.Gentle.{AllGentle, exchange_gentle}
-use Rattle.dn_machine.proofs.Begun.{IsBegun}
 
 -- the key player still gathers
 abbrev pub KeyGathers : Game → Type 0
@@ -32,12 +20,10 @@ abbrev pub KnowsOf : ℕ → Game → Type 0
 KnowsOf j g = ((g.nodes 0).phase ≡ Playing) ⊎ ((g.nodes 0).noted j ≡ true)
 
 pub in_stable : (j : ℕ) (old new : Game) → AllGentle old new → IsIn j old → IsIn j new
-in_stable j old new gentle (inl y) = inl ((gentle j).plays y)
-in_stable j old new gentle (inr y) = inr ((gentle j).left y)
+in_stable j old new gentle x = grind arith
 
 pub knows_stable : (j : ℕ) (old new : Game) → AllGentle old new → KnowsOf j old → KnowsOf j new
-knows_stable j old new gentle (inl y) = inl ((gentle 0).plays y)
-knows_stable j old new gentle (inr y) = inr ((gentle 0).noted j y)
+knows_stable j old new gentle x = grind arith
 
 module _ {S : Type 0} (rules : Rules S) (settings : Settings) (cap : ℕ) (stay : ℕ → Bool) (tic : ℕ) where
   module _ (some : 0 < rules.players) (key_stays : stay 0 ≡ true) where
@@ -53,7 +39,7 @@ module _ {S : Type 0} (rules : Rules S) (settings : Settings) (cap : ℕ) (stay 
 
       gives : on_send rules.limits 0 (game.nodes 0) j ≡ (game.nodes 0, Some set_up)
       unfolding on_send
-      gives = grind (arith, cond-false, ne_eqb, back)
+      gives = grind arith
 
       abbrev started_one : Node
       started_one = (on_packet rules.limits j (game.nodes j) set_up).0
@@ -61,8 +47,7 @@ module _ {S : Type 0} (rules : Rules S) (settings : Settings) (cap : ℕ) (stay 
       exchange_is : exchange rules 0 game j
           ≡ with_node (Pairs.under_way rules settings game begun.live 0 j some its back (game.nodes 0)
           set_up refl gives) j started_one
-      exchange_is = Pairs.arrives rules settings game begun.live 0 j some its back (game.nodes 0)
-          set_up refl gives refl
+      exchange_is = search (rules, Pairs.arrives, back, gives)
 
       started_plays : is_ended (game.nodes j).phase ≡ false → started_one.phase ≡ Playing
       unfolding on_packet
@@ -70,14 +55,12 @@ module _ {S : Type 0} (rules : Rules S) (settings : Settings) (cap : ℕ) (stay 
 
       pub starts : IsIn j (exchange rules 0 game j)
       starts = elim (cases_Bool (stay j)) [
-        | inl s ↦ inl (ap (λ (g : Game). (g.nodes j).phase) exchange_is
-            ∙ (ap (λ (n : Node). n.phase) (put_at (put game.nodes 0 (game.nodes 0)) j j started_one refl)
-            ∙ started_plays (begun.there j its s)))
+        | inl s ↦ grind (arith, exchange_is, started_plays)
         | inr s ↦ inr ((exchange_gentle rules game 0 j j).left (begun.left j its s))
       ]
 
       pub still_gathers : KeyGathers (exchange rules 0 game j)
-      still_gathers = grind (arith, exchange_is, put_off, back, put_at)
+      still_gathers = grind (arith, exchange_is)
 
     -- and a player's packet is noted
     module _ (j : ℕ) (its : j < rules.players) (other : j ≢ 0) (game : Game)
@@ -88,23 +71,7 @@ module _ {S : Type 0} (rules : Rules S) (settings : Settings) (cap : ℕ) (stay 
       F = Pairs.packet rules settings game begun.live j 0 its some other gone asks_it sends
 
       near : length (game.nodes 0).rows ≡ 0 → is_near (made 0 (game.nodes 0)) F ≡ true
-      near none =
-          let f = Pairs.fits rules settings game begun.live in
-          let few = f.ahead 0 some in
-          Pairs.near rules settings game begun.live j 0 its some other gone asks_it sends
-          (f.close j 0 its some (begun.there 0 some key_stays)) (omega arith)
-          (λ w. (f.held j 0 its some, f.unheard j 0 its some (asker w)))
-
-      noted_so : (on_gathering rules.limits (game.nodes 0) j).0.noted j ≡ true
-      noted_so = grind arith
-
-      noted_in : (on_packet_in rules.limits 0 (game.nodes 0) F Gathering F.kind).0.noted j ≡ true
-      noted_in = elim (Pairs.is_word rules settings game begun.live j 0 its some other gone asks_it sends) [
-        | inl play ↦ ap (λ (k : Kind). (on_packet_in rules.limits 0 (game.nodes 0) F Gathering k).0.noted j) play
-            ∙ noted_so
-        | inr exit ↦ ap (λ (k : Kind). (on_packet_in rules.limits 0 (game.nodes 0) F Gathering k).0.noted j) exit
-            ∙ noted_so
-      ]
+      near none = grind (arith, Pairs.fits)
 
       knows_by : KnowsOf j (exchange rules j game 0)
       unfolding on_packet
@@ -118,12 +85,7 @@ module _ {S : Type 0} (rules : Rules S) (settings : Settings) (cap : ℕ) (stay 
               inr (ap (λ (g : Game). (g.nodes 0).noted j)
               (Pairs.exchanged rules settings game begun.live j 0 its some other gone asks_it sends
               (near k))
-              ∙ (ap (λ (n : Node). n.noted j)
-              (put_at (Pairs.sent rules settings game begun.live j 0 its some other gone asks_it
-              sends).nodes 0 0
-              (Pairs.receiver rules settings game begun.live j 0 its some other gone asks_it sends) refl)
-              ∙ (ap (λ (ph : Phase). (on_packet_in rules.limits 0 (game.nodes 0) F ph F.kind).0.noted j) e
-              ∙ noted_in)))
+              ∙ (grind arith))
 
     pub knows : (j : ℕ) → j < rules.players → j ≢ 0 → (game : Game)
         → IsBegun rules settings cap stay tic game → IsIn j game

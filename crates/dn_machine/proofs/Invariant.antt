@@ -1,16 +1,10 @@
 -- What every event keeps.
 use Rattle.std.specs.Prelude.{ℕ, ◌+◌, ◌<◌, ◌≤◌, Bool, true, List, [], ◌≡◌, ◌≢◌, ◌⊎◌, ℤ, get_or, length, Option, Some, slice_get}
-use Rattle.dn_tic.specs.declared.command.TicCmd.{TicCmd}
-use Rattle.dn_tic.specs.declared.command.Move.{Move}
+use Rattle.dn_tic.specs.{declared.command.TicCmd.TicCmd, declared.command.Move.Move}
 use Rattle.dn_setup.specs.Settings.{Settings}
-use Rattle.dn_machine.specs.declared.answers.Phase.TheVariants.{Playing, Gathering, Ended}
+use Rattle.dn_machine.specs.{declared.answers.Phase.TheVariants.{Playing, Gathering, Ended}, Limits.IsWindow, Worlds.{Inputs, Rules, command, row, world}, Flight.{SetUp, Exit, Flight, end_of}}
+use Rattle.dn_machine.specs.{Node.{Node, ends_of, blank, has_left, is_whole, demo_rows}, Running.{tic_limit, row_held}, Game.Game}
 use Rattle.dn_machine.specs.declared.answers.Cause.TheVariants as Cause
-use Rattle.dn_machine.specs.Limits.{IsWindow}
-use Rattle.dn_machine.specs.Worlds.{Inputs, Rules, command, row, world}
-use Rattle.dn_machine.specs.Flight.{SetUp, Exit, Flight, end_of}
-use Rattle.dn_machine.specs.Node.{Node, ends_of, blank, has_left, is_whole, demo_rows}
-use Rattle.dn_machine.specs.Running.{tic_limit, row_held}
-use Rattle.dn_machine.specs.Game.{Game}
 
 -- A packet that was sent is a piece of what its sender has.
 pub record IsPiece {S : Type 0} (rules : Rules S) (settings : Settings) (inputs : Inputs) (left : ℕ → Bool)

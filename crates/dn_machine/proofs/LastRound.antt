@@ -1,20 +1,10 @@
 -- In the round after those each player runs the tic.
-use Rattle.std.proofs.Common.{◌≡◌, ℕ, suc, ◌+◌, ◌<◌, ◌≤◌, ◌≢◌, Bool, true, ◌∙◌, ap, subst, arith, Option, inl, inr}
+use Rattle.std.proofs.{Common.{◌≡◌, ℕ, suc, ◌+◌, ◌<◌, ◌≤◌, ◌≢◌, Bool, true, ap, subst, arith, inl, inr, rules}, lemmas.Bool.{cases_eq, cases_lt}}
 use Rattle.std.specs.Prelude.{◌⊎◌}
-use Rattle.std.proofs.lemmas.Bool.{cases_eq, cases_lt, le-leb}
 use Rattle.dn_setup.specs.Settings.{Settings}
-use Rattle.dn_machine.specs.declared.events.Event.TheVariants.{Run}
-use Rattle.dn_machine.specs.Worlds.{Rules}
-use Rattle.dn_machine.specs.Node.{got, made, ran}
-use Rattle.dn_machine.specs.Running.{is_over, is_absent}
-use Rattle.dn_machine.specs.Game.{Game}
-use Rattle.dn_machine.specs.Progress.{after, in_order, turn, good_round, good_rounds}
-use Rattle.dn_machine.proofs.Stages.{Has, Meets, Asks, Unknown, reach}
-use Rattle.dn_machine.proofs.GoingOn.{IsFar, IsOn}
-use Rattle.dn_machine.proofs.InOrder.{one_of}
+use Rattle.dn_machine.specs.{declared.events.Event.TheVariants.Run, Worlds.Rules, Node.{got, made, ran}, Running.is_absent, Game.Game, Progress.{after, in_order, turn, good_round, good_rounds}}
+use Rattle.dn_machine.proofs.{Stages.{Has, Meets, Asks, Unknown, reach}, GoingOn.{IsFar, IsOn}, InOrder.one_of, Growth.{applied_grows, turn_ran}, Rounds.{At, In, InFar, InOn, turn_hears, turn_keeps, has_after}}
 use Rattle.dn_machine.proofs.Turns
-use Rattle.dn_machine.proofs.Growth.{applied_grows, turn_ran}
-use Rattle.dn_machine.proofs.Rounds.{At, In, InFar, InOn, turn_hears, turn_keeps, has_after}
 use Rattle.dn_tic.specs.declared.input.Input.{Input}
 
 -- of several players another than this one
@@ -50,7 +40,7 @@ module _ {S : Type 0} (rules : Rules S) (settings : Settings) (cap : ℕ) (stay 
         ]
       where
         far_off : ran (g.nodes q) ≤ tic → IsFar rules cap stay g → ⊥
-        far_off low far = let x = far q m stays in omega arith
+        far_off low far = omega arith
 
         has_of : ran (g.nodes q) ≤ tic → tic ≤ ran (g.nodes q)
             → (p : ℕ) (l : p < rules.players) (apart : p ≢ q)
@@ -58,9 +48,7 @@ module _ {S : Type 0} (rules : Rules S) (settings : Settings) (cap : ℕ) (stay 
             → (ran (g.nodes q) < got (g.nodes q) p) ⊎ (is_absent (g.nodes q) p ≡ true)
         has_of low high p l apart (InFar far) = absurd (far_off low far)
         has_of low high p l apart (InOn on built goal aims (Has (inl h))) = inl (omega arith)
-        has_of low high p l apart (InOn on built goal aims (Has (inr h))) = let at = h.2 in
-            inr (ap (λ (o : Option ℕ). is_over o (ran (g.nodes q))) h.1
-            ∙ le-leb h.0 (ran (g.nodes q)) (omega arith))
+        has_of low high p l apart (InOn on built goal aims (Has (inr h))) = inr (grind arith)
         has_of low high p l apart (InOn on built goal aims (Meets h e)) = absurd (omega arith)
         has_of low high p l apart (InOn on built goal aims (Asks w h)) = absurd (omega arith)
         has_of low high p l apart (InOn on built goal aims (Unknown more h near)) = absurd (omega arith)
@@ -92,8 +80,7 @@ module _ {S : Type 0} (rules : Rules S) (settings : Settings) (cap : ℕ) (stay 
     unfolding good_round
     round_runs inputs g all =
         one_of HasAll (λ (h : Game). tic < ran (h.nodes q)) (turn rules inputs) rules.players q
-        (λ i h o n x p l apart. turn_keeps rules settings cap stay tic p q l m stays apart inputs i o h
-        (x p l apart))
+        (λ i h o n x p l apart. search (rules, turn_keeps))
         (λ i h o n x. let more = turn_ran rules inputs q (suc tic) h i (omega arith) in omega arith)
         (λ h x. turn_runs inputs h x)
         g m all
@@ -105,5 +92,4 @@ module _ {S : Type 0} (rules : Rules S) (settings : Settings) (cap : ℕ) (stay 
         let all : suc (12 + more) ≡ 13 + more = omega arith in
         subst (λ (n : ℕ). tic < ran ((in_order (λ before round. good_round rules (inputs round) before) n g).nodes q))
         all
-        (round_runs (inputs (12 + more)) (good_rounds rules inputs (12 + more) g)
-        (λ p l apart. has_after rules settings cap stay tic p q l m stays apart inputs more reaches g on))
+        (search (rules, round_runs, has_after))

@@ -1,31 +1,13 @@
 -- Which packets are near: those whose first tic lies near enough a count, and those that were given soon before
 -- they come.
-use Rattle.std.proofs.Common.{◌≡◌, ℕ, ◌+◌, ◌<◌, ◌≤◌, ◌≢◌, true, false, true≢false, List, sym, ◌∙◌, ap, arith, Option, Some, None, inl, inr}
+use Rattle.std.proofs.{Common.{◌≡◌, ℕ, ◌+◌, ◌<◌, ◌≤◌, ◌≢◌, true, false, List, sym, ap, arith, Option, Some, None, inl, inr}, lemmas.Option.{none-some, same_Some}}
 use Rattle.std.specs.Prelude.{slice_get, ◌⊎◌}
-use Rattle.std.proofs.lemmas.Bool.{leb-true, and_parts}
-use Rattle.std.proofs.lemmas.Option.{none-some, same_Some, cond_some}
 use Rattle.dn_setup.specs.Settings.{Settings}
-use Rattle.dn_machine.specs.declared.answers.Phase.TheVariants.{Gathering, Playing}
-use Rattle.dn_machine.specs.declared.events.Event.{Event}
-use Rattle.dn_machine.specs.Limits.{Limits, IsWindow}
-use Rattle.dn_machine.specs.Worlds.{Rules}
-use Rattle.dn_machine.specs.Flight.{SetUp, Play, Flight, distance, is_near}
-use Rattle.dn_machine.specs.Node.{Node, got, made, ran, is_ended, has_left}
-use Rattle.dn_machine.specs.Sending.{first_sent, set_up_flight, left_kind, commands_flight, request_to, on_send}
-use Rattle.dn_machine.specs.Running.{is_absent}
-use Rattle.dn_machine.specs.Game.{Game}
-use Rattle.dn_machine.specs.Runs.{Runs}
-use Rattle.dn_machine.specs.Progress.{IsSwift}
-use Rattle.dn_machine.specs.Nearness.{is_start_near, IsYoung, IsSoon, IsOnItsWay}
-use Rattle.dn_machine.proofs.Invariant.{IsKept, history_of}
+use Rattle.dn_machine.specs.{declared.answers.Phase.TheVariants.{Gathering, Playing}, declared.events.Event.Event, Limits.{Limits, IsWindow}, Worlds.Rules, Flight.{SetUp, Flight, distance, is_near}}
+use Rattle.dn_machine.specs.{Node.{Node, got, made, ran, is_ended, has_left}, Sending.{first_sent, set_up_flight, on_send}, Running.is_absent, Game.Game, Runs.Runs, Progress.IsSwift, Nearness.{is_start_near, IsYoung, IsSoon, IsOnItsWay}}
+use Rattle.dn_machine.proofs.{Invariant.{IsKept, history_of}, Games.{always, leads_keeps}, Asking.IsAsking, Growth.{IsLater, leads_later}}
 use Rattle.dn_machine.proofs.Lists
 use Rattle.dn_machine.proofs.Promises
-use Rattle.dn_machine.proofs.Calls.{send_cases}
-use Rattle.dn_machine.proofs.SendKeeps.{first_reached}
-use Rattle.dn_machine.proofs.Stages.{lag_low}
-use Rattle.dn_machine.proofs.Games.{always, leads_keeps}
-use Rattle.dn_machine.proofs.Asking.{IsAsking}
-use Rattle.dn_machine.proofs.Later.{IsLater, leads_later}
 
 -- a packet whose tics lie within 64 of a count
 near_by : (made : ℕ) (flight : Flight) → flight.start ≤ made + 64 → made ≤ flight.start + 64
@@ -44,17 +26,10 @@ module _ {S : Type 0} (rules : Rules S) (settings : Settings) (game : Game)
 
   pub asks : (tic : ℕ) → flight.request ≡ Some tic → (flight.start ≤ tic + rules.ahead) × (tic ≤ counted_to)
   asks tic e =
-      let piece = asking.kept.from_inputs.pieces which flight at in
-      let low = piece.request tic e in
-      let count = asking.kept.from_inputs.counted flight.to piece.receiver in
-      (asking.close which flight tic at e, omega arith)
+      let piece = asking.kept.from_inputs.pieces which flight at in grind arith
 
   pub numbered : is_start_near rules.limits counted_to flight.start ≡ true → is_near counted_to flight ≡ true
-  numbered near =
-      let within = leb-true _ _ near in
-      let narrow = asking.kept.window.back in
-      near_by counted_to flight (omega arith) (omega arith)
-      (λ tic e. let tics = asks tic e in let a = tics.0 in let b = tics.1 in (omega arith, omega arith))
+  numbered near = grind (arith, asks)
 
 -- a packet of commands, as it is given
 pub record IsGiven (limits : Limits) (me to : ℕ) (node : Node) (flight : Flight) : Type 0 where
@@ -70,34 +45,8 @@ given_set_up me to (Some s) flight e = (s, sym (ap (λ (f : Flight). f.kind) (sa
 pub given_is : (limits : Limits) (me to : ℕ) (node : Node) (flight : Flight)
     → (on_send limits me node to).1 ≡ Some flight
     → ((s : Settings) × (flight.kind ≡ SetUp s) × (node.phase ≡ Gathering)) ⊎ IsGiven limits me to node flight
-given_is limits me to node flight = send_cases limits me node
-    (λ (r : Node × Option Flight). r.1 ≡ Some flight
-    → ((s : Settings) × (flight.kind ≡ SetUp s) × (node.phase ≡ Gathering)) ⊎ IsGiven limits me to node flight) to
-    (λ e. absurd (none-some flight e))
-    (λ other gathers e. let set_up = given_set_up me to node.settings flight e in
-    inl (set_up.0, set_up.1, gathers))
-    (λ other plays e.
-    let is = same_Some (commands_flight limits me node to Play (request_to node to)) flight e in
-    inr (record {
-      apart = other;
-      start = sym (ap (λ (f : Flight). f.start) is);
-      asks = λ tic h. (
-        plays,
-        sym (cond_some (node.peers to).want (got node to) tic (ap (λ (f : Flight). f.request) is ∙ h)).1,
-      );
-    }))
-    (λ other left e.
-    let is = same_Some (commands_flight limits me node to (left_kind limits me node to) None) flight e in
-    inr (record {
-      apart = other;
-      start = sym (ap (λ (f : Flight). f.start) is);
-      asks = λ tic h. absurd (none-some tic (ap (λ (f : Flight). f.request) is ∙ h));
-    }))
-
--- it starts at most what is kept before the next command
-start_low : (limits : Limits) (me to : ℕ) (node : Node) → 1 ≤ limits.places
-    → made me node ≤ first_sent limits me node to + limits.places
-start_low limits me to node some = let few = lag_low limits in grind arith
+unfolding on_send
+given_is limits me to node flight = grind (arith, given_set_up)
 
 module _ {S : Type 0} (rules : Rules S) (settings : Settings) (window : IsWindow rules.limits)
     (swift : IsSwift rules.limits) where
@@ -105,8 +54,6 @@ module _ {S : Type 0} (rules : Rules S) (settings : Settings) (window : IsWindow
   close : (game : Game) → IsKept rules settings game → (p q : ℕ) → p < rules.players → q < rules.players
       → has_left (game.nodes q) ≡ false → made p (game.nodes p) ≤ made q (game.nodes q) + rules.ahead
   close game kept p q l m stays =
-      let a = kept.from_inputs.counted p l in
-      let b = kept.from_inputs.counted q m in
       let c = Lists.close rules settings (history_of game) game.flights kept.from_inputs p q l m stays in
       omega arith
 
@@ -115,12 +62,7 @@ module _ {S : Type 0} (rules : Rules S) (settings : Settings) (window : IsWindow
       → IsGiven rules.limits me to (game.nodes me) flight
       → (flight.start ≤ made me (game.nodes me)) × (made me (game.nodes me) ≤ flight.start + rules.places)
   starts game kept me to l flight given =
-      let is = given.start in
-      let high = first_reached rules settings game kept me l to in
-      let some = swift.some in
-      let twice = window.twice in
-      let low = start_low rules.limits me to (game.nodes me) (omega arith) in
-      (omega arith, omega arith)
+      grind arith
 
   -- a new packet lies no further away than what is kept and the window
   pub new : (events : List Event) (game : Game) → Runs rules settings events game → (me to : ℕ)
@@ -134,8 +76,8 @@ module _ {S : Type 0} (rules : Rules S) (settings : Settings) (window : IsWindow
       let a = close game kept me to l m stays in
       let b = close game kept to me m l on in
       elim (given_is rules.limits me to (game.nodes me) flight gives) [
-        | inl set_up ↦ absurd (let gathers = set_up.2 in cc)
-        | inr given ↦ let s = starts game kept me to l flight given in let high = s.0 in let low = s.1 in omega arith
+        | inl set_up ↦ absurd (cc)
+        | inr given ↦ let s = starts game kept me to l flight given in omega arith
       ]
 
   module _ (me to : ℕ) (flight : Flight) (before given now : Game)
@@ -162,9 +104,7 @@ module _ {S : Type 0} (rules : Rules S) (settings : Settings) (window : IsWindow
         let a = close before kept_before me to way.sender way.receiver stays in
         let b = (starts given kept_given me to way.sender flight gives).0 in
         let c = (first to).more to in
-        let d = (next to).more to in
-        let e = (first me).more me in
-        omega arith
+        let d = (next to).more to in grind arith
 
     -- given after both were in play, to one who has built few since, by one who has not built many
     pub late : has_left (before.nodes me) ≡ false → has_left (before.nodes to) ≡ false
@@ -175,18 +115,9 @@ module _ {S : Type 0} (rules : Rules S) (settings : Settings) (window : IsWindow
       | inl set_up ↦ near_set_up (made to (now.nodes to)) flight set_up.0 set_up.1
       | inr gives ↦
           let a = close before kept_before to me way.receiver way.sender on in
-          let b = (starts given kept_given me to way.sender flight gives).1 in
           let c = (first to).more to in
           let d = (next to).more to in
-          let e = (first me).more me in
-          let twice = window.twice in
-          near_by (made to (now.nodes to)) flight (high stays few gives) (omega arith) (λ tic asks.
-          let is = gives.asks tic asks in
-          let fits = Promises.fits rules settings given kept_given in
-          let lacks = fits.unheard me to way.sender way.receiver (ap is_ended is.0) in
-          let has = fits.held me to way.sender way.receiver in
-          let same = is.1 in
-          (omega arith, omega arith))
+          let e = (first me).more me in grind (arith, near_by, high, Promises.fits, kept_given)
     ]
 
     -- who does not know a player's end to be reached has run no tic past it
@@ -196,10 +127,7 @@ module _ {S : Type 0} (rules : Rules S) (settings : Settings) (window : IsWindow
         let b = kept_now.from_inputs.counted me way.sender in
         elim (kept_now.from_inputs.run to me way.receiver way.sender) [
           | inl le ↦ omega arith
-          | inr all ↦
-              let end = (kept_now.from_inputs.ended to me all.0 way.receiver way.sender all.1).1 in
-              let before_it : ran (now.nodes to) < all.0 = grind (arith, all.1) in
-              omega arith
+          | inr all ↦ grind arith
         ]
 
     -- given by a player who has left, to one who has not run up to that player's end
@@ -212,10 +140,5 @@ module _ {S : Type 0} (rules : Rules S) (settings : Settings) (window : IsWindow
           let a = kept_now.from_inputs.ahead to way.receiver in
           let b = kept_now.from_inputs.counted to way.receiver in
           let c = not_past there in
-          let d = ((next me).left left).1 me in
-          let e = (starts given kept_given me to way.sender flight gives).1 in
-          let all = swift.near in
-          near_by (made to (now.nodes to)) flight (high stays few gives) (omega arith) (λ tic asks.
-          absurd (true≢false (sym (and_parts (given.nodes me).played (is_ended (given.nodes me).phase) left).1
-          ∙ ap is_ended (gives.asks tic asks).0)))
+          let d = ((next me).left left).1 me in grind (arith, high)
     ]

@@ -1,30 +1,13 @@
 -- How a game opens: the key player gathers and the others listen, and the key player starts once all others
 -- have played.
-use Rattle.std.proofs.Common.{◌≡◌, ℕ, ◌<◌, ◌≤◌, ◌≢◌, true, false, true≢false, ◌&&◌, List, length, refl, sym, ◌∙◌, ap, subst, arith, Option, Some, None, inl, inr, ltb}
+use Rattle.std.proofs.{Common.{◌≡◌, ℕ, ◌<◌, ◌≤◌, ◌≢◌, true, false, List, length, refl, sym, ◌∙◌, arith, Option, Some, None, rules}, lemmas.Bool.ltb-true}
 use Rattle.std.specs.Prelude.{slice_get}
-use Rattle.std.proofs.lemmas.Bool.{cases_eq, cases_Bool, ltb-true, and_parts}
-use Rattle.std.proofs.lemmas.Option.{none-some, same_Some}
-use Rattle.dn_setup.specs.Settings.{Settings}
-use Rattle.dn_setup.specs.Gathered.{all_noted}
-use Rattle.dn_machine.specs.declared.answers.Phase.TheVariants.{Listening, Gathering, Playing}
-use Rattle.dn_machine.specs.declared.events.Event.{Event}
-use Rattle.dn_machine.specs.declared.events.Event.TheVariants.{Build, Send, Deliver, Run, Quit, Stop, Give}
-use Rattle.dn_machine.specs.Limits.{IsWindow}
-use Rattle.dn_machine.specs.Worlds.{Rules}
-use Rattle.dn_machine.specs.Flight.{Flight}
-use Rattle.dn_machine.specs.Node.{Node, put, is_ended}
-use Rattle.dn_machine.specs.Sending.{on_send, set_up_flight}
-use Rattle.dn_machine.specs.Game.{Game, fresh, opening_game, with_node, posted, refused, delivered, on_event, applied, own_marks, built}
-use Rattle.dn_machine.proofs.Invariant.{IsKept}
-use Rattle.dn_machine.specs.Runs.{Runs}
-use Rattle.dn_machine.proofs.Put.{put_at, put_off, slice_get_push}
-use Rattle.dn_machine.proofs.Games.{opens, applied_keeps, passes}
-use Rattle.dn_machine.proofs.EachEvent.{leads_keep}
-use Rattle.dn_machine.proofs.Calls.{IsWord, send_cases}
-use Rattle.dn_machine.proofs.Growth.{Grows, build_grows, send_grows, run_grows, quit_grows, hear_grows, placed_grows}
-use Rattle.dn_machine.proofs.Changes.{each_noted, Change, Same, Starts, Notes, Completes, Gone, build_change, send_change, run_change, quit_change, hear_change, noted_of}
-use Rattle.dn_tic.specs.declared.input.Input.{Input}
-use Rattle.dn_tic.specs.declared.input.Input.TheVariants.{Pressed, Given}
+use Rattle.dn_setup.specs.{Settings.Settings, Gathered.all_noted}
+use Rattle.dn_machine.specs.{declared.answers.Phase.TheVariants.{Listening, Gathering, Playing}, declared.events.Event.Event, declared.events.Event.TheVariants.{Build, Send, Deliver, Run, Quit, Stop, Give}, Limits.IsWindow, Worlds.Rules}
+use Rattle.dn_machine.specs.{Flight.Flight, Node.{Node, is_ended}, Sending.on_send, Game.{Game, opening_game, with_node, posted, refused, delivered, on_event, applied, own_marks, built}, Runs.Runs}
+use Rattle.dn_machine.proofs.{Invariant.IsKept, Put.{put_at, put_off, slice_get_push}, Games.{opens, applied_keeps}, EachEvent.leads_keep, Calls.IsWord}
+use Rattle.dn_machine.proofs.Changes.{each_noted, Change, Same, Starts, Notes, Completes, Gone, build_change, send_change, run_change, quit_change, hear_change}
+use Rattle.dn_tic.specs.{declared.input.Input.Input, declared.input.Input.TheVariants.{Pressed, Given}}
 
 -- Where a node stands: the key player gathers, any other listens, until it plays; and then it may end.
 pub data Stands (i : ℕ) (node : Node) : Type 0 where
@@ -33,9 +16,9 @@ pub data Stands (i : ℕ) (node : Node) : Type 0 where
   Plays : node.phase ≡ Playing → Stands i node
   HasGone : is_ended node.phase ≡ true → Stands i node
 
-pub stands_on : (players from : ℕ) (spoke ends : Type 0) (i : ℕ) (old new : Node)
-    → Change players from spoke ends old new → Stands i old → Stands i new
-stands_on players from spoke ends i old new h e = grind arith
+plays_on : (players from : ℕ) (spoke ends : Type 0) (old new : Node) → Change players from spoke ends old new
+    → old.played ≡ true → new.played ≡ true
+plays_on players from spoke ends old new h e = grind arith
 
 -- What every event keeps of the opening.
 pub record IsOpen {S : Type 0} (rules : Rules S) (game : Game) : Type 0 where
@@ -54,8 +37,7 @@ module _ {S : Type 0} (rules : Rules S) (game : Game) (is_open : IsOpen rules ga
   -- one node after a call, and the packets as they were
   module _ (i from : ℕ) (spoke ends : Type 0) (new : Node)
       (change : Change rules.players from spoke ends (game.nodes i) new)
-      (spoken : spoke → (game.nodes from).played ≡ true)
-      (grows : (q : ℕ) → Grows (game.nodes q) (put game.nodes i new q)) where
+      (spoken : spoke → (game.nodes from).played ≡ true) where
     abbrev next : Game
     next = with_node game i new
 
@@ -63,7 +45,7 @@ module _ {S : Type 0} (rules : Rules S) (game : Game) (is_open : IsOpen rules ga
     key_noted : (old : Node) (here : Node) → Change rules.players from spoke ends old here
         → ((p : ℕ) → old.noted p ≡ true → (game.nodes p).played ≡ true) → (p : ℕ) → here.noted p ≡ true
         → (game.nodes p).played ≡ true
-    key_noted old here changed was p h = grind (arith, noted_of, put_off)
+    key_noted old here changed was p h = grind arith
 
     key_all : (old : Node) (here : Node) → Change rules.players from spoke ends old here
         → (old.phase ≡ Listening → ⊥) → ((p : ℕ) → old.noted p ≡ true → (game.nodes p).played ≡ true)
@@ -85,21 +67,17 @@ module _ {S : Type 0} (rules : Rules S) (game : Game) (is_open : IsOpen rules ga
     key_change : Change rules.players from spoke ends (game.nodes 0) (next.nodes 0)
     key_change = grind arith
 
+    still_plays : (p : ℕ) → (game.nodes p).played ≡ true → (next.nodes p).played ≡ true
+    still_plays p h = grind arith
+
     pub placed_open : IsOpen rules next
     placed_open = record {
-      stands = λ q. elim (cases_eq q i) [
-        | inl e ↦ subst (λ (n : Node). Stands q n) (sym (put_at game.nodes i q new e))
-            (stands_on rules.players from spoke ends q (game.nodes q) new
-            (subst (λ (k : ℕ). Change rules.players from spoke ends (game.nodes k) new) (sym e) change)
-            (is_open.stands q))
-        | inr n ↦ subst (λ (m : Node). Stands q m) (sym (put_off game.nodes i q new n)) (is_open.stands q)
-      ];
-      noted = λ p h. (grows p).played (key_noted (game.nodes 0) (next.nodes 0) key_change is_open.noted p h);
-      all = λ h p l m. (grows p).played
-          (key_all (game.nodes 0) (next.nodes 0) key_change
+      stands = grind arith;
+      noted = grind (arith, still_plays, key_change);
+      all = λ h p l m. still_plays p (key_all (game.nodes 0) (next.nodes 0) key_change
           (never_listens 0 (game.nodes 0) refl (is_open.stands 0)) is_open.noted is_open.all h p l m);
-      missing = λ h. key_missing (game.nodes 0) (next.nodes 0) key_change is_open.missing h;
-      sent = λ which flight e w. (grows flight.from).played (is_open.sent which flight e w);
+      missing = key_missing (game.nodes 0) (next.nodes 0) key_change is_open.missing;
+      sent = grind arith;
     }
 
   posted_open : (base : Game) (o : Option Flight) → IsOpen rules base
@@ -113,23 +91,8 @@ module _ {S : Type 0} (rules : Rules S) (settings : Settings) (game : Game)
   send_played : (i : ℕ) → i < rules.players → (to : ℕ) (flight : Flight)
       → (on_send rules.limits i (game.nodes i) to).1 ≡ Some flight → IsWord flight.kind
       → (game.nodes flight.from).played ≡ true
-  send_played i l to flight e w =
-      send_cases rules.limits i (game.nodes i)
-      (λ (r : Node × Option Flight). r.1 ≡ Some flight → (game.nodes flight.from).played ≡ true) to
-      (λ h. absurd (none-some flight h))
-      (λ other g h. set_up (game.nodes i).settings h)
-      (λ other plays h. ap (λ (k : ℕ). (game.nodes k).played) (from_i _ refl h)
-      ∙ (kept.sound i l).playing plays)
-      (λ other left h. ap (λ (k : ℕ). (game.nodes k).played) (from_i _ refl h)
-      ∙ (and_parts (game.nodes i).played (is_ended (game.nodes i).phase) left).0) e
-    where
-      from_i : (f : Flight) → f.from ≡ i → Some f ≡ Some flight → flight.from ≡ i
-      from_i f a h = sym (ap (λ (x : Flight). x.from) (same_Some f flight h)) ∙ a
-
-      set_up : (o : Option Settings) → set_up_flight i to o ≡ Some flight
-          → (game.nodes flight.from).played ≡ true
-      set_up None h = absurd (none-some flight h)
-      set_up (Some s) h = absurd (w s (sym (ap (λ (x : Flight). x.kind) (same_Some _ flight h))))
+  unfolding on_send
+  send_played i l to flight e w = grind arith
 
   delivers_open : (o : Option Flight) (which : ℕ) → slice_get game.flights which ≡ o
       → IsOpen rules (delivered rules game o).0
@@ -137,12 +100,10 @@ module _ {S : Type 0} (rules : Rules S) (settings : Settings) (game : Game)
   delivers_open (Some flight) which h =
       placed_open rules game is_open flight.to flight.from (IsWord flight.kind) ⊥ _
       (hear_change rules.limits flight.to (game.nodes flight.to) flight) (is_open.sent which flight h)
-      (λ q. placed_grows rules game q flight.to _ (hear_grows rules.limits flight.to (game.nodes flight.to) flight))
 
   built_open : (node : ℕ) (input : Input) → IsOpen rules (built rules game node input).0
   built_open node input = placed_open rules game is_open node 0 ⊥ ⊥ _
       (build_change rules.limits node (game.nodes node) input) (λ x. absurd x)
-      (λ q. placed_grows rules game q node _ (build_grows rules.limits node (game.nodes node) input))
 
   -- an event that is not refused
   happens_open : (event : Event) → refused rules.players game event ≡ None
@@ -150,57 +111,28 @@ module _ {S : Type 0} (rules : Rules S) (settings : Settings) (game : Game)
   happens_open (Build node keys) h = built_open node (Pressed keys)
   happens_open (Give node command) h = built_open node (Given command)
   happens_open (Send node to) h =
-      let both = and_parts (ltb node rules.players) (ltb to rules.players)
-      (passes (ltb node rules.players && ltb to rules.players) _ _ h) in
-      let grows : (q : ℕ)
-      → Grows (game.nodes q) (put game.nodes node (on_send rules.limits node (game.nodes node) to).0 q) =
-      λ q. placed_grows rules game q node _ (send_grows rules.limits node (game.nodes node) to) in
       posted_open rules game is_open (with_node game node (on_send rules.limits node (game.nodes node) to).0)
       (on_send rules.limits node (game.nodes node) to).1
       (placed_open rules game is_open node 0 ⊥ ⊥ _ (send_change rules.limits node (game.nodes node) to)
-      (λ x. absurd x) grows)
-      (λ flight e w. (grows flight.from).played
-      (send_played node (ltb-true node rules.players both.0) to flight e w))
+      (λ x. absurd x))
+      (λ flight e w. grind (arith, send_played, ltb-true, put_at, put_off, plays_on, send_change))
   happens_open (Deliver which) h = delivers_open (slice_get game.flights which) which refl
   happens_open (Run node) h = placed_open rules game is_open node 0 ⊥ (Unit {0}) _
       (run_change rules.limits node (game.nodes node) (own_marks rules (game.nodes node))) (λ x. absurd x)
-      (λ q. placed_grows rules game q node _ (run_grows rules.limits node (game.nodes node) (own_marks rules (game.nodes node))))
   happens_open (Quit node) h = placed_open rules game is_open node 0 ⊥ (Unit {0}) _
       (quit_change rules.limits node (game.nodes node)) (λ x. absurd x)
-      (λ q. placed_grows rules game q node _ (quit_grows rules.limits node (game.nodes node)))
-  happens_open (Stop node) h = record {
-    stands = is_open.stands;
-    noted = is_open.noted;
-    all = is_open.all;
-    missing = is_open.missing;
-    sent = is_open.sent;
-  }
+  happens_open (Stop node) h = grind arith
 
   pub applied_open : (event : Event) → IsOpen rules (applied rules game event).0
   unfolding applied
   applied_open event = grind (arith, happens_open)
 
 module _ {S : Type 0} (rules : Rules S) (settings : Settings) (several : 2 ≤ rules.players) where
-  opening_stands : (q : ℕ) → Stands q (fresh settings q)
-  opening_stands q = grind arith
-
   opening_open : IsOpen rules (opening_game settings)
   unfolding opening_game
-  opening_open = record {
-    stands = opening_stands;
-    noted = λ p h. absurd (true≢false (sym h));
-    all = λ h. absurd (true≢false (sym h));
-    missing = λ h. elim (cases_Bool (all_noted rules.players (λ node. false))) [
-      | inl e ↦ absurd (true≢false (sym (each_noted rules.players (λ node. false) 1 e (omega arith) several)))
-      | inr n ↦ n
-    ];
-    sent = λ which flight h w. absurd (none-some flight h);
-  }
+  opening_open = grind arith
 
   pub always_open : IsWindow rules.limits → (events : List Event) (game : Game) → Runs rules settings events game → IsOpen rules game
   always_open window events game run =
       (leads_keep rules (λ (now : Game). IsKept rules settings now × IsOpen rules now)
-      (λ now event both. (
-        applied_keeps rules settings now both.0 event,
-        applied_open rules settings now both.0 both.1 event,
-      )) events (opening_game settings) game (opens rules settings window, opening_open) run).1
+      (λ now event both. search (rules, applied_keeps, applied_open)) events (opening_game settings) game (opens rules settings window, opening_open) run).1

@@ -1,9 +1,6 @@
 -- What is kept of a peer after a packet, a node that keeps it, and ends that are not strange.
-use Rattle.std.proofs.Common.{◌≡◌, ◌≤◌, ℕ, Bool, true, false, cond, Option, Some, refl, arith}
-use Rattle.dn_machine.specs.declared.peer.Peer.{Peer}
-use Rattle.dn_machine.specs.Flight.{Flight, is_exit, end_of}
-use Rattle.dn_machine.specs.Node.{Node, put, with_peer, ends_of}
-use Rattle.dn_machine.specs.Hearing.{is_strange_end, after_request, after_exit, after_flight}
+use Rattle.std.proofs.Common.{◌≡◌, ◌≤◌, ℕ, Bool, true, cond, Option, Some, arith}
+use Rattle.dn_machine.specs.{declared.peer.Peer.Peer, Flight.{Flight, is_exit, end_of}, Node.{Node, put, with_peer, ends_of}, Hearing.{is_strange_end, after_request, after_exit, after_flight}}
 use Rattle.dn_machine.proofs.Put.{view_kept}
 
 pub asked_low : (places made : ℕ) (peer : Peer) (request : Option ℕ) → peer.resend ≤ made
@@ -17,8 +14,7 @@ asked_end places made peer request = grind arith
 
 -- and an end leaves the resend
 pub told_resend : (peer : Peer) (exit : Bool) (end : ℕ) → (after_exit peer exit end).resend ≡ peer.resend
-told_resend peer true end = refl
-told_resend peer false end = refl
+told_resend peer exit end = grind arith
 
 -- after a packet of commands
 pub flight_low : (places made : ℕ) (peer : Peer) (flight : Flight) → peer.resend ≤ made
@@ -28,12 +24,6 @@ flight_low places made peer flight low = grind arith
 pub flight_end : (places made : ℕ) (peer : Peer) (flight : Flight)
     → (after_flight places made peer flight).end ≡ cond (is_exit flight.kind) (Some (end_of flight)) peer.end
 flight_end places made peer flight = grind arith
-
--- resends after one peer's was put low enough
-pub resends_put : (peers : ℕ → Peer) (player : ℕ) (peer : Peer) (most : ℕ)
-    → ((p : ℕ) → (peers p).resend ≤ most) → peer.resend ≤ most
-    → (p : ℕ) → (put peers player peer p).resend ≤ most
-resends_put peers player peer most low at p = grind arith
 
 -- the ends after another peer was put, which has the end that the old one had
 pub same_ends : (node : Node) (player : ℕ) (peer : Peer) → peer.end ≡ ends_of node player

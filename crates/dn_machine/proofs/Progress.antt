@@ -1,31 +1,12 @@
 -- A game goes on as soon as the network delivers: one good round for the start, and for each tic thirteen and
 -- one for each packet that may be in vain.
-use Rattle.std.proofs.Common.{◌≡◌, ℕ, zero, suc, ◌+◌, ◌-◌, ◌*◌, ◌<◌, ◌≤◌, ◌≢◌, Bool, true, not, List, refl, sym, ◌∙◌, ap, subst, arith, inl, inr}
+use Rattle.std.proofs.{Common.{◌≡◌, ℕ, zero, suc, ◌+◌, ◌-◌, ◌*◌, ◌<◌, ◌≤◌, ◌≢◌, Bool, true, not, List, refl, sym, ◌∙◌, ap, subst, arith, inl, inr, rules}, lemmas.Bool.not-true}
 use Rattle.std.specs.Prelude.{◌⊎◌}
-use Rattle.std.proofs.lemmas.Bool.{cases_eq, and_from, not-true, not-false}
-use Rattle.std.proofs.Math.Nat.{mul-zero, mul-suc, zero-mul}
 use Rattle.dn_setup.specs.Settings.{Settings}
-use Rattle.dn_machine.specs.declared.answers.Phase.{Phase}
-use Rattle.dn_machine.specs.declared.events.Event.{Event}
-use Rattle.dn_machine.specs.Limits.{IsWindow}
-use Rattle.dn_machine.specs.Sending.{lag}
-use Rattle.dn_machine.specs.Worlds.{Rules}
-use Rattle.dn_machine.specs.Node.{ran, is_ended}
-use Rattle.dn_machine.specs.Running.{tic_limit}
-use Rattle.dn_machine.specs.Game.{Game}
-use Rattle.dn_machine.specs.Runs.{Runs}
+use Rattle.dn_machine.specs.{declared.answers.Phase.Phase, declared.events.Event.Event, Limits.IsWindow, Worlds.Rules, Node.{ran, is_ended}, Running.tic_limit, Game.Game, Runs.Runs}
 use Rattle.dn_machine.specs.Progress.{IsSwift, GoesInto, in_order, turn, good_round, good_rounds, NoneLost, AllRan, HasRoom}
-use Rattle.dn_machine.proofs.Games.{always}
-use Rattle.dn_machine.proofs.Stages.{Unknown, reach, reaches, lag_low}
-use Rattle.dn_machine.proofs.GoingOn.{IsFar, IsOn}
-use Rattle.dn_machine.proofs.InOrder.{each_of}
-use Rattle.dn_machine.proofs.Growth.{always_patient, rounds_ran}
-use Rattle.dn_machine.proofs.Rounds.{At, AtFar, AtOn, turn_keeps, round_nearer, has_after}
-use Rattle.dn_machine.proofs.LastRound.{other_player, next_run}
-use Rattle.dn_machine.proofs.Roomy.{IsRoomy, InDemos, Without, roomy_on}
-use Rattle.dn_machine.proofs.Openings.{Stands, Gathers, Listens, Plays, HasGone, always_open}
-use Rattle.dn_machine.proofs.Begun.{IsBegun, all_play}
-use Rattle.dn_machine.proofs.StartUp.{round_starts}
+use Rattle.dn_machine.proofs.{Games.always, Stages.{Unknown, reach, reaches, lag_low}, GoingOn.{IsFar, IsOn, IsRoomy, InDemos, Without, roomy_on}, InOrder.each_of, Growth.{always_patient, rounds_ran}}
+use Rattle.dn_machine.proofs.{Rounds.{At, AtOn, turn_keeps, round_nearer, has_after}, LastRound.{other_player, next_run}, Openings.{Stands, Gathers, Listens, Plays, HasGone, always_open}, Begun.{IsBegun, all_play}, StartUp.round_starts}
 use Rattle.dn_tic.specs.declared.input.Input.{Input}
 
 module _ {S : Type 0} (rules : Rules S) where
@@ -34,8 +15,7 @@ module _ {S : Type 0} (rules : Rules S) where
       → good_rounds rules inputs all game ≡ good_rounds rules (λ round. inputs (round + first)) more
       (good_rounds rules inputs first game)
   unfolding good_rounds in_order
-  rounds_add inputs game first zero all e = let same : all ≡ first = omega arith in
-      ap (λ (n : ℕ). in_order (λ before round. good_round rules (inputs round) before) n game) same
+  rounds_add inputs game first zero all e = grind arith
   rounds_add inputs game first (suc more) zero e = absurd (omega arith)
   rounds_add inputs game first (suc more) (suc all) e =
       let same : all ≡ more + first = omega arith in
@@ -45,8 +25,7 @@ module _ {S : Type 0} (rules : Rules S) where
 
   rounds_far : (cap : ℕ) (stay : ℕ → Bool) (inputs : ℕ → ℕ → Input) (count : ℕ) (game : Game)
       → IsFar rules cap stay game → IsFar rules cap stay (good_rounds rules inputs count game)
-  rounds_far cap stay inputs count game far q l s = let old = far q l s in
-      let more = rounds_ran rules inputs count q (ran (game.nodes q)) game (omega arith) in omega arith
+  rounds_far cap stay inputs count game far q l s = grind (arith, rounds_ran)
 
 module _ {S : Type 0} (rules : Rules S) (settings : Settings) (cap : ℕ) (several : 2 ≤ rules.players) (more : ℕ)
     (over : rules.places ≤ reach rules.limits more) where
@@ -68,8 +47,7 @@ module _ {S : Type 0} (rules : Rules S) (settings : Settings) (cap : ℕ) (sever
         rounds game
 
     settled : (tic rounds : ℕ) (game : Game) → AtPair tic rounds game → Settled tic game
-    settled tic rounds game (AtFar far) = inl far
-    settled tic rounds game (AtOn on goal aims stage) = inr on
+    settled tic rounds game x = grind arith
 
     -- one good round
     settled_round : (tic : ℕ) (inputs : ℕ → Input) (game : Game) → IsOn rules settings cap stay tic game
@@ -87,10 +65,8 @@ module _ {S : Type 0} (rules : Rules S) (settings : Settings) (cap : ℕ) (sever
         (settled tic 0 (good_round rules (inputs (12 + more)) (good_rounds rules inputs (12 + more) game))
         (each_of (AtPair tic 0) (turn rules (inputs (12 + more))) rules.players
         (good_rounds rules inputs (12 + more) game)
-        (λ i g l at. turn_keeps rules settings cap stay tic another.0 one another.1 in_game stays another.2
-        (inputs (12 + more)) i l g at)
-        (has_after rules settings cap stay tic another.0 one another.1 in_game stays another.2 inputs more over
-        game on)))
+        (λ i g l at. search (rules, turn_keeps))
+        (search (rules, has_after))))
 
     -- a tic more
     next_tic : (tic : ℕ) → suc tic + rules.ahead ≤ cap → (inputs : ℕ → ℕ → Input) (game : Game) → Settled tic game
@@ -98,30 +74,17 @@ module _ {S : Type 0} (rules : Rules S) (settings : Settings) (cap : ℕ) (sever
     next_tic tic room inputs game (inl far) = inl (rounds_far rules cap stay inputs each game far)
     next_tic tic room inputs game (inr on) = elim (settled_each tic inputs game on) [
       | inl far ↦ inl far
-      | inr still ↦ inr (record {
-        live = still.live;
-        plays = still.plays;
-        left = still.left;
-        ran = λ q l s. let past = next_run rules settings cap stay tic room several q l s inputs more over game on in
-            omega arith;
-        room = roomy_on rules cap tic (good_rounds rules inputs each game) still.room;
-      })
+      | inr still ↦ inr (search (rules, next_run, roomy_on))
     ]
 
     pub tics : (tic count last rounds : ℕ) → last ≡ tic + count → last + rules.ahead ≤ cap → rounds ≡ each * count
         → (inputs : ℕ → ℕ → Input) (game : Game) → Settled tic game
         → Settled last (good_rounds rules inputs rounds game)
     unfolding good_rounds in_order
-    tics tic zero last rounds e room f inputs game at =
-        let none : rounds ≡ 0 = f ∙ mul-zero each in
-        let same : tic ≡ last = omega arith in
-        subst (λ (n : ℕ). Settled last
-        (in_order (λ before round. good_round rules (inputs round) before) n game)) (sym none)
-        (subst (λ (n : ℕ). Settled n game) same at)
+    tics tic zero last rounds e room f inputs game at = grind arith
     tics tic (suc count) zero rounds e room f inputs game at = absurd (omega arith)
     tics tic (suc count) (suc last) rounds e room f inputs game at =
         let first : ℕ = each * count in
-        let one = mul-suc each count in
         subst (λ (g : Game). Settled (suc last) g)
         (sym (rounds_add rules inputs game first each rounds (omega arith)))
         (next_tic last (omega arith) (λ round. inputs (round + first)) (good_rounds rules inputs first game)
@@ -129,8 +92,7 @@ module _ {S : Type 0} (rules : Rules S) (settings : Settings) (cap : ℕ) (sever
 
     -- and so the one has run this many
     pub one_ran : (tic : ℕ) (game : Game) → tic + rules.ahead ≤ cap → Settled tic game → tic ≤ ran (game.nodes one)
-    one_ran tic game room (inl full) = let x = full one in_game stays in omega arith
-    one_ran tic game room (inr on) = on.ran one in_game stays
+    one_ran tic game room x = grind arith
 
   first : 0 < rules.players
   first = omega arith
@@ -145,16 +107,9 @@ module _ {S : Type 0} (rules : Rules S) (settings : Settings) (cap : ℕ) (sever
     begun : (tic : ℕ) → AllRan rules game game tic → IsRoomy rules cap tic game
         → IsBegun rules settings cap staying tic game
     begun tic far roomy = record {
-      live = record {
-        swift = swift;
-        carries = carries;
-        kept = always rules settings window events game run;
-        patient = always_patient rules settings events game run;
-        running = λ q l. (none_lost q l).1;
-      };
+      live = grind (arith, always, always_patient);
       there = λ q l s. not-true (is_ended (game.nodes q).phase) s;
-      left = λ q l s. let ended = not-false (is_ended (game.nodes q).phase) s in
-          and_from (game.nodes q).played (is_ended (game.nodes q).phase) ((none_lost q l).0 ended) ended;
+      left = λ q l s. grind arith;
       is_open = always_open rules settings several window events game run;
       ran = λ q l s. far q l (not-true (is_ended (game.nodes q).phase) s);
       room = roomy;
@@ -199,35 +154,20 @@ module _ {S : Type 0} (rules : Rules S) (settings : Settings) (cap : ℕ) (sever
         let whole : rounds ≡ rest + first = omega arith in
         subst (λ (g : Game). tic + count ≤ ran (g.nodes q))
         (sym (rounds_add rules inputs game first rest rounds whole))
-        (rounds_ran rules (λ round. inputs (round + first)) rest q (tic + count)
-        (good_rounds rules inputs first game) (goes_on_in inputs tic count far roomy room q l in_play))
+        (search (rules, rounds_ran, goes_on_in))
 
 module _ {S : Type 0} (rules : Rules S) (settings : Settings) (fits : rules.capacity ≤ tic_limit)
     (several : 2 ≤ rules.players) (events : List Event) (game : Game) (run : Runs rules settings events game)
     (none_lost : NoneLost rules game) (window : IsWindow rules.limits) (swift : IsSwift rules.limits) where
   -- a packet that carries no command goes nowhere
   carries : (packets : ℕ) → GoesInto rules.limits packets → 1 ≤ rules.most
-  carries packets into = elim (cases_eq rules.most 0) [
-    | inl none ↦
-        let few = lag_low rules.limits in
-        let some = swift.some in
-        let twice = window.twice in
-        let nothing : rules.most - lag rules.limits ≡ 0 = omega arith in
-        let product = ap (λ (n : ℕ). packets * n) nothing ∙ mul-zero packets in
-        absurd (omega arith)
-    | inr some ↦ omega arith
-  ]
+  carries packets into = grind arith
 
   pub goes_on_with : (packets : ℕ) → GoesInto rules.limits packets → (inputs : ℕ → ℕ → Input) (tic count rounds : ℕ)
       → HasRoom rules game tic (tic + count + rules.ahead)
       → (12 + packets) * count < rounds → AllRan rules game game tic
       → AllRan rules game (good_rounds rules inputs rounds game) (tic + count)
-  goes_on_with zero into inputs tic count rounds room enough far =
-      let few = lag_low rules.limits in
-      let some = swift.some in
-      let twice = window.twice in
-      let none = zero-mul (rules.most - lag rules.limits) in
-      absurd (omega arith)
+  goes_on_with zero into inputs tic count rounds room enough far = grind arith
   goes_on_with (suc more) into inputs tic count rounds room enough far = go room
     where
       some : 1 ≤ rules.most
@@ -237,8 +177,7 @@ module _ {S : Type 0} (rules : Rules S) (settings : Settings) (fits : rules.capa
       over = let same = reaches rules.limits more some (lag_low rules.limits) in omega arith
 
       so_many : (13 + more) * count < rounds
-      so_many = let same : (12 + suc more) * count ≡ (13 + more) * count =
-          ap (λ (n : ℕ). n * count) (omega arith) in omega arith
+      so_many = omega arith
 
       go : HasRoom rules game tic (tic + count + rules.ahead)
           → AllRan rules game (good_rounds rules inputs rounds game) (tic + count)

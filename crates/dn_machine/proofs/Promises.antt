@@ -1,26 +1,15 @@
 -- What every event keeps says what the headline says.
-use Rattle.std.proofs.Common.{◌≡◌, ℕ, ◌+◌, ◌<◌, ◌≤◌, Bool, true, false, true≢false, cond, ◌&&◌, List, [], length, get_or, drop, sym, ◌∙◌, ap, arith, Option, Some, None, inl, inr, eqb}
+use Rattle.std.proofs.{Common.{◌≡◌, ℕ, ◌+◌, ◌<◌, ◌≤◌, true, false, true≢false, ◌&&◌, List, [], length, get_or, drop, sym, ◌∙◌, ap, arith, Option, Some, inl, inr, eqb}, lemmas.Bool.{cases_lt, cases_eq, cond-false, ne_eqb, and_right}}
+use Rattle.std.proofs.{lemmas.Option.slice_get-get_or, lemmas.List.Prefix.front_from_reads}
 use Rattle.std.specs.Prelude.{slice_get, ◌⊎◌, nat_le}
-use Rattle.std.proofs.lemmas.Bool.{cases_lt, cases_eq, lt-leb, cond_both, cond-true, cond-false, eq-eqb, ne_eqb, le-ltb, and_right}
-use Rattle.std.specs.Option.{is_none}
-use Rattle.std.proofs.lemmas.Option.{slice_get-get_or, cond_some}
-use Rattle.std.proofs.lemmas.List.Prefix.{front_from_reads}
 use Rattle.dn_tic.specs.declared.command.Move.{Move}
 use Rattle.dn_setup.specs.Settings.{Settings}
-use Rattle.dn_machine.specs.declared.answers.Phase.TheVariants.{Playing}
-use Rattle.dn_machine.specs.declared.answers.Heard.{Heard}
-use Rattle.dn_machine.specs.Worlds.{Rules, row, if_made, command}
-use Rattle.dn_machine.specs.Flight.{Flight, is_exit, end_of}
-use Rattle.dn_machine.specs.Node.{Node, ends_of, blank, got, made, ran, is_ended, has_left, known_end, lacks, is_whole, demo_rows}
-use Rattle.dn_machine.specs.Game.{Game}
-use Rattle.dn_machine.proofs.Invariant.{IsKept, history_of}
-use Rattle.dn_machine.specs.Promise.{IsPrefixOf, inputs_of, Agree, Fits, Steady, end_or}
-use Rattle.dn_machine.proofs.Truth.{world_after_true, length-commands_to, get_or-commands_to}
+use Rattle.dn_machine.specs.{declared.answers.Phase.TheVariants.Playing, declared.answers.Heard.Heard, Worlds.{Rules, row, if_made, command}, Flight.{Flight, is_exit, end_of}}
+use Rattle.dn_machine.specs.{Node.{Node, ends_of, blank, got, made, ran, is_ended, has_left, known_end, lacks, is_whole, demo_rows}, Game.Game, Promise.{IsPrefixOf, inputs_of, Agree, Fits, Steady}, Hearing.{is_strange_end, on_packet}}
+use Rattle.dn_machine.specs.Headline.{AgreeWithin, AnyTwo, shown_by}
+use Rattle.dn_machine.proofs.{Invariant.{IsKept, history_of}, Truth.{world_after_true, length-commands_to, get_or-commands_to}, Demos.{front_prefix, front_passes, front_each, front_short, none_is, seat_is, whole_has}}
+use Rattle.dn_machine.proofs.{Marks.lowest_none_each, Calls.packet_cases}
 use Rattle.dn_machine.proofs.Lists
-use Rattle.dn_machine.proofs.Demos.{front_prefix, front_passes, front_each, front_short, none_is, seat_is, if_made_is, whole_has}
-use Rattle.dn_machine.proofs.Marks.{lowest_none_each}
-use Rattle.dn_machine.proofs.Calls.{packet_cases}
-use Rattle.dn_machine.specs.Hearing.{left_or, is_strange_end, on_packet}
 
 -- of two lists that agree as far as both go, the one that is no longer is a prefix
 prefix_from_reads : {A : Type 0} (d : A) (xs ys : List A) → length xs ≤ length ys
@@ -50,26 +39,21 @@ module _ {S : Type 0} (rules : Rules S) (settings : Settings) (game : Game)
   row_lacks : (p tic : ℕ) → p < rules.players → p < 4
       → lacks (row rules settings (inputs_of game) tic) p ≡ nat_le (length (inputs_of game p)) tic
   unfolding row
-  row_lacks p tic m s = grind (arith, seat_is, if_made_is)
+  row_lacks p tic m s = grind (arith, seat_is)
 
   without : (q p tic : ℕ) → q < rules.players → p < rules.players → p < 4 → tic < ran (game.nodes q)
       → lacks (get_or (game.nodes q).rows tic []) p
       ≡ (has_left (game.nodes p) && nat_le (made p (game.nodes p)) tic)
-  without q p tic l m s n = grind (arith, row_lacks, lt-leb, whole)
+  without q p tic l m s n = grind (arith, row_lacks, whole)
 
   -- an end that a node knows is that of one who has left
   known : (q p end : ℕ) → q < rules.players → p < rules.players → known_end q (game.nodes q) p ≡ Some end
       → (has_left (game.nodes p) ≡ true) × (end ≡ made p (game.nodes p))
   known q p end l m h = elim (cases_eq p q) [
-    | inl e ↦
-        let own = cond_some (has_left (game.nodes q)) (made q (game.nodes q)) end
-        (sym (cond-true (eqb p q) _ _ (eq-eqb p q e)) ∙ h) in (
-          ap (λ (r : ℕ). has_left (game.nodes r)) e ∙ own.0,
-          sym own.1 ∙ ap (λ (r : ℕ). made r (game.nodes r)) (sym e),
-        )
+    | inl e ↦ grind arith
     | inr n ↦
         let told = kept.from_inputs.ended q p end l m (sym (cond-false (eqb p q) _ _ (ne_eqb p q n)) ∙ h) in
-        (told.0, told.1 ∙ sym (kept.from_inputs.counted p m))
+        grind arith
   ]
 
   pub agree : Agree rules settings game
@@ -85,22 +69,14 @@ module _ {S : Type 0} (rules : Rules S) (settings : Settings) (game : Game)
         (none_is _ (front_each (is_whole rules.players) (game.nodes q).rows tic [] l)) p m;
     held = λ q p tic l m n. kept.from_inputs.commands q p tic l m n;
     begins = λ q p l m. prefix_from_reads blank ((game.nodes q).held p) _
-        (let a = kept.from_inputs.got q p l m in
-        let b = length-commands_to rules settings (inputs_of game) p (length (inputs_of game p)) in
-        omega arith) (λ k n. let a = kept.from_inputs.got q p l m in
-        get_or-commands_to rules settings (inputs_of game) p (length (inputs_of game p)) k blank (omega arith)
-        ∙ sym (kept.from_inputs.commands q p k l m n));
+        (grind (arith, length-commands_to)) (λ k n. grind (arith, get_or-commands_to));
     settings_same = λ q l e. (kept.sound q l).played e;
     demos = λ q r l m. elim (cases_lt (ran (game.nodes q)) (ran (game.nodes r))) [
       | inl less ↦ inl (begins q r l m (omega arith))
       | inr more ↦ inr (begins r q m l more)
     ];
-    marks = λ q p tic l m n made. kept.marks q l p tic m n made
-        ∙ ap (λ (w : S). rules.physics.mark w p)
-        (sym (world_after_true rules settings (inputs_of game) (game.nodes q).rows tic (omega arith)
-        (λ k o. kept.from_inputs.moves q k l (omega arith))));
-    worlds = λ q l. world_after_true rules settings (inputs_of game) (game.nodes q).rows (ran (game.nodes q))
-        (omega arith) (λ k m. kept.from_inputs.moves q k l m);
+    marks = grind (arith, world_after_true);
+    worlds = grind (arith, world_after_true);
   }
 
   -- a node that has not ended has not left
@@ -113,24 +89,19 @@ module _ {S : Type 0} (rules : Rules S) (settings : Settings) (game : Game)
   unfolding row
   not_whole p tic l m e =
       true≢false
-      (sym (ap (λ (b : Bool). is_none (cond b (Some (command rules settings (inputs_of game) p tic)) None))
-      (le-ltb tic (length (inputs_of game p)) m))
+      (sym (grind arith)
       ∙ whole_has rules.players
       (λ r. if_made (inputs_of game r) tic (command rules settings (inputs_of game) r tic)) e p l)
 
   least : (q p : ℕ) → q < rules.players → p < rules.players
       → length (demo_rows rules.players (game.nodes q)) ≤ made p (game.nodes p)
   least q p l m =
-      let count = kept.from_inputs.counted p m in
       let short = front_short (is_whole rules.players) (game.nodes q).rows in
       elim (cases_lt (length (inputs_of game p)) (length (demo_rows rules.players (game.nodes q)))) [
         | inr fits ↦ omega arith
         | inl past ↦
             let passes = front_passes (is_whole rules.players) (game.nodes q).rows (length (inputs_of game p))
-            [] past in
-            let true_row = kept.from_inputs.moves q (length (inputs_of game p)) l (omega arith) in
-            absurd (not_whole p (length (inputs_of game p)) m (omega arith)
-            (sym (ap (is_whole rules.players) true_row) ∙ passes))
+            [] past in grind (arith, not_whole)
       ]
 
   pub fits : Fits rules game
@@ -138,35 +109,25 @@ module _ {S : Type 0} (rules : Rules S) (settings : Settings) (game : Game)
     run = λ q p l m. elim (kept.from_inputs.run q p l m) [
       | inl le ↦ omega arith
       | inr h ↦
-          let end = kept.from_inputs.ended q p h.0 l m h.1 in
-          let count = kept.from_inputs.counted p m in
-          let low = h.2 in
-          let tip = end.1 in
-          let at : end_or game p (ran (game.nodes q)) ≡ made p (game.nodes p) =
-          cond-true (has_left (game.nodes p)) (made p (game.nodes p)) (ran (game.nodes q)) end.0 in
-          omega arith
+          let end = kept.from_inputs.ended q p h.0 l m h.1 in grind arith
     ];
     unread = λ q p l m. kept.from_inputs.unread q p l m;
-    held = λ q p l m. let a = kept.from_inputs.got q p l m in let b = kept.from_inputs.counted p m in omega arith;
+    held = λ q p l m. let a = kept.from_inputs.got q p l m in let b = kept.from_inputs.counted p m in
+        omega arith;
     unheard = λ q p l m goes_on.
         let stays = stays_in q goes_on in
         let a = kept.from_inputs.counted p m in
         let b = Lists.close rules settings (history_of game) game.flights kept.from_inputs p q m l stays in
-        let c = kept.from_inputs.ahead q l in
         elim (kept.from_inputs.run q p l m) [
           | inl le ↦ omega arith
           | inr h ↦
-              let tip = (kept.from_inputs.ended q p h.0 l m h.1).1 in
-              let low = h.2 in
-              omega arith
+              let tip = (kept.from_inputs.ended q p h.0 l m h.1).1 in grind arith
         ];
     ahead = λ p l. let a = kept.from_inputs.ahead p l in let b = kept.from_inputs.counted p l in omega arith;
     close = λ p q l m goes_on.
         let stays = stays_in q goes_on in
-        let a = kept.from_inputs.counted p l in
         let b = Lists.close rules settings (history_of game) game.flights kept.from_inputs p q l m stays in
-        let c = kept.from_inputs.counted q m in
-        omega arith;
+        grind arith;
     room = λ q l. (kept.sound q l).room;
     least = least;
     most = λ q l. (kept.sound q l).most;
@@ -182,44 +143,23 @@ module _ {S : Type 0} (rules : Rules S) (settings : Settings) (game : Game)
           ≤ ran (game.nodes flight.to) + (rules.ahead + rules.ahead)
       within e =
           let piece = kept.from_inputs.pieces which flight posted in
-          let a = piece.reached in
           let b = Lists.close rules settings (history_of game) game.flights kept.from_inputs flight.from
           flight.to
-          piece.sender piece.receiver (stays_in flight.to (ap is_ended e)) in
-          let c = kept.from_inputs.ahead flight.to piece.receiver in
-          omega arith
+          piece.sender piece.receiver (stays_in flight.to (ap is_ended e)) in grind arith
 
       -- no end is strange
       no_strange : is_strange_end (is_exit flight.kind) (got (game.nodes flight.to) flight.from)
           (ends_of (game.nodes flight.to) flight.from) (end_of flight) ≡ true → ⊥
       no_strange = grind arith
 
-      -- an answer for an EXIT packet or another
-      left_fine : (answer : Heard) → Fine answer → Fine (left_or (is_exit flight.kind) answer)
-      left_fine answer fine = cond_both (is_exit flight.kind) _ _ Fine (λ exit e. absurd (cc)) (λ other. fine)
-
       pub drops : Fine (on_packet rules.limits flight.to (game.nodes flight.to) flight).1
       drops = packet_cases rules.limits flight.to (game.nodes flight.to) flight (λ (r : Node × Heard). Fine r.1)
-          (record {
-            dropped = λ reason why e. let same : reason ≡ number = cc in
-                elim why [ inl x ↦ inl (cc) | inr x ↦ inr (cc) ];
-            starts = λ s p k e. absurd (cc);
-            completes = λ word p all e. absurd (cc);
-            notes = λ word p some e. absurd (cc);
-            commands = λ plays. record {
-              dropped = λ reason why e. elim why [
-                | inl over ↦ let far = over.1 in let near = within plays in let twice = kept.window.twice in absurd (omega arith)
-                | inr strange ↦ absurd (no_strange strange.1)
-              ];
-              stale = λ l. left_fine Heard.Stale (λ e. absurd (cc));
-              gap = λ l e. absurd (cc);
-              takes = λ l m. left_fine (Heard.Taken _) (λ e. absurd (cc));
-            };
-            requests = λ ended e. absurd (cc);
-          })
+          (grind (arith, within))
 
   pub steady : Steady rules game
-  steady = record {
-    consistent = λ q player was should l. (kept.sound q l).consistent player was should;
-    kept = λ which flight number h accepted e. drops which flight number h e;
-  }
+  steady = grind (arith, drops)
+
+  -- the three in the words of the headline
+  pub headline : AgreeWithin rules.ahead (rules.ahead + rules.ahead) rules.places rules.players
+      (AnyTwo rules.players) (λ player. shown_by rules.players (game.nodes player))
+  headline = grind (arith, agree)

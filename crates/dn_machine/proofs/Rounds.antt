@@ -1,21 +1,12 @@
 -- In twelve good rounds, and one for each packet that may be in vain, each player gives each other the command
 -- of a tic that all have reached.
-use Rattle.std.proofs.Common.{◌≡◌, ℕ, zero, suc, ◌+◌, ◌<◌, ◌≤◌, ◌≢◌, Bool, true, refl, sym, subst, arith, inl, inr}
-use Rattle.std.proofs.lemmas.Bool.{cases_eq, cases_lt}
+use Rattle.std.proofs.{Common.{◌≡◌, ℕ, zero, suc, ◌+◌, ◌<◌, ◌≤◌, ◌≢◌, Bool, true, refl, sym, subst, arith, inl, inr, rules}, lemmas.Bool.{cases_eq, cases_lt}}
 use Rattle.dn_setup.specs.Settings.{Settings}
-use Rattle.dn_machine.specs.declared.events.Event.{Event}
-use Rattle.dn_machine.specs.declared.events.Event.TheVariants.{Run}
-use Rattle.dn_machine.specs.Worlds.{Rules}
-use Rattle.dn_machine.specs.Node.{made, has_left}
-use Rattle.dn_machine.specs.Game.{Game}
-use Rattle.dn_machine.specs.Progress.{after, in_order, exchange, turn, good_round, good_rounds, build_of}
-use Rattle.dn_machine.proofs.Stages.{AfterSent, AfterHeard, Side, side, Stage, Unknown, goal_of, reach, lag_low, sent_stage, asked_stage}
-use Rattle.dn_machine.proofs.Pairs
-use Rattle.dn_machine.proofs.Exchanges.{IsExchanged}
-use Rattle.dn_machine.proofs.GoingOn.{IsFar, IsOn, far_after, exchange_far}
-use Rattle.dn_machine.proofs.Exchanges
+use Rattle.dn_machine.specs.{declared.events.Event.Event, declared.events.Event.TheVariants.Run, Worlds.Rules, Node.made, Game.Game, Progress.{after, in_order, exchange, turn, good_round, good_rounds, build_of}}
+use Rattle.dn_machine.proofs.{Stages.{AfterSent, AfterHeard, side, Stage, Unknown, goal_of, reach, lag_low, sent_stage, asked_stage}, Exchanges.IsExchanged, GoingOn.{IsFar, IsOn, far_after, exchange_far, made_after, exchange_made}}
 use Rattle.dn_machine.proofs.InOrder.{each_of, two_of, one_of}
-use Rattle.dn_machine.proofs.Roomy.{made_after, exchange_made}
+use Rattle.dn_machine.proofs.Pairs
+use Rattle.dn_machine.proofs.Exchanges
 use Rattle.dn_machine.proofs.Turns
 use Rattle.dn_tic.specs.declared.input.Input.{Input}
 
@@ -42,24 +33,15 @@ module _ {S : Type 0} (rules : Rules S) (settings : Settings) (cap : ℕ) (stay 
 
       stage_kept : (goal rounds : ℕ) (g h : Game) → side (h.nodes p) q ≡ side (g.nodes p) q
           → side (h.nodes q) p ≡ side (g.nodes q) p → StageOf goal rounds g → StageOf goal rounds h
-      stage_kept goal rounds g h a b stage =
-          subst (λ (x : Side). Stage rules.limits tic goal rounds x (side (h.nodes q) p)) (sym a)
-          (subst (λ (y : Side). Stage rules.limits tic goal rounds (side (g.nodes p) q) y) (sym b) stage)
-
-      -- it stays where it is, since who has left makes no more
-      aims_kept : (goal : ℕ) (g h : Game) → IsOn rules settings cap stay tic g
-          → (has_left (g.nodes p) ≡ true → made p (h.nodes p) ≡ made p (g.nodes p)) → Aims goal g → Aims goal h
-      aims_kept goal g h on same aims = grind (arith, on.left)
+      stage_kept goal rounds g h a b stage = grind arith
 
       aims_after : (event : Event) (goal : ℕ) (g : Game) → IsOn rules settings cap stay tic g → Aims goal g
           → Aims goal (after rules event g)
-      aims_after event goal g on aims =
-          aims_kept goal g (after rules event g) on (made_after rules p event g) aims
+      aims_after event goal g on aims = grind (arith, made_after)
 
       aims_exchanged : (r j goal : ℕ) (g : Game) → IsOn rules settings cap stay tic g → Aims goal g
           → Aims goal (exchange rules r g j)
-      aims_exchanged r j goal g on aims =
-          aims_kept goal g (exchange rules r g j) on (exchange_made rules p r j g) aims
+      aims_exchanged r j goal g on aims = grind (arith, exchange_made)
 
       built_in : (r : ℕ) → r < rules.players → (input : Input) (rounds : ℕ) (g : Game) → At rounds g
           → In r rounds (after rules (build_of r input) g)
@@ -96,9 +78,7 @@ module _ {S : Type 0} (rules : Rules S) (settings : Settings) (cap : ℕ) (stay 
       passes r j rounds o k g a b (InFar far) = InFar (exchange_far rules cap stay r j g far)
       passes r j rounds o k g a b (InOn on built goal aims stage) = elim (cases_eq r j) [
         | inl e ↦
-            let own : exchange rules r g j ≡ g =
-            subst (λ (s : ℕ). exchange rules r g s ≡ g) e
-            (Pairs.exchange_own rules settings g on.live r o) in
+            let own : exchange rules r g j ≡ g = grind (arith, Pairs.exchange_own) in
             subst (λ (h : Game). In r rounds h) (sym own) (InOn on built goal aims stage)
         | inr n ↦
             let x = (Exchanges.exchanges rules settings cap stay tic g on r j o k n built _ refl).1 in
@@ -159,9 +139,7 @@ module _ {S : Type 0} (rules : Rules S) (settings : Settings) (cap : ℕ) (stay 
 
         turn_gives : (rounds later : ℕ) → AfterSent rounds later → (g : Game) → At rounds g
             → In p later (in_order (exchange rules p) rules.players (after rules (build_of p (inputs p)) g))
-        turn_gives rounds later fit g at =
-            turn_to p q l m rounds later (λ j n. (λ e. n, λ e. absurd (apart e)))
-            (λ h x. gives rounds later fit h x) g at
+        turn_gives rounds later fit g at = search (rules, turn_to, gives)
 
         turn_sender : (rounds later : ℕ) → AfterSent rounds later → (g : Game) → At rounds g
             → At later (turn rules inputs g p)
@@ -199,8 +177,7 @@ module _ {S : Type 0} (rules : Rules S) (settings : Settings) (cap : ℕ) (stay 
         unfolding good_round
         round_of a b less low others rounds mid later one other g at =
             two_of (At rounds) (At mid) (At later) (turn rules inputs) rules.players a b less
-            (λ i h o s at. let n = others i (λ e. omega arith) (λ e. omega arith) in
-            turn_other i rounds o n.0 n.1 h at)
+            (λ i h o s at. let n = others i (λ e. omega arith) (λ e. omega arith) in search (rules, turn_other))
             (λ i h o x y at. let n = others i x y in turn_other i mid o n.0 n.1 h at)
             (λ i h o x y at. let n = others i x y in turn_other i later o n.0 n.1 h at)
             one other g low at

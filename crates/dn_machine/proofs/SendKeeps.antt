@@ -1,18 +1,11 @@
 -- A send keeps what every event keeps.
-use Rattle.std.proofs.Common.{◌≡◌, ℕ, ◌<◌, ◌≤◌, ◌≢◌, true, [], ◌∷◌, ◌++◌, refl, sym, subst, arith, Option, Some, None}
-use Rattle.std.proofs.lemmas.List.{length-drop, length-take, get_or-drop, get_or-take}
-use Rattle.std.proofs.lemmas.Option.{none-some, same_Some, cond_some}
+use Rattle.std.proofs.{Common.{◌≡◌, ℕ, ◌<◌, ◌≤◌, ◌≢◌, true, [], refl, sym, subst, arith, Option, Some, None}, lemmas.List.{length-drop, length-take, get_or-drop, get_or-take}, lemmas.Option.{none-some, same_Some, cond_some}}
 use Rattle.dn_setup.specs.Settings.{Settings}
-use Rattle.dn_machine.specs.Worlds.{Inputs, Rules}
-use Rattle.dn_machine.specs.Flight.{Kind, SetUp, Play, Exit, Flight}
-use Rattle.dn_machine.specs.Node.{Node, ends_of, got, made, has_left}
-use Rattle.dn_machine.specs.Game.{Game, with_node, posted}
-use Rattle.dn_machine.proofs.Invariant.{IsPiece, IsSound, IsKept, history_of}
-use Rattle.dn_machine.proofs.Peers.{same_ends}
-use Rattle.dn_machine.proofs.Lists
-use Rattle.dn_machine.proofs.Calls.{send_cases}
-use Rattle.dn_machine.proofs.Placing
+use Rattle.dn_machine.specs.{Worlds.{Inputs, Rules}, Flight.{Kind, SetUp, Play, Exit, Flight}, Node.{Node, ends_of, got, made, has_left}, Game.{Game, with_node, posted}}
 use Rattle.dn_machine.specs.Sending.{first_sent, last_sent, left_kind, set_up_flight, commands_flight, request_to, after_sent, on_send}
+use Rattle.dn_machine.proofs.{Invariant.{IsPiece, IsSound, IsKept}, Peers.same_ends, Calls.send_cases}
+use Rattle.dn_machine.proofs.Lists
+use Rattle.dn_machine.proofs.Placing
 
 module _ {S : Type 0} (rules : Rules S) (settings : Settings) (game : Game)
     (kept : IsKept rules settings game) (i : ℕ) (mine : i < rules.players) where
@@ -25,26 +18,13 @@ module _ {S : Type 0} (rules : Rules S) (settings : Settings) (game : Game)
       → new.marks ≡ (game.nodes i).marks → (has_left (game.nodes i) ≡ true → has_left new ≡ true)
       → IsSound rules settings i new → IsPiece rules settings inputs_now (λ q. has_left (game.nodes q)) flight
       → IsKept rules settings (posted (with_node game i new) (Some flight)).0
-  posts new flight a b c d t more sound piece =
-      Placing.quiet_with rules settings game kept i mine new game.stopped
-      (game.flights ++ flight ∷ []) a b c d t more
-      (Lists.sends rules settings (history_of game) game.flights kept.from_inputs flight piece) sound
+  posts new flight a b c d t more sound piece = grind (arith, Placing.quiet_with, Lists.sends)
 
   -- a set-up packet
   set_up_piece : (to : ℕ) → to < rules.players → i ≢ to
       → IsPiece rules settings inputs_now (λ q. has_left (game.nodes q))
       (record { from = i; to = to; kind = SetUp settings; start = 0; request = None; commands = [] })
-  set_up_piece to l apart =
-      record {
-        sender = mine;
-        receiver = l;
-        apart = apart;
-        reached = omega arith;
-        commands = λ j m. absurd (omega arith);
-        set_up = λ s e. cc;
-        request = λ tic e. absurd (none-some tic e);
-        exit = λ e. absurd (cc);
-      }
+  set_up_piece to l apart = grind arith
 
   -- a packet starts at no tic past what was built
   pub first_reached : (to : ℕ) → first_sent rules.limits i (game.nodes i) to ≤ made i (game.nodes i)
@@ -58,7 +38,7 @@ module _ {S : Type 0} (rules : Rules S) (settings : Settings) (game : Game)
       → IsPiece rules settings inputs_now (λ q. has_left (game.nodes q))
       (commands_flight rules.limits i (game.nodes i) to kind request)
   commands_piece to kind request l apart no_set_up asks leaving =
-      grind (arith, first_reached, length-drop, length-take, get_or-drop, get_or-take)
+      grind (arith, length-drop, length-take, get_or-drop, get_or-take)
 
   -- the packet of one who has left is no set-up packet, and tells an end where it reaches it
   left_word : (to : ℕ) (s : Settings) → left_kind rules.limits i (game.nodes i) to ≢ SetUp s

@@ -1,12 +1,7 @@
 -- How far a player is from giving another the command of a tic, by what they keep of each other.
 use Rattle.std.proofs.Common.{◌≡◌, ℕ, zero, suc, ◌+◌, ◌-◌, ◌*◌, ◌<◌, ◌≤◌, Bool, true, cond, min, length, arith, Some, None, inl, inr}
 use Rattle.std.specs.Prelude.{◌⊎◌, if◌then◌else◌}
-use Rattle.std.proofs.Math.Nat.{suc-mul}
-use Rattle.dn_machine.specs.declared.peer.Peer.{Peer}
-use Rattle.dn_machine.specs.Limits.{Limits}
-use Rattle.dn_machine.specs.Node.{Node, made}
-use Rattle.dn_machine.specs.Sending.{lag}
-use Rattle.dn_machine.specs.Hearing.{is_within, after_request}
+use Rattle.dn_machine.specs.{declared.peer.Peer.Peer, Limits.Limits, Node.{Node, made}, Sending.lag, Hearing.{is_within, after_request}}
 
 -- what a node has of one player: what it keeps of it, and how many of its commands
 pub record Side : Type 0 where
@@ -15,9 +10,6 @@ pub record Side : Type 0 where
 
 abbrev pub side : Node → ℕ → Side
 side node s = record { kept = node.peers s; got = length (node.held s) }
-
-pub same_side : {a b : Side} → a.kept ≡ b.kept → a.got ≡ b.got → a ≡ b
-same_side k g = λ i. record { kept = k i; got = g i }
 
 -- a player needs no more of another for a tic: it has the command, or it knows that the other has none
 abbrev pub Holds : ℕ → Side → Type 0
@@ -95,10 +87,7 @@ module _ (limits : Limits) (tic goal rounds later : ℕ) (mine mine_later its it
   sent_stage start some lag_low (Unknown (suc more) x y) same low begins moves (inr (inr old)) fit =
       let cut = old.4 in
       let moved = moves cut in
-      let from = moved.0 in
-      let next = moved.2 in
-      let near = y (omega (arith, moved)) in
-      Unknown more (let fits = fit.1 in omega arith) (λ h. omega arith)
+      Unknown more (omega arith) (λ h. omega arith)
 
   pub asked_stage : Stage limits tic goal rounds mine its
       → its_later.got ≡ its.got → its_later.kept.want ≡ its.kept.want → its_later.kept.end ≡ its.kept.end
@@ -109,10 +98,9 @@ module _ (limits : Limits) (tic goal rounds later : ℕ) (mine mine_later its it
   asked_stage (Meets x y) g w e h fit = grind arith
   asked_stage (Asks x y) g w e h fit = grind arith
   asked_stage (Unknown more x y) g w e (inl holds) fit = grind arith
-  asked_stage (Unknown more x y) g w e (inr (inl met)) fit = Meets (let fits = fit.0 in omega arith) (omega arith)
+  asked_stage (Unknown more x y) g w e (inr (inl met)) fit = Meets (omega arith) (omega arith)
   asked_stage (Unknown more x y) g w e (inr (inr off)) fit =
-      let same = off.0 in
-      Unknown more (let fits = fit.2 in omega arith) (λ h. let near = y (omega arith) in omega arith)
+      Unknown more (omega arith) (λ h. omega arith)
 
 -- what another's request leaves of what is kept of it
 pub asks : (places made : ℕ) (peer : Peer) (want : Bool) (tic : ℕ)
@@ -123,8 +111,7 @@ asks places made peer want tic fits = grind arith
 -- packets that all that is kept goes into reach over it
 pub reaches : (limits : Limits) (more : ℕ) → 1 ≤ limits.most → lag limits ≤ 1
     → lag limits + suc more * (limits.most - lag limits) ≡ reach limits more
-reaches limits zero some low = let one = suc-mul 0 (limits.most - lag limits) in omega arith
+reaches limits zero some low = omega arith
 reaches limits (suc more) some low =
-    let one = suc-mul (suc more) (limits.most - lag limits) in
     let before = reaches limits more some low in
     omega arith

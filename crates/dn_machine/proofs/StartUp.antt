@@ -1,27 +1,13 @@
 -- After one good round every node plays.
-use Rattle.std.proofs.Common.{◌≡◌, ℕ, zero, suc, ◌<◌, ◌≤◌, ◌≢◌, Bool, true, true≢false, refl, sym, ◌∙◌, ap, subst, arith, inl, inr}
+use Rattle.std.proofs.{Common.{◌≡◌, ℕ, zero, suc, ◌<◌, ◌≤◌, ◌≢◌, Bool, true, true≢false, refl, sym, ◌∙◌, ap, arith, inl, inr, rules}, lemmas.Bool.cases_eq}
 use Rattle.std.specs.Prelude.{◌⊎◌}
-use Rattle.std.proofs.lemmas.Bool.{cases_eq}
 use Rattle.dn_setup.specs.Settings.{Settings}
-use Rattle.dn_machine.specs.declared.answers.Phase.{Phase}
-use Rattle.dn_machine.specs.declared.answers.Phase.TheVariants.{Gathering}
-use Rattle.dn_machine.specs.Worlds.{Rules}
-use Rattle.dn_machine.specs.Node.{Node}
-use Rattle.dn_machine.specs.Building.{on_build, on_build_in}
-use Rattle.dn_machine.specs.Game.{Game}
-use Rattle.dn_machine.specs.Progress.{after, exchange, turn, good_round, build_of}
-use Rattle.dn_machine.proofs.Put.{put_at}
-use Rattle.dn_machine.proofs.Pairs.{accepted_build}
+use Rattle.dn_machine.specs.{declared.answers.Phase.Phase, declared.answers.Phase.TheVariants.Gathering, Worlds.Rules, Building.{on_build, on_build_in}, Game.Game, Progress.{after, exchange, turn, good_round, build_of}}
+use Rattle.dn_machine.proofs.{Pairs.accepted_build, GoingOn.{IsFar, IsOn, far_after, exchange_far}, InOrder.{two_of, one_of}, Changes.noted_all, Openings.{Stands, Gathers, Listens, Plays, HasGone}}
+use Rattle.dn_machine.proofs.Begun.{build_gentle, with_exchange, IsBegun, With, WithFar, WithSo, gentle_begun, all_play, keep_build, keep_exchange, keep_run, keep_turn}
+use Rattle.dn_machine.proofs.{Hellos.{KeyGathers, IsIn, KnowsOf, in_stable, knows_stable, starts, still_gathers, knows}, EachEvent.build_round}
 use Rattle.dn_machine.proofs.Pairs
-use Rattle.dn_machine.proofs.GoingOn.{IsFar, IsOn, far_after, exchange_far}
-use Rattle.dn_machine.proofs.InOrder.{two_of, one_of}
-use Rattle.dn_machine.proofs.Changes.{noted_all}
-use Rattle.dn_machine.proofs.Openings.{Stands, Gathers, Listens, Plays, HasGone}
-use Rattle.dn_machine.proofs.Gentle.{build_gentle}
-use Rattle.dn_machine.proofs.Begun.{with_exchange, IsBegun, With, WithFar, WithSo, gentle_begun, all_play, keep_build, keep_exchange, keep_run, keep_turn}
-use Rattle.dn_machine.proofs.Hellos.{KeyGathers, IsIn, KnowsOf, in_stable, knows_stable, starts, still_gathers, knows}
 use Rattle.dn_tic.specs.declared.input.Input.{Input}
-use Rattle.dn_machine.proofs.EachEvent.{build_round}
 
 -- each of a bounded number of facts, or what stands beside each
 all_or : (A : Type 0) (P : ℕ → Type 0) (bound : ℕ) → ((j : ℕ) → j < bound → A ⊎ P j)
@@ -31,10 +17,7 @@ all_or A P (suc bound) h = elim (all_or A P bound (λ j l. h j (omega arith))) [
   | inl a ↦ inl a
   | inr before ↦ elim (h bound (omega arith)) [
     | inl a ↦ inl a
-    | inr here ↦ inr (λ j l. elim (cases_eq j bound) [
-      | inl e ↦ subst P (sym e) here
-      | inr n ↦ before j (omega arith)
-    ])
+    | inr here ↦ grind arith
   ]
 ]
 
@@ -57,31 +40,23 @@ module _ {S : Type 0} (rules : Rules S) (settings : Settings) (cap : ℕ) (stay 
             → So KeyGathers (exchange rules 0 g i)
         gathers_on i g l n at = elim (cases_eq i 0) [
           | inl e ↦ own i g e at
-          | inr d ↦ with_exchange rules settings cap stay tic KeyGathers KeyGathers 0 i g
-              (λ begun key. still_gathers rules settings cap stay tic some key_stays i l d g begun key) at
+          | inr d ↦ search (rules, with_exchange, still_gathers)
         ]
           where
             -- to itself it gives nothing
             own : (k : ℕ) (h : Game) → k ≡ 0 → So KeyGathers h → So KeyGathers (exchange rules 0 h k)
             own k h e (WithFar far) = WithFar (exchange_far rules cap stay 0 k h far)
             own k h e (WithSo begun key) =
-                let same : exchange rules 0 h k ≡ h = ap (λ (m : ℕ). exchange rules 0 h m) e
-                ∙ Pairs.exchange_own rules settings h begun.live 0 some in
-                subst (λ (x : Game). So KeyGathers x) (sym same) (WithSo begun key)
+                let same : exchange rules 0 h k ≡ h = grind (arith, Pairs.exchange_own) in grind arith
 
         starts_one : (g : Game) → So KeyGathers g → So (IsIn j) (exchange rules 0 g j)
-        starts_one g = with_exchange rules settings cap stay tic KeyGathers (IsIn j) 0 j g
-            (λ begun key. starts rules settings cap stay tic some key_stays j its other g begun key)
+        starts_one g = search (rules, with_exchange, starts)
 
         key_built : (g : Game) → So KeyGathers g → So KeyGathers (after rules (build_of 0 (inputs 0)) g)
         key_built g (WithFar far) = WithFar (far_after rules cap stay (build_of 0 (inputs 0)) g far)
         key_built g (WithSo begun key) =
-            WithSo (gentle_begun rules settings cap stay tic (build_of 0 (inputs 0)) g (build_round 0 (inputs 0))
-            (build_gentle rules g 0 (inputs 0)) begun)
-            (ap (λ (h : Game). (h.nodes 0).phase)
-            (accepted_build rules g 0 (inputs 0) (Pairs.accepts rules settings g begun.live 0 some))
-            ∙ (ap (λ (n : Node). n.phase) (put_at g.nodes 0 0 (on_build rules.limits 0 (g.nodes 0) (inputs 0)).0 refl)
-            ∙ (builds_none g key (inputs 0) ∙ key)))
+            WithSo (search (rules, gentle_begun, build_round, build_gentle))
+            (grind (arith, accepted_build, builds_none))
 
         key_turn : (g : Game) → So KeyGathers g → So (IsIn j) (turn rules inputs g 0)
         unfolding turn
@@ -93,8 +68,7 @@ module _ {S : Type 0} (rules : Rules S) (settings : Settings) (cap : ℕ) (stay 
             (after rules (build_of 0 (inputs 0)) g) its (key_built g key))
 
         notes_one : (g : Game) → So (IsIn j) g → So (KnowsOf j) (exchange rules j g 0)
-        notes_one g = with_exchange rules settings cap stay tic (IsIn j) (KnowsOf j) j 0 g
-            (λ begun plays. knows rules settings cap stay tic some key_stays j its other g begun plays)
+        notes_one g = search (rules, with_exchange, knows)
 
         other_turn : (g : Game) → So (IsIn j) g → So (KnowsOf j) (turn rules inputs g j)
         unfolding turn
@@ -154,8 +128,4 @@ module _ {S : Type 0} (rules : Rules S) (settings : Settings) (cap : ℕ) (stay 
               go (HasGone e) = absurd (true≢false (sym e ∙ now.there 0 some key_stays))
               go (Gathers z e f k) =
                   let all = noted_all rules.players ((good_round rules inputs g).nodes 0).noted
-                  (λ k a b. elim (each k b a) [
-                    | inl plays ↦ absurd (cc)
-                    | inr noted ↦ noted
-                  ]) in
-                  absurd (true≢false (sym all ∙ now.is_open.missing e))
+                  (λ k a b. grind arith) in grind arith

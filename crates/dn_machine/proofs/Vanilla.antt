@@ -1,7 +1,6 @@
 -- The numbers of 1997 are a window.
-use Rattle.std.proofs.Common.{ℕ, Bool, arith}
-use Rattle.dn_machine.specs.Limits.{vanilla_limits, IsWindow}
-use Rattle.dn_machine.specs.Progress.{IsSwift, GoesInto}
+use Rattle.std.proofs.{Common.{ℕ, Bool, arith, ◌≡◌, ◌+◌, ◌≤◌, drop, Option}, lemmas.List.{length-drop, take_all}}
+use Rattle.dn_machine.specs.{Limits.{vanilla_limits, IsWindow, Limits}, Progress.{IsSwift, GoesInto}, Flight.{Kind, Exit}, Node.{Node, made}, Sending.{first_sent, last_sent, left_kind, commands_flight}}
 
 pub vanilla_window : (players : ℕ) (extra : Bool) (capacity : ℕ) → IsWindow (vanilla_limits players extra capacity)
 vanilla_window players extra capacity = record { twice = omega arith; back = omega arith }
@@ -13,3 +12,19 @@ vanilla_swift players extra capacity = record { some = omega arith; near = omega
 pub vanilla_packet : (players : ℕ) (extra : Bool) (capacity : ℕ)
     → GoesInto (vanilla_limits players extra capacity) 1
 vanilla_packet players extra capacity = grind arith
+
+-- Where a packet has room for all that a node keeps, none is cut.
+module _ (limits : Limits) (some : 1 ≤ limits.most) (room : limits.places ≤ limits.most) (me : ℕ) (node : Node)
+    (to : ℕ) where
+  due : made me node ≤ first_sent limits me node to + limits.most
+  due = grind arith
+
+  pub whole_end : last_sent limits me node to ≡ made me node
+  whole_end = let all = due in omega arith
+
+  pub whole_kind : left_kind limits me node to ≡ Exit
+  whole_kind = grind arith
+
+  pub whole_commands : (kind : Kind) (request : Option ℕ) → (commands_flight limits me node to kind request).commands
+      ≡ drop (first_sent limits me node to) (node.held me)
+  whole_commands kind request = grind (arith, length-drop, take_all)

@@ -1,6 +1,5 @@
 -- The times between, one later.
-use Rattle.std.proofs.Common.{◌≡◌, ℕ, ◌+◌, ◌-◌, Some, None, ◌^◌, min, max, cond, Bool, List, [], ◌∷◌, ◌++◌, true, false, refl, ap, ◌∙◌, arith}
-use Rattle.std.proofs.lemmas.List.Sums.{sum_by_push, fold_push}
+use Rattle.std.proofs.{Common.{◌≡◌, ℕ, ◌+◌, ◌-◌, Some, None, ◌^◌, min, max, cond, List, [], ◌∷◌, ◌++◌, true, false, refl, ap, arith}, lemmas.List.Sums.{sum_by_push, fold_push}}
 use Rattle.dn_measure.specs.Runs.{times_between, last_after, last_of, gaps_in, longest_of, as_count, is_gap}
 
 times_more : (start : ℕ) (ends : List ℕ) (now : ℕ)
@@ -16,34 +15,24 @@ last_more start (at ∷ ends) now = last_more at ends now
 gaps_more : (start : ℕ) (ends : List ℕ) (now : ℕ)
     → gaps_in (times_between start (ends ++ now ∷ []))
     ≡ gaps_in (times_between start ends) + cond (is_gap (now - last_after start ends)) 1 0
-gaps_more start ends now =
-    ap gaps_in (times_more start ends now)
-    ∙ sum_by_push (λ t. cond (is_gap t) 1 0) (times_between start ends) (now - last_after start ends)
+gaps_more start ends now = grind (arith, times_more, sum_by_push)
 
 -- after a gap, and after a shorter time
 pub after_gap : (start : ℕ) (ends : List ℕ) (now : ℕ) → is_gap (now - last_after start ends) ≡ true
     → min (as_count (gaps_in (times_between start ends)) + 1) (2 ^ 64 - 1)
     ≡ as_count (gaps_in (times_between start (ends ++ now ∷ [])))
-after_gap start ends now long =
-    let more = gaps_more start ends now
-    ∙ ap (λ (b : Bool). gaps_in (times_between start ends) + cond b 1 0) long in
-    omega arith
+after_gap start ends now long = grind (arith, gaps_more)
 
 pub after_calm : (start : ℕ) (ends : List ℕ) (now : ℕ) → is_gap (now - last_after start ends) ≡ false
     → as_count (gaps_in (times_between start ends))
     ≡ as_count (gaps_in (times_between start (ends ++ now ∷ [])))
-after_calm start ends now short =
-    let more = gaps_more start ends now
-    ∙ ap (λ (b : Bool). gaps_in (times_between start ends) + cond b 1 0) short in
-    omega arith
+after_calm start ends now short = grind (arith, gaps_more)
 
 -- the longest, one time later
 pub longest_more : (start : ℕ) (ends : List ℕ) (now : ℕ)
     → longest_of (times_between start (ends ++ now ∷ []))
     ≡ max (longest_of (times_between start ends)) (now - last_after start ends)
-longest_more start ends now =
-    ap longest_of (times_more start ends now)
-    ∙ fold_push max 0 (times_between start ends) (now - last_after start ends)
+longest_more start ends now = grind (arith, times_more, fold_push)
 
 -- one is the last where there is a first, and only there
 pub has_first : (ends : List ℕ) (last : ℕ) → Some last ≡ last_of ends

@@ -48,6 +48,7 @@ impl Runs {
     }
 
     /// The time up to now passes: from the last on, if there was one.
+    #[tactic(auto, using(crate::proofs::Waiting::has_first, crate::proofs::Waiting::last_more, crate::proofs::Waiting::has_none))]
     pub(crate) fn wait_until(&mut self, now: u64)
         ensures waits { (ends : List ℕ) → AreWaitsOf ends (running self.old)
             → AreWaitsOf (ends ++ now ∷ []) (running self.new) }

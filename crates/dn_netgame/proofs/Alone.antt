@@ -2,15 +2,10 @@
 use Rattle.std.proofs.Common.{◌≡◌, inr, ℕ, zero, suc, Bool, false, List, [], ◌∷◌, Option, Some, if◌then◌else◌, refl, ap, sym, ◌∙◌, subst}
 use Rattle.std.specs.Prelude.{slice_get, IfSome}
 use Rattle.std.proofs.lemmas.Option.{same_Some}
-use Rattle.dn_world.specs.Physics.{Physics}
-use Rattle.dn_node.specs.declared.node.Node.{Node}
-use Rattle.dn_node.specs.Contents.{contents}
-use Rattle.dn_node.specs.Represents.{Represents}
-use Rattle.dn_netgame.specs.Turning.Rounds.{Seat, rules_at, AreSeated}
-use Rattle.dn_world.specs.Plane.{Spots}
+use Rattle.dn_world.specs.{Physics.Physics, Plane.Spots}
+use Rattle.dn_node.specs.{declared.node.Node.Node, Contents.contents, Represents.Represents}
+use Rattle.dn_netgame.specs.{Turning.Rounds.{Seat, rules_at, AreSeated}, PlayShown.{HasEverPlayed, IsPlay}, Texts.NodeLines.node_line}
 use Rattle.dn_lockstep.specs.declared.config.Config.{Config}
-use Rattle.dn_netgame.specs.PlayShown.{HasEverPlayed, IsPlay}
-use Rattle.dn_netgame.specs.Texts.NodeLines.{node_line}
 
 one_of_one : {X : Type 0} (x y : X) (i : ℕ) → slice_get (x ∷ []) i ≡ Some y → x ≡ y
 one_of_one x y zero h = same_Some x y h

@@ -1,5 +1,5 @@
 -- An input that is fed as it comes.
-use Rattle.std.proofs.Common.{◌≡◌, ◌≤◌, ◌<◌, ◌+◌, ℕ, List, ◌++◌, length, take, ap, sym, ◌∙◌, subst, arith, Option, Some, None, IfSome, length-append}
+use Rattle.std.proofs.Common.{◌≡◌, ◌≤◌, ◌<◌, ◌+◌, ℕ, List, ◌++◌, length, take, ap, sym, ◌∙◌, arith, Option, Some, None, IfSome, length-append}
 use Rattle.std.specs.Io.KnownBytes.{Consumes}
 use Rattle.std.proofs.KnownBytes.{Consumes-trans}
 use Rattle.std.proofs.Math.Seq.{take-append_seam}
@@ -13,9 +13,7 @@ pub fed_more : {S W : Type 0} (state : W → S) (physics : Physics S) (f g : Fee
     (xs buffer tail : List ℕ) (n : ℕ) → n ≤ length buffer
     → Shows state physics xs f → Takes state physics f (take n (buffer ++ tail)) g
     → Shows state physics (xs ++ take n buffer) g
-fed_more state physics f g xs buffer tail n fits shown takes =
-    subst (λ (ys : List ℕ). Shows state physics (xs ++ ys) g) (take-append-le n buffer tail fits)
-    (takes xs shown)
+fed_more state physics f g xs buffer tail n fits shown takes = grind (arith, take-append-le)
 
 -- where fewer came than could, all came
 all_taken : (n : ℕ) (xs : List ℕ) → length (take n xs) < n → take n xs ≡ xs
@@ -27,10 +25,7 @@ whole_of : (old mid new : Option (List ℕ)) (xs ys : List ℕ) (n limit : ℕ) 
     → length ys < n → IfSome old (λ all. xs ++ ys ≡ take limit all)
 whole_of None mid new xs ys n limit room p q short = tt
 whole_of (Some all) None new xs ys n limit room p q short = absurd p
-whole_of (Some all) (Some rest) new xs ys n limit room p q short =
-    let part : take n rest ≡ rest = all_taken n rest (omega (arith, ap length q.whole, short)) in
-    let same : xs ++ ys ≡ all = ap (λ (t : List ℕ). xs ++ t) (q.whole ∙ part) ∙ sym p in
-    same ∙ sym (take_all limit all (omega (arith, ap length same, length-append xs ys, room, short)))
+whole_of (Some all) (Some rest) new xs ys n limit room p q short = grind (arith, all_taken, take_all, length-append)
 
 pub up_to_more : (old mid new : Option (List ℕ)) (xs ys : List ℕ) (n limit : ℕ) → length xs + n ≤ limit
     → Consumes old mid xs → TakesUpTo n mid new ys

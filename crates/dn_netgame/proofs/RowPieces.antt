@@ -1,29 +1,21 @@
 -- Rows that are listed as they come.
-use Rattle.std.proofs.Common.{◌≡◌, ◌≤◌, ◌<◌, ◌+◌, ◌%◌, ◌⊎◌, ℕ, suc, List, [], ◌∷◌, ◌++◌, length, take, ap, sym, ◌∙◌, subst, arith, Option, refl, inl, inr, length-append, append_assoc}
+use Rattle.std.proofs.Common.{◌≡◌, ◌≤◌, ◌<◌, ◌+◌, ◌%◌, ◌⊎◌, ℕ, List, [], ◌∷◌, ◌++◌, length, take, ap, sym, ◌∙◌, subst, arith, Option, refl, inl, inr, length-append, append_assoc}
 use Rattle.std.specs.Io.KnownBytes.{Appends, Consumes}
 use Rattle.std.proofs.KnownBytes.{Appends-trans, Consumes-trans}
 use Rattle.std.proofs.Math.Seq.{take-append-add}
 use Rattle.std.proofs.lemmas.List.{length-take, length-take-le, take-append-le}
 use Rattle.dn_tic.specs.declared.command.Move.{Move}
 use Rattle.dn_world.specs.Plane.{Spots, walking}
-use Rattle.dn_demo.specs.Feeding.{Feeding, Shows, Takes}
-use Rattle.dn_demo.specs.Listed.{AreListed, Lists, TellsFront}
+use Rattle.dn_demo.specs.{Feeding.{Feeding, Shows, Takes}, Listed.{AreListed, Lists, TellsFront}}
 use Rattle.dn_demo.proofs.Listing.{tells_more, tells_all, rows_of_listed}
-use Rattle.dn_netgame.specs.Texts.RowLines.{row_lines, lines_of_rows}
-use Rattle.dn_netgame.specs.DemoShown.{IsDemo}
-use Rattle.dn_netgame.specs.RowsShown.{AreRows, IsRowsShown, ListsWhole, ListsFront}
-use Rattle.dn_netgame.specs.Transfer.{TakesUpTo, AppendsFront}
+use Rattle.dn_netgame.specs.{Texts.RowLines.{lines_of_rows}, DemoShown.IsDemo, RowsShown.{AreRows, IsRowsShown, ListsWhole, ListsFront}, Transfer.{TakesUpTo, AppendsFront}}
 use Rattle.dn_netgame.proofs.FeedPieces.{up_to_more}
 
 -- the lines of some rows, and of those behind them
 pub lines_more : (tic : ℕ) (xs ys : List (List (Option Move)))
     → lines_of_rows tic (xs ++ ys) ≡ lines_of_rows tic xs ++ lines_of_rows (tic + length xs) ys
 lines_more tic [] ys = let e : tic + 0 ≡ tic = omega arith in rw e refl
-lines_more tic (x ∷ xs) ys =
-    let e : tic + suc (length xs) ≡ tic + 1 + length xs = omega arith in
-    rw e (ap (λ (t : List ℕ). row_lines tic 0 x ++ t) (lines_more (tic + 1) xs ys)
-    ∙ sym (append_assoc (row_lines tic 0 x) (lines_of_rows (tic + 1) xs)
-    (lines_of_rows (tic + 1 + length xs) ys)))
+lines_more tic (x ∷ xs) ys = grind (arith, lines_more (tic + 1) xs ys, append_assoc)
 
 -- behind rows whose number is known
 pub lines_at : (tic next : ℕ) (xs ys : List (List (Option Move))) → next ≡ tic + length xs
@@ -39,12 +31,7 @@ pub told_more : (f g h : Feeding Spots) (piece mid rest : List ℕ) (xs ys : Lis
     → text' ≡ text ++ lines_of_rows g.tics ys
     → (rows : List (List (Option Move))) × TellsFront (λ w. w) walking f piece rest h rows
     × (text' ≡ lines_of_rows f.tics rows)
-told_more f g h piece mid rest xs ys text text' one same other more = (
-  xs ++ ys,
-  tells_more (λ w. w) walking f g h piece mid rest xs ys one other,
-  more ∙ ap (λ (t : List ℕ). t ++ lines_of_rows g.tics ys) same
-      ∙ sym (lines_at f.tics g.tics xs ys one.listed.tics),
-)
+told_more f g h piece mid rest xs ys text text' one same other more = grind (arith, tells_more, lines_at)
 
 -- a prefix of a text is written behind another text
 pub front_behind : (old mid new : Option (List ℕ)) (first text : List ℕ) → Appends old mid first
@@ -162,22 +149,7 @@ module _ (input mid output output' : Option (List ℕ)) (f : Feeding Spots)
     pub lists_more : (later : Option (List ℕ)) → Appends output' later text → f.taken < 33554433 → n ≤ count
         → (n ≡ 4096) ⊎ (f.taken + n ≡ 33554433)
         → ListsSoFar input input' output later g
-    lists_more later put under full piece = (
-      bytes,
-      (
-        within,
-        one_more so_far.1.1 (omega (arith, under, so_far.3.taken)) (omega (arith, came, full))
-            (length-append so_far.0 (take count buffer)) within (last_piece piece) up.within,
-      ),
-      taken,
-      shown,
-      (
-        all_rows,
-        listed,
-        omega (arith, takes.1.tics, so_far.4.2, length-append so_far.4.0 rows),
-        written later put,
-      ),
-    )
+    lists_more later put under full piece = grind (arith, within, one_more, came, length-append, last_piece, taken, shown, listed, takes, written)
 
     -- and the input ended
     pub lists_all : (later : Option (List ℕ)) → Appends output' later text → count < n

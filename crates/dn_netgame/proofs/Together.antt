@@ -3,11 +3,8 @@ use Rattle.std.proofs.Common.{◌≡◌, ℕ, List, Option, Some, subst}
 use Rattle.std.specs.Prelude.{IfSome}
 use Rattle.dn_world.specs.Physics.{Physics}
 use Rattle.dn_node.specs.declared.node.Node.{Node}
-use Rattle.dn_netgame.specs.Turning.Rounds.{AreSeated}
-use Rattle.dn_game.specs.declared.config.GameConfig.{GameConfig}
-use Rattle.dn_game.specs.Fresh.{AreFresh}
-use Rattle.dn_game.specs.Opening.{rules_in}
-use Rattle.dn_netgame.specs.LoopShown.{new_seats, IsLoop}
+use Rattle.dn_netgame.specs.{Turning.Rounds.AreSeated, LoopShown.{new_seats, IsLoop}}
+use Rattle.dn_game.specs.{declared.config.GameConfig.GameConfig, Fresh.AreFresh, Opening.rules_in}
 
 -- nodes of no history are in the seats of new ones
 pub together : {W S : Type 0} (state : W → S) (physics : Physics S) (config : GameConfig) (players worlds : ℕ)

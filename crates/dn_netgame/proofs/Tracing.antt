@@ -2,13 +2,9 @@
 use Rattle.std.proofs.Common.{◌≡◌, ◌+◌, ℕ, List, [], ◌∷◌, ◌++◌, Result, append_assoc, append-nil, refl, sym, ap, ◌∙◌}
 use Rattle.std.specs.Prelude.{All}
 use Rattle.std.proofs.lemmas.List.Elements.{All-cons, All-nil}
-use Rattle.dn_machine.specs.declared.events.Done.{Done}
-use Rattle.dn_machine.specs.declared.events.Event.{Event}
-use Rattle.dn_machine.specs.declared.events.Refusal.{Refusal}
-use Rattle.dn_game.specs.Observed.{Observing, ObservesAll}
-use Rattle.dn_game.specs.Scripts.Written.{event_line, script_text}
-use Rattle.dn_netgame.specs.Texts.TraceLines.{trace_line, trace_lines}
-use Rattle.dn_netgame.specs.Told.{IsNotLeftOut, AddsTraced, AddsScripted}
+use Rattle.dn_machine.specs.{declared.events.Done.Done, declared.events.Event.Event, declared.events.Refusal.Refusal}
+use Rattle.dn_game.specs.{Observed.{Observing, ObservesAll}, Scripts.Written.{event_line, script_text}}
+use Rattle.dn_netgame.specs.{Texts.TraceLines.{trace_line, trace_lines}, Told.{IsNotLeftOut, AddsTraced, AddsScripted}}
 
 -- the lines of events, each behind those before it
 module _ {L : Type 0} (observes : Observing L) (text : L → List ℕ) (P : Result Done Refusal → Type 0)

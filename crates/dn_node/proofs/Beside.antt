@@ -1,21 +1,70 @@
--- What a step of the machine's node leaves of what its world depends on.
-use Rattle.std.proofs.Common.{◌≡◌, ℕ, ◌-◌, Bool, true, false, Option, refl, ap}
-use Rattle.std.specs.Prelude.{nat_lt, Result, Ok, Err}
+-- What a step of the machine's node leaves of what its world depends on, and that a known end stays known.
+use Rattle.std.proofs.Common.{◌≡◌, ℕ, ◌+◌, Bool, true, false, Option, Some, ltb, leb, arith, refl}
 use Rattle.std.proofs.lemmas.Bool.{cond_both}
-use Rattle.dn_machine.specs.declared.answers.Heard.{Heard}
-use Rattle.dn_tic.specs.declared.input.Input.{Input}
-use Rattle.dn_machine.specs.Building.{on_build}
-use Rattle.dn_machine.specs.Flight.{Flight, is_exit, end_of}
-use Rattle.dn_machine.specs.Hearing.{on_packet, left_or}
-use Rattle.dn_machine.specs.Limits.{Limits}
+use Rattle.std.specs.Prelude.{Result, Ok, Err, nat_lt}
+use Rattle.dn_machine.specs.{declared.answers.Heard.Heard, declared.answers.Phase.Phase}
+use Rattle.dn_machine.specs.declared.answers.Phase.TheVariants.{Listening, Gathering, Playing, Ended}
+use Rattle.dn_machine.specs.{declared.peer.Peer.Peer, Flight.{Kind, SetUp, Play, Exit, Flight, is_exit, end_of}}
+use Rattle.dn_machine.specs.Hearing.{is_strange_end, after_flight, on_commands, on_ended, on_gathering, on_packet, on_packet_in, left_or}
+use Rattle.dn_machine.specs.{Limits.Limits, Node.{with_peer, ends_of}, Building.on_build, Running.on_quit}
+use Rattle.dn_machine.specs.Sending.{after_sent}
 use Rattle.dn_machine.specs.Node as machine
-use Rattle.dn_machine.specs.Running.{on_quit}
-use Rattle.dn_machine.proofs.Calls.{build_cases, send_cases, quit_cases, packet_cases}
-use Rattle.dn_lockstep.specs.Phases.{is_waiting}
-use Rattle.dn_lockstep.specs.Received.{heard_as}
-use Rattle.dn_lockstep.specs.Sent.{sent_to}
-use Rattle.dn_machine.specs.Sending.{lag, last_sent, after_sent}
-use Rattle.dn_node.proofs.Ends.{KeepsEnds, peer_keeps}
+use Rattle.dn_machine.proofs.{Put.{put_at, put_off}, Calls.{build_cases, send_cases, quit_cases, packet_cases}}
+use Rattle.dn_lockstep.specs.{Received.heard_as, Phases.is_waiting, Sent.sent_to}
+use Rattle.dn_tic.specs.declared.input.Input.{Input}
+
+abbrev pub KeepsEnds : machine.Node → machine.Node → Type 0
+KeepsEnds m after = (p end : ℕ) → ends_of m p ≡ Some end → ends_of after p ≡ Some end
+
+-- where the one peer that is another now keeps its end
+pub peer_keeps : (m : machine.Node) (player : ℕ) (peer : Peer)
+    → ((end : ℕ) → ends_of m player ≡ Some end → peer.end ≡ Some end)
+    → KeepsEnds m (with_peer m player peer)
+peer_keeps m player peer keeps p end known = grind (arith, put_at, put_off)
+
+module _ (limits : Limits) (me : ℕ) (m : machine.Node) (flight : Flight) where
+  sender_keeps : is_strange_end (is_exit flight.kind) (machine.got m flight.from) (ends_of m flight.from)
+      (end_of flight) ≡ false → (end : ℕ) → ends_of m flight.from ≡ Some end
+      → (after_flight limits.places (machine.made me m) (m.peers flight.from) flight).end ≡ Some end
+  sender_keeps fine end known = grind arith
+
+  commands_keep : KeepsEnds m (on_commands limits me m flight).0
+  commands_keep =
+      let P : machine.Node × Heard → Type 0 = λ x. KeepsEnds m x.0 in
+      let peer : Peer = after_flight limits.places (machine.made me m) (m.peers flight.from) flight in
+      cond_both (ltb (machine.ran m + limits.places) (end_of flight)) _ _ P (λ over p end known. known)
+      (λ fits. cond_both (is_strange_end (is_exit flight.kind) (machine.got m flight.from)
+      (ends_of m flight.from) (end_of flight)) _ _ P (λ strange p end known. known)
+      (λ fine. cond_both (leb (end_of flight) (machine.got m flight.from)) _ _ P
+      (λ stale. peer_keeps m flight.from peer (sender_keeps fine))
+      (λ later. cond_both (ltb (machine.got m flight.from) flight.start) _ _ P
+      (λ gap. peer_keeps m flight.from (record peer { want = true }) (sender_keeps fine))
+      (λ joins. peer_keeps m flight.from (record peer { want = false }) (sender_keeps fine)))))
+
+  ended_keeps : (played : Bool) (kind : Kind) → KeepsEnds m (on_ended limits played me m flight kind).0
+  ended_keeps played kind = grind arith
+
+  gathering_keeps : KeepsEnds m (on_gathering limits m flight.from).0
+  gathering_keeps = grind (arith, cond_both)
+
+  packet_keeps : (phase : Phase) (kind : Kind) → KeepsEnds m (on_packet_in limits me m flight phase kind).0
+  packet_keeps (Ended cause) kind = ended_keeps m.played kind
+  packet_keeps Listening (SetUp settings) = λ p end known. known
+  packet_keeps Gathering (SetUp settings) = λ p end known. known
+  packet_keeps Playing (SetUp settings) = λ p end known. known
+  packet_keeps Listening Play = λ p end known. known
+  packet_keeps Listening Exit = λ p end known. known
+  packet_keeps Gathering Play = gathering_keeps
+  packet_keeps Gathering Exit = gathering_keeps
+  packet_keeps Playing Exit = commands_keep
+  packet_keeps Playing Play = commands_keep
+
+-- whatever passed the tests
+pub heard_keeps : (limits : Limits) (me : ℕ) (m : machine.Node) (flight : Result Flight ℕ)
+    → KeepsEnds m (heard_as limits me m m.phase flight).0
+unfolding on_packet
+heard_keeps limits me m (Err number) = λ p end known. known
+heard_keeps limits me m (Ok flight) = packet_keeps limits me m flight m.phase flight.kind
 
 -- its world depends on the same
 pub record IsBeside (m after : machine.Node) : Type 0 where
@@ -44,8 +93,7 @@ pub leaves : (m : machine.Node) → Leaves m m
 leaves m = (stays m, λ p e known. known)
 
 left_starts : (exit : Bool) (heard : Heard) → is_start heard ≡ false → is_start (left_or exit heard) ≡ false
-left_starts true heard other = refl
-left_starts false heard other = other
+left_starts exit heard other = grind arith
 
 module _ (limits : Limits) (me : ℕ) (m : machine.Node) where
   pub build_beside : (input : Input) → Leaves m (on_build limits me m input).0
@@ -55,10 +103,7 @@ module _ (limits : Limits) (me : ℕ) (m : machine.Node) where
   pub send_beside : (to : ℕ) → Leaves m (sent_to to limits me m).0
   send_beside to =
       let P : machine.Node × Option Flight → Type 0 = λ x. Leaves m x.0 in
-      let gives : Leaves m (after_sent limits me m to) = (
-        record { played = refl; settings = refl; rows = refl; marks = refl },
-        peer_keeps m to (record (m.peers to) { resend = last_sent limits me m to - lag limits }) (λ e known. known),
-      ) in
+      let gives : Leaves m (after_sent limits me m to) = grind (arith, peer_keeps) in
       cond_both (nat_lt to limits.players) _ _ P
       (λ below. send_cases limits me m P to (leaves m) (λ other e. leaves m) (λ other e. gives)
       (λ other e. gives)) (λ past. leaves m)
@@ -68,28 +113,9 @@ module _ (limits : Limits) (me : ℕ) (m : machine.Node) where
       (λ goes_on. (record { played = refl; settings = refl; rows = refl; marks = refl }, λ p e known. known))
 
   hear_beside : (flight : Flight) → Hears m (on_packet limits me m flight)
-  hear_beside flight =
-      packet_cases limits me m flight (Hears m) (record {
-        dropped = λ number why. GoesOn (stays m) refl;
-        starts = λ s e k. Starts refl (ap is_waiting e) refl;
-        completes = λ word e all. Starts refl (ap is_waiting e) refl;
-        notes = λ word e some.
-            GoesOn (record { played = refl; settings = refl; rows = refl; marks = refl }) refl;
-        commands = λ plays. record {
-          dropped = λ number why. GoesOn (stays m) refl;
-          stale = λ l. GoesOn (record { played = refl; settings = refl; rows = refl; marks = refl })
-              (left_starts (is_exit flight.kind) Heard.Stale refl);
-          gap = λ l. GoesOn (record { played = refl; settings = refl; rows = refl; marks = refl }) refl;
-          takes = λ l n. GoesOn (record { played = refl; settings = refl; rows = refl; marks = refl })
-              (left_starts (is_exit flight.kind)
-              (Heard.Taken (end_of flight - machine.got m flight.from)) refl);
-        };
-        requests = λ ended.
-            GoesOn (record { played = refl; settings = refl; rows = refl; marks = refl }) refl;
-      })
+  hear_beside flight = packet_cases limits me m flight (Hears m) (grind (arith, stays, left_starts))
 
   -- whatever passed the tests
   pub heard_beside : (flight : Result Flight ℕ) → Hears m (heard_as limits me m m.phase flight)
   unfolding on_packet
-  heard_beside (Err number) = GoesOn (stays m) refl
-  heard_beside (Ok flight) = hear_beside flight
+  heard_beside flight = grind (arith, stays, hear_beside)

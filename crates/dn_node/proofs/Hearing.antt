@@ -1,37 +1,24 @@
 -- A node that hears starts and begins its world, or leaves its world as it is.
-use Rattle.std.proofs.Common.{arith, ◌≡◌, ◌≢◌, ℕ, true, false, List, length, Option, Some, None, ap, sym, ◌∙◌, subst}
+use Rattle.std.proofs.Common.{arith, ◌≡◌, ◌≢◌, ℕ, true, false, List, length, Option, Some, None, ap, sym, ◌∙◌}
 use Rattle.std.specs.Prelude.{Result, Ok}
-use Rattle.std.specs.Option.{option_map}
 use Rattle.dn_tic.specs.declared.command.Move.{Move}
-use Rattle.dn_setup.specs.Settings.{Settings}
-use Rattle.dn_setup.specs.Starts.{start_of}
+use Rattle.dn_setup.specs.{Settings.Settings, Starts.start_of}
 use Rattle.dn_world.specs.Physics.{Physics}
-use Rattle.dn_machine.specs.declared.answers.Heard.{Heard}
-use Rattle.dn_machine.specs.Flight.{Flight}
-use Rattle.dn_machine.specs.Hearing.{on_packet}
+use Rattle.dn_machine.specs.{declared.answers.Heard.Heard, Flight.Flight, Hearing.on_packet, Limits.Limits}
+use Rattle.dn_machine.specs.{Worlds.{Rules, rules_within, opening, world_after}, Game.own_world}
 use Rattle.dn_machine.specs.Calls as call
-use Rattle.dn_machine.specs.Limits.{Limits}
-use Rattle.dn_machine.specs.Worlds.{Rules, rules_within, opening, world_after}
 use Rattle.dn_machine.specs.Node as machine
-use Rattle.dn_machine.specs.Game.{own_world}
 use Rattle.dn_lockstep.specs.Contents as lockstep_of_contents
-use Rattle.dn_lockstep.specs.Contents.{Contents as Lockstep}
+use Rattle.dn_lockstep.specs.{Contents.{Contents as Lockstep}, Phases.is_waiting}
+use Rattle.dn_lockstep.specs.{Received.{heard_as, flight_from}, Rows.seats_of}
 use Rattle.dn_lockstep.specs.Hearing as lockstep_hears
-use Rattle.dn_lockstep.specs.Phases.{is_waiting}
-use Rattle.dn_lockstep.specs.Received.{heard_as, flight_from}
 use Rattle.dn_lockstep.specs.Represents as lockstep_of
-use Rattle.dn_lockstep.specs.Rows.{seats_of}
 use Rattle.dn_lockstep.specs.Steps as lockstep
-use Rattle.dn_lockstep.proofs.Moving.{known_by}
-use Rattle.std.proofs.lemmas.List.{nil_from_length}
-use Rattle.dn_node.specs.Contents.{Contents, locked, whose}
-use Rattle.dn_node.specs.Represents.{Represents}
+use Rattle.dn_lockstep.proofs.{Moving.known_by, Marked.marked_low}
+use Rattle.dn_node.specs.{Contents.{Contents, locked, whose}, Represents.Represents}
 use Rattle.dn_node.specs.Steps.{Shows, IsAfter, HearsAny, HearsNear}
-use Rattle.dn_node.proofs.Beside.{Hears, GoesOn, Starts, is_start, heard_beside}
+use Rattle.dn_node.proofs.Beside.{Hears, GoesOn, Starts, is_start, heard_beside, KeepsEnds, heard_keeps}
 use Rattle.dn_node.proofs.Stepping.{beside_world, beside_marks}
-use Rattle.dn_machine.specs.Node.{ends_of}
-use Rattle.dn_lockstep.proofs.Marked.{marked_low}
-use Rattle.dn_node.proofs.Ends.{KeepsEnds, heard_keeps}
 
 -- the world before any row, of a node that has just started
 pub first_world : {S : Type 0} (rules : Rules S) (m : machine.Node) (settings : Settings)
@@ -39,9 +26,7 @@ pub first_world : {S : Type 0} (rules : Rules S) (m : machine.Node) (settings : 
     → m.settings ≡ Some settings → m.rows ≡ rows → length rows ≡ 0
     → Some (opening rules settings) ≡ own_world rules m (machine.ran m)
 unfolding world_after
-first_world rules m settings rows known is none =
-    sym ((λ i. option_map (λ (s : Settings). world_after rules s ((is ∙ nil_from_length rows none) i)
-    (length ((is ∙ nil_from_length rows none) i))) (known i)))
+first_world rules m settings rows known is none = grind (arith, known)
 
 -- a node whose lockstep has heard something, with its world: begun where it has started, and else as it was
 pub record HasHeard {W S : Type 0} (state : W → S) (physics : Physics S) (old new : Contents W)
@@ -81,13 +66,9 @@ module _ {W S : Type 0} {state : W → S} {physics : Physics S} {old new : Conte
           lockstep = shows;
           world = λ played.
               let s = known_by new.settings (has.known (shows.stands.played ∙ played)) in
-              ap (λ (w : S). Some w) (has.begun (told ∙ starts) s.0 s.1
-              ∙ ap (λ (k : ℕ). physics.begin (start_of s.0) (seats_of k)) shows.whose.players)
+              ap (λ (w : S). Some w) (grind arith)
               ∙ first_world rules next.0 s.0 m.rows (sym shows.stands.settings ∙ s.1) rows none;
-          marks = λ p tic below low.
-              let count = ap (length {A = List (Option Move)}) rows in
-              let most = marked_low (machine.ran next.0) (ends_of next.0 p) in
-              absurd (omega arith);
+          marks = grind (arith, marked_low);
         };
         answer = told;
       }
@@ -101,8 +82,7 @@ module _ {W S : Type 0} {state : W → S} {physics : Physics S} {old new : Conte
       let step = locks limits me m r.lockstep in
       heard_so limits me m r _ (heard_beside limits me m (flight limits.players me m))
       (heard_keeps limits me m (flight limits.players me m))
-      (subst (λ (x : Lockstep). lockstep_of.Represents limits me x
-      (heard_as limits me m m.phase (flight limits.players me m)).0) (sym has.rest) step.node) step.answer
+      (grind arith) step.answer
 
   same_whose : lockstep_of_contents.whose after ≡ whose old → whose new ≡ whose old
   same_whose same = ap lockstep_of_contents.whose has.rest ∙ same

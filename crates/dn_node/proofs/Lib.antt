@@ -1,7 +1,5 @@
-pub mod Ends
 pub mod Beside
 pub mod Stepping
-pub mod Building
 pub mod Hearing
 pub mod Running
 pub mod Replaying

@@ -1,9 +1,7 @@
 -- No node becomes another's.
-use Rattle.std.proofs.Common.{◌≡◌, ℕ, List, set, get_or, ap, ◌∙◌}
+use Rattle.std.proofs.{Common.{◌≡◌, ℕ, List, set, get_or, arith}, Math.Seq.map-set_same}
 use Rattle.std.specs.Prelude.{slice_index_or}
-use Rattle.std.proofs.Math.Seq.{map-set_same}
-use Rattle.dn_node.specs.declared.node.Node.{Node}
-use Rattle.dn_node.specs.Contents.{contents, whose, whose_of}
+use Rattle.dn_node.specs.{declared.node.Node.Node, Contents.{contents, whose, whose_of}}
 
 -- one of these nodes took a step, and stays whose it is
 pub whose_set : {W : Type 0} (nodes : List (Node W)) (place : ℕ) (old next : Node W)
@@ -15,5 +13,4 @@ whose_set {W} nodes place old next = map-set_same (λ (n : Node W). whose (conte
 pub whose_step : {W : Type 0} (nodes : List (Node W)) (place : ℕ) (old next : Node W)
     → old ≡ slice_index_or nodes place old → whose (contents next) ≡ whose (contents old)
     → whose_of (set nodes place next) ≡ whose_of nodes
-whose_step {W} nodes place old next read kept =
-    whose_set nodes place old next (kept ∙ ap (λ (n : Node W). whose (contents n)) read)
+whose_step {W} nodes place old next read kept = grind (arith, whose_set)

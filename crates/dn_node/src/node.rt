@@ -88,6 +88,7 @@ impl<W: World> Node<W> {
     /// A player's command for a tic, with its letter of chat, which a move lacks: one of the last twelve that
     /// it has of the player, so that of the next tic to be run is told as soon as it is there. None for another
     /// tic, and for a number that is no player's.
+    #[tactic(auto, using(crate::proofs::Stepping::tells))]
     pub fn command(&self, player: u8, tic: u32) -> Option<TicCmd>
         ensures value { result ≡ command_told (locked (contents self.now)) player tic }
         ensures told { Tells W.state W.physics (contents self.now)
@@ -114,6 +115,7 @@ impl<W: World> Node<W> {
 
     /// The tic after a player's last command: of another player once an EXIT packet has told it, and its own
     /// once it has played and ended. From that tic on no tic has a move of the player.
+    #[tactic(auto, using(crate::proofs::Stepping::tells))]
     pub fn end(&self, player: u8) -> Option<u32>
         ensures value { result
             ≡ (if nat_lt player (contents self.now).players then end_in (contents self.now) player

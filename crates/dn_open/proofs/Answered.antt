@@ -2,57 +2,24 @@
 use Rattle.std.proofs.Common.{◌≡◌, ◌<◌, ℕ, Bool, true, false, List, refl, ap, sym, ◌∙◌, subst, arith, Some}
 use Rattle.std.specs.Prelude.{slice_get, Result, Ok}
 use Rattle.dn_setup.specs.Settings.{Settings}
-use Rattle.dn_machine.specs.declared.answers.Heard.{Heard}
-use Rattle.dn_machine.specs.declared.events.Done.{Done}
-use Rattle.dn_machine.specs.declared.events.Refusal.{Refusal}
-use Rattle.dn_machine.specs.Flight.{Flight, packet_of}
-use Rattle.dn_machine.specs.Game.{Game}
-use Rattle.dn_machine.specs.Hearing.{on_packet}
-use Rattle.dn_machine.specs.Limits.{Limits}
+use Rattle.dn_machine.specs.{declared.answers.Heard.Heard, declared.events.Done.Done, declared.events.Refusal.Refusal, Flight.Flight, Flight.packet_of, Game.Game, Hearing.on_packet, Limits.Limits, Worlds.Rules}
+use Rattle.dn_lockstep.specs.{Contents.Contents, Marking.Marking, OneGame.beside, OneGame.AreOneGame, Session.Session, Told.made}
+use Rattle.dn_lockstep.proofs.{Counting.made_is, Nearby.told_by, Nearby.told_is, Nearby.near_received, OneGame.kept}
+use Rattle.dn_open.specs.{Arrivals.HearsOpened, Arrivals.IsRead, Arrivals.on_opened, declared.arrived.Arrived.Arrived, OpenGames.IsDeliveredAs, OpenGames.is_timely, Playable.IsSmall, Sealed.opened_of}
+use Rattle.dn_open.proofs.{Alikes.alike, Deliveries.IsBetween, Deliveries.delivers, Deliveries.near_if, Fairness.are_sealable, Sealables.IsSealable}
 use Rattle.dn_machine.specs.Node as machine
-use Rattle.dn_machine.specs.Worlds.{Rules}
-use Rattle.dn_lockstep.specs.Contents.{Contents}
-use Rattle.dn_lockstep.specs.Marking.{Marking}
-use Rattle.dn_lockstep.specs.OneGame.{beside, AreOneGame}
-use Rattle.dn_lockstep.specs.Session.{Session}
-use Rattle.dn_lockstep.specs.Told.{made}
-use Rattle.dn_lockstep.proofs.Counting.{made_is}
-use Rattle.dn_lockstep.proofs.Nearby.{told_by, told_is, near_received}
-use Rattle.dn_lockstep.proofs.OneGame.{kept}
-use Rattle.dn_open.specs.Arrivals.{HearsOpened, IsRead, on_opened}
-use Rattle.dn_open.specs.declared.arrived.Arrived.{Arrived}
-use Rattle.dn_open.specs.OpenGames.{IsDeliveredAs, is_timely}
-use Rattle.dn_open.specs.Playable.{IsSmall}
-use Rattle.dn_open.specs.Sealed.{opened_of}
-use Rattle.dn_open.proofs.Alikes.{alike}
-use Rattle.dn_open.proofs.Deliveries.{IsBetween, delivers, near_if}
-use Rattle.dn_open.proofs.Fairness.{are_sealable}
-use Rattle.dn_open.proofs.Sealables.{IsSealable}
 
 -- the contents of an envelope have one answer
 module _ {S : Type 0} (rules : Rules S) (game : Game) (count which : ℕ) (flight : Flight) where
   heard_once : (a b : Heard) → ◌≡◌ {A = Result Done Refusal} (Ok (Done.Heard a)) (Ok (Done.Heard b)) → a ≡ b
-  heard_once a b e = ap (heard_in a) e
-    where
-      heard_in : Heard → Result Done Refusal → Heard
-      heard_in other (Ok (Done.Heard h)) = h
-      heard_in other _ = other
+  heard_once a b e = grind arith
 
   once : (timely : Bool) → timely ≡ true → timely ≡ false → ⊥
   once timely on off = let clash = sym on ∙ off in absurd (cc)
 
   pub delivered_once : (a b : Arrived) → IsDeliveredAs rules game count which flight a
       → IsDeliveredAs rules game count which flight b → a ≡ b
-  delivered_once (Arrived.Heard a) (Arrived.Heard b) x y = ap Arrived.Heard (heard_once a b (sym x.1 ∙ y.1))
-  delivered_once (Arrived.Heard a) Arrived.Late x y = absurd (once (is_timely count flight) x.0 y)
-  delivered_once (Arrived.Heard a) Arrived.Unlike x y = absurd y
-  delivered_once (Arrived.Heard a) (Arrived.Unopened fault) x y = absurd y
-  delivered_once Arrived.Late (Arrived.Heard b) x y = absurd (once (is_timely count flight) y.0 x)
-  delivered_once Arrived.Late Arrived.Late x y = refl
-  delivered_once Arrived.Late Arrived.Unlike x y = absurd y
-  delivered_once Arrived.Late (Arrived.Unopened fault) x y = absurd y
-  delivered_once Arrived.Unlike b x y = absurd x
-  delivered_once (Arrived.Unopened fault) b x y = absurd x
+  delivered_once a b x y = grind (arith, heard_once, once, count)
 
 module _ (marking : Marking) (limits : Limits) (settings : Settings) {session : Session}
     (game : AreOneGame marking limits settings session) where
@@ -82,9 +49,7 @@ module _ (marking : Marking) (limits : Limits) (settings : Settings) {session : 
     IsDelivered answer = IsDeliveredAs (beside marking limits) game.last (made old) which flight answer
 
     count : made old ≡ machine.made flight.to node
-    count =
-        let r = game.nodes flight.to mine in
-        made_is limits flight.to old node r (omega (arith, mine, r.whose.number, r.whose.players))
+    count = grind (arith, mine, made_is)
 
     pub delivered_as : IsDelivered after.1
     delivered_as = go (is_timely (made old) flight) refl

@@ -2,35 +2,19 @@
 use Rattle.std.proofs.Common.{◌≡◌, ◌≢◌, ◌<◌, ◌⊎◌, ℕ, Bool, true, false, List, refl, ap, sym, ◌∙◌, subst, Option, Some, None, inl, inr, not, ◌&&◌, ltb}
 use Rattle.std.specs.Prelude.{slice_get, Result, Ok, Err, if◌then◌else◌}
 use Rattle.std.proofs.lemmas.Bool.{cases_eq, eq-eqb, ne_eqb}
-use Rattle.dn_packet.specs.declared.packet.Packet.{Packet}
-use Rattle.dn_packet.specs.declared.packet.PacketFault.{PacketFault}
+use Rattle.dn_packet.specs.{declared.packet.Packet.Packet, declared.packet.PacketFault.PacketFault}
 use Rattle.dn_packet.proofs.Once.{only_packet}
-use Rattle.dn_setup.specs.Settings.{Settings, IsSettings}
-use Rattle.dn_setup.specs.Setup.{setup_packet, IsSetupReadAs}
-use Rattle.dn_setup.specs.declared.setup.SetupFault.{SetupFault}
-use Rattle.dn_setup.specs.declared.setup.SetupFault.TheVariants.{NotSetup, Version, Range}
-use Rattle.dn_machine.specs.declared.answers.Heard.{Heard}
-use Rattle.dn_machine.specs.declared.events.Done.{Done}
-use Rattle.dn_machine.specs.declared.events.Event.TheVariants.{Deliver}
-use Rattle.dn_machine.specs.declared.events.Refusal.{Refusal}
-use Rattle.dn_machine.specs.Flight.{Kind, SetUp, Play, Exit, Flight, packet_of, is_near, is_close, is_request_close}
-use Rattle.dn_machine.specs.Game.{Game, applied, refused, refused_at, delivered, with_node}
-use Rattle.dn_machine.specs.Hearing.{on_packet}
-use Rattle.dn_machine.specs.Node.{Node, put, made}
-use Rattle.dn_machine.specs.Worlds.{Rules}
-use Rattle.dn_lockstep.specs.Near.{IsFairKind}
-use Rattle.dn_lockstep.specs.Received.{received, IsTold}
+use Rattle.dn_setup.specs.{Settings.Settings, Settings.IsSettings, Setup.setup_packet, Setup.IsSetupReadAs, declared.setup.SetupFault.SetupFault, declared.setup.SetupFault.TheVariants.NotSetup}
+use Rattle.dn_setup.specs.{declared.setup.SetupFault.TheVariants.Version, declared.setup.SetupFault.TheVariants.Range}
+use Rattle.dn_machine.specs.{declared.answers.Heard.Heard, declared.events.Done.Done, declared.events.Event.TheVariants.Deliver, declared.events.Refusal.Refusal, Flight.Kind, Flight.SetUp, Flight.Play, Flight.Exit}
+use Rattle.dn_machine.specs.{Flight.Flight, Flight.packet_of, Flight.is_near, Flight.is_close, Flight.is_request_close, Game.Game, Game.applied, Game.refused, Game.refused_at, Game.delivered, Game.with_node}
+use Rattle.dn_machine.specs.{Hearing.on_packet, Node.Node, Node.put, Node.made, Worlds.Rules}
+use Rattle.dn_lockstep.specs.{Near.IsFairKind, Received.received, Received.IsTold}
 use Rattle.dn_lockstep.proofs.Nearby.{told_by, told_is, near_received}
-use Rattle.dn_seal.specs.declared.opened.Opened.{Opened}
-use Rattle.dn_seal.specs.declared.opened.SealFault.{SealFault}
-use Rattle.dn_seal.specs.declared.seal.Seal.{Seal}
-use Rattle.dn_open.specs.OpenGames.{IsEnvelope, IsGenuine, IsUnheard, answer_if, arrived_if}
-use Rattle.dn_open.specs.Arrivals.{IsRead, is_alike}
-use Rattle.dn_open.specs.declared.arrived.Arrived.{Arrived}
-use Rattle.dn_open.proofs.Alikes.{alike}
-use Rattle.dn_seal.specs.Opening.{IsOpenedAs}
-use Rattle.dn_open.specs.Sealed.{envelope_of, opened_of, sealing_of}
-use Rattle.dn_open.proofs.Sealables.{IsSealable, opened_is}
+use Rattle.dn_seal.specs.{declared.opened.Opened.Opened, declared.opened.SealFault.SealFault, declared.seal.Seal.Seal, Opening.IsOpenedAs}
+use Rattle.dn_open.specs.{OpenGames.IsEnvelope, OpenGames.IsGenuine, OpenGames.IsUnheard, OpenGames.answer_if, OpenGames.arrived_if, Arrivals.IsRead, Arrivals.is_alike, declared.arrived.Arrived.Arrived}
+use Rattle.dn_open.specs.{Sealed.envelope_of, Sealed.opened_of, Sealed.sealing_of}
+use Rattle.dn_open.proofs.{Alikes.alike, Sealables.IsSealable, Sealables.opened_is}
 
 -- a node that is put where it stands changes nothing
 put_same : {A : Type 0} (all : ℕ → A) (place : ℕ) → put all place (all place) ≡ all

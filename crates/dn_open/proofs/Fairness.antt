@@ -1,70 +1,36 @@
 -- Every packet of a game can be carried, and sealed.
 use Rattle.std.proofs.Common.{◌≡◌, ◌≢◌, ◌<◌, ◌≤◌, ◌+◌, ◌^◌, ℕ, List, length, negsuc, refl, sym, ap, ◌∙◌, subst, arith, Option, Some, None, take, All}
-use Rattle.std.specs.Prelude.{FitsSigned, IfSome, slice_get, Bool, true, false}
+use Rattle.std.specs.Prelude.{FitsSigned, IfSome, slice_get, Bool, false}
 use Rattle.std.specs.List.{list_any}
 use Rattle.std.specs.Int.{w16}
 use Rattle.std.proofs.Math.Nat.{mod-lt}
 use Rattle.std.proofs.lemmas.Int.{ints}
 use Rattle.std.proofs.lemmas.List.Elements.{All-from_get_or}
-use Rattle.dn_tic.specs.declared.command.TicCmd.{TicCmd}
-use Rattle.dn_tic.specs.Command.{IsCommand}
+use Rattle.dn_tic.specs.{declared.command.TicCmd.TicCmd, Command.IsCommand}
 use Rattle.dn_packet.specs.Text.{IsPacket}
-use Rattle.dn_setup.specs.Settings.{Settings, IsSettings}
-use Rattle.dn_setup.specs.Setup.{setup_packet}
-use Rattle.dn_setup.specs.Starts.{bit}
-use Rattle.dn_machine.specs.Worlds.{Inputs, Rules, mark_in, worlds_to, command}
-use Rattle.dn_machine.specs.Flight.{Kind, SetUp, Play, Exit, Flight, packet_of, request_flag, request_byte, end_of}
-use Rattle.dn_machine.specs.Game.{Game}
-use Rattle.dn_machine.specs.Node.{blank, has_left}
-use Rattle.dn_machine.specs.Promise.{inputs_of}
-use Rattle.dn_machine.specs.Running.{tic_limit}
-use Rattle.dn_machine.specs.Runs.{Runs}
-use Rattle.dn_machine.proofs.Games.{always}
-use Rattle.dn_machine.proofs.Invariant.{IsPiece, IsKept}
-use Rattle.dn_lockstep.specs.Near.{IsFair, IsFairKind}
-use Rattle.dn_lockstep.specs.Rings.{is_stop}
+use Rattle.dn_setup.specs.{Settings.Settings, Settings.IsSettings, Setup.setup_packet, Starts.bit}
+use Rattle.dn_machine.specs.{Worlds.Inputs, Worlds.Rules, Worlds.mark_in, Worlds.worlds_to, Worlds.command, Flight.Kind, Flight.SetUp, Flight.Play, Flight.Exit, Flight.Flight, Flight.packet_of, Flight.request_flag}
+use Rattle.dn_machine.specs.{Flight.request_byte, Flight.end_of, Game.Game, Node.blank, Node.has_left, Promise.inputs_of, Running.tic_limit, Runs.Runs, Limits.Limits, Limits.IsWindow}
+use Rattle.dn_machine.proofs.{Games.always, Invariant.IsPiece, Invariant.IsKept}
+use Rattle.dn_lockstep.specs.{Near.IsFair, Near.IsFairKind, Rings.is_stop, Marking.Marking, OneGame.beside, OneGame.AreOneGame, Session.Session, Opening.FitsPackets}
 use Rattle.dn_lockstep.proofs.Keeping.{none_stops}
-use Rattle.dn_lockstep.proofs.OneGame as one
-use Rattle.dn_lockstep.specs.Marking.{Marking}
-use Rattle.dn_lockstep.specs.OneGame.{beside, AreOneGame}
-use Rattle.dn_lockstep.specs.Session.{Session}
-use Rattle.dn_machine.specs.Limits.{Limits, IsWindow}
-use Rattle.dn_lockstep.specs.Opening.{FitsPackets}
 use Rattle.dn_open.specs.Playable.{IsPlayable, IsSmall}
-use Rattle.dn_open.proofs.Commands.{AreInputs, inputs_up_to, made_by-fits, made_by-goes_on}
-use Rattle.dn_open.proofs.Deliveries.{IsBetween, AreSealable}
-use Rattle.dn_open.proofs.Sealables.{IsSealable}
-use Rattle.dn_open.proofs.Sends.{IsSent, always_sent}
+use Rattle.dn_open.proofs.{Commands.AreInputs, Commands.inputs_up_to, Commands.made_by-fits, Commands.made_by-goes_on, Deliveries.IsBetween, Deliveries.AreSealable, Sealables.IsSealable, Sends.IsSent}
+use Rattle.dn_open.proofs.{Sends.always_sent}
+use Rattle.dn_lockstep.proofs.OneGame as one
 
 -- a packet of settings
 bit_low : (b : Bool) → bit b ≤ 1
-bit_low true = omega arith
-bit_low false = omega arith
+bit_low b = grind arith
 
 setup_fits : (s : Settings) → IsSettings s → IsPacket (setup_packet s)
-setup_fits s is =
-    let respawn = bit_low s.respawn in
-    let monsters = bit_low s.no_monsters in
-    let a = is.skill in
-    let b = is.deathmatch in
-    let c = is.episode.1 in
-    let d = is.map.1 in
-    record {
-      flags = omega arith;
-      ask = omega arith;
-      start = omega arith;
-      player = omega arith;
-      count = omega arith;
-      commands = λ k d l. absurd (omega arith);
-    }
+setup_fits s is = grind (arith, bit_low)
 
 request_flag_low : (request : Option ℕ) → request_flag request ≤ 4
-request_flag_low None = omega arith
-request_flag_low (Some tic) = omega arith
+request_flag_low request = grind arith
 
 request_byte_low : (request : Option ℕ) → request_byte request < 256
-request_byte_low None = omega arith
-request_byte_low (Some tic) = mod-lt tic (omega arith)
+request_byte_low request = grind (arith, mod-lt)
 
 -- a packet of a game that a datagram can carry can be sealed
 module _ {S : Type 0} (rules : Rules S) (settings : Settings) (few : rules.players ≤ 4)
@@ -73,11 +39,7 @@ module _ {S : Type 0} (rules : Rules S) (settings : Settings) (few : rules.playe
     (there : slice_get game.flights which ≡ Some flight) where
   -- a player's count of commands
   low : (p : ℕ) → p < rules.players → length (inputs_of game p) < 2 ^ 32
-  low p l =
-      let ahead = kept.from_inputs.ahead p l in
-      let most = (kept.sound p l).most short in
-      let back = kept.window.back in
-      omega arith
+  low p l = grind arith
 
   asks_low : (request : Option ℕ) → flight.request ≡ request → IfSome request (λ tic. tic < 2 ^ 32)
   asks_low None e = tt
@@ -119,8 +81,7 @@ module _ {S : Type 0} (rules : Rules S) (settings : Settings) (playable : IsPlay
     (marks : (world : S) (player : ℕ) → FitsSigned w16 (rules.physics.mark world player)) where
   -- each command has a mark that fits
   mark_fits : (world : Option S) (player : ℕ) → FitsSigned w16 (mark_in rules.physics world player)
-  mark_fits None player = omega (arith, ints)
-  mark_fits (Some w) player = marks w player
+  mark_fits world player = grind (arith, ints)
 
   command-fits : (inputs : Inputs) (p tic : ℕ) → AreInputs (inputs p)
       → IsCommand (command rules settings inputs p tic)
@@ -132,9 +93,7 @@ module _ {S : Type 0} (rules : Rules S) (settings : Settings) (playable : IsPlay
   command-goes_on : (inputs : Inputs) (p tic : ℕ)
       → (command rules settings inputs p tic).forward ≢ negsuc 127
   unfolding command
-  command-goes_on inputs p tic =
-      made_by-goes_on (take (tic + 1) (inputs p))
-      (mark_in rules.physics (slice_get (worlds_to rules settings inputs tic) 12) p)
+  command-goes_on inputs p tic = grind (arith, made_by-goes_on)
 
   module _ (inputs : Inputs) (left : ℕ → Bool) (flight : Flight)
       (piece : IsPiece rules settings inputs left flight) (sent : IsSent flight)

@@ -3,20 +3,12 @@ use Rattle.std.proofs.Common.{◌≡◌, ℕ, List, sym, ap, ◌∙◌, Option, 
 use Rattle.std.specs.Option.{option_map}
 use Rattle.std.proofs.lemmas.Option.{same_Some}
 use Rattle.arrayvec.specs.ArrayVec.{ArrayVec}
-use Rattle.dn_machine.specs.Flight.{Flight}
-use Rattle.dn_machine.specs.Limits.{Limits}
-use Rattle.dn_machine.specs.Node as machine
-use Rattle.dn_lockstep.specs.declared.lockstep.aiming.Aim.{Aim}
-use Rattle.dn_lockstep.specs.Contents.{Contents}
-use Rattle.dn_lockstep.specs.Represents.{Represents}
-use Rattle.dn_lockstep.specs.Sent.{sent_to, aim_of, bytes_of}
-use Rattle.dn_lockstep.specs.Steps.{IsAfter, Steps, Tells}
-use Rattle.dn_lockstep.proofs.After.{steps}
-use Rattle.dn_lockstep.proofs.Giving.{no_flight}
-use Rattle.dn_lockstep.proofs.OneGame.{GoesBetween, sent_between}
-use Rattle.dn_seal.specs.Envelope.{envelope}
-use Rattle.dn_seal.specs.Opening.{Sealing}
+use Rattle.dn_machine.specs.{Flight.Flight, Limits.Limits}
+use Rattle.dn_lockstep.specs.{declared.lockstep.aiming.Aim.Aim, Contents.Contents, Represents.Represents, Sent.sent_to, Sent.aim_of, Sent.bytes_of, Steps.IsAfter, Steps.Steps, Steps.Tells}
+use Rattle.dn_lockstep.proofs.{After.steps, Giving.no_flight, OneGame.GoesBetween, OneGame.sent_between}
+use Rattle.dn_seal.specs.{Envelope.envelope, Opening.Sealing}
 use Rattle.dn_open.specs.Sealed.{envelope_of}
+use Rattle.dn_machine.specs.Node as machine
 
 -- a node that gives no packet, for which nothing goes out, whatever would be shown of one
 pub gives_none : {A : Type 0} (view : Flight → A) (to : ℕ) (old new : Contents) (given : Option (List ℕ))

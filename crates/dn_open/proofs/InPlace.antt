@@ -1,24 +1,78 @@
 -- Events of a game stand for open ones.
-use Rattle.std.proofs.Common.{ℕ, List, [], ◌∷◌, ◌++◌, refl, subst, sym, inl, inr}
+use Rattle.std.proofs.Common.{◌≡◌, ℕ, sym, subst, arith, Option, inl, inr, List, [], ◌∷◌, ◌++◌, refl}
 use Rattle.std.specs.Prelude.{FitsSigned}
+use Rattle.std.proofs.lemmas.Bool.{cases_eq}
 use Rattle.std.specs.Int.{w16}
+use Rattle.dn_tic.specs.declared.input.Input.{Input}
 use Rattle.dn_setup.specs.Settings.{Settings}
-use Rattle.dn_machine.specs.declared.events.Event.{Event}
-use Rattle.dn_machine.specs.declared.events.Event.TheVariants.{Deliver}
-use Rattle.dn_machine.specs.Game.{Game, opening_game}
-use Rattle.dn_machine.specs.Runs.{Next, Leads, Runs}
-use Rattle.dn_machine.specs.Worlds.{Rules}
-use Rattle.dn_machine.proofs.Games.{goes_on}
-use Rattle.dn_machine.specs.Limits.{IsWindow}
+use Rattle.dn_machine.specs.{declared.events.Event.Event, declared.events.Event.TheVariants.Deliver, Building.on_build, Flight.Flight, Game.Game, Game.opening_game, Game.posted, Game.delivered, Game.on_event}
+use Rattle.dn_machine.specs.{Game.applied, Game.on_own_run, Hearing.on_packet, Node.Node, Node.put, Running.on_run, Running.on_quit, Runs.Next, Sending.on_send, Worlds.Rules, Runs.Leads, Runs.Runs, Limits.IsWindow}
+use Rattle.dn_machine.proofs.{Calls.build_cases, Put.put_at, Put.put_off, Games.goes_on}
+use Rattle.dn_open.specs.{OpenGames.IsInRange, Playable.IsPlayable, declared.open_event.OpenEvent.OpenEvent, declared.open_event.OpenEvent.TheVariants.Own, declared.open_event.OpenEvent.TheVariants.Arrive}
+use Rattle.dn_open.specs.{OpenGames.LeadsOpen, OpenGames.RunsOpen, OpenGames.StandFor}
+use Rattle.dn_open.proofs.{Commands.IsInput, Commands.AreInputs, Commands.inputs_more, Deliveries.AreFound, Deliveries.arrives, Fairness.always_sealable}
 use Rattle.dn_lockstep.specs.Opening.{FitsPackets}
-use Rattle.dn_open.specs.Playable.{IsPlayable}
 use Rattle.dn_seal.specs.declared.seal.Seal.{Seal}
-use Rattle.dn_open.specs.declared.open_event.OpenEvent.{OpenEvent}
-use Rattle.dn_open.specs.declared.open_event.OpenEvent.TheVariants.{Own, Arrive}
-use Rattle.dn_open.specs.OpenGames.{LeadsOpen, RunsOpen, StandFor}
-use Rattle.dn_open.proofs.Deliveries.{AreFound, arrives}
-use Rattle.dn_open.proofs.Ranges.{AllInputs, inputs_next, opening-inputs}
-use Rattle.dn_open.proofs.Fairness.{always_sealable}
+
+-- The commands that were given have the ranges of their type.
+
+-- all inputs that the nodes of a game took
+abbrev pub AllInputs : Game → Type 0
+AllInputs game = (q : ℕ) → AreInputs (game.nodes q).inputs
+
+pub opening-inputs : (settings : Settings) → AllInputs (opening_game settings)
+unfolding opening_game
+opening-inputs settings q k = tt
+
+module _ {S : Type 0} (rules : Rules S) where
+  -- no call but a build takes inputs
+  sent_keeps : (me : ℕ) (node : Node) (to : ℕ) → (on_send rules.limits me node to).0.inputs ≡ node.inputs
+  unfolding on_send
+  sent_keeps me node to = grind arith
+
+  heard_keeps : (me : ℕ) (node : Node) (flight : Flight)
+      → (on_packet rules.limits me node flight).0.inputs ≡ node.inputs
+  unfolding on_packet
+  heard_keeps me node flight = grind arith
+
+  ran_keeps : (node : Node) → (on_own_run rules node).0.inputs ≡ node.inputs
+  unfolding on_run
+  ran_keeps node = grind arith
+
+  quit_keeps : (node : Node) → (on_quit node).0.inputs ≡ node.inputs
+  unfolding on_quit
+  quit_keeps node = grind arith
+
+  built_inputs : (me : ℕ) (node : Node) (input : Input) → AreInputs node.inputs → IsInput input
+      → AreInputs (on_build rules.limits me node input).0.inputs
+  built_inputs me node input all one =
+      build_cases rules.limits me node (λ (n : Node). AreInputs n.inputs) input (λ full. all)
+      (λ plays more. inputs_more node.inputs input all one)
+
+  module _ (game : Game) (all : AllInputs game) where
+    placed : (i : ℕ) (new : Node) → AreInputs new.inputs → (q : ℕ) → AreInputs (put game.nodes i new q).inputs
+    placed i new more q = grind (arith, cases_eq, put_at, put_off)
+
+    same : (i : ℕ) (new : Node) → new.inputs ≡ (game.nodes i).inputs → (q : ℕ)
+        → AreInputs (put game.nodes i new q).inputs
+    same i new e = placed i new (subst AreInputs (sym e) (all i))
+
+    posts : (base : Game) (given : Option Flight) → AllInputs base → AllInputs (posted base given).0
+    posts base given before = grind arith
+
+    delivers : (o : Option Flight) → AllInputs (delivered rules game o).0
+    delivers o = grind (arith, same, heard_keeps)
+
+    happens : (event : Event) → IsInRange event → AllInputs (on_event rules game event).0
+    happens event is = grind (arith, placed, built_inputs, posts, same, sent_keeps, delivers, ran_keeps, quit_keeps)
+
+    after_inputs : (event : Event) → IsInRange event → AllInputs (applied rules game event).0
+    unfolding applied
+    after_inputs event is = grind (arith, happens)
+
+  pub inputs_next : (game next : Game) (event : Event) → IsInRange event → AllInputs game
+      → Next rules game event next → AllInputs next
+  inputs_next game next event is all h = grind (arith, same, after_inputs)
 
 module _ {S : Type 0} (rules : Rules S) (seal : Seal) (settings : Settings)
     (window : IsWindow rules.limits) (room : FitsPackets rules.limits)

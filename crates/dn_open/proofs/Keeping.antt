@@ -5,44 +5,19 @@ use Rattle.std.specs.Option.{option_map}
 use Rattle.std.proofs.lemmas.Bool.{lt-ltb}
 use Rattle.std.proofs.lemmas.Option.{none-some, same_Some}
 use Rattle.arrayvec.specs.ArrayVec.{ArrayVec}
-use Rattle.dn_packet.specs.declared.packet.Packet.{Packet}
-use Rattle.dn_packet.specs.declared.packet.PacketFault.{PacketFault}
-use Rattle.dn_packet.specs.declared.packet.PacketFault.TheVariants.{Short}
-use Rattle.dn_setup.specs.Settings.{Settings}
-use Rattle.dn_setup.specs.declared.setup.SetupFault.{SetupFault}
-use Rattle.dn_setup.specs.declared.setup.SetupFault.TheVariants.{NotSetup}
-use Rattle.dn_machine.specs.declared.events.Event.TheVariants.{Deliver}
-use Rattle.dn_machine.specs.Flight.{Flight, packet_of}
-use Rattle.dn_machine.specs.Game.{Game, refused_at, with_node}
-use Rattle.dn_machine.specs.Limits.{Limits}
-use Rattle.dn_machine.specs.Node as machine
-use Rattle.dn_machine.specs.Node.{put}
-use Rattle.dn_machine.specs.Worlds.{Rules}
-use Rattle.dn_machine.proofs.EachEvent.{after_deliver}
-use Rattle.dn_machine.proofs.Put.{put_at}
-use Rattle.dn_lockstep.specs.Contents.{Contents}
-use Rattle.dn_lockstep.specs.Marking.{History, Marking}
-use Rattle.dn_lockstep.specs.Near.{IsFair}
-use Rattle.dn_lockstep.specs.OneGame.{beside, AreOneGame}
-use Rattle.dn_lockstep.specs.Session.{Session, with_lockstep, given_on, after_packet}
-use Rattle.dn_lockstep.specs.Represents.{Represents}
-use Rattle.dn_lockstep.specs.Sent.{sent_to}
-use Rattle.dn_lockstep.specs.Steps.{IsAfter, Tells}
-use Rattle.dn_lockstep.proofs.Nearby.{told_by, told_is}
-use Rattle.dn_lockstep.proofs.OneGame.{moves, stays, IsQuiet, hear_quiet, gave, sent_between}
-use Rattle.dn_seal.specs.declared.opened.Opened.{Opened}
-use Rattle.dn_seal.specs.declared.opened.SealFault.{SealFault}
-use Rattle.dn_seal.specs.Opening.{IsOpenedAs}
+use Rattle.dn_packet.specs.{declared.packet.Packet.Packet, declared.packet.PacketFault.PacketFault, declared.packet.PacketFault.TheVariants.Short}
+use Rattle.dn_setup.specs.{Settings.Settings, declared.setup.SetupFault.SetupFault, declared.setup.SetupFault.TheVariants.NotSetup}
+use Rattle.dn_machine.specs.{declared.events.Event.TheVariants.Deliver, Flight.Flight, Flight.packet_of, Game.Game, Game.refused_at, Game.with_node, Limits.Limits, Node.put, Worlds.Rules}
+use Rattle.dn_machine.proofs.{EachEvent.after_deliver, Put.put_at}
+use Rattle.dn_lockstep.specs.{Contents.Contents, Marking.History, Marking.Marking, Near.IsFair, OneGame.beside, OneGame.AreOneGame, Session.Session, Session.with_lockstep, Session.given_on, Session.after_packet}
+use Rattle.dn_lockstep.specs.{Represents.Represents, Sent.sent_to, Steps.IsAfter, Steps.Tells}
+use Rattle.dn_lockstep.proofs.{Nearby.told_by, Nearby.told_is, OneGame.moves, OneGame.stays, OneGame.IsQuiet, OneGame.hear_quiet, OneGame.gave, OneGame.sent_between}
+use Rattle.dn_seal.specs.{declared.opened.Opened.Opened, declared.opened.SealFault.SealFault, Opening.IsOpenedAs, declared.seal.Seal.Seal}
 use Rattle.dn_seal.proofs.Deciding.{is_something}
-use Rattle.dn_open.specs.Arrivals.{IsRead, HearsSealed, SendsSealed, on_opened}
-use Rattle.dn_open.specs.declared.arrived.Arrived.{Arrived}
-use Rattle.dn_open.specs.OpenGames.{IsGenuine, arrived_if}
-use Rattle.dn_open.specs.Playable.{IsSmall}
-use Rattle.dn_seal.specs.declared.seal.Seal.{Seal}
-use Rattle.dn_open.specs.Sealed.{sealing_of, envelope_of, IsSealedAs, WasSealed}
-use Rattle.dn_open.proofs.Deliveries.{AreFound, AreSealable, arrives}
-use Rattle.dn_open.proofs.Sealables.{opened_is}
-use Rattle.dn_open.proofs.Fairness.{are_sealable}
+use Rattle.dn_open.specs.{Arrivals.IsRead, Arrivals.HearsSealed, Arrivals.SendsSealed, Arrivals.on_opened, declared.arrived.Arrived.Arrived, OpenGames.IsGenuine, OpenGames.arrived_if, Playable.IsSmall}
+use Rattle.dn_open.specs.{Sealed.sealing_of, Sealed.envelope_of, Sealed.IsSealedAs, Sealed.WasSealed}
+use Rattle.dn_open.proofs.{Deliveries.AreFound, Deliveries.AreSealable, Deliveries.arrives, Sealables.opened_is, Fairness.are_sealable}
+use Rattle.dn_machine.specs.Node as machine
 
 -- what bytes are opened as is read as something
 abbrev HasReading : Result Opened SealFault → Type 0

@@ -3,13 +3,9 @@ pub mod Alikes
 pub mod Deliveries
 pub mod Commands
 pub mod Sends
-pub mod Ranges
 pub mod Fairness
 pub mod InPlace
 pub mod Giving
 pub mod Keeping
-pub mod Hearings
 pub mod Receiving
-pub mod Letters
 pub mod Answered
-pub mod BytesAnswered

@@ -2,29 +2,15 @@
 use Rattle.std.proofs.Common.{◌≡◌, ◌<◌, ◌&&◌, ℕ, List, length, get_or, Bool, true, false, refl, ap, sym, ◌∙◌, subst}
 use Rattle.std.specs.Prelude.{Result, Ok, Err, if◌then◌else◌}
 use Rattle.std.proofs.lemmas.List.Elements.{All-from_get_or}
-use Rattle.dn_machine.specs.declared.answers.Heard.{Heard}
-use Rattle.dn_machine.specs.Flight.{is_close, is_request_close}
-use Rattle.dn_machine.specs.Limits.{Limits}
-use Rattle.dn_machine.specs.Node as machine
-use Rattle.dn_lockstep.specs.Contents.{Contents, whose}
-use Rattle.dn_lockstep.specs.Hearing.{HearsAny}
-use Rattle.dn_lockstep.specs.Received.{received}
-use Rattle.dn_lockstep.specs.Represents.{Represents}
-use Rattle.dn_lockstep.specs.Steps.{IsAfter}
-use Rattle.dn_lockstep.specs.Told.{made}
+use Rattle.dn_machine.specs.{declared.answers.Heard.Heard, Flight.is_close, Flight.is_request_close, Limits.Limits}
+use Rattle.dn_lockstep.specs.{Contents.Contents, Contents.whose, Hearing.HearsAny, Received.received, Represents.Represents, Steps.IsAfter, Told.made}
 use Rattle.dn_lockstep.proofs.Counting.{made_is}
-use Rattle.dn_open.specs.Playable.{IsSmall}
-use Rattle.dn_seal.specs.declared.seal.Seal.{Seal}
-use Rattle.dn_seal.specs.declared.opened.Opened.{Opened}
-use Rattle.dn_seal.specs.declared.opened.SealFault.{SealFault}
-use Rattle.dn_seal.specs.Opening.{Sealing, IsOpenedAs}
-use Rattle.dn_open.specs.Arrivals.{AreTyped, HearsOpened, HearsSealed, IsRead, heard, is_alike, on_opened}
-use Rattle.dn_open.specs.declared.arrived.Arrived.{Arrived}
-use Rattle.dn_open.specs.Sealed.{sealing_of}
-use Rattle.dn_packet.specs.declared.packet.Packet.{Packet}
-use Rattle.dn_packet.specs.declared.packet.PacketFault.{PacketFault}
-use Rattle.dn_setup.specs.Settings.{Settings}
-use Rattle.dn_setup.specs.declared.setup.SetupFault.{SetupFault}
+use Rattle.dn_open.specs.{Playable.IsSmall, Arrivals.AreTyped, Arrivals.HearsOpened, Arrivals.HearsSealed, Arrivals.IsRead, Arrivals.heard, Arrivals.is_alike, Arrivals.on_opened, declared.arrived.Arrived.Arrived}
+use Rattle.dn_open.specs.{Sealed.sealing_of}
+use Rattle.dn_seal.specs.{declared.seal.Seal.Seal, declared.opened.Opened.Opened, declared.opened.SealFault.SealFault, Opening.Sealing, Opening.IsOpenedAs}
+use Rattle.dn_packet.specs.{declared.packet.Packet.Packet, declared.packet.PacketFault.PacketFault}
+use Rattle.dn_setup.specs.{Settings.Settings, declared.setup.SetupFault.SetupFault}
+use Rattle.dn_machine.specs.Node as machine
 
 -- by what the types say
 pub typed_by : (seal : Seal) (list : List ℕ) (n : Contents) → ((i : ℕ) → get_or list i 0 < 256)

@@ -4,15 +4,9 @@ use Rattle.std.specs.Prelude.{IfSome, slice_index, Result, Ok}
 use Rattle.dn_packet.specs.Text.{text}
 use Rattle.dn_packet.proofs.Texts.{text_length}
 use Rattle.dn_machine.specs.Flight.{Flight, packet_of}
-use Rattle.dn_lockstep.specs.Near.{IsFair}
-use Rattle.dn_lockstep.specs.Sent.{bytes_of}
-use Rattle.dn_seal.specs.declared.opened.Opened.{Opened}
-use Rattle.dn_seal.specs.declared.opened.SealFault.{SealFault}
-use Rattle.dn_seal.specs.Envelope.{envelope}
-use Rattle.dn_seal.specs.Opening.{IsOpenedAs}
-use Rattle.dn_seal.proofs.Envelopes.{to-envelope}
-use Rattle.dn_seal.proofs.Openings.{only_opened, opened-tagged}
-use Rattle.dn_seal.specs.declared.seal.Seal.{Seal}
+use Rattle.dn_lockstep.specs.{Near.IsFair, Sent.bytes_of}
+use Rattle.dn_seal.specs.{declared.opened.Opened.Opened, declared.opened.SealFault.SealFault, Opening.IsOpenedAs, declared.seal.Seal.Seal}
+use Rattle.dn_seal.proofs.{Envelopes.to-envelope, Openings.only_opened, Openings.opened-tagged}
 use Rattle.dn_open.specs.Sealed.{sealing_of, letter_of, envelope_of, opened_of}
 
 -- a packet whose numbers fit into an envelope
@@ -31,25 +25,7 @@ short_bytes flight fair =
 -- its envelope is opened so by the node that it goes to
 pub is_opened_of : (seal : Seal) (node : ℕ) (flight : Flight) → IsSealable flight → node ≡ flight.to
     → 8 ≤ length seal.game → IsOpenedAs (sealing_of seal node) (envelope_of seal flight) (Ok (opened_of flight))
-is_opened_of seal node flight sealable to long = (
-  record {
-    game = long;
-    from = sealable.from;
-    to = let there = sealable.to in omega arith;
-    start = sealable.start;
-    ask = sealable.ask;
-    datagram = short_bytes flight sealable.fair;
-  },
-  (λ i. envelope seal.key (record {
-    suite = seal.suite;
-    game = seal.game;
-    from = flight.from;
-    to = sym to i;
-    start = flight.start;
-    ask = flight.request;
-    datagram = bytes_of flight;
-  })),
-)
+is_opened_of seal node flight sealable to long = grind (arith, short_bytes)
 
 -- an envelope of this packet that node `node` opens is to that node, and tells the packet
 pub opened_is : (seal : Seal) (node : ℕ) (bytes : List ℕ) (opened : Opened) (flight : Flight)

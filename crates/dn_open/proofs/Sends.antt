@@ -1,26 +1,18 @@
 -- What nodes send: no more than twelve commands, and set-up by the key player alone.
-use Rattle.std.proofs.Common.{◌≡◌, ◌≢◌, ◌≤◌, ℕ, Bool, true, false, List, length, drop, sym, ap, ◌∙◌, subst, arith, Option, Some, None, inl, inr, cond, ltb}
+use Rattle.std.proofs.Common.{◌≡◌, ◌≢◌, ◌≤◌, ℕ, Bool, true, false, List, length, sym, ap, subst, arith, Option, Some, None, inl, inr, cond, ltb}
 use Rattle.std.specs.Prelude.{slice_get}
 use Rattle.std.proofs.lemmas.Bool.{cases_eq, ne_eqb}
 use Rattle.std.proofs.lemmas.List.{length-take}
 use Rattle.std.proofs.lemmas.Option.{none-some}
 use Rattle.dn_setup.specs.Settings.{Settings}
-use Rattle.dn_machine.specs.declared.answers.Phase.{Phase}
-use Rattle.dn_machine.specs.declared.answers.Phase.TheVariants.{Listening, Gathering, Playing, Ended}
-use Rattle.dn_machine.specs.declared.events.Event.{Event}
-use Rattle.dn_machine.specs.declared.events.Event.TheVariants.{Build, Give, Send, Deliver, Run, Quit, Stop}
-use Rattle.dn_machine.specs.declared.events.Refusal.{Refusal}
-use Rattle.dn_machine.specs.Worlds.{Rules}
-use Rattle.dn_machine.specs.Flight.{Kind, SetUp, Play, Exit, Flight}
-use Rattle.dn_machine.specs.Node.{Node, made}
-use Rattle.dn_machine.specs.Sending.{first_sent, last_sent, left_kind, set_up_flight, commands_flight, request_to, on_send}
-use Rattle.dn_machine.specs.Game.{Game, opening_game, with_node, posted, refused, delivered, on_event, applied_if, applied}
-use Rattle.dn_machine.specs.Runs.{Runs}
+use Rattle.dn_machine.specs.{declared.answers.Phase.TheVariants.Gathering, declared.events.Event.Event, declared.events.Event.TheVariants.Build, declared.events.Event.TheVariants.Give}
+use Rattle.dn_machine.specs.{declared.events.Event.TheVariants.Send, declared.events.Event.TheVariants.Deliver, declared.events.Event.TheVariants.Run, declared.events.Event.TheVariants.Quit}
+use Rattle.dn_machine.specs.{declared.events.Event.TheVariants.Stop, declared.events.Refusal.Refusal, Worlds.Rules, Flight.Kind, Flight.SetUp, Flight.Play, Flight.Exit, Flight.Flight, Node.Node, Node.made}
+use Rattle.dn_machine.specs.{Sending.last_sent, Sending.left_kind, Sending.set_up_flight, Sending.commands_flight, Sending.request_to, Sending.on_send, Game.Game, Game.opening_game, Game.with_node, Game.posted}
+use Rattle.dn_machine.specs.{Game.refused, Game.delivered, Game.on_event, Game.applied_if, Game.applied, Runs.Runs}
 use Rattle.dn_lockstep.specs.Opening.{FitsPackets}
-use Rattle.dn_machine.proofs.Calls.{send_cases}
-use Rattle.dn_machine.proofs.Changes.{Change, Same, Starts, Notes, Completes, Gone, build_change, send_change, run_change, quit_change, hear_change}
-use Rattle.dn_machine.proofs.EachEvent.{after_event, leads_keep}
-use Rattle.dn_machine.proofs.Put.{slice_get_push}
+use Rattle.dn_machine.proofs.{Calls.send_cases, Changes.Change, Changes.build_change, Changes.send_change, Changes.run_change, Changes.quit_change, Changes.hear_change, EachEvent.after_event, EachEvent.leads_keep}
+use Rattle.dn_machine.proofs.{Put.slice_get_push}
 
 -- what a call leaves gathering was gathering
 abbrev pub StillGathers : Node → Node → Type 0
@@ -28,21 +20,7 @@ StillGathers old new = new.phase ≡ Gathering → old.phase ≡ Gathering
 
 still : {players from : ℕ} {spoke ends : Type 0} (old new : Node) → Change players from spoke ends old new
     → StillGathers old new
-still old new (Same phase a b c) g = sym phase ∙ g
-still old new (Starts l phase a b) g = absurd (let e = sym phase ∙ g in cc)
-still old new (Notes w before phase a b c r) g = before
-still old new (Completes w before phase a b c) g = before
-still old new (Gone x ended a b) g = absurd (gone new.phase ended g)
-  where
-    open_phase : Phase → Bool
-    open_phase Gathering = true
-    open_phase _ = false
-
-    gone : (phase : Phase) → Rattle.dn_machine.specs.Node.is_ended phase ≡ true → phase ≡ Gathering → ⊥
-    gone (Ended cause) e g = absurd (cc)
-    gone Listening e g = absurd (cc)
-    gone Gathering e g = absurd (cc)
-    gone Playing e g = absurd (cc)
+still old new h g = grind arith
 
 -- a packet that a node sends
 pub record IsSent (flight : Flight) : Type 0 where
@@ -56,25 +34,13 @@ pub record AreSent (game : Game) : Type 0 where
 
 opening-sent : (settings : Settings) → AreSent (opening_game settings)
 unfolding opening_game
-opening-sent settings =
-    record {
-      gathers = λ q g. elim (cases_eq q 0) [
-        | inl e ↦ e
-        | inr n ↦
-            let off = ne_eqb q 0 n in
-            let listens : Listening ≡ Gathering = rw off at g in
-            absurd (cc)
-      ];
-      flights = λ which flight h. absurd (none-some flight h);
-    }
+opening-sent settings = grind (arith, cases_eq, ne_eqb, none-some)
 
 module _ {S : Type 0} (rules : Rules S) (room : FitsPackets rules.limits) where
   -- a packet of commands has no more than twelve
   few_sent : (i : ℕ) (node : Node) (to : ℕ) (kind : Kind) (request : Option ℕ)
       → length (commands_flight rules.limits i node to kind request).commands ≤ 12
-  few_sent i node to kind request =
-      let cut = length-take rules.most (drop (first_sent rules.limits i node to) (node.held i)) in
-      omega arith
+  few_sent i node to kind request = grind (arith, length-take)
 
   commands_sent : (i : ℕ) (node : Node) (to : ℕ) (kind : Kind) (request : Option ℕ)
       → ((s : Settings) → kind ≢ SetUp s) → IsSent (commands_flight rules.limits i node to kind request)

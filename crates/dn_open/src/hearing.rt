@@ -13,6 +13,7 @@ use dn_seal::Opened;
 /// than 64 from the number of commands that the lockstep has made is dropped, and so is a datagram that
 /// contradicts its envelope; neither changes anything. Any other is received as its sender's. The caller has
 /// made sure that a player of this game sealed the contents to this one.
+#[tactic(auto, using(crate::proofs::Receiving::late, crate::proofs::Receiving::unlike, crate::proofs::Receiving::hears))]
 pub fn hear(lockstep: &mut Lockstep, opened: &Opened) -> Arrived
     ensures step { HearsOpened opened.now (contents lockstep.old) (contents lockstep.new) result }
     ensures dropped { SparesSealed (contents lockstep.old) (contents lockstep.new) result }

@@ -22,6 +22,7 @@ use dn_world::World;
 /// agree, no ring overwrites a command that is still needed, and no check fails. The one premise on the
 /// network, within `RunsOpen`, is that what a node opens was sealed in this game before; and each command that
 /// a caller gives has the ranges of its type.
+#[tactic(auto, using(dn_machine::proofs::Games::always, dn_machine::proofs::Vanilla::vanilla_window, crate::proofs::InPlace::open_stands, dn_machine::proofs::Promises::agree, dn_machine::proofs::Promises::fits, dn_machine::proofs::Promises::steady))]
 pub fn open_games_agree<W: World>()
     ensures stand { (players : ℕ) (extra : Bool) (capacity : ℕ) (seal : Seal) (settings : Settings)
         (events : List OpenEvent) (game : Game)
@@ -51,6 +52,7 @@ pub fn open_games_agree<W: World>()
 
 /// The same in any window, with packets of no more than twelve commands. `windows_hold` says both of every
 /// lockstep's.
+#[tactic(auto, using(dn_machine::proofs::Games::always, crate::proofs::InPlace::open_stands, dn_machine::proofs::Promises::agree, dn_machine::proofs::Promises::fits, dn_machine::proofs::Promises::steady))]
 pub fn open_windows_agree<W: World>()
     ensures stand { (limits : Limits) (seal : Seal) (settings : Settings) (events : List OpenEvent) (game : Game)
         → IsWindow limits → FitsPackets limits → IsPlayable limits.players limits.capacity settings
@@ -134,6 +136,7 @@ pub fn letters_are_answered()
 
 /// And so does what `SealedLockstep::packet` does: what it gives is the envelope of a packet from this player
 /// to that peer, which was sealed in that game. Where it gives nothing there is no such packet.
+#[tactic(auto, using(crate::proofs::Keeping::sends_keep))]
 pub fn sends_keep_one_game()
     ensures { (marking : Marking) (limits : Limits) (settings : Settings) (session : Session) (seal : Seal)
         (player to : ℕ) (new : Contents) (sent : Option (ArrayVec ℕ))
@@ -149,6 +152,7 @@ pub fn sends_keep_one_game()
 /// What was sealed in a game may come to any node of it at any later time, when other packets have been given.
 /// So whoever hands in nothing but what `SealedLockstep::packet` gave, and bytes that do not open, keeps what
 /// `arrivals_keep_one_game` asks for.
+#[tactic(auto, using(crate::proofs::Keeping::stays_sealed))]
 pub fn sealed_packets_are_genuine()
     ensures stay { (seal : Seal) (given : List Flight) (flight : Option Flight) (bytes : List ℕ)
         → WasSealed seal given bytes → WasSealed seal (given_on given flight) bytes }

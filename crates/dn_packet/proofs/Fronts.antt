@@ -1,19 +1,11 @@
 -- What is written of a datagram, eight bytes at a time.
-use Rattle.std.proofs.Common.{◌≡◌, ◌+◌, ◌*◌, ◌/◌, ◌%◌, ◌^◌, ℕ, zero, suc, List, [], ◌∷◌, ◌++◌, length, take, drop, refl, ap, sym, ◌∙◌, arith, length-append}
-use Rattle.std.proofs.Math.Nat.{mod-add-mod}
-use Rattle.std.proofs.Math.Seq.{take-append_seam, drop-append_seam}
-use Rattle.std.proofs.lemmas.List.{drop-drop, append_assoc}
+use Rattle.std.proofs.{Common.{◌≡◌, ◌+◌, ◌*◌, ◌/◌, ◌%◌, ◌^◌, ℕ, zero, suc, List, [], ◌∷◌, ◌++◌, length, take, drop, refl, ap, sym, ◌∙◌, arith, length-append}, Math.Nat.mod-add-mod, Math.Seq.{take-append_seam, drop-append_seam}}
+use Rattle.std.proofs.{lemmas.List.{drop-drop, append_assoc}, lemmas.Grind.flat_map-append}
 use Rattle.std.specs.List.{flat_map}
-use Rattle.std.proofs.lemmas.Grind.{flat_map-append}
 use Rattle.byteorder.specs.Endian.{little_number, little_bytes}
-use Rattle.dn_tic.specs.Command.{command_bytes}
-use Rattle.dn_tic.specs.declared.command.TicCmd.{TicCmd}
-use Rattle.dn_packet.specs.declared.packet.Head.{Head}
-use Rattle.dn_packet.specs.declared.packet.Packet.{Packet}
-use Rattle.dn_packet.specs.Text.{words, weighted, sum_of, body_of, text, packet_with}
-use Rattle.dn_packet.proofs.Sums.{low_bits}
-use Rattle.dn_packet.specs.Written.{IsWritten}
-use Rattle.dn_packet.specs.Front.{IsFront}
+use Rattle.dn_tic.specs.{Command.command_bytes, declared.command.TicCmd.TicCmd}
+use Rattle.dn_packet.specs.{declared.packet.Head.Head, declared.packet.Packet.Packet, Text.{words, weighted, sum_of, body_of, text, packet_with}, Written.IsWritten, Front.IsFront}
+use Rattle.dn_packet.proofs.Pairs.{low_bits}
 
 -- the words of bytes, and of more behind whole words
 words-append : (n : ℕ) (xs ys : List ℕ) → length xs ≡ 4 * n → words (xs ++ ys) ≡ words xs ++ words ys

@@ -1,10 +1,6 @@
 -- Bytes are read as one thing.
-use Rattle.std.proofs.Common.{◌≡◌, ◌≢◌, ◌<◌, ◌≤◌, ◌+◌, ◌*◌, ◌^◌, ℕ, List, length, drop, refl, ap, sym, ◌∙◌, arith, Result, Ok, Err}
-use Rattle.std.proofs.Math.Nat.{mod-lt}
-use Rattle.dn_packet.specs.declared.packet.Packet.{Packet}
-use Rattle.dn_packet.specs.declared.packet.PacketFault.{PacketFault}
-use Rattle.dn_packet.specs.declared.packet.PacketFault.TheVariants.{Short, Many, Length, Sum}
-use Rattle.dn_packet.specs.Text.{text, body_of, sum_of, IsPacket}
+use Rattle.std.proofs.{Common.{◌≡◌, ◌≢◌, ◌≤◌, ◌+◌, ◌*◌, ℕ, List, length, drop, refl, ap, sym, ◌∙◌, arith, Result, Ok, Err}, Math.Nat.mod-lt}
+use Rattle.dn_packet.specs.{declared.packet.Packet.Packet, declared.packet.PacketFault.PacketFault, declared.packet.PacketFault.TheVariants.{Short, Many, Length, Sum}, Text.{text, sum_of, IsPacket}}
 use Rattle.dn_packet.specs.Read.{IsReadAs, told_count, told_sum}
 use Rattle.dn_packet.proofs.Texts.{same_packet, text_length}
 
@@ -24,11 +20,7 @@ count_text p bytes is = rw is refl
 
 -- a packet's text tells the sum of its body
 told_sum_text : (p : Packet) → IsPacket p → told_sum (text p) ≡ sum_of (drop 4 (text p))
-told_sum_text p valid =
-    let sum : ℕ = sum_of (body_of p) in
-    let small : sum < 2 ^ 28 = mod-lt _ (omega arith) in
-    let flags : p.flags < 16 = valid.flags in
-    omega arith
+told_sum_text p valid = grind (arith, mod-lt)
 
 -- a packet's text is that packet, and has no fault
 pub only_packet : (bytes : List ℕ) (p : Packet) → IsPacket p → bytes ≡ text p
@@ -37,5 +29,4 @@ only_packet bytes p valid is (Ok q) h = ap Ok (same_packet p q valid h.0 (sym is
 only_packet bytes p valid is (Err Short) h = absurd (omega (arith, text_length p bytes is))
 only_packet bytes p valid is (Err Many) h = absurd (omega (arith, valid.count, count_text p bytes is))
 only_packet bytes p valid is (Err Length) h = absurd (h.2 (text_length p bytes is))
-only_packet bytes p valid is (Err Sum) h =
-    absurd (h.2 (ap told_sum is ∙ told_sum_text p valid ∙ ap (λ (bs : List ℕ). sum_of (drop 4 bs)) (sym is)))
+only_packet bytes p valid is (Err Sum) h = grind (arith, told_sum_text)

@@ -1,14 +1,15 @@
 -- The sum over the words of commands, two of each, as the code goes on by it.
-use Rattle.std.proofs.Common.{◌≡◌, ◌≤◌, ◌+◌, ◌*◌, ◌%◌, ◌^◌, ℕ, zero, suc, List, [], ◌∷◌, ◌++◌, length, take, drop, All, refl, ap, sym, ◌∙◌, arith, append_assoc}
-use Rattle.std.proofs.Math.Nat.{mod-add-mod, add-mul, mul-add}
-use Rattle.std.proofs.lemmas.List.{flat_map_more, length_push, length-append}
-use Rattle.std.proofs.lemmas.List.Elements.{All-push}
+use Rattle.std.proofs.{Common.{◌≡◌, ◌≤◌, ◌+◌, ◌*◌, ◌%◌, ◌^◌, ℕ, zero, suc, List, [], ◌∷◌, ◌++◌, length, take, drop, All, refl, ap, sym, ◌∙◌, arith, append_assoc}, Math.Nat.{mod-add-mod, add-mul, mul-add}}
+use Rattle.std.proofs.{lemmas.List.{flat_map_more, length_push, length-append}, lemmas.List.Elements.All-push}
 use Rattle.std.specs.List.{flat_map}
 use Rattle.byteorder.specs.Endian.{little_number}
-use Rattle.dn_tic.specs.Command.{command_bytes, IsCommand}
-use Rattle.dn_tic.specs.declared.command.TicCmd.{TicCmd}
+use Rattle.dn_tic.specs.{Command.{command_bytes, IsCommand}, declared.command.TicCmd.TicCmd}
 use Rattle.dn_packet.specs.Text.{words, weighted, sum_of}
-use Rattle.dn_packet.proofs.Sums.{low_bits}
+
+-- The bits of a sum that are kept.
+-- 28 of 32 bits
+pub low_bits : (x : ℕ) → x % 2 ^ 32 % 2 ^ 28 ≡ x % 2 ^ 28
+low_bits x = omega arith
 
 -- a sum that goes on by two words, with one multiplication
 times_low : (a k : ℕ) → a % 2 ^ 32 * k % 2 ^ 32 ≡ a * k % 2 ^ 32
@@ -31,14 +32,7 @@ pair_of _ eight = absurd (omega arith)
 pub sum_goes_on : (s k : ℕ) (command rest : List ℕ) → length command ≡ 8
     → ((s + weighted k (words command)) % 2 ^ 32 + weighted (k + 2) (words rest)) % 2 ^ 32
     ≡ (s + weighted k (words (command ++ rest))) % 2 ^ 32
-sum_goes_on s k (a ∷ b ∷ c ∷ d ∷ e ∷ f ∷ g ∷ h ∷ []) rest eight =
-    let v : ℕ = little_number 4 (a ∷ b ∷ c ∷ d ∷ []) in
-    let w : ℕ = little_number 4 (e ∷ f ∷ g ∷ h ∷ []) in
-    let third : k + 1 + 1 ≡ k + 2 = omega arith in
-    let same : weighted (k + 1 + 1) (words rest) ≡ weighted (k + 2) (words rest) =
-    ap (λ (j : ℕ). weighted j (words rest)) third in
-    mod-add-mod (s + weighted k (v ∷ w ∷ [])) (2 ^ 32) (weighted (k + 2) (words rest))
-    ∙ ap (λ (x : ℕ). x % 2 ^ 32) (omega (arith, same))
+sum_goes_on s k (a ∷ b ∷ c ∷ d ∷ e ∷ f ∷ g ∷ h ∷ []) rest eight = grind (arith, mod-add-mod)
 sum_goes_on s k _ rest eight = absurd (omega arith)
 
 -- the sum of a body, by that of its head, which counts once, and of its commands
@@ -46,10 +40,7 @@ pub sum_of_parts : (bytes : List ℕ) (head sum : ℕ) → 8 ≤ length bytes
     → head ≡ (0x1234567 + little_number 4 (drop 4 bytes)) % 2 ^ 32
     → sum ≡ (head + weighted 2 (words (drop 8 bytes))) % 2 ^ 32 → sum % 2 ^ 28 ≡ sum_of (drop 4 bytes)
 sum_of_parts (a ∷ b ∷ c ∷ d ∷ e ∷ f ∷ g ∷ h ∷ rest) head sum long first all =
-    let n : ℕ = 0x1234567 + little_number 4 (e ∷ f ∷ g ∷ h ∷ []) in
-    let r : ℕ = weighted 2 (words rest) in
-    ap (λ (x : ℕ). x % 2 ^ 28) (all ∙ ap (λ (x : ℕ). (x + r) % 2 ^ 32) first ∙ mod-add-mod n (2 ^ 32) r)
-    ∙ low_bits (n + r) ∙ ap (λ (x : ℕ). x % 2 ^ 28) (omega arith)
+    grind (arith, mod-add-mod, low_bits)
 sum_of_parts _ head sum long first all = absurd (omega arith)
 
 -- these commands were read, and this is left

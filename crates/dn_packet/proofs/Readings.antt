@@ -1,19 +1,11 @@
 -- Every list of bytes is read as something.
-use Rattle.std.proofs.Common.{rules, ◌≡◌, ◌<◌, ◌≤◌, ◌+◌, ◌*◌, ◌/◌, ◌^◌, ℕ, zero, suc, List, [], ◌∷◌, ◌++◌, length, drop, get_or, All, refl, ap, sym, ◌∙◌, arith, inl, inr, Ok, Err, w8}
-use Rattle.std.specs.Int.{w16, cast_signed, cast_unsigned, from_le_bytes, to_le_bytes}
-use Rattle.std.specs.List.{flat_map}
+use Rattle.std.proofs.{Common.{rules, ◌≡◌, ◌<◌, ◌≤◌, ◌+◌, ◌*◌, ◌/◌, ◌^◌, ℕ, zero, suc, List, [], ◌∷◌, ◌++◌, length, drop, get_or, All, refl, ap, sym, ◌∙◌, arith, inl, inr, Ok, Err, w8}, lemmas.Bool.{cases_lt, cases_eq}}
+use Rattle.std.proofs.{lemmas.Int.of_z-to_z, lemmas.List.{length-drop, get_or_past}, lemmas.List.Elements.{All-nil, All-cons, All-drop}, lemmas.Nat.le_bytes_2}
+use Rattle.std.specs.{Int.{w16, cast_signed, cast_unsigned, from_le_bytes, to_le_bytes}, List.flat_map}
 use borrow.Author.Gap.{read_sfits}
-use Rattle.std.proofs.lemmas.Bool.{cases_lt, cases_eq}
-use Rattle.std.proofs.lemmas.Int.{of_z-to_z}
-use Rattle.std.proofs.lemmas.List.{length-drop, get_or_past}
-use Rattle.std.proofs.lemmas.List.Elements.{All-nil, All-cons, All-drop}
-use Rattle.std.proofs.lemmas.Nat.{le_bytes_2}
 use Rattle.byteorder.specs.Endian.{little_number}
-use Rattle.dn_tic.specs.Command.{command_bytes, IsCommand}
-use Rattle.dn_tic.specs.declared.command.TicCmd.{TicCmd}
-use Rattle.dn_packet.specs.declared.packet.PacketFault.TheVariants.{Short, Many, Length, Sum}
-use Rattle.dn_packet.specs.Text.{sum_of}
-use Rattle.dn_packet.specs.Read.{AreBytes, Reading, told_count, told_sum}
+use Rattle.dn_tic.specs.{Command.{command_bytes, IsCommand}, declared.command.TicCmd.TicCmd}
+use Rattle.dn_packet.specs.{declared.packet.PacketFault.TheVariants.{Short, Many, Length, Sum}, Text.sum_of, Read.{AreBytes, Reading, told_count, told_sum}}
 use Rattle.dn_packet.proofs.Texts.{assembled, length-commands}
 
 -- two bytes as a number
@@ -30,9 +22,7 @@ pair_small a b p q = omega arith
 
 pair_back : (a b : ℕ) → a < 256 → b < 256 → to_le_bytes w16 (cast_unsigned w16 (cast_signed w16 (pair a b)))
     ≡ a ∷ b ∷ []
-pair_back a b p q =
-    ap (to_le_bytes w16) (of_z-to_z w16 (pair a b) (pair_small a b p q))
-    ∙ le_bytes_2 (a ∷ b ∷ []) (pair a b) refl (pair_fits a b p q) refl
+pair_back a b p q = grind (arith, of_z-to_z, pair_small, le_bytes_2, pair_fits)
 
 -- the command of eight bytes
 abbrev command : (a b c d e f g h : ℕ) → TicCmd
@@ -81,10 +71,7 @@ commands_in (suc n) (a ∷ b ∷ c ∷ d ∷ e ∷ f ∷ g ∷ h ∷ rest) fits 
 commands_in n _ fits long = absurd (omega arith)
 
 each_fits : (bytes : List ℕ) → AreBytes bytes → (i : ℕ) → get_or bytes i 0 < 256
-each_fits bytes fits i = elim (cases_lt i (length bytes)) [
-  | inl below ↦ fits i 0 below
-  | inr past ↦ let zero : get_or bytes i 0 ≡ 0 = get_or_past bytes i 0 past in omega (arith, zero)
-]
+each_fits bytes fits i = grind (arith, cases_lt, get_or_past)
 
 is_packet : (bytes : List ℕ) → AreBytes bytes → 8 ≤ length bytes → told_count bytes ≤ 12
     → length bytes ≡ 8 + 8 * told_count bytes

@@ -12,6 +12,7 @@ pub(crate) const FLAG_UNIT: u32 = 0x1000_0000;
 pub(crate) const NO_WORDS: u32 = 0x123_4567;
 
 /// A sum that goes on over the two words of eight bytes, the first of which counts this many times.
+#[tactic(auto, using(crate::proofs::Pairs::pair_step, crate::proofs::Pairs::pair_of))]
 pub(crate) fn add_words(sum: u32, factor: u32, bytes: &[u8; 8]) -> u32
     ensures { result ≡ (sum + weighted factor (words bytes.now)) % 2 ^ 32 }
 {

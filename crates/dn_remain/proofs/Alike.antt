@@ -1,22 +1,12 @@
 -- What a call on a node leaves as it was, which is no build and no run.
-use Rattle.std.proofs.Common.{◌≡◌, ◌≢◌, ℕ, ℤ, refl, sym, ◌∙◌}
+use Rattle.std.proofs.Common.{◌≡◌, ◌≢◌, ℕ, ℤ, refl, sym, ◌∙◌, arith}
 use Rattle.std.specs.Prelude.{Bool, true, false, Option}
 use Rattle.std.proofs.lemmas.Bool.{cond_both, cond-false}
-use Rattle.dn_setup.specs.Gathered.{all_noted}
 use Rattle.dn_machine.specs.declared.answers.Cause.TheVariants as Cause
-use Rattle.dn_machine.specs.declared.answers.Heard.{Heard}
-use Rattle.dn_machine.specs.declared.answers.Phase.{Phase}
-use Rattle.dn_machine.specs.declared.answers.Phase.TheVariants.{Listening, Gathering, Playing, Ended}
-use Rattle.dn_machine.specs.Flight.{Flight}
-use Rattle.dn_machine.specs.Limits.{Limits}
-use Rattle.dn_machine.specs.Node.{Node, put}
-use Rattle.dn_machine.specs.Sending.{on_send}
-use Rattle.dn_machine.specs.Hearing.{on_packet}
-use Rattle.dn_machine.specs.Running.{on_quit}
-use Rattle.dn_machine.proofs.Calls.{send_cases, quit_cases, packet_cases}
-use Rattle.dn_machine.proofs.Put.{put_off}
-use Rattle.dn_remain.specs.Vanished.Decisions.{on_decision, longest, told}
-use Rattle.dn_remain.specs.Seen.{holder_of}
+use Rattle.dn_machine.specs.{declared.answers.Heard.Heard, declared.answers.Phase.Phase, Flight.Flight, Limits.Limits, Node.Node, Sending.on_send, Hearing.on_packet, Running.on_quit}
+use Rattle.dn_machine.specs.declared.answers.Phase.TheVariants.{Ended}
+use Rattle.dn_machine.proofs.{Calls.send_cases, Calls.quit_cases, Calls.packet_cases, Put.put_off}
+use Rattle.dn_remain.specs.{Vanished.Decisions.on_decision, Vanished.Decisions.longest, Vanished.Decisions.told, Seen.holder_of}
 use Rattle.dn_remain.specs.Wary.{Report, Wary, or_fresh, settled, after_news, noted_gone, with_gone, with_report, on_give_up, on_report}
 use Rattle.dn_remain.proofs.Cases.{news_cases, give_up_cases, report_cases}
 
@@ -65,8 +55,7 @@ in_phase me node new i h r m other = record {
 module _ (limits : Limits) (me : ℕ) (node : Node) where
   pub alike_sent : (to : ℕ) → IsAlike me node (on_send limits me node to).0
   alike_sent to = send_cases limits me node (λ (r : Node × Option Flight). IsAlike me node r.0) to
-      (alike_self me node)
-      (λ other gathers. alike_self me node)
+      (alike_self me node) (λ other gathers. alike_self me node)
       (λ other plays. in_the_same me node _ refl refl refl refl refl)
       (λ other left. in_the_same me node _ refl refl refl refl refl)
 
@@ -98,13 +87,7 @@ module _ (limits : Limits) (me : ℕ) (node : Node) where
       })
 
   pub alike_noted : (player : ℕ) (phase : Phase) → IsAlike me node (noted_gone limits node player phase)
-  alike_noted player Listening = alike_self me node
-  alike_noted player Playing = alike_self me node
-  alike_noted player (Ended cause) = alike_self me node
-  alike_noted player Gathering = cond_both (all_noted limits.players (put node.noted player true)) _ _
-      (λ (r : Node × Heard). IsAlike me node r.0)
-      (λ all. in_phase me node _ refl refl refl refl (λ p w s e. cc))
-      (λ some. in_the_same me node _ refl refl refl refl refl)
+  alike_noted player phase = grind (arith, alike_self, cond_both, in_phase, in_the_same)
 
   pub alike_settled : (gone : ℕ → Bool) (heard : ℕ → Report) → gone me ≡ false
       → IsAlike me node (settled node gone (on_decision limits.players me (holder_of node gone) heard))

@@ -1,27 +1,13 @@
 -- A packet that comes to a node: what is known of it, and of the peer that is kept.
 use Rattle.std.proofs.Common.{◌≡◌, ℕ, ◌<◌, ◌≤◌, refl, sym, ◌∙◌, ap, arith, inl, inr, List, ◌∷◌, length, cond}
 use Rattle.std.specs.Prelude.{Bool, true, false, Option, Some, None}
-use Rattle.std.proofs.lemmas.Bool.{cond-true, cond-false}
-use Rattle.std.proofs.lemmas.Option.{same_Some}
+use Rattle.std.proofs.lemmas.{Bool.cond-true, Bool.cond-false, Option.same_Some}
 use Rattle.dn_tic.specs.declared.command.TicCmd.{TicCmd}
-use Rattle.dn_machine.specs.declared.peer.Peer.{Peer}
-use Rattle.dn_machine.specs.Flight.{Flight, is_exit, end_of}
+use Rattle.dn_machine.specs.{declared.peer.Peer.Peer, Flight.Flight, Flight.is_exit, Flight.end_of, Node.with_peer, Node.ends_of, Node.got, Node.made, Game.Game, Game.with_node, Worlds.Rules}
 use Rattle.dn_machine.specs.Node as machine
-use Rattle.dn_machine.specs.Node.{with_peer, ends_of, got, made}
-use Rattle.dn_machine.specs.Game.{Game, with_node}
-use Rattle.dn_machine.specs.Worlds.{Rules}
-use Rattle.dn_machine.proofs.HearKeeps.{exit_is}
-use Rattle.dn_machine.proofs.Put.{put_off, same_functions}
-use Rattle.dn_remain.specs.Vanished.Node.{Node}
-use Rattle.dn_remain.specs.Vanished.Commands.{Holder, seen, past_seen}
-use Rattle.dn_remain.proofs.Vanished.Invariant.{IsLater, IsKept}
-use Rattle.dn_remain.proofs.Vanished.Always.{always}
-use Rattle.dn_remain.proofs.Vanished.Handing.{was_seen}
-use Rattle.dn_remain.specs.Seen.{reached, end_seen, rows_to, holder_of, now_of}
-use Rattle.dn_remain.proofs.Vanished.Put.{at_put}
-use Rattle.dn_remain.proofs.Seeing.{same_holder, reached_cases}
-use Rattle.dn_remain.proofs.Known.{IsTold, IsEnd, Follows, IsFit, Went}
-use Rattle.dn_remain.proofs.Following.{stays}
+use Rattle.dn_machine.proofs.{HearKeeps.exit_is, Put.put_off, Put.same_functions}
+use Rattle.dn_remain.specs.{Vanished.Node.Node, Vanished.Commands.Holder, Vanished.Commands.seen, Vanished.Commands.past_seen, Seen.reached, Seen.end_seen, Seen.rows_to, Seen.holder_of, Seen.now_of}
+use Rattle.dn_remain.proofs.{Vanished.Invariant.IsLater, Vanished.Invariant.IsKept, Vanished.Always.always, Vanished.Handing.was_seen, Vanished.Put.at_put, Seeing.same_holder, Seeing.reached_cases, Known.IsTold, Known.IsEnd, Known.Follows, Known.IsFit, Known.Went, Following.stays}
 
 module _ {S : Type 0} {known : ℕ → Holder TicCmd → Type 0} {rules : Rules S} {game : Game} {gone : ℕ → ℕ → Bool} {older : List (ℕ → Holder TicCmd)}
     (follows : Follows known rules game gone older) {flight : Flight}

@@ -2,22 +2,11 @@
 use Rattle.std.proofs.Common.{◌≡◌, ◌≢◌, ℕ, ℤ, refl, sym, ◌∙◌, ap, arith, cond, ltb, inl, inr}
 use Rattle.std.specs.Bool.{⊤}
 use Rattle.std.specs.Prelude.{Bool, false, not, ◌&&◌, Option, None, Some}
-use Rattle.dn_machine.specs.declared.answers.Cause.{Cause}
-use Rattle.dn_machine.specs.declared.answers.Phase.TheVariants.{Playing}
-use Rattle.dn_machine.specs.Limits.{Limits}
-use Rattle.dn_machine.specs.Node.{Node, held_at, own_mark, lowest, ran}
-use Rattle.dn_machine.specs.declared.answers.Ran.{Ran}
+use Rattle.dn_machine.specs.{declared.answers.Cause.Cause, declared.answers.Phase.TheVariants.Playing, Limits.Limits, Node.Node, Node.held_at, Node.own_mark, Node.lowest, Node.ran, declared.answers.Ran.Ran, declared.events.Event.Event, declared.events.Refusal.Refusal, Game.Game, Game.applied_if, Game.applied, Runs.Next, Worlds.Rules}
 use Rattle.dn_machine.specs.Running.{is_awaited, is_off, first_off, row_held, full_at, on_run, is_off_but, first_off_but, on_run_but}
-use Rattle.dn_machine.proofs.Calls.{ended_by, ran_on}
-use Rattle.dn_machine.proofs.Put.{same_functions}
-use Rattle.dn_machine.specs.declared.events.Event.{Event}
-use Rattle.dn_machine.specs.declared.events.Event.TheVariants.{Build, Give, Send, Deliver, Run, Quit, Stop}
-use Rattle.dn_machine.specs.declared.events.Refusal.{Refusal}
-use Rattle.dn_machine.specs.Game.{Game, refused_at, applied_if, applied}
-use Rattle.dn_machine.specs.Runs.{Next}
-use Rattle.dn_machine.specs.Worlds.{Rules}
-use Rattle.dn_remain.specs.Remaining.{Remaining, after_run, after_event}
-use Rattle.dn_remain.specs.RunsRemain.{NextGame, NobodyGivenUp}
+use Rattle.dn_machine.proofs.{Calls.ended_by, Calls.ran_on, Put.same_functions}
+use Rattle.dn_machine.specs.declared.events.Event.TheVariants.{Run}
+use Rattle.dn_remain.specs.{Remaining.Remaining, Remaining.after_run, Remaining.after_event, RunsRemain.NextGame, RunsRemain.NobodyGivenUp}
 
 -- all that may happen but a run
 abbrev pub IsNoRun : Event → Type 0
@@ -73,13 +62,7 @@ module _ {S : Type 0} (rules : Rules S) (all : Remaining) (nobody : NobodyGivenU
 
   event_is : (event : Event) → after_event rules all event ≡ (applied rules all.game event).0
   unfolding applied
-  event_is (Build node keys) = refl
-  event_is (Give node command) = refl
-  event_is (Send node to) = refl
-  event_is (Deliver which) = refl
-  event_is (Run node) = run_of node (refused_at rules.players all.game node)
-  event_is (Quit node) = refl
-  event_is (Stop node) = refl
+  event_is event = grind (arith, run_of)
 
   pub next_is : (event : Event) (game : Game) → NextGame rules all event game → Next rules all.game event game
   next_is event game (inl is) = inl (is ∙ event_is event)

@@ -3,9 +3,7 @@ use Rattle.std.proofs.Common.{◌≡◌, ℕ, ◌<◌, arith}
 use Rattle.std.specs.Prelude.{true, false}
 use Rattle.std.proofs.lemmas.Bool.{cond_both, ltb-true, eqb-false}
 use Rattle.dn_machine.specs.Limits.{Limits}
-use Rattle.dn_remain.specs.Vanished.Calls.{is_newer}
-use Rattle.dn_remain.specs.Vanished.Commands.{seen}
-use Rattle.dn_remain.specs.Vanished.Decisions.{on_decision}
+use Rattle.dn_remain.specs.{Vanished.Calls.is_newer, Vanished.Commands.seen, Vanished.Decisions.on_decision}
 use Rattle.dn_remain.specs.Wary.{Report, Wary, report_of, newest_seen, can_settle, or_fresh, settled, after_news, with_gone, with_report, is_in_game, on_give_up, on_report}
 
 module _ (limits : Limits) (me : ℕ) (wary : Wary) (P : Wary → Type 0) where

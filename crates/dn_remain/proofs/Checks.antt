@@ -1,30 +1,16 @@
 -- A mark that is compared is that of the node's own world; so a run finds none that is off.
 use Rattle.std.proofs.Common.{◌≡◌, ℕ, ◌+◌, ◌-◌, ◌<◌, ◌≤◌, refl, sym, ◌∙◌, ap, arith, inl, pos, leb, ltb, List, ◌∷◌, length}
 use Rattle.std.specs.Prelude.{◌⊎◌, ◌&&◌, Bool, false, not, None}
-use Rattle.std.proofs.lemmas.Bool.{cond_both, cond-false, and_left, and_right, le-ltb, leb-false, ltb-true}
-use Rattle.std.proofs.lemmas.List.{length_push}
+use Rattle.std.proofs.lemmas.{Bool.cond_both, Bool.cond-false, Bool.and_left, Bool.and_right, Bool.le-ltb, Bool.leb-false, Bool.ltb-true, List.length_push}
 use Rattle.dn_tic.specs.declared.command.TicCmd.{TicCmd}
 use Rattle.dn_setup.specs.Settings.{Settings}
-use Rattle.dn_machine.specs.declared.answers.Phase.TheVariants.{Playing}
-use Rattle.dn_machine.specs.Game.{Game, with_node}
+use Rattle.dn_machine.specs.{declared.answers.Phase.TheVariants.Playing, Game.Game, Game.with_node, Node.got, Node.held_at, Node.own_mark, Node.lowest, Worlds.Rules}
 use Rattle.dn_machine.specs.Node as machine
-use Rattle.dn_machine.specs.Node.{got, held_at, own_mark, lowest}
 use Rattle.dn_machine.specs.Running.{is_absent, is_awaited, is_off, first_off, first_off_but, is_over}
-use Rattle.dn_machine.specs.Worlds.{Rules}
-use Rattle.dn_machine.proofs.Calls.{ran_on}
-use Rattle.dn_machine.proofs.Marks.{lowest_none, lowest_none_each, same_passes}
-use Rattle.dn_machine.proofs.Put.{put_at}
-use Rattle.dn_remain.specs.Vanished.Promise.{lacks_at}
+use Rattle.dn_machine.proofs.{Calls.ran_on, Marks.lowest_none, Marks.lowest_none_each, Marks.same_passes, Put.put_at}
+use Rattle.dn_remain.specs.{Vanished.Promise.lacks_at, Seen.end_seen, Seen.holder_of, Seen.now_of}
 use Rattle.dn_remain.specs.Vanished.Commands.{Holder, Had, seen, past_seen}
-use Rattle.dn_remain.proofs.Vanished.Always.{always}
-use Rattle.dn_remain.proofs.Vanished.Handing.{was_seen}
-use Rattle.dn_remain.proofs.Vanished.Invariant.{IsKept}
-use Rattle.dn_remain.specs.Seen.{end_seen, holder_of, now_of}
-use Rattle.dn_remain.proofs.MakerRows.{mark_is}
-use Rattle.dn_remain.proofs.Known.{Follows, Went}
-use Rattle.dn_remain.proofs.Marked.{IsMarked}
-use Rattle.dn_remain.proofs.Running.{absent_is, runs_on}
-use Rattle.dn_remain.proofs.Seeing.{length_rows, over_before}
+use Rattle.dn_remain.proofs.{Vanished.Always.always, Vanished.Handing.was_seen, Vanished.Invariant.IsKept, MakerRows.mark_is, Known.Follows, Known.Went, Marked.IsMarked, Running.absent_is, Running.runs_on, Seeing.length_rows, Seeing.over_before}
 
 module _ {S : Type 0} (rules : Rules S) (settings : Settings) (game : Game) (gone : ℕ → ℕ → Bool)
     (older : List (ℕ → Holder TicCmd))
@@ -39,8 +25,7 @@ module _ {S : Type 0} (rules : Rules S) (settings : Settings) (game : Game) (gon
   -- where it runs the tic, that is a step; the marks that it would be told do not matter
   after : Went (Had (now_of game gone ∷ older)) rules
       (with_node game q (ran_on rules.limits q (game.nodes q) (λ p. pos 0))) gone
-  after = runs_on (Had (now_of game gone ∷ older)) rules game gone older follows q mine plays nobody
-      (λ p. pos 0)
+  after = runs_on follows q mine plays nobody (λ p. pos 0)
 
   abbrev history : List (ℕ → Holder TicCmd)
   history = now_of (with_node game q (ran_on rules.limits q (game.nodes q) (λ p. pos 0))) gone ∷ after.0
@@ -74,7 +59,7 @@ module _ {S : Type 0} (rules : Rules S) (settings : Settings) (game : Game) (gon
         omega arith
 
     over : is_over (end_seen (game.nodes q) p) tic ≡ false
-    over = sym (absent_is (Had (now_of game gone ∷ older)) rules game gone older follows q mine p its) ∙ here
+    over = sym (absent_is follows q mine p its) ∙ here
 
     present : lacks_at (seen then_seen) tic p ≡ false
     present =
@@ -86,8 +71,7 @@ module _ {S : Type 0} (rules : Rules S) (settings : Settings) (game : Game) (gon
     mark_fits =
         let a = longer in
         mark_is rules settings game gone older follows all_marked low q mine p its tic (omega arith) has
-        (omega arith)
-        history after.1.handed after.1.run was_now then_seen was_then (omega arith) present
+        (omega arith) history after.1.handed after.1.run was_now then_seen was_then (omega arith) present
         (λ back. refl) compared
         ∙ (sym ((all_marked q).told p (tic - 12) its (omega arith)
         (over_before (end_seen (game.nodes q) p) (tic - 12) tic (omega arith) over))
@@ -101,8 +85,8 @@ module _ {S : Type 0} (rules : Rules S) (settings : Settings) (game : Game) (gon
 
   -- so none is found
   pub none_off : first_off_but rules.limits (gone q) (game.nodes q) ≡ None
-  none_off = grind (arith, cond_both, ltb, tic, lowest_none, and_left, and_right, off_none, ltb-true)
+  none_off = grind (arith, cond_both, lowest_none, and_left, and_right, off_none, ltb-true)
 
   -- of all players in narrow windows
   pub none_off_at_all : rules.ahead + rules.ahead ≤ 12 → first_off rules.limits (game.nodes q) ≡ None
-  none_off_at_all narrow = grind (arith, cond_both, ltb, tic, lowest_none, off_none, ltb-true)
+  none_off_at_all narrow = grind (arith, cond_both, lowest_none, off_none, ltb-true)

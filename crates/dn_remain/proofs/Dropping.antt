@@ -4,32 +4,18 @@ use Rattle.std.specs.Prelude.{◌⊎◌, Bool, true, false, Option, Some, None, 
 use Rattle.std.proofs.lemmas.Bool.{both_ways, eq-eqb, le-ltb, or_cases, and_parts, true≢false}
 use Rattle.dn_tic.specs.declared.command.TicCmd.{TicCmd}
 use Rattle.dn_setup.specs.Settings.{Settings}
-use Rattle.dn_machine.specs.declared.answers.Heard.{Heard}
-use Rattle.dn_machine.specs.declared.answers.Heard.TheVariants.{Dropped}
+use Rattle.dn_machine.specs.{declared.answers.Heard.Heard, declared.answers.Heard.TheVariants.Dropped, Flight.Flight, Flight.is_exit, Flight.end_of, Limits.Limits, Limits.IsWindow, Node.ends_of, Node.got, Node.is_ended, Node.has_left, Hearing.is_past_end, Hearing.is_strange_end, Hearing.left_or, Hearing.on_packet, Worlds.Rules}
 use Rattle.dn_machine.specs.Drops as drops
-use Rattle.dn_machine.specs.Flight.{Flight, is_exit, end_of}
-use Rattle.dn_machine.specs.Limits.{Limits, IsWindow}
 use Rattle.dn_machine.specs.Node as machine
-use Rattle.dn_machine.specs.Node.{ends_of, got, is_ended, has_left}
-use Rattle.dn_machine.specs.Hearing.{is_past_end, is_strange_end, left_or, on_packet}
-use Rattle.dn_machine.specs.Worlds.{Rules}
 use Rattle.dn_machine.proofs.Calls.{Refused, packet_cases}
 use Rattle.dn_remain.specs.Vanished.Commands.{Holder, Had, seen, past_seen}
-use Rattle.dn_remain.proofs.Vanished.Fitting.{fits}
-use Rattle.dn_remain.proofs.Vanished.Handing.{was_seen}
-use Rattle.dn_remain.specs.Seen.{end_seen, now_of}
-use Rattle.dn_remain.specs.Remaining.{Remaining, heard_of}
-use Rattle.dn_remain.proofs.Arriving.{end_is, made_it, below_made}
-use Rattle.dn_remain.proofs.Followed.{anchored}
+use Rattle.dn_remain.proofs.{Vanished.Fitting.fits, Vanished.Handing.was_seen, Arriving.end_is, Arriving.made_it, Arriving.below_made, Followed.anchored, Known.Follows, Known.IsTold, Known.not_left, Reached.IsReached, Seeing.length_rows}
+use Rattle.dn_remain.specs.{Seen.end_seen, Seen.now_of, Remaining.Remaining, Remaining.heard_of}
 use Rattle.dn_remain.proofs.Histories
-use Rattle.dn_remain.proofs.Known.{Follows, IsTold, not_left}
-use Rattle.dn_remain.proofs.Reached.{IsReached}
-use Rattle.dn_remain.proofs.Seeing.{length_rows}
 
 -- an answer that is no drop, of an EXIT packet or of another
 left_word : (exit : Bool) (heard : Heard) (number : ℕ) → ((n : ℕ) → heard ≢ Dropped n)
-    → left_or exit heard ≡ Dropped number
-    → ⊥
+    → left_or exit heard ≡ Dropped number → ⊥
 left_word true heard number other e = absurd (cc)
 left_word false heard number other e = other number e
 

@@ -1,25 +1,12 @@
 -- Three players, one of whom vanishes: where a list of events leads, and what the other two ran.
-use Rattle.std.proofs.Common.{◌≡◌, refl, inl, inr, List, [], ◌∷◌}
+use Rattle.std.proofs.Common.{◌≡◌, refl, inl, inr, List, [], ◌∷◌, arith}
 use Rattle.std.specs.Prelude.{Bool, true, false, slice_get, get_or}
 use Rattle.dn_setup.specs.Settings.{Settings}
-use Rattle.dn_machine.specs.declared.events.Event.{Event}
+use Rattle.dn_machine.specs.{declared.events.Event.Event, Game.applied, Game.opening_game, Building.on_build, Sending.on_send, Hearing.on_packet, Running.on_run_but, Limits.row_of, Node.ran, Node.lacks, Node.lowest, Worlds.Rules, Worlds.rules_of}
 use Rattle.dn_machine.specs.declared.events.Event.TheVariants.{Build, Send, Deliver, Run, Stop}
-use Rattle.dn_machine.specs.Game.{applied, opening_game}
-use Rattle.dn_machine.specs.Building.{on_build}
-use Rattle.dn_machine.specs.Sending.{on_send}
-use Rattle.dn_machine.specs.Hearing.{on_packet}
-use Rattle.dn_machine.specs.Running.{on_run_but}
-use Rattle.dn_machine.specs.Limits.{row_of}
-use Rattle.dn_machine.specs.Node.{ran, lacks, lowest}
-use Rattle.dn_machine.specs.Worlds.{Rules, rules_of}
 use Rattle.dn_world.specs.Physics.{Physics}
-use Rattle.dn_remain.specs.Vanished.Calls.{every}
-use Rattle.dn_remain.specs.Vanished.Decisions.{longest}
-use Rattle.dn_remain.specs.Seen.{rows_to}
-use Rattle.dn_remain.specs.Wary.{on_give_up, on_report}
+use Rattle.dn_remain.specs.{Vanished.Calls.every, Vanished.Decisions.longest, Seen.rows_to, Wary.on_give_up, Wary.on_report, RunsRemain.NextRemain, RunsRemain.LeadsRemain, RunsRemain.RunsRemain, declared.events.RemainEvent.RemainEvent}
 use Rattle.dn_remain.specs.Remaining.{Remaining, opening_remaining, after_give_up, after_telling, after_hearing, is_barred, after_event}
-use Rattle.dn_remain.specs.RunsRemain.{NextRemain, LeadsRemain, RunsRemain}
-use Rattle.dn_remain.specs.declared.events.RemainEvent.{RemainEvent}
 use Rattle.dn_remain.specs.declared.events.RemainEvent.TheVariants.{Own, GiveUp, Tell, Hear}
 
 -- one event leads to another game, where it is not barred and nothing is left out
@@ -46,10 +33,7 @@ own_leads rules all event false h = inr (h, after_event rules all event, inl ref
 event_leads : {S : Type 0} (rules : Rules S) (all : Remaining) (event : RemainEvent)
     → NextRemain rules all event (after rules all event)
 unfolding after
-event_leads rules all (Own event) = own_leads rules all event (is_barred all event) refl
-event_leads rules all (GiveUp node player) = refl
-event_leads rules all (Tell node to) = inl refl
-event_leads rules all (Hear which) = refl
+event_leads rules all event = grind (arith, own_leads)
 
 pub leads_to : {S : Type 0} (rules : Rules S) (all : Remaining) (events : List RemainEvent)
     → LeadsRemain rules all events (after_all rules all events)

@@ -4,18 +4,10 @@ use Rattle.std.specs.Prelude.{Some, slice_get}
 use Rattle.std.proofs.lemmas.Bool.{cases_lt}
 use Rattle.dn_machine.proofs.Demos.{front_short}
 use Rattle.dn_tic.specs.declared.command.TicCmd.{TicCmd}
-use Rattle.dn_machine.specs.Node.{made, ran, is_whole, demo_rows}
+use Rattle.dn_machine.specs.{Node.made, Node.ran, Node.is_whole, Node.demo_rows, Worlds.Rules}
 use Rattle.dn_setup.specs.Settings.{Settings}
-use Rattle.dn_machine.specs.Worlds.{Rules}
-use Rattle.dn_remain.specs.Vanished.Node.{Was}
-use Rattle.dn_remain.specs.Vanished.Promise.{Fits}
-use Rattle.dn_remain.specs.Vanished.Commands.{Holder, seen, past_seen}
-use Rattle.dn_remain.proofs.Vanished.Handing.{was_seen}
-use Rattle.dn_remain.specs.Seen.{now_of}
-use Rattle.dn_remain.specs.Remaining.{Telling, Remaining}
-use Rattle.dn_remain.specs.Promise.{FitsInPairs}
-use Rattle.dn_remain.proofs.Reached.{IsReached}
-use Rattle.dn_remain.proofs.Promises.{agreed, fitted, long, whole_at}
+use Rattle.dn_remain.specs.{Vanished.Node.Was, Vanished.Promise.Fits, Vanished.Commands.Holder, Vanished.Commands.seen, Vanished.Commands.past_seen, Seen.now_of, Remaining.Telling, Remaining.Remaining, Promise.FitsInPairs}
+use Rattle.dn_remain.proofs.{Vanished.Handing.was_seen, Reached.IsReached, Promises.agreed, Promises.fitted, Promises.long, Promises.whole_at}
 
 module _ {S : Type 0} (rules : Rules S) (settings : Settings) (all : Remaining) (older : List (ℕ
     → Holder TicCmd))

@@ -1,28 +1,77 @@
 -- What is known of a game in which players may be given up, and that each event of the machine keeps it.
-use Rattle.std.proofs.Common.{◌≡◌, ℕ, ◌<◌, ltb, refl, sym, subst, inl, inr, List, ◌∷◌}
-use Rattle.std.specs.Prelude.{◌&&◌, true, false, Option, Some, None, slice_get}
-use Rattle.std.proofs.lemmas.Bool.{ltb-true, and_parts}
-use Rattle.dn_tic.specs.declared.command.TicCmd.{TicCmd}
-use Rattle.dn_tic.specs.declared.input.Input.TheVariants.{Pressed, Given}
-use Rattle.dn_machine.specs.declared.events.Event.{Event}
-use Rattle.dn_machine.specs.declared.events.Event.TheVariants.{Build, Give, Send, Deliver, Run, Quit, Stop}
-use Rattle.dn_machine.specs.declared.events.Refusal.{Refusal}
-use Rattle.dn_machine.specs.Flight.{Flight}
-use Rattle.dn_machine.specs.Game.{Game, own_marks, refused_at, refused, delivered, on_event, applied_if, applied}
-use Rattle.dn_machine.specs.Node.{put}
-use Rattle.dn_machine.specs.Worlds.{Rules}
-use Rattle.dn_machine.proofs.Games.{passes}
-use Rattle.dn_remain.specs.Vanished.Commands.{Holder, Had}
-use Rattle.dn_remain.specs.Seen.{now_of}
-use Rattle.dn_remain.specs.Wary.{Report}
-use Rattle.dn_remain.specs.Remaining.{Telling, Remaining, is_barred_flight, is_barred, after_run, after_event}
-use Rattle.dn_remain.specs.RunsRemain.{NextOwn}
-use Rattle.dn_remain.proofs.ButRuns.{IsNoRun}
-use Rattle.dn_remain.proofs.Known.{Follows, Went, known_so}
-use Rattle.dn_remain.proofs.Making.{builds}
-use Rattle.dn_remain.proofs.Hearing.{hears}
-use Rattle.dn_remain.proofs.Running.{runs, quits}
-use Rattle.dn_remain.proofs.Sending.{sends}
+use Rattle.std.proofs.Common.{◌≡◌, ℕ, ◌+◌, ◌<◌, refl, ◌∙◌, ap, arith, inl, inr, List, [], ◌∷◌, ◌++◌, length, ltb}
+use Rattle.std.specs.Prelude.{Bool, Option, ◌&&◌, true, false, Some, None, slice_get}
+use Rattle.std.proofs.lemmas.Bool.{cases_eq, ltb-true, and_parts}
+use Rattle.std.proofs.lemmas.List.{length_push}
+use Rattle.dn_tic.specs.{declared.command.TicCmd.TicCmd, declared.input.Input.Input, Inputs.made_by, declared.input.Input.TheVariants.Pressed, declared.input.Input.TheVariants.Given}
+use Rattle.dn_machine.specs.{declared.answers.Phase.TheVariants.Playing, Node.ends_of, Node.made, Node.ran, Node.is_ended, Node.own_mark, Node.put, Game.Game, Game.with_node, Building.on_build, Worlds.Rules}
+use Rattle.dn_machine.specs.{declared.events.Event.Event, Flight.Flight, Game.own_marks, Game.refused_at, Game.refused, Game.delivered, Game.on_event, declared.events.Event.TheVariants.Build}
+use Rattle.dn_machine.specs.{declared.events.Event.TheVariants.Give, declared.events.Event.TheVariants.Send, declared.events.Event.TheVariants.Deliver, declared.events.Event.TheVariants.Run}
+use Rattle.dn_machine.specs.{declared.events.Event.TheVariants.Quit, declared.events.Event.TheVariants.Stop}
+use Rattle.dn_machine.proofs.{Calls.built, Calls.build_cases, Put.put_at, Put.put_off, Put.same_functions, Games.passes}
+use Rattle.dn_remain.specs.{Vanished.Steps.Make, Vanished.Commands.Holder, Vanished.Commands.seen, Seen.reached, Seen.end_seen, Seen.rows_to, Seen.holder_of, Seen.now_of, Vanished.Commands.Had, Wary.Report}
+use Rattle.dn_remain.specs.{Remaining.Telling, Remaining.Remaining, Remaining.is_barred_flight, Remaining.is_barred, Remaining.after_event}
+use Rattle.dn_remain.proofs.{Seeing.same_node, Seeing.length_rows, Known.Follows, Known.Went, Known.fit_self, Known.not_left, Following.stays, Following.steps, ButRuns.IsNoRun, Each.each_event, Known.known_so}
+use Rattle.dn_remain.proofs.{Hearing.hears, Running.runs, Running.quits, Sending.sends}
+use Rattle.dn_machine.specs.Node as machine
+
+-- A build makes a command, or changes nothing.
+
+module _ {S : Type 0} {known : ℕ → Holder TicCmd → Type 0} {rules : Rules S} {game : Game} {gone : ℕ → ℕ → Bool}
+    {older : List (ℕ → Holder TicCmd)} (follows : Follows known rules game gone older) (q : ℕ) (mine : q < rules.players) where
+  abbrev me : machine.Node
+  me = game.nodes q
+
+  -- one command more
+  module _ (input : Input) (plays : me.phase ≡ Playing)
+      (low : made q me < ran me + rules.ahead) where
+    abbrev next : machine.Node
+    next = built rules.limits q me input
+
+    abbrev command : TicCmd
+    command = made_by (me.inputs ++ input ∷ []) (own_mark me q (made q me))
+
+    held_is : (p : ℕ) → (p ≡ q → ⊥) → next.held p ≡ me.held p
+    held_is p n = put_off me.held q p _ n
+
+    own_is : next.held q ≡ me.held q ++ command ∷ []
+    own_is = put_at me.held q q _ refl
+
+    longer : length (next.held q) ≡ made q me + 1
+    longer = ap (length {A = TicCmd}) own_is ∙ length_push (me.held q) _
+
+    counts : (p : ℕ) → length (next.held p) ≡ put (λ r. length (me.held r)) q (made q me + 1) p
+    counts p = grind (arith, built, longer, put_at, held_is, put_off)
+
+    end_at : (p : ℕ) → end_seen next p ≡ end_seen me p
+    end_at p = elim (cases_eq p q) [
+      | inl e ↦ grind (arith, built)
+      | inr n ↦ ap (λ (cs : List TicCmd). reached (length cs) (ends_of me p)) (held_is p n)
+    ]
+
+    ends_same : end_seen next ≡ end_seen me
+    ends_same = same_functions end_at
+
+    makes : Went known rules (with_node game q next) gone
+    makes =
+        let rows = length_rows (end_seen me) (ran me) in (
+          now_of game gone ∷ older,
+          steps follows q next
+              (record {
+                ends = follows.ends q;
+                endless = follows.endless q;
+                resend = λ to. let a = follows.resend q to in let b = longer in omega arith;
+                rows = inl refl;
+              }) mine (not_left me (ap is_ended plays)) Make (
+                omega arith,
+                same_node (seen (holder_of next (gone q))) _ (same_functions counts) ends_same refl refl
+                    (ap (λ (e : ℕ → Option ℕ). rows_to e (ran me)) ends_same),
+              ) (inr (_, own_is)) (λ p n. inl (held_is p n)),
+        )
+
+  pub builds : (input : Input) → Went known rules (with_node game q (on_build rules.limits q me input).0) gone
+  builds input = build_cases rules.limits q me (λ (n : machine.Node). Went known rules (with_node game q n) gone)
+      input (λ full. (older, stays follows q me (fit_self follows q) refl)) (λ plays low. makes input plays low)
 
 -- the nodes have a history, of which more may be known, and every report tells a state that its sender was in
 pub record IsFollowed {S : Type 0} (known : ℕ → Holder TicCmd → Type 0) (rules : Rules S) (all : Remaining)
@@ -59,78 +108,49 @@ module _ {S : Type 0} (known : ℕ → Holder TicCmd → Type 0) (rules : Rules 
   )
 
   module _ (all : Remaining) (older : List (ℕ → Holder TicCmd)) (f : IsFollowed known rules all older) where
-    follows : Follows (Had (now_of all.game all.gone ∷ older)) rules all.game all.gone older
+    abbrev past : List (ℕ → Holder TicCmd)
+    past = now_of all.game all.gone ∷ older
+
+    abbrev had : ℕ → Holder TicCmd → Type 0
+    had = Had past
+
+    follows : Follows had rules all.game all.gone older
     follows = anchored all older f
 
     -- an event of the machine
-    after_own : (game : Game) → Went (Had (now_of all.game all.gone ∷ older)) rules game all.gone
+    after_own : (game : Game) → Went had rules game all.gone
         → AreFollowed known rules (record all { game = game })
-    after_own game went = carried (now_of all.game all.gone ∷ older) f.follows.knows (record all { game = game })
+    after_own game went = carried past f.follows.knows (record all { game = game })
         went.0 went.1 f.newest f.reports
 
     pub named : (node : ℕ) → refused_at rules.players all.game node ≡ None → node < rules.players
     named node h = ltb-true node rules.players (passes (ltb node rules.players) _ _ h)
 
     delivers : (o : Option Flight) (which : ℕ) → slice_get all.game.flights which ≡ o → is_barred_flight all o ≡ false
-        → Went (Had (now_of all.game all.gone ∷ older)) rules (delivered rules all.game o).0 all.gone
+        → Went had rules (delivered rules all.game o).0 all.gone
     delivers None which h b = (older, follows)
-    delivers (Some flight) which h b = hears (Had (now_of all.game all.gone ∷ older)) rules all.game all.gone older follows
-        flight (follows.flights which flight h) b
+    delivers (Some flight) which h b = hears follows flight (follows.flights which flight h) b
 
     -- all that is not a run
     happens : (event : Event) → refused rules.players all.game event ≡ None → is_barred all event ≡ false
-        → IsNoRun event
-        → Went (Had (now_of all.game all.gone ∷ older)) rules (on_event rules all.game event).0 all.gone
-    happens (Build node keys) h b n = builds (Had (now_of all.game all.gone ∷ older)) rules all.game all.gone older follows
-        node (named node h) (Pressed keys)
-    happens (Give node command) h b n = builds (Had (now_of all.game all.gone ∷ older)) rules all.game all.gone older follows
-        node (named node h) (Given command)
+        → IsNoRun event → Went had rules (on_event rules all.game event).0 all.gone
+    happens (Build node keys) h b n = builds follows node (named node h) (Pressed keys)
+    happens (Give node command) h b n = builds follows node (named node h) (Given command)
     happens (Send node to) h b n =
         let both = and_parts (ltb node rules.players) (ltb to rules.players)
         (passes (ltb node rules.players && ltb to rules.players) _ _ h) in
-        sends (Had (now_of all.game all.gone ∷ older)) rules all.game all.gone older follows node
-        (ltb-true node rules.players both.0) to (ltb-true to rules.players both.1) b
+        sends follows node (ltb-true node rules.players both.0) to (ltb-true to rules.players both.1) b
     happens (Deliver which) h b n = delivers (slice_get all.game.flights which) which refl b
     happens (Run node) h b n = absurd n
-    happens (Quit node) h b n = quits (Had (now_of all.game all.gone ∷ older)) rules all.game all.gone older follows node
-        (named node h)
+    happens (Quit node) h b n = quits follows node (named node h)
     happens (Stop node) h b n = (
       older,
       known_so _ _ rules all.game (put all.game.stopped node true) all.gone older follows follows.knows,
     )
 
-    applies : (event : Event) → is_barred all event ≡ false → IsNoRun event
-        → Went (Had (now_of all.game all.gone ∷ older)) rules (applied rules all.game event).0 all.gone
-    unfolding applied
-    applies event b n = go (refused rules.players all.game event) refl
-      where
-        go : (o : Option Refusal) → refused rules.players all.game event ≡ o
-            → Went (Had (now_of all.game all.gone ∷ older)) rules (applied_if rules all.game event o).0 all.gone
-        go (Some refusal) h = (older, follows)
-        go None h = happens event h b n
-
-    run_on : (node : ℕ) (o : Option Refusal) → refused_at rules.players all.game node ≡ o
-        → Went (Had (now_of all.game all.gone ∷ older)) rules (after_run rules all node o) all.gone
-    run_on node (Some refusal) h = (older, follows)
-    run_on node None h = runs (Had (now_of all.game all.gone ∷ older)) rules all.game all.gone older follows node
-        (named node h) (all.gone node) (own_marks rules (all.game.nodes node))
-
-    occurs : (event : Event) → is_barred all event ≡ false
-        → Went (Had (now_of all.game all.gone ∷ older)) rules (after_event rules all event) all.gone
-    occurs (Build node keys) b = applies (Build node keys) b tt
-    occurs (Give node command) b = applies (Give node command) b tt
-    occurs (Send node to) b = applies (Send node to) b tt
-    occurs (Deliver which) b = applies (Deliver which) b tt
-    occurs (Run node) b = run_on node (refused_at rules.players all.game node) refl
-    occurs (Quit node) b = applies (Quit node) b tt
-    occurs (Stop node) b = applies (Stop node) b tt
-
-    pub owns : (event : Event) (next : Remaining) → NextOwn rules all event next → AreFollowed known rules next
-    owns event next (inl barred) = subst (λ (r : Remaining). AreFollowed known rules r) (sym barred.1) (older, f)
-    owns event next (inr goes) = subst (λ (r : Remaining). AreFollowed known rules r) (sym goes.3)
-        (after_own goes.1 (elim goes.2 [
-          | inl is ↦ subst (λ (g : Game). Went (Had (now_of all.game all.gone ∷ older)) rules g all.gone) (sym is)
-              (occurs event goes.0)
-          | inr left ↦ subst (λ (g : Game). Went (Had (now_of all.game all.gone ∷ older)) rules g all.gone) (sym left.1)
-              (older, follows)
-        ]))
+    pub owns : (event : Event) → is_barred all event ≡ false
+        → AreFollowed known rules (record all { game = after_event rules all event })
+    owns event goes = after_own (after_event rules all event)
+        (each_event rules all (λ event g. is_barred all event ≡ false → Went had rules g all.gone)
+        (λ event b. (older, follows)) (λ event none n b. happens event none b n)
+        (λ node none b. runs follows node (named node none) (all.gone node) (own_marks rules (all.game.nodes node))) event goes)

@@ -1,23 +1,15 @@
 -- A game whose nodes have a history goes on: nothing that is seen changes, or one node steps.
 use Rattle.std.proofs.Common.{◌≡◌, ℕ, ◌<◌, ◌≤◌, sym, ◌∙◌, ap, subst, inl, inr, List, [], ◌∷◌, ◌++◌, length, get_or, take, refl, arith}
 use Rattle.std.specs.Prelude.{◌≢◌, ◌⊎◌, Bool, true, false, Some, None}
-use Rattle.std.proofs.lemmas.Bool.{both_ways}
+use Rattle.std.proofs.lemmas.{Bool.both_ways, List.length_push}
 use Rattle.dn_tic.specs.declared.command.TicCmd.{TicCmd}
 use Rattle.dn_machine.specs.Node as machine
-use Rattle.dn_machine.specs.Node.{ends_of, made, has_left, put}
-use Rattle.dn_machine.specs.Game.{Game, with_node}
-use Rattle.dn_machine.specs.Worlds.{Rules}
+use Rattle.dn_machine.specs.{Node.ends_of, Node.made, Node.has_left, Node.put, Game.Game, Game.with_node, Worlds.Rules}
 use Rattle.dn_machine.proofs.Put.{put_at, put_off, same_functions, view_put}
 use Rattle.dn_remain.specs.Vanished.Steps.{Act, Acts, Step, IsRun}
 use Rattle.dn_remain.specs.Vanished.Commands.{Holder, seen, past_seen, Had, AreHanded, Handed}
 use Rattle.dn_remain.specs.Seen.{end_seen, rows_to, holder_of, now_of, row_had}
-use Rattle.dn_remain.proofs.Vanished.Put.{at_put, at_both, own_put}
-use Rattle.dn_remain.proofs.Rows.{rows_are}
-use Rattle.dn_remain.proofs.Vanished.Always.{always}
-use Rattle.dn_remain.proofs.Vanished.Invariant.{IsGrown}
-use Rattle.std.proofs.lemmas.List.{length_push}
-use Rattle.dn_remain.proofs.Seeing.{length_rows}
-use Rattle.dn_remain.proofs.Known.{IsTold, IsEnd, Follows, told_later, IsFit}
+use Rattle.dn_remain.proofs.{Vanished.Put.at_put, Vanished.Put.at_both, Vanished.Put.own_put, Rows.rows_are, Vanished.Always.always, Vanished.Invariant.IsGrown, Seeing.length_rows, Known.IsTold, Known.IsEnd, Known.Follows, Known.told_later, Known.IsFit}
 
 -- another node, which has given up these, in one place
 moved_set : (game : Game) (gone : ℕ → ℕ → Bool) (q : ℕ) (new : machine.Node) (set : ℕ → Bool)
@@ -56,7 +48,7 @@ module _ {S : Type 0} {known : ℕ → Holder TicCmd → Type 0} {rules : Rules 
     rows_after : ((tic : ℕ) → tic < machine.ran new → get_or new.rows tic [] ≡ row_had rules.limits (holder_of new set) tic)
         → (x tic : ℕ) → tic < machine.ran (next.nodes x)
         → get_or (next.nodes x).rows tic [] ≡ row_had rules.limits (now_of next sets x) tic
-    rows_after at = grind (arith, at_both, get_or)
+    rows_after at = grind (arith, at_both)
 
     rows_still : holder_of new set ≡ old → (tic : ℕ) → tic < machine.ran new
         → get_or new.rows tic [] ≡ row_had rules.limits (holder_of new set) tic

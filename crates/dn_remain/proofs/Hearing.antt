@@ -1,56 +1,47 @@
 -- A packet that comes to a node: it takes commands, learns an end, or changes nothing that is seen.
 use Rattle.std.proofs.Common.{◌≡◌, ℕ, refl, sym, ◌∙◌, ap, inl, List, ◌∷◌}
-use Rattle.std.specs.Prelude.{Bool, true, false, Option}
+use Rattle.std.specs.Prelude.{Bool, true, false}
 use Rattle.dn_tic.specs.declared.command.TicCmd.{TicCmd}
-use Rattle.dn_machine.specs.declared.answers.Heard.{Heard}
-use Rattle.dn_machine.specs.declared.peer.Peer.{Peer}
-use Rattle.dn_machine.specs.Flight.{Flight}
+use Rattle.dn_machine.specs.{declared.answers.Heard.Heard, declared.peer.Peer.Peer, Flight.Flight, Node.got, Node.made, Node.is_ended, Game.Game, Game.with_node, Worlds.Rules, Hearing.after_request, Hearing.on_packet}
 use Rattle.dn_machine.specs.Node as machine
-use Rattle.dn_machine.specs.Node.{got, made, is_ended}
-use Rattle.dn_machine.specs.Game.{Game, with_node}
-use Rattle.dn_machine.specs.Worlds.{Rules}
-use Rattle.dn_machine.specs.Hearing.{after_request, on_packet}
-use Rattle.dn_machine.proofs.Calls.{packet_cases, sender_after}
-use Rattle.dn_machine.proofs.Peers.{asked_low, asked_end, flight_low, flight_end}
-use Rattle.dn_remain.specs.Vanished.Commands.{Holder}
-use Rattle.dn_remain.specs.Seen.{reached, holder_of, now_of}
-use Rattle.dn_remain.proofs.Seeing.{same_holder}
-use Rattle.dn_remain.proofs.Known.{IsTold, Follows, Went, IsFit, fit_self, not_left}
-use Rattle.dn_remain.proofs.Following.{stays}
-use Rattle.dn_remain.proofs.Arriving.{quiet}
-use Rattle.dn_remain.proofs.Taking.{stale, gap, taken}
+use Rattle.dn_machine.proofs.{Calls.packet_cases, Calls.sender_after, Peers.asked_low, Peers.asked_end, Peers.flight_low, Peers.flight_end}
+use Rattle.dn_remain.specs.{Vanished.Commands.Holder, Seen.reached, Seen.holder_of, Seen.now_of}
+use Rattle.dn_remain.proofs.{Seeing.same_holder, Known.IsTold, Known.Follows, Known.Went, Known.IsFit, Known.fit_self, Known.not_left, Following.stays, Arriving.quiet, Taking.stale, Taking.gap, Taking.taken}
 
-module _ {S : Type 0} (known : ℕ → Holder TicCmd → Type 0) (rules : Rules S) (game : Game) (gone : ℕ → ℕ → Bool) (older : List (ℕ → Holder TicCmd))
-    (follows : Follows known rules game gone older) (flight : Flight)
+module _ {S : Type 0} {known : ℕ → Holder TicCmd → Type 0} {rules : Rules S} {game : Game} {gone : ℕ → ℕ → Bool}
+    {older : List (ℕ → Holder TicCmd)} (follows : Follows known rules game gone older) (flight : Flight)
     (told : IsTold rules.players (now_of game gone ∷ older) flight)
     (open_from : gone flight.to flight.from ≡ false) where
+  abbrev me : machine.Node
+  me = game.nodes flight.to
+
+  abbrev peer : Peer
+  peer = me.peers flight.from
+
   -- nothing that is seen of the node changes
   goes_on : (new : machine.Node) → IsFit rules.limits game.nodes gone flight.to (gone flight.to) new
-      → holder_of new (gone flight.to) ≡ holder_of (game.nodes flight.to) (gone flight.to)
+      → holder_of new (gone flight.to) ≡ holder_of me (gone flight.to)
       → Went known rules (with_node game flight.to new) gone
   goes_on new fit same = (older, stays follows flight.to new fit same)
 
-  pub hears : Went known rules (with_node game flight.to (on_packet rules.limits flight.to (game.nodes flight.to) flight).0) gone
+  pub hears : Went known rules (with_node game flight.to (on_packet rules.limits flight.to me flight).0) gone
   hears =
-      let node : machine.Node = game.nodes flight.to in
       let self = fit_self follows flight.to in
-      let sender : Peer = sender_after rules.limits flight.to (game.nodes flight.to) flight in
-      let ends = flight_end rules.places (made flight.to (game.nodes flight.to))
-      ((game.nodes flight.to).peers flight.from) flight in
-      let low = flight_low rules.places (made flight.to (game.nodes flight.to))
-      ((game.nodes flight.to).peers flight.from) flight (follows.resend flight.to flight.from) in
-      let same = goes_on (game.nodes flight.to) self refl in
-      packet_cases rules.limits flight.to (game.nodes flight.to) flight
+      let sender : Peer = sender_after rules.limits flight.to me flight in
+      let ends = flight_end rules.places (made flight.to me) peer flight in
+      let low = flight_low rules.places (made flight.to me) peer flight (follows.resend flight.to flight.from) in
+      let same = goes_on me self refl in
+      packet_cases rules.limits flight.to me flight
       (λ (r : machine.Node × Heard). Went known rules (with_node game flight.to r.0) gone) (record {
         dropped = λ number why. same;
         starts = λ s e k. goes_on _
             (record { ends = self.ends; endless = self.endless; resend = self.resend; rows = inl refl })
-            (same_holder _ (holder_of (game.nodes flight.to) (gone flight.to)) refl refl refl
-            (sym (not_left (game.nodes flight.to) (ap is_ended e))) refl);
+            (same_holder _ (holder_of me (gone flight.to)) refl refl refl
+            (sym (not_left me (ap is_ended e))) refl);
         completes = λ word e all. goes_on _
             (record { ends = self.ends; endless = self.endless; resend = self.resend; rows = inl refl })
-            (same_holder _ (holder_of (game.nodes flight.to) (gone flight.to)) refl refl refl
-            (sym (not_left (game.nodes flight.to) (ap is_ended e))) refl);
+            (same_holder _ (holder_of me (gone flight.to)) refl refl refl
+            (sym (not_left me (ap is_ended e))) refl);
         notes = λ word e some. goes_on _
             (record { ends = self.ends; endless = self.endless; resend = self.resend; rows = inl refl }) refl;
         commands = λ plays. record {
@@ -59,15 +50,9 @@ module _ {S : Type 0} (known : ℕ → Holder TicCmd → Type 0) (rules : Rules 
           gap = λ l. gap follows told open_from (record sender { want = true }) ends low plays l;
           takes = λ first high. taken follows told open_from (record sender { want = false }) ends low plays first high;
         };
-        requests = λ ended. quiet follows told open_from
-            (after_request rules.places (made flight.to (game.nodes flight.to))
-            ((game.nodes flight.to).peers flight.from) flight.request)
-            (asked_low rules.places (made flight.to (game.nodes flight.to))
-            ((game.nodes flight.to).peers flight.from) flight.request (follows.resend flight.to flight.from))
-            (λ e s. follows.ends flight.to flight.from e
-            (sym (asked_end rules.places (made flight.to (game.nodes flight.to))
-            ((game.nodes flight.to).peers flight.from) flight.request) ∙ s) open_from)
-            (ap (λ (o : Option ℕ). reached (got (game.nodes flight.to) flight.from) o)
-            (asked_end rules.places (made flight.to (game.nodes flight.to))
-            ((game.nodes flight.to).peers flight.from) flight.request));
+        requests = λ ended.
+            let end = asked_end rules.places (made flight.to me) peer flight.request in
+            quiet follows told open_from (after_request rules.places (made flight.to me) peer flight.request)
+            (asked_low rules.places (made flight.to me) peer flight.request (follows.resend flight.to flight.from))
+            (λ e s. follows.ends flight.to flight.from e (sym end ∙ s) open_from) (ap (reached (got me flight.from)) end);
       })

@@ -3,16 +3,10 @@ use Rattle.std.proofs.Common.{◌≡◌, ◌≢◌, ℕ, ◌<◌, ◌≤◌, inl
 use Rattle.std.specs.Prelude.{◌⊎◌, Bool, true, false, Some, None, slice_get}
 use Rattle.std.proofs.lemmas.Bool.{and_right}
 use Rattle.dn_tic.specs.declared.command.TicCmd.{TicCmd}
-use Rattle.dn_machine.specs.Flight.{Exit, Flight, end_of}
+use Rattle.dn_machine.specs.{Flight.Exit, Flight.Flight, Flight.end_of, Node.ends_of, Node.made, Node.is_ended, Node.has_left, Game.Game, Worlds.Rules, Limits.Limits}
 use Rattle.dn_machine.specs.Node as machine
-use Rattle.dn_machine.specs.Node.{ends_of, made, is_ended, has_left}
-use Rattle.dn_machine.specs.Game.{Game}
-use Rattle.dn_machine.specs.Worlds.{Rules}
-use Rattle.dn_remain.specs.Vanished.Node.{Within}
-use Rattle.dn_remain.specs.Vanished.Steps.{IsRun}
+use Rattle.dn_remain.specs.{Vanished.Node.Within, Vanished.Steps.IsRun, Seen.holder_of, Seen.now_of, Seen.row_had}
 use Rattle.dn_remain.specs.Vanished.Commands.{Holder, past_seen, Had, AreHanded}
-use Rattle.dn_remain.specs.Seen.{holder_of, now_of, row_had}
-use Rattle.dn_machine.specs.Limits.{Limits}
 
 -- a packet carries a piece of its sender's list, as somebody had it who had not given up the receiver: the sender
 -- itself, or one who had given up nobody but whom the receiver had given up too

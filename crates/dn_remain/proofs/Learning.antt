@@ -4,22 +4,11 @@ use Rattle.std.specs.Prelude.{◌⊎◌, Bool, true, false, Option, Some, None}
 use Rattle.std.proofs.lemmas.Bool.{lt-leb}
 use Rattle.dn_tic.specs.declared.command.TicCmd.{TicCmd}
 use Rattle.dn_machine.specs.Node as machine
-use Rattle.dn_machine.specs.Node.{ends_of, ran, has_left, put}
-use Rattle.dn_machine.specs.Game.{Game, with_node}
-use Rattle.dn_machine.specs.Worlds.{Rules}
+use Rattle.dn_machine.specs.{Node.ends_of, Node.ran, Node.has_left, Node.put, Game.Game, Game.with_node, Worlds.Rules, Running.is_over}
 use Rattle.dn_machine.proofs.Put.{put_at, put_off, same_functions}
-use Rattle.dn_machine.specs.Running.{is_over}
-use Rattle.dn_remain.specs.Vanished.Node.{Within}
-use Rattle.dn_remain.specs.Vanished.Steps.{Take, Learn}
+use Rattle.dn_remain.specs.{Vanished.Node.Within, Vanished.Steps.Take, Vanished.Steps.Learn, Seen.end_seen, Seen.rows_to, Seen.holder_of, Seen.now_of}
 use Rattle.dn_remain.specs.Vanished.Commands.{Holder, seen, past_seen, Had}
-use Rattle.dn_remain.proofs.Vanished.Invariant.{IsKept}
-use Rattle.dn_remain.proofs.Vanished.Always.{always}
-use Rattle.dn_remain.proofs.Vanished.Handing.{was_seen}
-use Rattle.dn_remain.specs.Seen.{end_seen, rows_to, holder_of, now_of}
-use Rattle.dn_remain.proofs.Vanished.Put.{at_put}
-use Rattle.dn_remain.proofs.Seeing.{same_node, length_rows, rows_alike, reached_some}
-use Rattle.dn_remain.proofs.Known.{Follows, IsFit, Went}
-use Rattle.dn_remain.proofs.Following.{steps}
+use Rattle.dn_remain.proofs.{Vanished.Invariant.IsKept, Vanished.Always.always, Vanished.Handing.was_seen, Vanished.Put.at_put, Seeing.same_node, Seeing.length_rows, Seeing.rows_alike, Seeing.reached_some, Known.Follows, Known.IsFit, Known.Went, Following.steps}
 
 -- a node with more commands of one player
 pub record HasMore (old new : machine.Node) (from : ℕ) (more : List TicCmd) : Type 0 where
@@ -52,7 +41,7 @@ module _ {S : Type 0} {known : ℕ → Holder TicCmd → Type 0} {rules : Rules 
       subst (λ (f : ℕ → List TicCmd). P p (f p)) (sym has.held) (at_put P old.held from more here rest p)
 
   counts : (p : ℕ) → length (new.held p) ≡ put (λ r. length (old.held r)) from end p
-  counts = grind (arith, each, length, old, put_at, put_off)
+  counts = grind (arith, each, put_at, put_off)
 
   own : new.held q ≡ old.held q
   own = each (λ p cs. p ≡ q → cs ≡ old.held p) (λ e. absurd (apart e)) (λ p n e. refl) q refl
@@ -102,7 +91,7 @@ module _ {S : Type 0} {known : ℕ → Holder TicCmd → Type 0} {rules : Rules 
     ends = put (end_seen old) from (Some (length ((game.nodes from).held from)))
 
     end_at : (p : ℕ) → end_seen new p ≡ ends p
-    end_at = grind (arith, each, length, ends, put_at, old, reached_some, put_off)
+    end_at = grind (arith, each, put_at, reached_some, put_off)
 
     -- the end comes after the tics that were run
     over_same : (p tic : ℕ) → tic < ran old → is_over (ends p) tic ≡ is_over (end_seen old p) tic

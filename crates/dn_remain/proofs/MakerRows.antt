@@ -1,30 +1,16 @@
 -- The mark of a command that a node runs, or has run, is that of the node's own world.
-use Rattle.std.proofs.Common.{◌≡◌, ℕ, ◌+◌, ◌-◌, ◌<◌, ◌≤◌, refl, sym, ◌∙◌, arith, inl, inr, pos, ltb, List, [], ◌∷◌, length, take}
+use Rattle.std.proofs.Common.{◌≡◌, ℕ, ◌+◌, ◌-◌, ◌<◌, ◌≤◌, refl, sym, ◌∙◌, arith, inl, inr, List, [], ◌∷◌, length, take}
 use Rattle.std.specs.Prelude.{◌⊎◌, Bool, false}
-use Rattle.std.proofs.lemmas.Bool.{cond-false, le-ltb}
-use Rattle.std.proofs.lemmas.Option.{same_Some, slice_get-get_or}
+use Rattle.std.proofs.lemmas.{Bool.cond-false, Bool.le-ltb, Option.same_Some, Option.slice_get-get_or}
 use Rattle.dn_tic.specs.declared.command.TicCmd.{TicCmd}
 use Rattle.dn_tic.proofs.Making.{made_by-mark}
 use Rattle.dn_setup.specs.Settings.{Settings}
-use Rattle.dn_machine.specs.Game.{Game}
+use Rattle.dn_machine.specs.{Game.Game, Node.blank, Node.got, Node.made, Node.held_at, Worlds.Rules, Worlds.world_after}
 use Rattle.dn_machine.specs.Node as machine
-use Rattle.dn_machine.specs.Node.{blank, got, made, held_at}
-use Rattle.dn_machine.specs.Worlds.{Rules, world_after}
-use Rattle.dn_remain.specs.Vanished.Node.{Node, Was, ran}
-use Rattle.dn_remain.specs.Vanished.Promise.{Marked, lacks_at}
+use Rattle.dn_remain.specs.{Vanished.Node.Node, Vanished.Node.Was, Vanished.Node.ran, Vanished.Promise.Marked, Vanished.Promise.lacks_at, Vanished.Steps.IsRun, Seen.end_seen, Seen.rows_to, Seen.now_of, Seen.row_had}
 use Rattle.dn_remain.specs.Vanished.Commands.{Holder, Had, AreHanded, seen, past_seen}
-use Rattle.dn_remain.specs.Vanished.Steps.{IsRun}
-use Rattle.dn_remain.proofs.Vanished.Always.{always}
-use Rattle.dn_remain.proofs.Vanished.Handing.{same_held, was_seen}
-use Rattle.dn_remain.proofs.Vanished.Invariant.{IsKept}
+use Rattle.dn_remain.proofs.{Vanished.Always.always, Vanished.Handing.same_held, Vanished.Handing.was_seen, Vanished.Invariant.IsKept, Vanished.Marking.marked, Vanished.Windows.roomy, Known.Follows, Marked.IsMarked, Marked.fronts_same, Marked.world_same, Rows.made_row, Rows.same_row, Seeing.length_rows}
 use Rattle.dn_remain.proofs.Vanished.Making as commands
-use Rattle.dn_remain.proofs.Vanished.Marking.{marked}
-use Rattle.dn_remain.proofs.Vanished.Windows.{roomy}
-use Rattle.dn_remain.specs.Seen.{end_seen, rows_to, now_of, row_had}
-use Rattle.dn_remain.proofs.Known.{Follows}
-use Rattle.dn_remain.proofs.Marked.{IsMarked, fronts_same, world_same}
-use Rattle.dn_remain.proofs.Rows.{made_row, same_row}
-use Rattle.dn_remain.proofs.Seeing.{length_rows}
 
 module _ {S : Type 0} (rules : Rules S) (settings : Settings) (game : Game) (gone : ℕ → ℕ → Bool)
     (older : List (ℕ → Holder TicCmd))
@@ -113,4 +99,4 @@ module _ {S : Type 0} (rules : Rules S) (settings : Settings) (game : Game) (gon
 
   pub mark_is : (held_at (game.nodes q) p tic).mark
       ≡ rules.physics.mark (world_after rules settings (game.nodes q).rows (tic - 12)) p
-  mark_is = grind (arith, close, made_it, length, held_same, made_by-mark, take, cond-false, ltb, pos, le-ltb, world_same, fronts)
+  mark_is = grind (arith, close, made_it, held_same, made_by-mark, cond-false, le-ltb, world_same, fronts)

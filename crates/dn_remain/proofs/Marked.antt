@@ -1,25 +1,15 @@
 -- What every node's commands, marks and demo are made of, and that calls keep it.
 use Rattle.std.proofs.Common.{◌≡◌, ◌≢◌, ℕ, ℤ, zero, suc, ◌+◌, ◌-◌, ◌<◌, ◌≤◌, refl, sym, ◌∙◌, ap, subst, arith, inl, inr, pos, List, [], ◌∷◌, ◌++◌, length, get_or, take}
 use Rattle.std.specs.Prelude.{false, nat_lt, if◌then◌else◌, Option, Some, fold}
-use Rattle.std.proofs.lemmas.Bool.{cases_eq}
-use Rattle.std.proofs.lemmas.List.{length_push, get_or_append_left, get_or_push, take-append-le, take_all}
+use Rattle.std.proofs.lemmas.{Bool.cases_eq, List.length_push, List.get_or_append_left, List.get_or_push, List.take-append-le, List.take_all}
 use Rattle.std.proofs.Math.Seq.{take-suc}
-use Rattle.dn_tic.specs.declared.command.TicCmd.{TicCmd}
-use Rattle.dn_tic.specs.declared.command.Move.{Move}
-use Rattle.dn_tic.specs.declared.input.Input.{Input}
-use Rattle.dn_tic.specs.Inputs.{made_by}
+use Rattle.dn_tic.specs.{declared.command.TicCmd.TicCmd, declared.command.Move.Move, declared.input.Input.Input, Inputs.made_by}
 use Rattle.dn_setup.specs.Settings.{Settings}
 use Rattle.dn_machine.specs.declared.answers.Cause.TheVariants as Cause
-use Rattle.dn_machine.specs.declared.answers.Phase.TheVariants.{Ended}
-use Rattle.dn_machine.specs.Building.{on_build}
-use Rattle.dn_machine.specs.Node.{Node, blank, made, ran, held_at, own_mark, demo_rows}
-use Rattle.dn_machine.specs.Running.{tic_limit, is_over}
-use Rattle.dn_machine.specs.Worlds.{Rules, opening, world_after}
-use Rattle.dn_machine.proofs.Calls.{build_cases, built}
-use Rattle.dn_machine.proofs.Put.{put_at}
+use Rattle.dn_machine.specs.{declared.answers.Phase.TheVariants.Ended, Building.on_build, Node.Node, Node.blank, Node.made, Node.ran, Node.held_at, Node.own_mark, Node.demo_rows, Running.tic_limit, Running.is_over, Worlds.Rules, Worlds.opening, Worlds.world_after}
+use Rattle.dn_machine.proofs.{Calls.build_cases, Calls.built, Put.put_at}
 use Rattle.dn_remain.specs.Seen.{end_seen}
-use Rattle.dn_remain.proofs.Alike.{IsAlike}
-use Rattle.dn_remain.proofs.Seeing.{over_stays}
+use Rattle.dn_remain.proofs.{Alike.IsAlike, Seeing.over_stays}
 
 -- node `me` by itself
 pub record IsMarked {S : Type 0} (rules : Rules S) (settings : Settings) (me : ℕ) (node : Node) : Type 0 where
@@ -58,15 +48,13 @@ module _ {S : Type 0} (rules : Rules S) (settings : Settings) where
         → ((p e : ℕ) → end_seen old p ≡ Some e → end_seen new p ≡ Some e) → IsMarked rules settings me new
     alike_keeps new a ends = record {
       counted = ap (length {A = Input}) a.inputs ∙ (h.counted ∙ sym (ap (length {A = TicCmd}) a.held));
-      own = λ low tic l.
-          ap (λ (cs : List TicCmd). get_or cs tic blank) a.held
+      own = λ low tic l. ap (λ (cs : List TicCmd). get_or cs tic blank) a.held
           ∙ (h.own low tic (subst (λ (cs : List TicCmd). tic < length cs) a.held l)
           ∙ (ap (λ (is : List Input). made_by (take (tic + 1) is) (own_mark old me tic)) (sym a.inputs)
           ∙ ap (λ (ms : ℕ → ℕ → ℤ). made_by (take (tic + 1) new.inputs) (if nat_lt tic 12 then pos 0 else ms
           (tic - 12) me))
           (sym a.marks)));
-      told = λ p tic m l o.
-          ap (λ (ms : ℕ → ℕ → ℤ). ms tic p) a.marks
+      told = λ p tic m l o. ap (λ (ms : ℕ → ℕ → ℤ). ms tic p) a.marks
           ∙ (h.told p tic m (subst (λ (rows : List (List (Option Move))). tic < length rows) a.rows l)
           (over_stays (end_seen old p) (end_seen new p) tic (ends p) o)
           ∙ ap (λ (rows : List (List (Option Move))). rules.physics.mark

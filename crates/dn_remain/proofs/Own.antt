@@ -1,17 +1,10 @@
 -- A game of the machine is one in which nobody is given up.
 use Rattle.std.proofs.Common.{◌≡◌, refl, arith, ap, inr, List, [], ◌∷◌, map}
-use Rattle.std.specs.Prelude.{false, Option, Some, None, slice_get}
+use Rattle.std.specs.Prelude.{false, Option, Some, None}
 use Rattle.dn_setup.specs.Settings.{Settings}
-use Rattle.dn_machine.specs.declared.events.Event.{Event}
-use Rattle.dn_machine.specs.declared.events.Event.TheVariants.{Build, Give, Send, Deliver, Run, Quit, Stop}
-use Rattle.dn_machine.specs.Flight.{Flight}
-use Rattle.dn_machine.specs.Game.{Game}
-use Rattle.dn_machine.specs.Runs.{Leads, Runs}
-use Rattle.dn_machine.specs.Worlds.{Rules}
-use Rattle.dn_remain.specs.Remaining.{Remaining, opening_remaining, is_barred_flight, is_barred}
-use Rattle.dn_remain.specs.RunsRemain.{LeadsRemain, RunsRemain, NobodyGivenUp}
+use Rattle.dn_machine.specs.{declared.events.Event.Event, Flight.Flight, Game.Game, Runs.Leads, Runs.Runs, Worlds.Rules}
+use Rattle.dn_remain.specs.{Remaining.Remaining, Remaining.opening_remaining, Remaining.is_barred_flight, Remaining.is_barred, RunsRemain.LeadsRemain, RunsRemain.RunsRemain, RunsRemain.NobodyGivenUp, declared.events.RemainEvent.TheVariants.Own}
 use Rattle.dn_remain.proofs.ButRuns.{is_next}
-use Rattle.dn_remain.specs.declared.events.RemainEvent.TheVariants.{Own}
 
 -- nothing is barred where nobody is given up
 open_flight : (all : Remaining) → NobodyGivenUp all → (o : Option Flight) → is_barred_flight all o ≡ false
@@ -19,13 +12,7 @@ open_flight all nobody None = refl
 open_flight all nobody (Some flight) = grind (arith, nobody flight.to flight.from)
 
 open_event : (all : Remaining) → NobodyGivenUp all → (event : Event) → is_barred all event ≡ false
-open_event all nobody (Build node keys) = refl
-open_event all nobody (Give node command) = refl
-open_event all nobody (Send node to) = grind (arith, nobody node to)
-open_event all nobody (Deliver which) = open_flight all nobody (slice_get all.game.flights which)
-open_event all nobody (Run node) = refl
-open_event all nobody (Quit node) = refl
-open_event all nobody (Stop node) = refl
+open_event all nobody event = grind (arith, open_flight)
 
 module _ {S : Type 0} (rules : Rules S) where
   leads : (own : List Event) (all : Remaining) (last : Game) → NobodyGivenUp all → Leads rules all.game own last

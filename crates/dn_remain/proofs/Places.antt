@@ -1,11 +1,9 @@
 -- One node of a game in which players may be given up, put in its place.
 use Rattle.std.proofs.Common.{◌≡◌, ℕ, refl, ap}
-use Rattle.dn_machine.specs.Game.{Game}
-use Rattle.dn_machine.specs.Node.{Node}
+use Rattle.dn_machine.specs.{Game.Game, Node.Node}
 use Rattle.dn_machine.proofs.Put.{put_at}
 use Rattle.dn_remain.proofs.Vanished.Put.{own_put, twice_put}
-use Rattle.dn_remain.specs.Wary.{Wary}
-use Rattle.dn_remain.specs.Remaining.{Remaining, wary_of, with_wary}
+use Rattle.dn_remain.specs.{Wary.Wary, Remaining.Remaining, Remaining.wary_of, Remaining.with_wary}
 
 pub same_all : (a b : Remaining) → a.game ≡ b.game → a.gone ≡ b.gone → a.newest ≡ b.newest → a.reports ≡ b.reports
     → a ≡ b

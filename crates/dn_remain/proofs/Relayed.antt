@@ -4,22 +4,10 @@ use Rattle.std.specs.Prelude.{map, Option, Some, None}
 use Rattle.std.proofs.lemmas.Bool.{true≢false}
 use Rattle.dn_tic.specs.declared.command.TicCmd.{TicCmd}
 use Rattle.dn_setup.specs.Settings.{Settings}
-use Rattle.dn_machine.specs.Node.{blank}
-use Rattle.dn_machine.specs.Relaying.{relayed, with_relayed}
-use Rattle.dn_machine.specs.Worlds.{Rules}
-use Rattle.dn_remain.specs.Vanished.Commands.{Holder, Had}
-use Rattle.dn_remain.specs.Vanished.Node.{Within}
-use Rattle.dn_remain.specs.Remaining.{Remaining, opening_remaining}
+use Rattle.dn_machine.specs.{Node.blank, Relaying.relayed, Relaying.with_relayed, Worlds.Rules}
+use Rattle.dn_remain.specs.{Vanished.Commands.Holder, Vanished.Commands.Had, Vanished.Node.Within, Remaining.Remaining, Remaining.opening_remaining, RunsRemain.LeadsRemain, RunsRemain.RunsRemain, Seen.now_of, declared.events.RemainEvent.RemainEvent, Wary.Report}
 use Rattle.dn_remain.specs.Relaying.{CanRelay, RelayEvent, Own, Relay, NextRelayed, LeadsRelayed, RunsRelayed, told_gone}
-use Rattle.dn_remain.specs.RunsRemain.{LeadsRemain, RunsRemain}
-use Rattle.dn_remain.specs.Seen.{now_of}
-use Rattle.dn_remain.specs.declared.events.RemainEvent.{RemainEvent}
-use Rattle.dn_remain.specs.Wary.{Report}
-use Rattle.dn_remain.proofs.Histories
-use Rattle.dn_remain.proofs.Known.{IsTold}
-use Rattle.dn_remain.proofs.Reached.{IsReached, goes_on, opens}
-use Rattle.dn_remain.proofs.Sending.{joins}
-use Rattle.dn_remain.proofs.Settings.{post_set}
+use Rattle.dn_remain.proofs.{Known.IsTold, Reached.IsReached, Reached.goes_on, Reached.opens, Sending.joins, Settings.post_set}
 
 -- one command of a list is a piece of it
 one_of : (xs : List TicCmd) (tic : ℕ) → tic < length xs → get_or xs tic blank ∷ [] ≡ take 1 (drop tic xs)
@@ -53,12 +41,10 @@ module _ {S : Type 0} (rules : Rules S) (settings : Settings) where
       exit = λ e. absurd (cc);
     }
 
-    pub relays : IsReached rules settings
-        (record all { game = with_relayed all.game node player to tic }) older
+    pub relays : IsReached rules settings (record all { game = with_relayed all.game node player to tic }) older
     relays = record {
       followed = record {
-        follows = joins Histories.known rules all.game all.gone older h.followed.follows
-            (relayed (all.game.nodes node) player to tic) is_told;
+        follows = joins h.followed.follows (relayed (all.game.nodes node) player to tic) is_told;
         newest = h.followed.newest;
         reports = h.followed.reports;
       };

@@ -1,23 +1,13 @@
 -- Rows of what is seen stay as they are.
 use Rattle.std.proofs.Common.{◌≡◌, ℕ, ◌<◌, sym, ◌∙◌, ap, arith, inl, inr, List, [], ◌∷◌, ◌++◌, length, get_or}
 use Rattle.std.specs.Prelude.{◌⊎◌, if◌then◌else◌, Option, Some, None}
-use Rattle.std.proofs.lemmas.Bool.{cases_Bool, cases_lt, cond-true, cond-false}
-use Rattle.std.proofs.lemmas.List.{length_push, get_or_append_left, get_or_push}
-use Rattle.std.proofs.lemmas.Option.{same_Some, slice_get-get_or}
-use Rattle.dn_tic.specs.declared.command.TicCmd.{TicCmd}
-use Rattle.dn_tic.specs.declared.command.Move.{Move}
-use Rattle.dn_machine.specs.Limits.{Limits}
-use Rattle.dn_machine.specs.Node.{blank}
+use Rattle.std.proofs.lemmas.{Bool.cases_Bool, Bool.cond-true, Bool.cond-false, List.length_push, List.get_or_append_left, List.get_or_push, Option.same_Some, Option.slice_get-get_or}
+use Rattle.dn_tic.specs.{declared.command.TicCmd.TicCmd, declared.command.Move.Move}
+use Rattle.dn_machine.specs.{Limits.Limits, Node.blank, Running.is_over}
 use Rattle.dn_machine.proofs.Truth.{row_of_same}
-use Rattle.dn_machine.specs.Running.{is_over}
-use Rattle.dn_remain.specs.Vanished.Node.{Node, Was, ran}
-use Rattle.dn_remain.specs.Vanished.Promise.{lacks_at}
-use Rattle.dn_remain.specs.Vanished.Steps.{IsRun}
+use Rattle.dn_remain.specs.{Vanished.Node.Node, Vanished.Node.Was, Vanished.Node.ran, Vanished.Promise.lacks_at, Vanished.Steps.IsRun, Seen.row_had}
 use Rattle.dn_remain.specs.Vanished.Commands.{Holder, seen, past_seen, Had, AreHanded}
-use Rattle.dn_remain.proofs.Vanished.Invariant.{IsGrown, IsKept}
-use Rattle.dn_remain.proofs.Vanished.Always.{always}
-use Rattle.dn_remain.proofs.Vanished.Handing.{same_held, was_seen, row_held}
-use Rattle.dn_remain.specs.Seen.{row_had}
+use Rattle.dn_remain.proofs.{Vanished.Invariant.IsGrown, Vanished.Invariant.IsKept, Vanished.Always.always, Vanished.Handing.same_held, Vanished.Handing.was_seen, Vanished.Handing.row_held}
 
 -- of two states, at whichever nodes, which ran a tic and whose rows lack the same players
 module _ (limits : Limits) (history : List (ℕ → Holder TicCmd)) (handed : AreHanded history)
@@ -60,24 +50,14 @@ module _ (limits : Limits) (history : List (ℕ → Holder TicCmd)) (handed : Ar
     (long' : length v.rows ≡ length news)
     (before : (tic : ℕ) → tic < length olds → get_or olds tic [] ≡ row_had limits u tic) where
   old_row : (tic : ℕ) → tic < length olds → get_or olds tic [] ≡ row_had limits v tic
-  old_row tic l = grind (arith, length, same_row)
+  old_row tic l = grind (arith, same_row)
 
   pub rows_are : ((news ≡ olds) ⊎ (news ≡ olds ++ row_had limits v (length olds) ∷ [])) → (tic : ℕ)
       → tic < length news → get_or news tic [] ≡ row_had limits v tic
-  rows_are (inl e) tic l =
-      let c = ap (length {A = List (Option Move)}) e in
-      ap (λ (rows : List (List (Option Move))). get_or rows tic []) e ∙ old_row tic (omega arith)
-  rows_are (inr e) tic l =
-      let c = ap (length {A = List (Option Move)}) e in
-      let d = length_push olds (row_had limits v (length olds)) in
-      ap (λ (rows : List (List (Option Move))). get_or rows tic []) e ∙ elim (cases_lt tic (length olds)) [
-        | inl m ↦ get_or_append_left olds (row_had limits v (length olds) ∷ []) [] tic m ∙ old_row tic m
-        | inr m ↦ grind (arith, get_or_push)
-      ]
+  rows_are is tic l = grind (arith, old_row, length_push, get_or_append_left, get_or_push)
 
 -- one state of a player's node, and the one in which it made a command
 pub made_row : (players ahead : ℕ) (history : List (ℕ → Node)) → IsKept players history
-    → (p back r : ℕ) (v maker : Node)
-    → Was history p v → Was history p maker → back < ran maker → back < ran v
+    → (p back r : ℕ) (v maker : Node) → Was history p v → Was history p maker → back < ran maker → back < ran v
     → lacks_at maker back r ≡ lacks_at v back r
 made_row players ahead history kept p back r v maker w y i j = grind arith

@@ -1,16 +1,15 @@
 -- What is seen of nodes.
-use Rattle.std.proofs.Common.{◌≡◌, ℕ, zero, suc, ◌<◌, ◌≤◌, leb, refl, sym, ◌∙◌, ap, arith, inl, List, [], ◌∷◌, ◌++◌, length}
+use Rattle.std.proofs.Common.{◌≡◌, ℕ, zero, suc, ◌+◌, ◌-◌, ◌≤◌, refl, sym, ◌∙◌, ap, arith, List, [], ◌∷◌, ◌++◌, length, take, drop, ◌<◌, leb, inl}
+use Rattle.std.proofs.lemmas.List.{drop-take, drop-drop, length_push}
+use Rattle.std.proofs.Math.Seq.{take-append_seam, take-add}
 use Rattle.std.specs.Prelude.{◌⊎◌, Bool, true, false, if◌then◌else◌, Option, Some, None}
 use Rattle.std.specs.Option.{is_none}
 use Rattle.std.proofs.lemmas.Bool.{both_ways, le-leb, leb-true, lt-leb, cond-true, cond-false}
-use Rattle.std.proofs.lemmas.List.{length_push}
 use Rattle.std.proofs.lemmas.Option.{none-some, same_Some}
 use Rattle.dn_tic.specs.declared.command.TicCmd.{TicCmd}
 use Rattle.dn_machine.proofs.Put.{same_functions}
 use Rattle.dn_machine.specs.Running.{is_over}
-use Rattle.dn_remain.specs.Vanished.Node.{Node}
-use Rattle.dn_remain.specs.Vanished.Commands.{Holder}
-use Rattle.dn_remain.specs.Seen.{reached, rows_to}
+use Rattle.dn_remain.specs.{Vanished.Node.Node, Vanished.Commands.Holder, Seen.reached, Seen.rows_to}
 
 pub same_node : (a b : Node) → a.got ≡ b.got → a.ends ≡ b.ends → a.gone ≡ b.gone → a.left ≡ b.left
     → a.rows ≡ b.rows → a ≡ b
@@ -67,3 +66,28 @@ pub over_stays : (a b : Option ℕ) (tic : ℕ) → ((e : ℕ) → a ≡ Some e 
     → is_over a tic ≡ false
 over_stays None b tic same h = refl
 over_stays (Some e) b tic same h = sym (ap (λ (o : Option ℕ). is_over o tic) (same e refl)) ∙ h
+
+-- Pieces of lists.
+
+-- a list with what it lacks of a piece of a longer one that begins with it
+pub taken_is : {A : Type 0} (own whole : List A) (start n : ℕ) (rest : List A) → own ++ rest ≡ whole
+    → start ≤ length own → length own ≤ start + n
+    → own ++ drop (length own - start) (take n (drop start whole)) ≡ take (start + n) whole
+taken_is {A} own whole start n rest e a b =
+    let k : ℕ = length own - start in
+    let m : ℕ = (start + n) - length own in
+    let hn : n ≡ k + m = omega arith in
+    let hs : start + k ≡ length own = omega arith in
+    let he : start + n ≡ length own + m = omega arith in
+    let front : take (length own) whole ≡ own = ap (λ (ws : List A). take (length own) ws) (sym e)
+    ∙ take-append_seam own rest in
+    let d : drop k (take n (drop start whole)) ≡ take m (drop (length own) whole) = grind (arith, drop-take, drop-drop) in
+    ap (λ (ws : List A). own ++ ws) d
+    ∙ (ap (λ (ws : List A). ws ++ take m (drop (length own) whole)) (sym front)
+    ∙ (sym (take-add (length own) m whole) ∙ ap (λ (i : ℕ). take i whole) (sym he)))
+
+-- a piece is as long as it is
+pub take_long : {A : Type 0} (n : ℕ) (xs : List A) → take (length (take n xs)) xs ≡ take n xs
+take_long zero xs = refl
+take_long (suc n) [] = refl
+take_long {A} (suc n) (x ∷ xs) = ap (λ (ws : List A). x ∷ ws) (take_long n xs)

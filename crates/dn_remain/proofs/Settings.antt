@@ -1,31 +1,88 @@
 -- The key player's settings are everybody's, after every list of events.
-use Rattle.std.proofs.Common.{◌≡◌, ℕ, refl, sym, subst, inl, inr}
-use Rattle.std.specs.Prelude.{Bool, true, false, nat_lt, ◌==◌, if◌then◌else◌, Option, Some, None, slice_get}
-use Rattle.std.proofs.lemmas.Bool.{cases_eq, cond_both, true≢false}
+use Rattle.std.proofs.Common.{◌≡◌, ℕ, refl, ap, arith, sym}
+use Rattle.std.specs.Prelude.{Bool, ℤ, true, Option, Some, false, ◌==◌, if◌then◌else◌, None, slice_get}
+use Rattle.std.proofs.lemmas.Bool.{cond_both, true≢false}
 use Rattle.std.proofs.lemmas.Option.{none-some}
 use Rattle.dn_setup.specs.Settings.{Settings}
-use Rattle.dn_tic.specs.declared.input.Input.TheVariants.{Pressed, Given}
-use Rattle.dn_machine.specs.declared.answers.Phase.TheVariants.{Listening, Gathering, Playing}
-use Rattle.dn_machine.specs.declared.events.Event.{Event}
-use Rattle.dn_machine.specs.declared.events.Event.TheVariants.{Build, Give, Send, Deliver, Run, Quit, Stop}
-use Rattle.dn_machine.specs.declared.events.Refusal.{Refusal}
-use Rattle.dn_machine.specs.Flight.{Flight}
-use Rattle.dn_machine.specs.Limits.{Limits}
-use Rattle.dn_machine.specs.Node.{Node}
-use Rattle.dn_machine.specs.Sending.{on_send}
-use Rattle.dn_machine.specs.Game.{Game, opening_game, own_marks, posted, refused_at, refused, delivered, on_event, applied_if, applied, with_node}
-use Rattle.dn_machine.specs.Worlds.{Rules}
-use Rattle.dn_machine.proofs.Put.{put_at, put_off, slice_get_push}
-use Rattle.dn_remain.specs.Vanished.Decisions.{on_decision}
-use Rattle.dn_remain.specs.Wary.{Report, Wary, report_of, or_fresh, after_news, with_gone, with_report, on_give_up, on_report}
-use Rattle.dn_remain.specs.Remaining as remaining
-use Rattle.dn_remain.specs.Remaining.{Telling, Remaining, wary_of, with_wary, unless, with_telling, after_run, after_event}
-use Rattle.dn_remain.specs.RunsRemain.{NextOwn, NextRemain}
-use Rattle.dn_remain.specs.declared.events.RemainEvent.{RemainEvent}
-use Rattle.dn_remain.specs.declared.events.RemainEvent.TheVariants.{Own, GiveUp, Tell, Hear}
-use Rattle.dn_remain.proofs.ButRuns.{IsNoRun}
-use Rattle.dn_remain.proofs.Cases.{news_cases, give_up_cases, report_cases}
-use Rattle.dn_remain.proofs.Setting.{IsSet, Carries, set_build, set_run, set_quit, set_sent, set_hears, set_noted, set_settled}
+use Rattle.dn_tic.specs.{declared.input.Input.Input, declared.input.Input.TheVariants.Pressed, declared.input.Input.TheVariants.Given}
+use Rattle.dn_machine.specs.{declared.answers.Heard.Heard, declared.answers.Phase.Phase, Flight.SetUp, Flight.Flight, Limits.Limits, Node.Node, Building.on_build, Sending.set_up_flight, Sending.on_send}
+use Rattle.dn_machine.specs.{Hearing.on_packet, Running.on_quit, Running.on_run_but, declared.answers.Phase.TheVariants.Gathering, declared.answers.Phase.TheVariants.Playing, declared.answers.Phase.TheVariants.Listening}
+use Rattle.dn_machine.specs.{declared.events.Event.Event, Worlds.Rules, declared.events.Event.TheVariants.Build, declared.events.Event.TheVariants.Give, declared.events.Event.TheVariants.Send}
+use Rattle.dn_machine.specs.{declared.events.Event.TheVariants.Deliver, declared.events.Event.TheVariants.Run, declared.events.Event.TheVariants.Quit, declared.events.Event.TheVariants.Stop, Game.Game, Game.opening_game}
+use Rattle.dn_machine.specs.{Game.own_marks, Game.posted, Game.refused, Game.delivered, Game.on_event, Game.with_node}
+use Rattle.dn_machine.proofs.{Calls.build_cases, Calls.send_cases, Calls.quit_cases, Calls.packet_cases, Put.slice_get_push}
+use Rattle.dn_remain.proofs.{ButRuns.run_but_cases, ButRuns.IsNoRun, Each.each_event, Each.each_remain, Cases.news_cases, Cases.give_up_cases, Cases.report_cases, Vanished.Put.at_put}
+use Rattle.dn_remain.specs.{Wary.Report, Wary.settled, Wary.noted_gone, Vanished.Decisions.on_decision, Remaining.Remaining, Remaining.wary_of, RunsRemain.NextRemain, declared.events.RemainEvent.RemainEvent, Wary.Wary}
+use Rattle.dn_remain.specs.{Wary.report_of, Wary.or_fresh, Wary.after_news, Wary.with_gone, Wary.with_report, Wary.on_give_up, Wary.on_report}
+
+-- Every node that has started has the key player's settings, whoever was given up.
+
+-- who gathers, or has started, has these settings; and who plays has started
+pub record IsSet (settings : Settings) (node : Node) : Type 0 where
+  pub gathers : node.phase ≡ Gathering → node.settings ≡ Some settings
+  pub played : node.played ≡ true → node.settings ≡ Some settings
+  pub plays : node.phase ≡ Playing → node.played ≡ true
+
+-- a set-up packet carries them
+abbrev pub Carries : Settings → Flight → Type 0
+Carries settings flight = (s : Settings) → flight.kind ≡ SetUp s → s ≡ settings
+
+-- with another phase, that is not Gathering
+ended_set : (settings : Settings) (node new : Node) → IsSet settings node → new.settings ≡ node.settings
+    → new.played ≡ node.played → (new.phase ≡ Gathering → node.phase ≡ Gathering)
+    → (new.phase ≡ Playing → node.phase ≡ Playing) → IsSet settings new
+ended_set settings node new h s p e f = grind arith
+
+-- a node that starts
+started_set : (settings : Settings) (new : Node) → new.settings ≡ Some settings → new.played ≡ true → IsSet settings new
+started_set settings new s p = record { gathers = λ g. s; played = λ t. s; plays = λ g. p }
+
+module _ (settings : Settings) (limits : Limits) (me : ℕ) (node : Node) (h : IsSet settings node) where
+  pub set_build : (input : Input) → IsSet settings (on_build limits me node input).0
+  set_build input = build_cases limits me node (λ (n : Node). IsSet settings n) input (λ full. h)
+      (λ plays room. ended_set settings node _ h refl refl (λ g. g) (λ g. g))
+
+  pub set_run : (but : ℕ → Bool) (marks : ℕ → ℤ) → IsSet settings (on_run_but limits but node marks).0
+  set_run but marks = run_but_cases limits me but node marks (λ (n : Node). IsSet settings n) (λ waits. h)
+      (λ player plays ready off. ended_set settings node _ h refl refl (λ g. absurd (cc)) (λ g. absurd (cc)))
+      (λ plays ready full. ended_set settings node _ h refl refl (λ g. absurd (cc)) (λ g. absurd (cc)))
+      (λ plays ready room. ended_set settings node _ h refl refl (λ g. g) (λ g. g))
+
+  pub set_quit : IsSet settings (on_quit node).0
+  set_quit = quit_cases limits me node (λ (n : Node). IsSet settings n) h
+      (λ on. ended_set settings node _ h refl refl (λ g. absurd (cc)) (λ g. absurd (cc)))
+
+  pub set_sent : (to : ℕ) → IsSet settings (on_send limits me node to).0
+      × ((flight : Flight) → (on_send limits me node to).1 ≡ Some flight → Carries settings flight)
+  set_sent to = send_cases limits me node
+      (λ (r : Node × Option Flight). IsSet settings r.0 × ((flight : Flight) → r.1 ≡ Some flight → Carries settings flight)) to
+      (h, λ flight e. absurd (none-some flight e))
+      (λ other g. (h, λ flight e. carried node.settings (h.gathers g) flight e))
+      (λ other plays. (ended_set settings node _ h refl refl (λ g. g) (λ g. g), λ flight e s k. absurd (cc)))
+      (λ other left. (
+        ended_set settings node _ h refl refl (λ g. g) (λ g. g),
+        λ flight e s k. absurd (grind arith),
+      ))
+    where
+      carried : (o : Option Settings) → o ≡ Some settings → (flight : Flight) → set_up_flight me to o ≡ Some flight
+          → Carries settings flight
+      carried o is flight e s k = grind arith
+
+  pub set_hears : (flight : Flight) → Carries settings flight → IsSet settings (on_packet limits me node flight).0
+  set_hears flight carries = packet_cases limits me node flight (λ (r : Node × Heard). IsSet settings r.0) (record {
+    dropped = λ number why. h;
+    starts = λ s listens kind. started_set settings _ (ap (λ (i : Settings). Some i) (carries s kind)) refl;
+    completes = λ word g all. started_set settings _ (h.gathers g) refl;
+    notes = λ word g some. ended_set settings node _ h refl refl (λ e. e) (λ e. e);
+    commands = grind (arith, ended_set);
+    requests = λ ended. ended_set settings node _ h refl refl (λ g. g) (λ g. g);
+  })
+
+  pub set_noted : (player : ℕ) (phase : Phase) → node.phase ≡ phase → IsSet settings (noted_gone limits node player phase)
+  set_noted player phase e = grind (arith, cond_both, started_set, ended_set)
+
+  pub set_settled : (gone : ℕ → Bool) (decided : Report) → IsSet settings (settled node gone decided)
+  set_settled gone decided = ended_set settings node _ h refl refl (λ g. g) (λ g. g)
 
 module _ (settings : Settings) where
   -- every node, and every packet that was sent
@@ -35,23 +92,13 @@ module _ (settings : Settings) where
 
   put_set : (game : Game) → AreSet game → (q : ℕ) (new : Node) → IsSet settings new → AreSet (with_node game q new)
   put_set game a q new h = record {
-    nodes = λ x. elim (cases_eq x q) [
-      | inl e ↦ subst (λ (n : Node). IsSet settings n) (sym (put_at game.nodes q x new e)) h
-      | inr n ↦ subst (λ (m : Node). IsSet settings m) (sym (put_off game.nodes q x new n)) (a.nodes x)
-    ];
+    nodes = at_put (λ x n. IsSet settings n) game.nodes q new h (λ x n. a.nodes x);
     flights = a.flights;
   }
 
   pub post_set : (game : Game) → AreSet game → (o : Option Flight)
       → ((flight : Flight) → o ≡ Some flight → Carries settings flight) → AreSet (posted game o).0
-  post_set game a None h = a
-  post_set game a (Some sent) h = record {
-    nodes = a.nodes;
-    flights = λ which flight e. elim (slice_get_push game.flights sent which flight e) [
-      | inl old ↦ a.flights which flight old
-      | inr new ↦ subst (λ (f : Flight). Carries settings f) (sym new) (h sent refl)
-    ];
-  }
+  post_set game a o h = grind (arith, slice_get_push, Carries)
 
   module _ (limits : Limits) (me : ℕ) (wary : Wary) (h : IsSet settings wary.node) where
     set_news : IsSet settings (after_news limits me wary).node
@@ -79,95 +126,39 @@ module _ (settings : Settings) where
   not_playing false e = absurd (cc)
 
   module _ {S : Type 0} (rules : Rules S) where
-    happens : (game : Game) → AreSet game → (event : Event) → IsNoRun event → AreSet (on_event rules game event).0
-    happens game a (Build node keys) n = put_set game a node _
+    happens : (game : Game) → AreSet game → (event : Event) → refused rules.players game event ≡ None → IsNoRun event
+        → AreSet (on_event rules game event).0
+    happens game a (Build node keys) none n = put_set game a node _
         (set_build settings rules.limits node (game.nodes node) (a.nodes node) (Pressed keys))
-    happens game a (Give node command) n = put_set game a node _
+    happens game a (Give node command) none n = put_set game a node _
         (set_build settings rules.limits node (game.nodes node) (a.nodes node) (Given command))
-    happens game a (Send node to) n =
+    happens game a (Send node to) none n =
         let k = set_sent settings rules.limits node (game.nodes node) (a.nodes node) to in
         post_set (with_node game node (on_send rules.limits node (game.nodes node) to).0)
         (put_set game a node (on_send rules.limits node (game.nodes node) to).0 k.0)
         (on_send rules.limits node (game.nodes node) to).1 k.1
-    happens game a (Deliver which) n = delivers (slice_get game.flights which) refl
+    happens game a (Deliver which) none n = delivers (slice_get game.flights which) refl
       where
         delivers : (o : Option Flight) → slice_get game.flights which ≡ o → AreSet (delivered rules game o).0
         delivers None e = a
         delivers (Some flight) e = put_set game a flight.to _ (set_hears settings rules.limits flight.to
             (game.nodes flight.to) (a.nodes flight.to) flight (a.flights which flight e))
-    happens game a (Run node) n = absurd n
-    happens game a (Quit node) n = put_set game a node _
+    happens game a (Run node) none n = absurd n
+    happens game a (Quit node) none n = put_set game a node _
         (set_quit settings rules.limits node (game.nodes node) (a.nodes node))
-    happens game a (Stop node) n = record { nodes = a.nodes; flights = a.flights }
-
-    applies : (game : Game) → AreSet game → (event : Event) → IsNoRun event → AreSet (applied rules game event).0
-    unfolding applied
-    applies game a event n = go (refused rules.players game event)
-      where
-        go : (o : Option Refusal) → AreSet (applied_if rules game event o).0
-        go (Some refusal) = a
-        go None = happens game a event n
-
-    run_on : (all : Remaining) → AreSet all.game → (node : ℕ) (o : Option Refusal) → AreSet (after_run rules all node o)
-    run_on all a node (Some refusal) = a
-    run_on all a node None = put_set all.game a node _ (set_run settings rules.limits node (all.game.nodes node)
-        (a.nodes node) (all.gone node) (own_marks rules (all.game.nodes node)))
-
-    occurs : (all : Remaining) → AreSet all.game → (event : Event) → AreSet (after_event rules all event)
-    occurs all a (Build node keys) = applies all.game a (Build node keys) tt
-    occurs all a (Give node command) = applies all.game a (Give node command) tt
-    occurs all a (Send node to) = applies all.game a (Send node to) tt
-    occurs all a (Deliver which) = applies all.game a (Deliver which) tt
-    occurs all a (Run node) = run_on all a node (refused_at rules.players all.game node)
-    occurs all a (Quit node) = applies all.game a (Quit node) tt
-    occurs all a (Stop node) = applies all.game a (Stop node) tt
-
-    wary_set : (all : Remaining) → AreSet all.game → (q : ℕ) (w : Wary) → IsSet settings w.node
-        → AreSet (with_wary all q w).game
-    wary_set all a q w h = put_set all.game a q w.node h
-
-    unless_set : (o : Option Refusal) (all new : Remaining) → AreSet all.game → AreSet new.game
-        → AreSet (unless o all new).game
-    unless_set (Some refusal) all new a b = a
-    unless_set None all new a b = b
-
-    tell_set : (all : Remaining) → AreSet all.game → (node to : ℕ) (o : Option Report)
-        → AreSet (with_telling all node to o).game
-    tell_set all a node to None = a
-    tell_set all a node to (Some report) = a
-
-    hear_set : (all : Remaining) → AreSet all.game → (o : Option Telling)
-        → AreSet (remaining.after_hearing rules.limits all o).game
-    hear_set all a None = a
-    hear_set all a (Some t) = unless_set (refused_at rules.players all.game t.to) all
-        (with_wary all t.to (on_report rules.limits t.to (wary_of all t.to) t.from t.report).0) a
-        (wary_set all a t.to (on_report rules.limits t.to (wary_of all t.to) t.from t.report).0
-        (set_report rules.limits t.to (wary_of all t.to) (a.nodes t.to) t.from t.report))
-
-    by_own : (all next : Remaining) → AreSet all.game → (event : Event) → NextOwn rules all event next → AreSet next.game
-    by_own all next a event (inl barred) = subst (λ (r : Remaining). AreSet r.game) (sym barred.1) a
-    by_own all next a event (inr goes) = subst (λ (r : Remaining). AreSet r.game) (sym goes.3) (elim goes.2 [
-      | inl is ↦ subst (λ (g : Game). AreSet g) (sym is) (occurs all a event)
-      | inr left ↦ subst (λ (g : Game). AreSet g) (sym left.1) a
-    ])
+    happens game a (Stop node) none n = record { nodes = a.nodes; flights = a.flights }
 
     pub by_event : (all next : Remaining) → AreSet all.game → (event : RemainEvent) → NextRemain rules all event next
         → AreSet next.game
-    by_event all next a (Own event) step = by_own all next a event step
-    by_event all next a (GiveUp node player) is = subst (λ (r : Remaining). AreSet r.game) (sym is)
-        (unless_set (refused_at rules.players all.game node) all
-        (with_wary all node (on_give_up rules.limits node (wary_of all node) player).0) a
-        (wary_set all a node (on_give_up rules.limits node (wary_of all node) player).0
-        (set_give_up rules.limits node (wary_of all node) (a.nodes node) player)))
-    by_event all next a (Tell node to) step = elim step [
-      | inl is ↦ subst (λ (r : Remaining). AreSet r.game) (sym is)
-          (unless_set (refused_at rules.players all.game node) all _ a
-          (cond_both (nat_lt to rules.players) _ _ (λ (r : Remaining). AreSet r.game)
-          (λ low. tell_set all a node to _) (λ high. a)))
-      | inr is ↦ subst (λ (r : Remaining). AreSet r.game) (sym is) a
-    ]
-    by_event all next a (Hear which) is = subst (λ (r : Remaining). AreSet r.game) (sym is)
-        (hear_set all a (slice_get all.reports which))
+    by_event all next a event = each_remain rules all (λ r. AreSet r.game) a
+        (λ event goes. each_event rules all (λ event g. AreSet g) (λ event. a) (happens all.game a)
+        (λ node none. put_set all.game a node _ (set_run settings rules.limits node (all.game.nodes node)
+        (a.nodes node) (all.gone node) (own_marks rules (all.game.nodes node)))) event)
+        (λ node player none. put_set all.game a node _
+        (set_give_up rules.limits node (wary_of all node) (a.nodes node) player))
+        (λ node to low report is. a)
+        (λ which t e none. put_set all.game a t.to _
+        (set_report rules.limits t.to (wary_of all t.to) (a.nodes t.to) t.from t.report)) event next
 
     pub opens : AreSet (opening_game settings)
     unfolding opening_game

@@ -1,38 +1,18 @@
 -- No check fails among those who remain, and nothing is dropped but for a reason.
-use Rattle.std.proofs.Common.{◌≡◌, ℕ, ℤ, zero, suc, ◌+◌, ◌<◌, ◌≤◌, leb, refl, sym, ◌∙◌, arith, List, ◌∷◌, length}
+use Rattle.std.proofs.Common.{◌≡◌, ℕ, ℤ, zero, suc, ◌+◌, ◌<◌, ◌≤◌, refl, sym, ◌∙◌, arith, List, ◌∷◌, length}
 use Rattle.std.specs.Prelude.{◌⊎◌, Bool, true, false, Option, Some, None, slice_get}
 use Rattle.std.specs.Option.{option_map}
-use Rattle.std.proofs.lemmas.Bool.{and_parts, true≢false}
-use Rattle.std.proofs.lemmas.Option.{none-some}
+use Rattle.std.proofs.lemmas.{Bool.and_parts, Bool.true≢false, Option.none-some}
 use Rattle.dn_tic.specs.declared.command.TicCmd.{TicCmd}
 use Rattle.dn_setup.specs.Settings.{Settings}
-use Rattle.dn_machine.specs.declared.answers.Ran.TheVariants.{Waiting}
+use Rattle.dn_machine.specs.{declared.answers.Ran.TheVariants.Waiting, Limits.Limits, Limits.IsWindow, Node.got, Node.lowest, Running.is_awaited, Running.on_run, Running.on_run_but, Worlds.Rules}
 use Rattle.dn_machine.specs.Drops as drops
-use Rattle.dn_machine.specs.Limits.{Limits, IsWindow}
 use Rattle.dn_machine.specs.Node as machine
-use Rattle.dn_machine.specs.Node.{got, lowest}
-use Rattle.dn_machine.specs.Running.{is_awaited, on_run, on_run_but}
-use Rattle.dn_machine.specs.Worlds.{Rules}
-use Rattle.dn_remain.specs.Vanished.Calls.{is_newer}
-use Rattle.dn_remain.specs.Vanished.Node.{Within}
+use Rattle.dn_remain.specs.{Vanished.Calls.is_newer, Vanished.Node.Within, Seen.now_of, Wary.Report, Wary.Wary, Wary.newest_seen, Wary.can_settle, Wary.on_report, Remaining.Telling, Remaining.Remaining, Remaining.wary_of, Promise.SteadyInPairs}
 use Rattle.dn_remain.specs.Vanished.Commands.{Holder, Had, seen, past_seen}
-use Rattle.dn_remain.proofs.Vanished.Always.{always}
-use Rattle.dn_remain.proofs.Vanished.Handing.{was_seen}
-use Rattle.dn_remain.proofs.Vanished.Undecided.{steady}
+use Rattle.dn_remain.proofs.{Vanished.Always.always, Vanished.Handing.was_seen, Vanished.Undecided.steady, Answering.missing, Dropping.kept, ButRuns.run_is, Checks.none_off, Checks.none_off_at_all, Followed.anchored, Known.Follows, Reached.IsReached, Seeing.reached_cases}
 use Rattle.dn_remain.specs.declared.events.Reported.TheVariants as Reported
-use Rattle.dn_remain.specs.Seen.{now_of}
-use Rattle.dn_remain.specs.Wary.{Report, Wary, newest_seen, can_settle, on_report}
-use Rattle.dn_remain.specs.Remaining.{Telling, Remaining, wary_of}
-use Rattle.dn_remain.specs.Promise.{SteadyInPairs}
-use Rattle.dn_remain.proofs.Answering.{missing}
-use Rattle.dn_remain.proofs.Dropping.{kept}
-use Rattle.dn_remain.proofs.ButRuns.{run_is}
-use Rattle.dn_remain.proofs.Checks.{none_off, none_off_at_all}
-use Rattle.dn_remain.proofs.Followed.{anchored}
 use Rattle.dn_remain.proofs.Histories
-use Rattle.dn_remain.proofs.Known.{Follows}
-use Rattle.dn_remain.proofs.Reached.{IsReached}
-use Rattle.dn_remain.proofs.Seeing.{reached_cases}
 
 -- why a report is dropped, and of what it is older
 dropped_for : (limits : Limits) (me : ℕ) (wary : Wary) (from : ℕ) (report : Report) (number : ℕ)
@@ -95,7 +75,7 @@ module _ {S : Type 0} (rules : Rules S) (settings : Settings) (all : Remaining) 
   -- whoever has decided waits for none whom it has given up
   not_awaited : (q p : ℕ) → all.gone q p ≡ true → is_awaited (all.game.nodes q) p ≡ true
       → can_settle rules.limits q (wary_of all q) ≡ false
-  not_awaited q p given awaited = grind (arith, and_parts, leb, reached_cases, none-some, true≢false)
+  not_awaited q p given awaited = grind (arith, and_parts, reached_cases, none-some, true≢false)
 
   pub pairs_steady : SteadyInPairs rules.limits all
   pairs_steady = record {

@@ -3,60 +3,51 @@ use Rattle.std.proofs.Common.{◌≡◌, ℕ, ◌+◌, ◌<◌, ◌≤◌, refl,
 use Rattle.std.specs.Prelude.{true, false, Some}
 use Rattle.std.proofs.lemmas.Bool.{both_ways, cond-true}
 use Rattle.dn_tic.specs.declared.command.TicCmd.{TicCmd}
-use Rattle.dn_machine.specs.Game.{with_node}
+use Rattle.dn_machine.specs.{Game.with_node, Node.put, Node.ran, Node.has_left, Promise.IsPrefixOf, Worlds.Rules}
 use Rattle.dn_machine.specs.Node as machine
-use Rattle.dn_machine.specs.Node.{put, ran, has_left}
-use Rattle.dn_machine.specs.Promise.{IsPrefixOf}
-use Rattle.dn_machine.specs.Worlds.{Rules}
 use Rattle.dn_machine.proofs.Put.{put_at, put_off}
 use Rattle.dn_remain.specs.Vanished.Commands.{Holder, Had, seen, past_seen}
-use Rattle.dn_remain.specs.Vanished.Decisions.{longest, told, on_decision}
-use Rattle.dn_remain.proofs.Vanished.Always.{always}
-use Rattle.dn_remain.proofs.Vanished.Catching.{begins}
-use Rattle.dn_remain.proofs.Vanished.Fitting.{fits}
-use Rattle.dn_remain.proofs.Vanished.Handing.{handed}
-use Rattle.dn_remain.proofs.Vanished.Invariant.{IsKept}
-use Rattle.dn_remain.proofs.Vanished.Lists.{own_below}
-use Rattle.dn_remain.specs.Seen.{end_seen, holder_of, now_of}
-use Rattle.dn_remain.specs.Wary.{Wary, or_fresh, can_settle, settled}
-use Rattle.dn_remain.specs.Remaining.{Remaining, wary_of, with_wary}
-use Rattle.dn_remain.specs.Taking.{CanBeTaken}
-use Rattle.dn_remain.proofs.Followed.{IsFollowed, AreFollowed, anchored}
+use Rattle.dn_remain.specs.{Vanished.Decisions.longest, Vanished.Decisions.told, Vanished.Decisions.on_decision, Seen.end_seen, Seen.now_of, Wary.Report, Wary.Wary, Wary.or_fresh, Wary.can_settle, Wary.settled, Remaining.Remaining, Remaining.wary_of, Remaining.with_wary, Taking.CanBeTaken}
+use Rattle.dn_remain.proofs.{Vanished.Always.always, Vanished.Catching.begins, Vanished.Fitting.fits, Vanished.Handing.handed, Vanished.Invariant.IsKept, Vanished.Lists.own_below, Followed.IsFollowed, Followed.AreFollowed, Followed.anchored, Known.Follows, Places.there, Seeing.length_rows, Settling.settles}
 use Rattle.dn_remain.proofs.Histories
-use Rattle.dn_remain.proofs.Known.{Follows}
-use Rattle.dn_remain.proofs.Places.{there}
-use Rattle.dn_remain.proofs.Seeing.{length_rows}
-use Rattle.dn_remain.proofs.Settling.{settles}
 
 module _ {S : Type 0} (known : ℕ → Holder TicCmd → Type 0) (rules : Rules S) (all : Remaining)
     (older : List (ℕ → Holder TicCmd)) (f : IsFollowed known rules all older) (q : ℕ) (mine : q < rules.players)
     (here : has_left (all.game.nodes q) ≡ false) (can : can_settle rules.limits q (wary_of all q) ≡ true) where
+  abbrev me : machine.Node
+  me = all.game.nodes q
+
+  abbrev past : List (ℕ → Holder TicCmd)
+  past = now_of all.game all.gone ∷ older
+
+  abbrev has : Holder TicCmd
+  has = now_of all.game all.gone q
+
+  abbrev heard : ℕ → Report
+  heard r = or_fresh (all.newest q r)
+
   abbrev after : machine.Node
-  after = settled (all.game.nodes q) (all.gone q)
-      (on_decision rules.players q (holder_of (all.game.nodes q) (all.gone q)) (λ r. or_fresh (all.newest q r)))
+  after = settled me (all.gone q) (on_decision rules.players q has heard)
 
   -- the game after the decision, and its history
   abbrev later : ℕ → Holder TicCmd
   later = now_of (with_node all.game q after) (put all.gone q (all.gone q))
 
-  went : Follows (Had (now_of all.game all.gone ∷ older)) rules (with_node all.game q after)
-      (put all.gone q (all.gone q)) (now_of all.game all.gone ∷ older)
-  went = settles (Had (now_of all.game all.gone ∷ older)) rules all.game all.gone older
-      (anchored known rules all older f) q mine here (all.newest q) (f.newest q) can
+  went : Follows (Had past) rules (with_node all.game q after) (put all.gone q (all.gone q)) past
+  went = settles (anchored known rules all older f) q mine here (all.newest q) (f.newest q) can
 
   node_is : put all.game.nodes q after q ≡ after
   node_is = put_at all.game.nodes q q after refl
 
-  kept : IsKept rules.players (past_seen (later ∷ now_of all.game all.gone ∷ older))
-  kept = always rules.players rules.ahead (past_seen (later ∷ now_of all.game all.gone ∷ older)) went.run
+  kept : IsKept rules.players (past_seen (later ∷ past))
+  kept = always rules.players rules.ahead (past_seen (later ∷ past)) went.run
 
   other : (p : ℕ) → all.gone q p ≡ true → (p ≡ q → ⊥)
-  other p t e = both_ways (all.gone q p)
-      (ap (all.gone q) e ∙ (kept.sound q (seen (now_of all.game all.gone q)) (inr (inl refl))).own) t
+  other p t e = both_ways (all.gone q p) (ap (all.gone q) e ∙ (kept.sound q (seen has) (inr (inl refl))).own) t
 
-  room : (p : ℕ) → length (after.held p) ≤ ran (all.game.nodes q) + (rules.ahead + rules.ahead)
+  room : (p : ℕ) → length (after.held p) ≤ ran me + (rules.ahead + rules.ahead)
   room p =
-      let a = (fits rules.players rules.ahead (past_seen (later ∷ now_of all.game all.gone ∷ older))
+      let a = (fits rules.players rules.ahead (past_seen (later ∷ past))
       went.run).unread q p (seen (later q)) mine (inl refl) in
       let b = length_rows (end_seen (put all.game.nodes q after q)) (ran (put all.game.nodes q after q)) in
       let c = ap (λ (n : machine.Node). length (n.held p)) node_is in
@@ -67,27 +58,22 @@ module _ {S : Type 0} (known : ℕ → Holder TicCmd → Type 0) (rules : Rules 
   made p t = subst (λ (n : machine.Node). IsPrefixOf (after.held p) (n.held p))
       (put_off all.game.nodes q p after (other p t))
       (subst (λ (n : machine.Node). IsPrefixOf (n.held p) ((put all.game.nodes q after p).held p)) node_is
-      (handed (later ∷ now_of all.game all.gone ∷ older) went.handed q p (later q) (inl refl)))
+      (handed (later ∷ past) went.handed q p (later q) (inl refl)))
 
-  front : (p : ℕ) → all.gone q p ≡ true → IsPrefixOf ((all.game.nodes q).held p) (after.held p)
+  front : (p : ℕ) → all.gone q p ≡ true → IsPrefixOf (me.held p) (after.held p)
   front p t =
-      let a = own_below rules.players q (holder_of (all.game.nodes q) (all.gone q))
-      (λ r. or_fresh (all.newest q r)) p mine in
-      let b = ap (length {A = TicCmd}) (cond-true (all.gone q p)
-      (longest rules.players
-      (told q (holder_of (all.game.nodes q) (all.gone q)) (λ r. or_fresh (all.newest q r)) p))
-      ((all.game.nodes q).held p) t) in (
-        drop (length ((all.game.nodes q).held p)) (after.held p),
-        begins ((all.game.nodes q).held p) (after.held p) ((all.game.nodes p).held p)
-            (handed (now_of all.game all.gone ∷ older) f.follows.handed q p (now_of all.game all.gone q)
-            (inl refl))
-            (made p t) (omega arith),
+      let a = own_below rules.players q has heard p mine in
+      let b = ap (length {A = TicCmd}) (cond-true (all.gone q p) (longest rules.players (told q has heard p))
+      (me.held p) t) in (
+        drop (length (me.held p)) (after.held p),
+        begins (me.held p) (after.held p) ((all.game.nodes p).held p)
+            (handed past f.follows.handed q p has (inl refl)) (made p t) (omega arith),
       )
 
-  same_end : (p end : ℕ) → end_seen (all.game.nodes q) p ≡ Some end → length (after.held p) ≡ end
+  same_end : (p end : ℕ) → end_seen me p ≡ Some end → length (after.held p) ≡ end
   same_end p end s = sym (ap (λ (n : machine.Node). length (n.held p)) node_is)
       ∙ (kept.sound q (seen (later q)) (inl refl)).full p end
-      ((kept.order q (seen (now_of all.game all.gone q)) (inr (inl refl))).ends p end s)
+      ((kept.order q (seen has) (inr (inl refl))).ends p end s)
 
   pub taken : CanBeTaken rules.limits all q
   taken = grind (arith, front, made, room, same_end)

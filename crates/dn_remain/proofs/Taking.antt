@@ -4,24 +4,14 @@ use Rattle.std.specs.Prelude.{◌⊎◌, Bool, true, false, Some, None}
 use Rattle.std.proofs.lemmas.Bool.{cases_Bool, cond-true, cond-false}
 use Rattle.std.proofs.lemmas.List.{length-take-le}
 use Rattle.dn_tic.specs.declared.command.TicCmd.{TicCmd}
-use Rattle.dn_machine.specs.declared.answers.Phase.TheVariants.{Playing}
-use Rattle.dn_machine.specs.declared.peer.Peer.{Peer}
-use Rattle.dn_machine.specs.Flight.{Flight, is_exit, end_of}
-use Rattle.dn_machine.specs.Node as machine
-use Rattle.dn_machine.specs.Node.{with_peer, ends_of, made, is_ended, put}
-use Rattle.dn_machine.specs.Game.{Game, with_node}
-use Rattle.dn_machine.specs.Worlds.{Rules}
+use Rattle.dn_machine.specs.{declared.answers.Phase.TheVariants.Playing, declared.peer.Peer.Peer, Flight.Flight, Flight.is_exit, Flight.end_of, Node.with_peer, Node.ends_of, Node.made, Node.is_ended, Node.put, Game.Game}
+use Rattle.dn_machine.specs.{Game.with_node, Worlds.Rules}
 use Rattle.dn_machine.proofs.Put.{put_at, put_off}
-use Rattle.dn_remain.specs.Vanished.Commands.{Holder}
-use Rattle.dn_remain.proofs.Vanished.Catching.{begins}
-use Rattle.dn_remain.proofs.Vanished.Handing.{handed}
-use Rattle.dn_remain.specs.Seen.{reached, end_seen, now_of}
-use Rattle.dn_remain.proofs.Pieces.{taken_is}
-use Rattle.dn_remain.proofs.Vanished.Put.{at_put, own_put}
-use Rattle.dn_remain.proofs.Seeing.{reached_none, reached_cases}
-use Rattle.dn_remain.proofs.Known.{IsTold, IsEnd, Follows, IsFit, Went, not_left}
-use Rattle.dn_remain.proofs.Learning.{takes, learns}
-use Rattle.dn_remain.proofs.Arriving.{end_is, made_it, below_made, unknown, end_known, fit_peer, quiet}
+use Rattle.dn_remain.specs.{Vanished.Commands.Holder, Seen.reached, Seen.end_seen, Seen.now_of}
+use Rattle.dn_remain.proofs.{Vanished.Catching.begins, Vanished.Handing.handed, Seeing.taken_is, Vanished.Put.at_put, Vanished.Put.own_put, Seeing.reached_none, Seeing.reached_cases, Known.IsTold, Known.IsEnd}
+use Rattle.dn_remain.proofs.{Known.Follows, Known.IsFit, Known.Went, Known.not_left, Learning.takes, Learning.learns, Arriving.end_is, Arriving.made_it, Arriving.below_made, Arriving.unknown, Arriving.end_known}
+use Rattle.dn_remain.proofs.{Arriving.fit_peer, Arriving.quiet}
+use Rattle.dn_machine.specs.Node as machine
 
 module _ {S : Type 0} {known : ℕ → Holder TicCmd → Type 0} {rules : Rules S} {game : Game} {gone : ℕ → ℕ → Bool} {older : List (ℕ → Holder TicCmd)}
     (follows : Follows known rules game gone older) {flight : Flight}

@@ -3,19 +3,15 @@ pub mod Invariant
 pub mod Views
 pub mod Stepping
 pub mod Mild
-pub mod Single
 pub mod Deciding
 pub mod Always
 pub mod Promises
 pub mod Windows
 pub mod Fitting
-pub mod Rowing
 pub mod Behind
 pub mod Marks
 pub mod Marking
-pub mod Coming
 pub mod Tests
-pub mod Calling
 pub mod Survived
 pub mod Handing
 pub mod Lists
@@ -23,5 +19,4 @@ pub mod Undecided
 pub mod Demos
 pub mod Catching
 pub mod Making
-pub mod Frozen
 pub mod Readings

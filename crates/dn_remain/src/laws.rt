@@ -17,6 +17,7 @@ use dn_world::World;
 /// After every list of events, in any window, what the nodes have is a history of `dn_remain::vanish` in which nobody
 /// is given up: its counts are a run of steps, and its lists are handed on. So all laws of `dn_remain::vanish` hold of
 /// them.
+#[tactic(auto, using(crate::proofs::Own::is_quiet, crate::proofs::Remains::follow_all))]
 pub fn games_are_histories<W: World>()
     ensures { (limits : Limits) (settings : Settings) (events : List Event) (game : Game)
         → Runs (rules_within W.physics limits) settings events game
@@ -27,6 +28,7 @@ pub fn games_are_histories<W: World>()
 
 /// The same of every list of events in which players may be given up: a give-up, a report that comes and a
 /// decision are steps too.
+#[tactic(auto, using(crate::proofs::Remains::follow_all))]
 pub fn remaining_games_are_histories<W: World>()
     ensures { (limits : Limits) (settings : Settings) (events : List RemainEvent) (all : Remaining)
         → RunsRemain (rules_within W.physics limits) settings events all
@@ -43,6 +45,7 @@ pub fn remaining_games_are_histories<W: World>()
 /// commands overwrites none that is still needed; no demo has more rows than it has room for; and every node
 /// that has started has the key player's settings. In windows up to twelve, where twice as many commands are
 /// kept, no consistency check fails besides, and what is dropped is dropped for a reason.
+#[tactic(auto, using(crate::proofs::Fitted::pairs_fit, crate::proofs::Promises::pairs_agree, crate::proofs::Reached::reached_by, crate::proofs::Steady::pairs_steady))]
 pub fn those_who_remain_agree<W: World>()
     ensures agree { (limits : Limits) (settings : Settings) (events : List RemainEvent) (all : Remaining)
         → RunsRemain (rules_within W.physics limits) settings events all
@@ -58,6 +61,7 @@ pub fn those_who_remain_agree<W: World>()
 {}
 
 /// And the same where nodes give each other packets with commands of third players that they have.
+#[tactic(auto, using(crate::proofs::Fitted::pairs_fit, crate::proofs::Promises::pairs_agree, crate::proofs::Relayed::as_relayed, crate::proofs::Relayed::reached_by, crate::proofs::Steady::pairs_steady))]
 pub fn relayed_games_agree<W: World>()
     ensures agree { (limits : Limits) (settings : Settings) (events : List RelayEvent) (all : Remaining)
         → RunsRelayed (rules_within W.physics limits) settings events all
@@ -77,6 +81,7 @@ pub fn relayed_games_agree<W: World>()
 
 /// A game in which nobody was given up is one that a list of the machine's own events leads to. So all that
 /// holds of those games holds of it, word for word.
+#[tactic(auto, using(crate::proofs::Quiet::quiet))]
 pub fn quiet_games_are_games<W: World>()
     ensures { (limits : Limits) (settings : Settings) (events : List RemainEvent) (all : Remaining)
         → RunsRemain (rules_within W.physics limits) settings events all → NobodyGivenUp all
@@ -86,6 +91,7 @@ pub fn quiet_games_are_games<W: World>()
 /// So in such a game, in any window up to twelve where twice as many commands are kept: all nodes agree, no
 /// ring overwrites a command that is still needed, and no check failed. These are the words of
 /// `every_window_agrees`.
+#[tactic(auto, using(dn_machine::proofs::Games::always, crate::proofs::Quiet::quiet, dn_machine::proofs::Promises::agree, dn_machine::proofs::Promises::fits, dn_machine::proofs::Promises::steady))]
 pub fn quiet_games_agree<W: World>()
     ensures agree { (limits : Limits) (settings : Settings) (events : List RemainEvent) (all : Remaining)
         → IsWindow limits → RunsRemain (rules_within W.physics limits) settings events all
@@ -99,6 +105,7 @@ pub fn quiet_games_agree<W: World>()
 {}
 
 /// And every game of the machine is such a game: nothing that could happen before is lost.
+#[tactic(auto, using(crate::proofs::Own::is_quiet))]
 pub fn games_are_quiet_games<W: World>()
     ensures { (limits : Limits) (settings : Settings) (own : List Event) (game : Game)
         → Runs (rules_within W.physics limits) settings own game
@@ -163,6 +170,7 @@ pub fn a_wide_game_goes_on<W: World>()
 /// What is answered is so. A node that has decided knows the ends of all whom it has given up, and has the
 /// commands before them; one that has not lacks a report, and it can be told whose. And a report of one who was
 /// given up, or who has given up the node, or one older than the newest of its sender, changes nothing.
+#[tactic(auto, using(crate::proofs::Answering::barred, crate::proofs::Answering::decides, crate::proofs::Answering::decides_on, crate::proofs::Answering::excluded, crate::proofs::Answering::stale, crate::proofs::Answering::waits, crate::proofs::Answering::waits_on))]
 pub fn answers_are_true()
     ensures decided { (limits : Limits) (me player : ℕ) (wary : Wary)
         → (on_give_up limits me wary player).1 ≡ GivenUp.Decided → (p : ℕ)

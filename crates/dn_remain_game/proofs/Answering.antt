@@ -4,25 +4,16 @@ use Rattle.std.specs.Prelude.{IsTrue, count_by, nat_lt, if◌then◌else◌, sli
 use Rattle.std.proofs.lemmas.Bool.{cases_Bool, cond-true, true≢false}
 use Rattle.std.proofs.lemmas.List.Sums.{sum_by-append}
 use Rattle.dn_world.specs.Physics.{Physics}
-use Rattle.dn_machine.specs.declared.events.Done.{Done}
-use Rattle.dn_machine.specs.declared.events.Event.{Event}
-use Rattle.dn_machine.specs.declared.events.Event.TheVariants.{Build, Give, Send, Deliver, Run, Quit, Stop}
-use Rattle.dn_machine.specs.declared.events.Refusal.{Refusal}
-use Rattle.dn_machine.specs.Game.{Game, applied, applied_if, on_event, refused, refused_at}
-use Rattle.dn_machine.specs.Runs.{is_send}
-use Rattle.dn_machine.specs.Worlds.{Rules, rules_within}
-use Rattle.dn_remain.specs.Remaining.{Remaining, Telling, after_event, after_hearing, after_run, is_barred, opening_remaining, unless, wary_of, with_telling, with_wary}
-use Rattle.dn_remain.specs.RunsRemain.{LeadsRemain, NextOwn, NextRemain}
-use Rattle.dn_remain.specs.Wary.{Report, on_give_up, on_report, report_to}
-use Rattle.dn_remain.specs.declared.events.RemainEvent.{RemainEvent}
-use Rattle.dn_remain.specs.declared.events.RemainEvent.TheVariants.{Own, GiveUp, Tell, Hear}
-use Rattle.dn_remain_game.specs.declared.happened.Happened.{Happened}
-use Rattle.dn_remain_game.specs.Applied.{Answers, IsApplied, Plays, TellsReached}
-use Rattle.dn_remain_game.specs.Contents.{Contents}
-use Rattle.dn_remain_game.specs.Events.{applied_remain, applied_remain_if, asks_room, heard_at, on_own, own_unless, refused_telling, told_report}
-use Rattle.dn_remain_game.specs.Promised.{IsCarriedOn}
+use Rattle.dn_machine.specs.{declared.events.Done.Done, declared.events.Event.Event, declared.events.Event.TheVariants.Build, declared.events.Event.TheVariants.Give, declared.events.Event.TheVariants.Send}
+use Rattle.dn_machine.specs.{declared.events.Event.TheVariants.Deliver, declared.events.Event.TheVariants.Run, declared.events.Event.TheVariants.Quit, declared.events.Event.TheVariants.Stop}
+use Rattle.dn_machine.specs.{declared.events.Refusal.Refusal, Game.Game, Game.applied, Game.applied_if, Game.on_event, Game.refused, Game.refused_at, Runs.is_send, Worlds.Rules, Worlds.rules_within}
+use Rattle.dn_remain.specs.{Remaining.Remaining, Remaining.Telling, Remaining.after_event, Remaining.after_hearing, Remaining.after_run, Remaining.is_barred, Remaining.opening_remaining, Remaining.unless}
+use Rattle.dn_remain.specs.{Remaining.wary_of, Remaining.with_telling, Remaining.with_wary, RunsRemain.LeadsRemain, RunsRemain.NextOwn, RunsRemain.NextRemain, Wary.Report, Wary.on_give_up, Wary.on_report}
+use Rattle.dn_remain.specs.{Wary.report_to, declared.events.RemainEvent.RemainEvent, declared.events.RemainEvent.TheVariants.Own, declared.events.RemainEvent.TheVariants.GiveUp}
+use Rattle.dn_remain.specs.{declared.events.RemainEvent.TheVariants.Tell, declared.events.RemainEvent.TheVariants.Hear}
+use Rattle.dn_remain_game.specs.{declared.happened.Happened.Happened, Applied.Answers, Applied.IsApplied, Applied.Plays, Applied.TellsReached, Contents.Contents, Events.applied_remain, Events.applied_remain_if}
+use Rattle.dn_remain_game.specs.{Events.asks_room, Events.heard_at, Events.on_own, Events.own_unless, Events.refused_telling, Events.told_report, Promised.IsCarriedOn, Represents.Represents}
 use Rattle.dn_game.proofs.Answering.{follows, plays_more}
-use Rattle.dn_remain_game.specs.Represents.{Represents}
 
 -- what is counted by a test, with one more
 pub counts_more : {A : Type 0} (p : A → Bool) (xs : List A) (x : A) (old new : ℕ) → old ≡ count_by p xs

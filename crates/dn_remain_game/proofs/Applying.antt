@@ -1,21 +1,10 @@
 -- An event is applied as its refusal says.
 use Rattle.std.proofs.Common.{◌≡◌, ◌⊎◌, ℕ, Bool, true, false, Option, Some, None, Result, Ok, Err, refl, ap, sym, ◌∙◌, subst, inl, inr}
 use Rattle.std.specs.Prelude.{OnErr}
-use Rattle.dn_machine.specs.declared.events.Done.{Done}
-use Rattle.dn_machine.specs.declared.events.Event.{Event}
-use Rattle.dn_machine.specs.declared.events.Event.TheVariants.{Send}
-use Rattle.dn_machine.specs.declared.events.Refusal.{Refusal}
-use Rattle.dn_machine.specs.Runs.{is_send}
-use Rattle.dn_machine.specs.Worlds.{Rules}
-use Rattle.dn_remain.specs.Remaining.{Remaining, is_barred}
-use Rattle.dn_remain.specs.declared.events.RemainEvent.{RemainEvent}
-use Rattle.dn_remain.specs.declared.events.RemainEvent.TheVariants.{Own}
-use Rattle.dn_remain_game.specs.declared.happened.Happened.{Happened}
-use Rattle.dn_remain_game.specs.Applied.{IsAfter, IsApplied, IsAppliedOwn}
-use Rattle.dn_remain_game.specs.Contents.{Contents}
-use Rattle.dn_remain_game.specs.Events.{applied_remain, applied_remain_if, asks_room, in_game, on_own, on_remain, own_unless, refused_remain}
-use Rattle.dn_remain_game.specs.Frame.{KeepWorlds}
-use Rattle.dn_remain_game.specs.Represents.{Represents}
+use Rattle.dn_machine.specs.{declared.events.Done.Done, declared.events.Event.Event, declared.events.Event.TheVariants.Send, declared.events.Refusal.Refusal, Runs.is_send, Worlds.Rules}
+use Rattle.dn_remain.specs.{Remaining.Remaining, Remaining.is_barred, declared.events.RemainEvent.RemainEvent, declared.events.RemainEvent.TheVariants.Own}
+use Rattle.dn_remain_game.specs.{declared.happened.Happened.Happened, Applied.IsAfter, Applied.IsApplied, Applied.IsAppliedOwn, Contents.Contents, Events.applied_remain, Events.applied_remain_if, Events.asks_room}
+use Rattle.dn_remain_game.specs.{Events.in_game, Events.on_own, Events.on_remain, Events.own_unless, Events.refused_remain, Frame.KeepWorlds, Represents.Represents}
 use Rattle.dn_remain_game.proofs.Keeping.{keep_all}
 
 applied_so : {S : Type 0} (rules : Rules S) (all : Remaining) (event : RemainEvent) (refusal : Option Refusal)

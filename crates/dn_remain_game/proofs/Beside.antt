@@ -1,19 +1,16 @@
 -- What a step of the machine's node leaves of what its world depends on.
-use Rattle.std.proofs.Common.{◌≡◌, ℕ, Bool, true, false, Option, refl, ap}
+use Rattle.std.proofs.Common.{◌≡◌, List, length, Option, Some, ap, sym, ◌∙◌, ℕ, Bool, true, false, refl}
+use Rattle.std.specs.Option.{option_map}
+use Rattle.std.proofs.lemmas.List.{nil_from_length}
 use Rattle.std.specs.Prelude.{nat_lt, ◌-◌, Result, Ok, Err}
 use Rattle.std.proofs.lemmas.Bool.{cond_both}
-use Rattle.dn_tic.specs.declared.input.Input.{Input}
-use Rattle.dn_machine.specs.Building.{on_build}
-use Rattle.dn_machine.specs.declared.answers.Heard.{Heard}
-use Rattle.dn_machine.specs.Flight.{Flight, is_exit, end_of}
-use Rattle.dn_machine.specs.Hearing.{left_or, on_packet}
-use Rattle.dn_machine.specs.Limits.{Limits}
-use Rattle.dn_machine.specs.Node.{Node, got}
-use Rattle.dn_machine.specs.Running.{on_quit}
+use Rattle.dn_tic.specs.{declared.command.Move.Move, declared.input.Input.Input}
+use Rattle.dn_setup.specs.Settings.{Settings}
+use Rattle.dn_machine.specs.{Game.own_world, Node.Node, Node.ran, Worlds.Rules, Worlds.opening, Worlds.world_after, Building.on_build, declared.answers.Heard.Heard, Flight.Flight, Flight.is_exit, Flight.end_of}
+use Rattle.dn_machine.specs.{Hearing.left_or, Hearing.on_packet, Limits.Limits, Node.got, Running.on_quit}
+use Rattle.dn_remain_game.specs.Living.{HasWorld}
 use Rattle.dn_machine.proofs.Calls.{build_cases, packet_cases, quit_cases, send_cases}
-use Rattle.dn_lockstep.specs.Phases.{is_waiting}
-use Rattle.dn_lockstep.specs.Received.{heard_as}
-use Rattle.dn_lockstep.specs.Sent.{sent_to}
+use Rattle.dn_lockstep.specs.{Phases.is_waiting, Received.heard_as, Sent.sent_to}
 
 -- its world depends on the same
 pub record IsBeside (m after : Node) : Type 0 where
@@ -78,3 +75,34 @@ module _ (limits : Limits) (me : ℕ) (m : Node) where
   unfolding on_packet
   heard_beside (Err number) = GoesOn (stays m) refl
   heard_beside (Ok flight) = hear_beside flight
+
+-- The world of a node, where the node changes beside it or begins it.
+
+-- the world before any row, of a node that has just started
+first_world : {S : Type 0} (rules : Rules S) (m : Node) (settings : Settings) (rows : List (List (Option Move)))
+    → m.settings ≡ Some settings → m.rows ≡ rows → length rows ≡ 0
+    → Some (opening rules settings) ≡ own_world rules m (ran m)
+unfolding world_after
+first_world rules m settings rows known is none =
+    sym ((λ i. option_map (λ (s : Settings). world_after rules s ((is ∙ nil_from_length rows none) i)
+    (length ((is ∙ nil_from_length rows none) i))) (known i)))
+
+module _ {W S : Type 0} (state : W → S) (rules : Rules S) where
+  same_world : (m after : Node) → after.settings ≡ m.settings → after.rows ≡ m.rows
+      → own_world rules after (ran after) ≡ own_world rules m (ran m)
+  same_world m after settings rows i =
+      option_map (λ (s : Settings). world_after rules s (rows i) (length (rows i))) (settings i)
+
+  -- a node that goes on beside its world has it
+  pub beside : (old new : W) (m after : Node) → new ≡ old → IsBeside m after → HasWorld state rules old m
+      → HasWorld state rules new after
+  beside old new m after same is has played =
+      ap (λ (w : W). Some (state w)) same ∙ has (sym is.played ∙ played)
+      ∙ sym (same_world m after is.settings is.rows)
+
+  -- one that starts, having run nothing, begins it
+  pub begins : (world : W) (m after : Node) (settings : Settings) → after.settings ≡ Some settings
+      → after.rows ≡ m.rows → ran m ≡ 0 → state world ≡ opening rules settings
+      → HasWorld state rules world after
+  begins world m after settings known rows none is played =
+      ap (λ (w : S). Some w) is ∙ first_world rules after settings m.rows known rows none

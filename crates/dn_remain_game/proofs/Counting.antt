@@ -1,24 +1,55 @@
 -- One event more in a list that was played, and what is promised of the whole.
-use Rattle.std.proofs.Common.{◌≡◌, ◌+◌, List, [], ◌∷◌, ◌++◌, Result, Ok, Err, sym, subst, arith}
-use Rattle.std.specs.Prelude.{count_by, is_ok, is_err}
+use Rattle.std.proofs.Common.{◌≡◌, ℕ, List, Some, ap, sym, ◌∙◌, arith, inl, inr, ◌+◌, [], ◌∷◌, ◌++◌, Result, Ok, Err, subst}
+use Rattle.std.specs.Prelude.{slice_get, count_by, is_ok, is_err}
+use Rattle.std.specs.Option.{option_map}
+use Rattle.std.proofs.lemmas.Bool.{cases_Bool}
+use Rattle.std.proofs.lemmas.Option.{slice_get-map, slice_get_within}
+use Rattle.dn_machine.specs.{Limits.Limits, Node.Node, Worlds.Rules, Worlds.rules_within, declared.events.Refusal.Refusal}
+use Rattle.dn_lockstep.specs.Told.{HasStarted}
+use Rattle.dn_lockstep.proofs.{Moving.known_by, Shown.starts}
+use Rattle.dn_remain.specs.{Remaining.Remaining, Remaining.opening_remaining, declared.events.RemainEvent.RemainEvent}
+use Rattle.dn_remain_game.specs.{declared.lived.Lived.Lived, Contents.Contents, Frame.KeepGiven, Frame.KeepWorlds, Fresh.worlds_of, Living.living, Represents.Represents, declared.played.Played.Played}
+use Rattle.dn_remain_game.specs.{declared.happened.Happened.Happened, Applied.IsApplied, Applied.TellsReached, Contents.contents, Promised.AppliesOne, Promised.HasPlayed, Promised.IsCarriedOn, Promised.IsPlayed}
+use Rattle.dn_remain_game.specs.{Room.StaysWithin}
+use Rattle.dn_game.proofs.Places.{there_is}
 use Rattle.dn_setup.specs.Settings.{Settings}
 use Rattle.dn_world.specs.Physics.{Physics}
-use Rattle.dn_machine.specs.Limits.{Limits}
-use Rattle.dn_machine.specs.Worlds.{rules_within}
-use Rattle.dn_remain.specs.Remaining.{opening_remaining}
-use Rattle.dn_remain.specs.declared.events.RemainEvent.{RemainEvent}
-use Rattle.dn_remain_game.specs.declared.played.Played.{Played}
-use Rattle.dn_machine.specs.declared.events.Refusal.{Refusal}
-use Rattle.dn_remain_game.specs.declared.happened.Happened.{Happened}
-use Rattle.dn_remain_game.specs.Applied.{IsApplied, TellsReached}
-use Rattle.dn_remain_game.specs.Contents.{contents}
-use Rattle.dn_remain_game.specs.Frame.{KeepGiven}
-use Rattle.dn_remain_game.specs.Promised.{AppliesOne, HasPlayed, IsCarriedOn, IsPlayed}
-use Rattle.dn_remain_game.specs.Room.{StaysWithin}
-use Rattle.dn_remain_game.proofs.Answering.{counts_more, plays_leads}
-use Rattle.dn_remain_game.proofs.Applying.{applied_keeps}
-use Rattle.dn_remain_game.proofs.Given.{given_stays}
-use Rattle.dn_remain_game.proofs.Promising.{promised}
+use Rattle.dn_remain_game.proofs.{Answering.counts_more, Answering.plays_leads, Applying.applied_keeps, Promising.promised}
+use Rattle.dn_lockstep.specs.Represents as lockstep_to
+
+-- A node that has not started has the world that was given for it.
+
+-- who has not started has run nothing
+unrun : {W : Type 0} (n : Lived W) (limits : Limits) (me : ℕ) (m : Node)
+    → lockstep_to.Represents limits me (living n).survivor.lockstep m
+    → ¬ HasStarted (living n).survivor.lockstep → (living n).survivor.lockstep.ran ≡ 0
+unrun n limits me m shown off = elim (cases_Bool n.survivor.lockstep.played) [
+  | inl played ↦
+      let s = known_by (living n).survivor.lockstep.settings (n.survivor.lockstep.known played) in
+      absurd (off (starts limits me (living n).survivor.lockstep m shown s.0 (sym shown.stands.played ∙ played)
+      (sym shown.stands.settings ∙ s.1)))
+  | inr waits ↦ n.survivor.lockstep.unrun waits
+]
+
+pub given_opens : {W : Type 0} (worlds : List W) (g : Contents W) → worlds_of g.nodes ≡ worlds → KeepGiven worlds g
+given_opens {W} worlds g is i n at off =
+    sym (ap (λ (ws : List W). slice_get ws i) is)
+    ∙ slice_get-map (λ (n : Lived W). (living n).world) g.nodes i
+    ∙ ap (option_map (λ (n : Lived W). (living n).world)) at
+
+pub given_stays : {W S : Type 0} (state : W → S) (rules : Rules S) (worlds : List W) (old new : Contents W)
+    (all next : Remaining) → Represents state rules old all → Represents state rules new next
+    → KeepWorlds old.nodes new.nodes → KeepGiven worlds old → KeepGiven worlds new
+given_stays {W} state rules worlds old new all next r s keep before i n at off =
+    let inside = slice_get_within new.nodes i n at in
+    let was = there_is old.nodes i (omega (arith, inside, r.players, s.players)) in
+    let a : Lived W = was.0 in
+    let kept = keep i a n was.1 at in
+    let waited : ¬ HasStarted (living a).survivor.lockstep = λ on. off (kept.begun on) in
+    before i a was.1 waited
+    ∙ ap (λ (w : W). Some w) (sym (kept.world (λ on. absurd (off on))
+    (unrun n rules.limits i (next.game.nodes i) (s.nodes i n at).survivor.node off
+    ∙ sym (unrun a rules.limits i (all.game.nodes i) (r.nodes i a was.1).survivor.node waited))))
 
 -- one answer
 pub one_done : {A E : Type 0} (answer : Result A E) (done : A) → answer ≡ Ok done

@@ -1,32 +1,21 @@
 -- A node that gives up a player or hears a report starts and begins its world, or leaves its world as it is.
 use Rattle.std.proofs.Common.{◌≡◌, ◌≢◌, ℕ, Bool, true, false, Some, None, refl, ap, sym, ◌∙◌}
 use Rattle.std.proofs.lemmas.Bool.{cond_both}
-use Rattle.dn_survivor.specs.declared.report.Report.{Report as Told}
-use Rattle.dn_setup.specs.Gathered.{all_noted}
-use Rattle.dn_setup.specs.Settings.{Settings}
-use Rattle.dn_setup.specs.Starts.{start_of}
+use Rattle.dn_survivor.specs.{declared.report.Report.Report as Told, declared.answers.GivenUp.GivenUp, declared.answers.Reported.Reported}
+use Rattle.dn_setup.specs.{Gathered.all_noted, Settings.Settings, Starts.start_of}
 use Rattle.dn_world.specs.Physics.{Physics}
-use Rattle.dn_machine.specs.declared.answers.Heard.{Heard}
-use Rattle.dn_machine.specs.declared.answers.Phase.{Phase}
-use Rattle.dn_machine.specs.declared.answers.Phase.TheVariants.{Listening, Gathering, Playing, Ended}
-use Rattle.dn_machine.specs.Limits.{Limits}
-use Rattle.dn_machine.specs.Node.{Node, put, ran}
-use Rattle.dn_machine.specs.Worlds.{rules_within}
-use Rattle.dn_lockstep.specs.Phases.{is_waiting}
-use Rattle.dn_lockstep.specs.Represents as lockstep_to
-use Rattle.dn_lockstep.specs.Rows.{seats_of}
+use Rattle.dn_machine.specs.{declared.answers.Heard.Heard, declared.answers.Phase.Phase, declared.answers.Phase.TheVariants.Listening, declared.answers.Phase.TheVariants.Gathering}
+use Rattle.dn_machine.specs.{declared.answers.Phase.TheVariants.Playing, declared.answers.Phase.TheVariants.Ended, Limits.Limits, Node.Node, Node.put, Node.ran, Worlds.rules_within}
+use Rattle.dn_lockstep.specs.{Phases.is_waiting, Rows.seats_of}
 use Rattle.dn_lockstep.proofs.Moving.{known_by}
-use Rattle.dn_remain.specs.Vanished.Decisions.{on_decision}
-use Rattle.dn_remain.specs.Wary.{Report, Wary, after_news, noted_gone, on_give_up, on_report, or_fresh, report_of, settled, with_gone, with_report}
+use Rattle.dn_remain.specs.{Vanished.Decisions.on_decision, Wary.Report, Wary.Wary, Wary.after_news, Wary.noted_gone, Wary.on_give_up, Wary.on_report, Wary.or_fresh, Wary.report_of, Wary.settled, Wary.with_gone}
+use Rattle.dn_remain.specs.{Wary.with_report}
 use Rattle.dn_remain.proofs.Cases.{give_up_cases, news_cases, report_cases}
-use Rattle.dn_survivor.specs.Calls as survivor
-use Rattle.dn_survivor.specs.declared.answers.GivenUp.{GivenUp}
-use Rattle.dn_survivor.specs.declared.answers.Reported.{Reported}
 use Rattle.dn_survivor.proofs.Waries.{gave_up, heard}
 use Rattle.dn_remain_game.specs.Living.{GivesUp, HasWorld, Hears, KeepsWorld, Living, Represents}
-use Rattle.dn_remain_game.proofs.Beside.{IsBeside, stays}
-use Rattle.dn_remain_game.proofs.Keeping.{keeps, keeps_till_start}
-use Rattle.dn_remain_game.proofs.Worlds.{begins, beside}
+use Rattle.dn_remain_game.proofs.{Beside.IsBeside, Beside.stays, Keeping.keeps, Keeping.keeps_till_start, Beside.begins, Beside.beside}
+use Rattle.dn_lockstep.specs.Represents as lockstep_to
+use Rattle.dn_survivor.specs.Calls as survivor
 
 -- a node that gathered starts, or goes on beside its world
 data Gives (m after : Node) : Type 0 where

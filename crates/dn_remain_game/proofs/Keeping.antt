@@ -1,17 +1,14 @@
 -- A node moves its world only where it starts or runs, and so does each node of a game.
-use Rattle.std.proofs.Common.{◌≡◌, ◌≢◌, ◌<◌, ℕ, true, false, true≢false, List, Some, None, length, set, refl, ap, sym, ◌∙◌, subst}
+use Rattle.std.proofs.Common.{subst, sym, arith, ◌≡◌, ◌≢◌, ◌<◌, ℕ, true, false, true≢false, List, Some, None, length, set, refl, ap, ◌∙◌}
 use Rattle.std.specs.Prelude.{slice_get, slice_index_or}
 use Rattle.std.proofs.lemmas.Option.{same_Some, slice_get_read}
-use Rattle.dn_machine.specs.Limits.{Limits}
-use Rattle.dn_machine.specs.Node.{Node, ran}
+use Rattle.dn_machine.specs.{Limits.Limits, Limits.IsWindow, Node.Node, Node.ran}
+use Rattle.dn_game.specs.Represents.{IsVanilla}
 use Rattle.dn_machine.proofs.Put.{set_and_put}
-use Rattle.dn_lockstep.specs.Represents as lockstep_to
 use Rattle.dn_lockstep.specs.Told.{HasStarted}
-use Rattle.dn_lockstep.proofs.Moving.{known_by}
-use Rattle.dn_lockstep.proofs.Shown.{started, starts}
-use Rattle.dn_remain_game.specs.declared.lived.Lived.{Lived}
-use Rattle.dn_remain_game.specs.Frame.{KeepWorlds}
-use Rattle.dn_remain_game.specs.Living.{KeepsWorld, Living, living}
+use Rattle.dn_lockstep.proofs.{Moving.known_by, Shown.started, Shown.starts}
+use Rattle.dn_remain_game.specs.{declared.lived.Lived.Lived, Frame.KeepWorlds, Living.KeepsWorld, Living.Living, Living.living}
+use Rattle.dn_lockstep.specs.Represents as lockstep_to
 
 module _ {W : Type 0} (old new : Living W) (limits : Limits) (me : ℕ) (m after : Node)
     (shown : lockstep_to.Represents limits me old.survivor.lockstep m)
@@ -66,3 +63,8 @@ keep_others {W} nodes place old new below read kept i a b at_a at_b =
     below
     (λ x at. subst (λ (n : Lived W). KeepsWorld (living n) (living new)) (same_Some old x (sym there ∙ at)) kept)
     i b at_b a at_a
+
+-- The window of 1997 is one.
+
+pub window_of : (limits : Limits) → IsVanilla limits → IsWindow limits
+window_of limits vanilla = subst IsWindow (sym vanilla) (record { twice = omega arith; back = omega arith })

@@ -2,8 +2,7 @@
 use Rattle.std.proofs.Common.{◌≡◌, ◌<◌, ◌≤◌, ℕ, refl, ap, sym, ◌∙◌, inl, inr, arith}
 use Rattle.std.proofs.lemmas.Bool.{cases_lt, le-ltb}
 use Rattle.dn_machine.specs.Limits.{Limits}
-use Rattle.dn_remain.specs.Wary.{Wary, on_give_up}
-use Rattle.dn_remain.specs.declared.events.GivenUp.{GivenUp}
+use Rattle.dn_remain.specs.{Wary.Wary, Wary.on_give_up, declared.events.GivenUp.GivenUp}
 
 stranger : (limits : Limits) (me : ℕ) (wary : Wary) (player : ℕ) → limits.players ≤ player
     → on_give_up limits me wary player ≡ (wary, GivenUp.NotAPlayer)

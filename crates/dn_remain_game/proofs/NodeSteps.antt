@@ -3,21 +3,10 @@ use Rattle.std.proofs.Common.{◌≡◌, ◌<◌, ℕ, true, length, set, refl, 
 use Rattle.std.specs.Prelude.{slice_index_or}
 use Rattle.std.proofs.lemmas.List.{get_or-set_same, get_or-set_other}
 use Rattle.dn_world.specs.Physics.{Physics}
-use Rattle.dn_machine.specs.declared.events.Done.{Done}
-use Rattle.dn_machine.specs.Game.{with_node}
-use Rattle.dn_machine.specs.Limits.{Limits}
-use Rattle.dn_machine.specs.Node.{Node, put}
-use Rattle.dn_machine.specs.Worlds.{Rules, rules_within}
-use Rattle.dn_remain.specs.Remaining.{Remaining, wary_of}
-use Rattle.dn_remain.specs.Wary.{Wary}
-use Rattle.dn_remain_game.specs.declared.lived.Lived.{Lived}
-use Rattle.dn_remain_game.specs.Applied.{IsAfter}
-use Rattle.dn_remain_game.specs.Contents.{Contents}
-use Rattle.dn_remain_game.specs.Events.{in_game}
-use Rattle.dn_remain_game.specs.Living.{Steps, living, on_node}
-use Rattle.dn_remain_game.specs.Represents.{Represents}
-use Rattle.dn_remain_game.proofs.Keeping.{keep_all, keep_others}
-use Rattle.dn_remain_game.proofs.Standing.{node_at, places}
+use Rattle.dn_machine.specs.{declared.events.Done.Done, Game.with_node, Limits.Limits, Node.Node, Node.put, Worlds.Rules, Worlds.rules_within}
+use Rattle.dn_remain.specs.{Remaining.Remaining, Remaining.wary_of, Wary.Wary}
+use Rattle.dn_remain_game.specs.{declared.lived.Lived.Lived, Applied.IsAfter, Contents.Contents, Events.in_game, Living.Steps, Living.living, Living.on_node, Represents.Represents}
+use Rattle.dn_remain_game.proofs.{Keeping.keep_all, Keeping.keep_others, Standing.node_at, Standing.places}
 
 pub goes_on : {W S A : Type 0} {state : W → S} (physics : Physics S) {g : Contents W} (limits : Limits)
     {all : Remaining} (r : Represents state (rules_within physics limits) g all) {place : ℕ} {old : Lived W} (new : Lived W)

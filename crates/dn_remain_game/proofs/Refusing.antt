@@ -3,23 +3,13 @@ use Rattle.std.proofs.Common.{◌≡◌, ◌<◌, ℕ, Bool, true, false, length
 use Rattle.std.specs.Prelude.{if◌then◌else◌, nat_lt, slice_get, slice_index_or}
 use Rattle.std.proofs.lemmas.Bool.{cond-false, cond-true, lt-ltb}
 use Rattle.std.proofs.lemmas.Option.{slice_get_read}
-use Rattle.dn_machine.specs.Flight as exact
-use Rattle.dn_machine.specs.Flight.{is_near}
-use Rattle.dn_machine.specs.Node.{made}
-use Rattle.dn_machine.specs.Game.{Game, refused_at, refused, refused_flight}
-use Rattle.dn_machine.specs.Worlds.{Rules}
-use Rattle.dn_machine.specs.declared.events.Event.TheVariants.{Send}
-use Rattle.dn_machine.specs.declared.events.Refusal.{Refusal}
-use Rattle.dn_lockstep.specs.Rings.{count_of}
-use Rattle.dn_lockstep.specs.Sent.{aim_of}
+use Rattle.dn_machine.specs.{Flight.is_near, Node.made, Game.Game, Game.refused_at, Game.refused, Game.refused_flight, Worlds.Rules, declared.events.Event.TheVariants.Send, declared.events.Refusal.Refusal}
+use Rattle.dn_lockstep.specs.{Rings.count_of, Sent.aim_of}
 use Rattle.dn_remain.specs.Remaining.{Remaining}
-use Rattle.dn_remain_game.specs.declared.lived.Lived.{Lived}
-use Rattle.dn_game.specs.declared.flight.Flight.{Flight}
-use Rattle.dn_remain_game.specs.Contents.{Contents}
-use Rattle.dn_remain_game.specs.Living.{living}
-use Rattle.dn_game.specs.Represents.{flight_of}
-use Rattle.dn_remain_game.specs.Represents.{Represents}
+use Rattle.dn_remain_game.specs.{declared.lived.Lived.Lived, Contents.Contents, Living.living, Represents.Represents}
+use Rattle.dn_game.specs.{declared.flight.Flight.Flight, Represents.flight_of}
 use Rattle.dn_remain_game.proofs.Standing.{IsFlight, made_at, flight_at}
+use Rattle.dn_machine.specs.Flight as exact
 
 -- a send to nobody is refused
 pub refused_nobody : (players : ℕ) (m : Game) (node to : ℕ) → nat_lt to players ≡ false

@@ -1,41 +1,21 @@
 -- A report joins those that were told, and comes to its receiver.
-use Rattle.dn_remain_game.proofs.Vanilla.{window_of}
 use Rattle.std.proofs.Common.{◌≡◌, ◌<◌, ◌≤◌, ◌++◌, ℕ, List, [], ◌∷◌, length, map, set, Option, Some, None, Result, Ok, Err, inl, refl, ap, sym, ◌∙◌, subst, arith}
 use Rattle.std.specs.Prelude.{◌⊎◌, slice_get, slice_index_or}
 use Rattle.std.specs.Option.{option_map}
 use Rattle.std.proofs.lemmas.List.{length-map, map_push}
 use Rattle.std.proofs.lemmas.Option.{slice_get-map, slice_get_read, slice_get_within}
-use Rattle.dn_survivor.specs.declared.report.Report.{Report as Told}
+use Rattle.dn_remain_game.proofs.{Keeping.window_of, Answering.plays_leads, Keeping.keep_all, Keeping.keep_others, Standing.node_at, Standing.places_wary, Standing.with_posts}
+use Rattle.dn_survivor.specs.{declared.report.Report.Report as Told, OfOthers.Represents.AreTold, OfOthers.Represents.Tells, OneGame.AreTelling, Session.Given, Telling.report_for, declared.answers.Reported.Reported}
 use Rattle.dn_setup.specs.Settings.{Settings}
 use Rattle.dn_world.specs.Physics.{Physics}
-use Rattle.dn_machine.specs.declared.events.Refusal.{Refusal}
-use Rattle.dn_machine.specs.Limits.{Limits}
-use Rattle.dn_machine.specs.Worlds.{Rules, rules_within}
-use Rattle.dn_survivor.specs.OfOthers.Represents.{AreTold, Tells}
-use Rattle.dn_remain.specs.Remaining.{Remaining, Telling as Exact, wary_of}
-use Rattle.dn_remain.specs.Wary.{Report, on_report, report_to}
-use Rattle.dn_remain.specs.declared.events.RemainEvent.{RemainEvent}
-use Rattle.dn_survivor.specs.OneGame.{AreTelling}
-use Rattle.dn_survivor.specs.Session.{Given}
-use Rattle.dn_survivor.specs.Telling.{report_for}
-use Rattle.dn_survivor.specs.declared.answers.Reported.{Reported}
+use Rattle.dn_machine.specs.{declared.events.Refusal.Refusal, Limits.Limits, Worlds.Rules, Worlds.rules_within, Game.refused_at}
+use Rattle.dn_remain.specs.{Remaining.Remaining, Remaining.Telling as Exact, Remaining.wary_of, Wary.Report, Wary.on_report, Wary.report_to, declared.events.RemainEvent.RemainEvent}
 use Rattle.dn_remain.proofs.Relayed.{as_relayed}
-use Rattle.dn_survivor.proofs.Decided.{told_can}
+use Rattle.dn_survivor.proofs.{Decided.told_can, Tellings.as_many, Tellings.telling_at, Tellings.telling_more, Tellings.told_apart}
+use Rattle.dn_remain_game.specs.{declared.happened.Happened.Happened, declared.lived.Lived.Lived, declared.under_way.Telling.Telling, Applied.IsAfter, Applied.IsReached, Contents.Contents, Events.heard_at}
+use Rattle.dn_remain_game.specs.{Events.refused_telling, Events.told_report, Living.Hears, Living.living, Represents.Represents, Represents.given_of}
 use Rattle.dn_survivor.proofs.Reports as telling
-use Rattle.dn_survivor.proofs.Tellings.{as_many, telling_at, telling_more, told_apart}
-use Rattle.dn_remain_game.specs.declared.happened.Happened.{Happened}
-use Rattle.dn_remain_game.specs.declared.lived.Lived.{Lived}
-use Rattle.dn_remain_game.specs.declared.under_way.Telling.{Telling}
-use Rattle.dn_remain_game.specs.Applied.{IsAfter, IsReached}
-use Rattle.dn_remain_game.specs.Contents.{Contents}
-use Rattle.dn_machine.specs.Game.{refused_at}
-use Rattle.dn_remain_game.specs.Events.{heard_at, refused_telling, told_report}
 use Rattle.dn_remain_game.specs.Living as node_to
-use Rattle.dn_remain_game.specs.Living.{Hears, living}
-use Rattle.dn_remain_game.specs.Represents.{Represents, given_of}
-use Rattle.dn_remain_game.proofs.Answering.{plays_leads}
-use Rattle.dn_remain_game.proofs.Keeping.{keep_all, keep_others}
-use Rattle.dn_remain_game.proofs.Standing.{node_at, places_wary, with_posts}
 
 module _ {W S : Type 0} (state : W → S) (rules : Rules S) (g : Contents W) (all : Remaining)
     (r : Represents state rules g all) (node to : ℕ) (n : Lived W) (below : node < length g.nodes)

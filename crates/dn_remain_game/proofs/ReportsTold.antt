@@ -3,16 +3,10 @@ use Rattle.std.proofs.Common.{◌≡◌, ◌<◌, ℕ, [], ◌∷◌, ◌++◌, 
 use Rattle.std.specs.Prelude.{List, Option, Result, slice_index_or}
 use Rattle.std.proofs.lemmas.Option.{slice_get_read}
 use Rattle.dn_machine.specs.declared.events.Refusal.{Refusal}
-use Rattle.dn_remain.specs.declared.events.RemainEvent.{RemainEvent}
-use Rattle.dn_remain.specs.declared.events.RemainEvent.TheVariants.{Own, GiveUp, Tell, Hear}
-use Rattle.dn_survivor.specs.declared.report.Report.{Report}
-use Rattle.dn_survivor.specs.Telling.{report_for}
-use Rattle.dn_remain_game.specs.declared.happened.Happened.{Happened}
-use Rattle.dn_remain_game.specs.declared.lived.Lived.{Lived}
-use Rattle.dn_remain_game.specs.declared.under_way.Telling.{Telling}
-use Rattle.dn_remain_game.specs.Contents.{Contents}
-use Rattle.dn_remain_game.specs.Living.{living}
-use Rattle.dn_remain_game.specs.Told.{HasTold, TellsReport, told_with}
+use Rattle.dn_remain.specs.{declared.events.RemainEvent.RemainEvent, declared.events.RemainEvent.TheVariants.Own, declared.events.RemainEvent.TheVariants.GiveUp, declared.events.RemainEvent.TheVariants.Tell}
+use Rattle.dn_remain.specs.{declared.events.RemainEvent.TheVariants.Hear}
+use Rattle.dn_survivor.specs.{declared.report.Report.Report, Telling.report_for}
+use Rattle.dn_remain_game.specs.{declared.happened.Happened.Happened, declared.lived.Lived.Lived, declared.under_way.Telling.Telling, Contents.Contents, Living.living, Told.HasTold, Told.TellsReport, Told.told_with}
 
 -- a node was asked for a report, and gave none or one
 module _ {W : Type 0} (old new : Contents W) (node to : ℕ) (n : Lived W) (below : node < length old.nodes)

@@ -6,40 +6,22 @@ use Rattle.std.proofs.lemmas.List.{length-map, map_push}
 use Rattle.std.proofs.lemmas.List.Elements.{All-push}
 use Rattle.std.proofs.lemmas.Option.{none-some, same_Some, slice_get_read}
 use Rattle.arrayvec.specs.ArrayVec.{ArrayVec}
-use Rattle.dn_machine.specs.declared.answers.Heard.{Heard}
-use Rattle.dn_machine.specs.declared.events.Done.{Done}
-use Rattle.dn_machine.specs.declared.events.Event.TheVariants.{Send, Deliver}
-use Rattle.dn_machine.specs.Drops as drops
-use Rattle.dn_machine.specs.Flight as exact
-use Rattle.dn_machine.specs.Flight.{is_near, packet_of}
-use Rattle.dn_machine.specs.Game.{delivered, posted, refused_flight, with_node}
-use Rattle.dn_machine.specs.Hearing.{on_packet}
-use Rattle.dn_machine.specs.Limits.{Limits}
-use Rattle.dn_machine.specs.Node as machine
-use Rattle.dn_machine.specs.Node.{made}
-use Rattle.dn_machine.specs.Sending.{on_send}
-use Rattle.dn_machine.specs.Worlds.{Rules, rules_within}
+use Rattle.dn_machine.specs.{declared.answers.Heard.Heard, declared.events.Done.Done, declared.events.Event.TheVariants.Send, declared.events.Event.TheVariants.Deliver, Flight.is_near, Flight.packet_of, Game.delivered}
+use Rattle.dn_machine.specs.{Game.posted, Game.refused_flight, Game.with_node, Hearing.on_packet, Limits.Limits, Node.made, Sending.on_send, Worlds.Rules, Worlds.rules_within}
 use Rattle.dn_world.specs.Physics.{Physics}
-use Rattle.dn_lockstep.specs.declared.lockstep.aiming.Aim.{Aim}
-use Rattle.dn_lockstep.specs.Giving.{Gives}
-use Rattle.dn_lockstep.specs.Near.{IsFair}
-use Rattle.dn_lockstep.specs.Sent.{sent_to, aim_of, bytes_of}
+use Rattle.dn_lockstep.specs.{declared.lockstep.aiming.Aim.Aim, Giving.Gives, Near.IsFair, Sent.sent_to, Sent.aim_of, Sent.bytes_of}
 use Rattle.dn_lockstep.proofs.OneGame.{sent_between}
 use Rattle.dn_remain.specs.Remaining.{Remaining, is_barred, is_barred_flight, wary_of}
 use Rattle.dn_survivor.specs.Surviving.{has_given_up}
-use Rattle.dn_remain_game.specs.declared.lived.Lived.{Lived}
-use Rattle.dn_game.specs.declared.flight.Flight.{Flight}
-use Rattle.dn_remain_game.specs.Applied.{IsAfter}
-use Rattle.dn_remain_game.specs.Contents.{Contents}
-use Rattle.dn_remain_game.specs.Events.{in_game, own_unless}
-use Rattle.dn_remain_game.specs.Frame.{KeepWorlds}
-use Rattle.dn_remain_game.specs.Living as node_to
-use Rattle.dn_remain_game.specs.Living.{HearsNear, IsGiven, Living, Steps, Tells, living, on_node}
-use Rattle.dn_game.specs.Represents.{IsCarried, flight_of}
-use Rattle.dn_remain_game.specs.Represents.{Represents}
-use Rattle.dn_remain_game.proofs.Keeping.{keep_others, keeps_same}
+use Rattle.dn_remain_game.specs.{declared.lived.Lived.Lived, Applied.IsAfter, Contents.Contents, Events.in_game, Events.own_unless, Frame.KeepWorlds, Living.HearsNear, Living.IsGiven, Living.Living, Living.Steps}
+use Rattle.dn_remain_game.specs.{Living.Tells, Living.living, Living.on_node, Represents.Represents}
+use Rattle.dn_game.specs.{declared.flight.Flight.Flight, Represents.IsCarried, Represents.flight_of}
+use Rattle.dn_remain_game.proofs.{Keeping.keep_others, Keeping.keeps_same, Standing.flight_at, Standing.made_at, Standing.node_at, Standing.places, Standing.places_same, Standing.with_posts}
 use Rattle.dn_game.proofs.Refusing.{near_unless}
-use Rattle.dn_remain_game.proofs.Standing.{flight_at, made_at, node_at, places, places_same, with_posts}
+use Rattle.dn_machine.specs.Drops as drops
+use Rattle.dn_machine.specs.Flight as exact
+use Rattle.dn_machine.specs.Node as machine
+use Rattle.dn_remain_game.specs.Living as node_to
 
 -- a packet of these numbers and bytes
 abbrev pub packet_with : ℕ → ℕ → Aim → ArrayVec ℕ → Flight

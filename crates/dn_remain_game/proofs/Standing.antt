@@ -5,28 +5,19 @@ use Rattle.std.specs.Option.{option_map}
 use Rattle.std.proofs.lemmas.Bool.{cases_eq}
 use Rattle.std.proofs.lemmas.List.{length-map, length-set}
 use Rattle.std.proofs.lemmas.Option.{slice_get-map, slice_get_read, slice_get_within, slice_get-get_or, get_or_from_slice_get}
-use Rattle.dn_machine.specs.Flight as exact
-use Rattle.dn_machine.specs.Game.{with_node}
-use Rattle.dn_machine.specs.Node as machine
-use Rattle.dn_machine.specs.Node.{made}
-use Rattle.dn_machine.specs.Worlds.{Rules}
+use Rattle.dn_machine.specs.{Game.with_node, Node.made, Worlds.Rules, Node.put}
 use Rattle.dn_machine.proofs.Put.{put_at, put_off, set_and_put}
-use Rattle.dn_machine.specs.Node.{put}
 use Rattle.dn_lockstep.specs.Rings.{count_of}
 use Rattle.dn_lockstep.proofs.Counting.{made_is}
-use Rattle.dn_remain.specs.Remaining.{Remaining, Telling as Exact, wary_of, with_wary}
-use Rattle.dn_remain.specs.Wary.{Wary}
+use Rattle.dn_remain.specs.{Remaining.Remaining, Remaining.Telling as Exact, Remaining.wary_of, Remaining.with_wary, Wary.Wary}
 use Rattle.dn_remain.proofs.Places.{there}
 use Rattle.dn_survivor.specs.OneGame.{AreTelling}
-use Rattle.dn_remain_game.specs.declared.lived.Lived.{Lived}
-use Rattle.dn_game.specs.declared.flight.Flight.{Flight}
+use Rattle.dn_remain_game.specs.{declared.lived.Lived.Lived, declared.under_way.Telling.Telling, Contents.Contents, Living.living, Represents.Represents, Represents.given_of}
+use Rattle.dn_game.specs.{declared.flight.Flight.Flight, Represents.IsCarried, Represents.flight_of}
 use Rattle.dn_game.proofs.Places.{all_at, there_is}
-use Rattle.dn_remain_game.specs.declared.under_way.Telling.{Telling}
-use Rattle.dn_remain_game.specs.Contents.{Contents}
+use Rattle.dn_machine.specs.Flight as exact
+use Rattle.dn_machine.specs.Node as machine
 use Rattle.dn_remain_game.specs.Living as node_to
-use Rattle.dn_remain_game.specs.Living.{living}
-use Rattle.dn_game.specs.Represents.{IsCarried, flight_of}
-use Rattle.dn_remain_game.specs.Represents.{Represents, given_of}
 
 -- what holds of all holds of the one that is read there
 pub all_read : {X : Type 0} (P : X → Type 0) (xs : List X) (i : ℕ) (x : X) → All P xs → i < length xs

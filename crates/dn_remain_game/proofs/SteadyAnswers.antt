@@ -4,40 +4,23 @@ use Rattle.std.specs.Prelude.{◌⊎◌, All, nat_lt, slice_get}
 use Rattle.std.proofs.lemmas.Bool.{cond-false, ltb-true}
 use Rattle.std.proofs.lemmas.List.Elements.{All-cons, All-nil}
 use Rattle.dn_setup.specs.Settings.{Settings}
-use Rattle.dn_machine.specs.declared.answers.Cause.TheVariants as Cause
-use Rattle.dn_machine.specs.declared.answers.Heard.{Heard}
-use Rattle.dn_machine.specs.declared.answers.Phase.TheVariants.{Ended}
-use Rattle.dn_machine.specs.declared.answers.Ran.{Ran}
-use Rattle.dn_machine.specs.declared.events.Done.{Done}
-use Rattle.dn_machine.specs.declared.events.Event.{Event}
-use Rattle.dn_machine.specs.declared.events.Event.TheVariants.{Build, Give, Send, Deliver, Run, Quit, Stop}
-use Rattle.dn_machine.specs.declared.events.Refusal.{Refusal}
-use Rattle.dn_machine.specs.Drops as drops
-use Rattle.dn_machine.specs.Flight.{Flight}
-use Rattle.dn_machine.specs.Game.{delivered, own_marks, posted, refused, refused_at, with_node}
-use Rattle.dn_machine.specs.Hearing.{on_packet}
-use Rattle.dn_machine.specs.Limits.{Limits, IsWindow}
-use Rattle.dn_machine.specs.Node.{Node}
-use Rattle.dn_machine.specs.Running.{on_run_but}
-use Rattle.dn_machine.specs.Sending.{on_send}
-use Rattle.dn_machine.specs.Worlds.{Rules}
+use Rattle.dn_machine.specs.{declared.answers.Heard.Heard, declared.answers.Phase.TheVariants.Ended, declared.answers.Ran.Ran, declared.events.Done.Done, declared.events.Event.Event}
+use Rattle.dn_machine.specs.{declared.events.Event.TheVariants.Build, declared.events.Event.TheVariants.Give, declared.events.Event.TheVariants.Send, declared.events.Event.TheVariants.Deliver}
+use Rattle.dn_machine.specs.{declared.events.Event.TheVariants.Run, declared.events.Event.TheVariants.Quit, declared.events.Event.TheVariants.Stop, declared.events.Refusal.Refusal, Flight.Flight, Game.delivered}
+use Rattle.dn_machine.specs.{Game.own_marks, Game.posted, Game.refused, Game.refused_at, Game.with_node, Hearing.on_packet, Limits.Limits, Limits.IsWindow, Node.Node, Running.on_run_but, Sending.on_send, Worlds.Rules}
 use Rattle.dn_machine.proofs.Put.{put_at}
-use Rattle.dn_remain.specs.declared.events.GivenUp as remain_given
-use Rattle.dn_remain.specs.declared.events.RemainEvent.{RemainEvent}
-use Rattle.dn_remain.specs.declared.events.RemainEvent.TheVariants.{Own, GiveUp, Tell, Hear}
-use Rattle.dn_remain.specs.Promise.{SteadyInPairs}
-use Rattle.dn_remain.specs.Remaining.{Remaining, Telling, is_barred, is_barred_flight, opening_remaining, wary_of}
-use Rattle.dn_remain.specs.RunsRemain.{LeadsRemain, NextRemain, RunsRemain}
-use Rattle.dn_remain.specs.Wary.{Report, on_give_up, on_report, report_to}
-use Rattle.dn_remain.proofs.Reached.{reached_by}
-use Rattle.dn_remain.proofs.Steady.{pairs_steady}
+use Rattle.dn_remain.specs.{declared.events.RemainEvent.RemainEvent, declared.events.RemainEvent.TheVariants.Own, declared.events.RemainEvent.TheVariants.GiveUp, declared.events.RemainEvent.TheVariants.Tell}
+use Rattle.dn_remain.specs.{declared.events.RemainEvent.TheVariants.Hear, Promise.SteadyInPairs, Remaining.Remaining, Remaining.Telling, Remaining.is_barred, Remaining.is_barred_flight, Remaining.opening_remaining}
+use Rattle.dn_remain.specs.{Remaining.wary_of, RunsRemain.LeadsRemain, RunsRemain.NextRemain, RunsRemain.RunsRemain, Wary.Report, Wary.on_give_up, Wary.on_report, Wary.report_to}
+use Rattle.dn_remain.proofs.{Reached.reached_by, Steady.pairs_steady}
 use Rattle.dn_survivor.specs.Represents.{given_up_is}
-use Rattle.dn_remain_game.specs.declared.happened.Happened.{Happened}
-use Rattle.dn_remain_game.specs.Applied.{Answers, Plays}
-use Rattle.dn_remain_game.specs.Events.{applied_remain, applied_remain_if, heard_at, on_own, own_unless, refused_remain, told_report}
-use Rattle.dn_remain_game.specs.Promised.{IsSteady}
+use Rattle.dn_remain_game.specs.{declared.happened.Happened.Happened, Applied.Answers, Applied.Plays, Events.applied_remain, Events.applied_remain_if, Events.heard_at, Events.on_own, Events.own_unless, Events.refused_remain}
+use Rattle.dn_remain_game.specs.{Events.told_report, Promised.IsSteady}
 use Rattle.dn_remain_game.proofs.Answering.{answers_next, applied_next}
 use Rattle.dn_survivor.proofs.NodeAnswers.{is_dropped, is_excluded, never_improper, not_out, taken_given, taken_reported}
+use Rattle.dn_machine.specs.declared.answers.Cause.TheVariants as Cause
+use Rattle.dn_machine.specs.Drops as drops
+use Rattle.dn_remain.specs.declared.events.GivenUp as remain_given
 
 -- a run that is answered by a mark that is off ends the node for it
 off_ends : (limits : Limits) (gone : ℕ → Bool) (node : Node) (marks : ℕ → ℤ) (player : ℕ) (was should : ℤ)

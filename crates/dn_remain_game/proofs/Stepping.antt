@@ -2,20 +2,12 @@
 use Rattle.std.proofs.Common.{◌≡◌, ◌≢◌, ℕ, true, None, refl, ◌∙◌}
 use Rattle.dn_world.specs.Physics.{Physics}
 use Rattle.dn_tic.specs.declared.input.Input.{Input}
-use Rattle.dn_machine.specs.Building.{on_build}
-use Rattle.dn_machine.specs.declared.answers.Made.{Made}
-use Rattle.dn_machine.specs.Limits.{Limits}
-use Rattle.dn_machine.specs.Node.{Node}
-use Rattle.dn_machine.specs.Worlds.{rules_within}
-use Rattle.dn_lockstep.specs.declared.lockstep.Lockstep.{Lockstep}
-use Rattle.dn_lockstep.specs.Contents.{contents}
-use Rattle.dn_lockstep.specs.Steps as lockstep
+use Rattle.dn_machine.specs.{Building.on_build, declared.answers.Made.Made, Limits.Limits, Node.Node, Worlds.rules_within}
+use Rattle.dn_lockstep.specs.{declared.lockstep.Lockstep.Lockstep, Contents.contents}
 use Rattle.dn_survivor.proofs.Steps.{stepped}
-use Rattle.dn_remain_game.specs.declared.lived.Lived.{Lived}
-use Rattle.dn_remain_game.specs.Living.{Builds, Living, Steps, living, on_node}
-use Rattle.dn_remain_game.proofs.Beside.{IsBeside, build_beside}
-use Rattle.dn_remain_game.proofs.Keeping.{keeps}
-use Rattle.dn_remain_game.proofs.Worlds.{beside}
+use Rattle.dn_remain_game.specs.{declared.lived.Lived.Lived, Living.Builds, Living.Living, Living.Steps, Living.living, Living.on_node}
+use Rattle.dn_remain_game.proofs.{Beside.IsBeside, Beside.build_beside, Keeping.keeps, Beside.beside}
+use Rattle.dn_lockstep.specs.Steps as lockstep
 
 pub steps_alone : {W S A : Type 0} (state : W → S) (physics : Physics S) (old new : Living W)
     (step : Limits → ℕ → Node → Node × A) (IsAnswer : A → Type 0)

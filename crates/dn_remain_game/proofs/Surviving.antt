@@ -4,20 +4,13 @@ use Rattle.std.specs.Prelude.{slice_get, slice_index_or, Option, Result}
 use Rattle.std.proofs.lemmas.Bool.{cases_lt, le-ltb}
 use Rattle.std.proofs.lemmas.List.{get_or-set_same, length-set}
 use Rattle.std.proofs.lemmas.Option.{same_Some, slice_get-get_or, slice_get_read}
-use Rattle.dn_survivor.specs.declared.report.Report.{Report as Told}
+use Rattle.dn_survivor.specs.{declared.report.Report.Report as Told, Calls.GivesUp, Calls.GivesUpUnless, Calls.HearsReport, Calls.refused_give_up, Surviving.Surviving, declared.answers.GivenUp.GivenUp}
+use Rattle.dn_survivor.specs.{declared.answers.Reported.Reported}
 use Rattle.dn_machine.specs.declared.events.Refusal.{Refusal}
-use Rattle.dn_remain.specs.declared.events.RemainEvent.{RemainEvent}
-use Rattle.dn_remain.specs.declared.events.RemainEvent.TheVariants.{Own, GiveUp, Tell, Hear}
-use Rattle.dn_survivor.specs.Calls.{GivesUp, GivesUpUnless, HearsReport, refused_give_up}
-use Rattle.dn_survivor.specs.Surviving.{Surviving}
-use Rattle.dn_survivor.specs.declared.answers.GivenUp.{GivenUp}
-use Rattle.dn_survivor.specs.declared.answers.Reported.{Reported}
-use Rattle.dn_remain_game.specs.declared.happened.Happened.{Happened}
-use Rattle.dn_remain_game.specs.declared.lived.Lived.{Lived}
-use Rattle.dn_remain_game.specs.declared.under_way.Telling.{Telling}
-use Rattle.dn_remain_game.specs.Contents.{Contents}
-use Rattle.dn_remain_game.specs.Living.{living}
-use Rattle.dn_remain_game.specs.Survivors.{AsksSurvivor, GivesUpAt, HearsAt}
+use Rattle.dn_remain.specs.{declared.events.RemainEvent.RemainEvent, declared.events.RemainEvent.TheVariants.Own, declared.events.RemainEvent.TheVariants.GiveUp, declared.events.RemainEvent.TheVariants.Tell}
+use Rattle.dn_remain.specs.{declared.events.RemainEvent.TheVariants.Hear}
+use Rattle.dn_remain_game.specs.{declared.happened.Happened.Happened, declared.lived.Lived.Lived, declared.under_way.Telling.Telling, Contents.Contents, Living.living, Survivors.AsksSurvivor, Survivors.GivesUpAt}
+use Rattle.dn_remain_game.specs.{Survivors.HearsAt}
 
 -- what holds of a node before and after its step holds of those that stand in its place
 of_both : {W : Type 0} (nodes : List (Lived W)) (place : ℕ) (old new : Lived W) → place < length nodes

@@ -8,24 +8,17 @@ use Rattle.std.proofs.lemmas.Option.{none-some, same_Some}
 use Rattle.dn_tic.specs.declared.command.Move.{Move}
 use Rattle.dn_setup.specs.Settings.{Settings}
 use Rattle.dn_world.specs.Physics.{Physics}
-use Rattle.dn_machine.specs.declared.events.Event.{Event}
-use Rattle.dn_machine.specs.declared.events.Event.TheVariants.{Build, Give, Send, Deliver, Run, Quit, Stop}
-use Rattle.dn_machine.specs.declared.events.Refusal.{Refusal}
-use Rattle.dn_machine.specs.Flight.{Flight}
-use Rattle.dn_machine.specs.Game.{Game, applied, applied_if, delivered, on_event, opening_game, own_marks, posted, refused, refused_at, with_node}
-use Rattle.dn_machine.specs.Limits.{Limits}
-use Rattle.dn_machine.specs.Node.{Node, ran}
-use Rattle.dn_machine.specs.Running.{on_run_but}
-use Rattle.dn_machine.specs.Sending.{on_send}
-use Rattle.dn_machine.specs.Worlds.{Rules, mark_in, opening, rules_within, world_after}
+use Rattle.dn_machine.specs.{declared.events.Event.Event, declared.events.Event.TheVariants.Build, declared.events.Event.TheVariants.Give, declared.events.Event.TheVariants.Send}
+use Rattle.dn_machine.specs.{declared.events.Event.TheVariants.Deliver, declared.events.Event.TheVariants.Run, declared.events.Event.TheVariants.Quit, declared.events.Event.TheVariants.Stop}
+use Rattle.dn_machine.specs.{declared.events.Refusal.Refusal, Flight.Flight, Game.Game, Game.applied, Game.applied_if, Game.delivered, Game.on_event, Game.opening_game, Game.own_marks, Game.posted, Game.refused}
+use Rattle.dn_machine.specs.{Game.refused_at, Game.with_node, Limits.Limits, Node.Node, Node.ran, Running.on_run_but, Sending.on_send, Worlds.Rules, Worlds.mark_in, Worlds.opening, Worlds.rules_within}
+use Rattle.dn_machine.specs.{Worlds.world_after}
 use Rattle.dn_machine.proofs.Put.{same_functions}
-use Rattle.dn_lockstep.specs.Marking.{History, Marking, free}
-use Rattle.dn_lockstep.specs.OneGame.{beside}
-use Rattle.dn_remain.specs.Remaining.{Remaining, Telling, after_event, after_give_up, after_hearing, after_run, after_telling, is_barred, opening_remaining, unless, wary_of, with_telling, with_wary}
-use Rattle.dn_remain.specs.RunsRemain.{LeadsRemain, NextRemain, RunsRemain}
-use Rattle.dn_remain.specs.Wary.{Report, on_give_up, on_report, report_to}
-use Rattle.dn_remain.specs.declared.events.RemainEvent.{RemainEvent}
-use Rattle.dn_remain.specs.declared.events.RemainEvent.TheVariants.{Own, GiveUp, Tell, Hear}
+use Rattle.dn_lockstep.specs.{Marking.History, Marking.Marking, Marking.free, OneGame.beside}
+use Rattle.dn_remain.specs.{Remaining.Remaining, Remaining.Telling, Remaining.after_event, Remaining.after_give_up, Remaining.after_hearing, Remaining.after_run, Remaining.after_telling, Remaining.is_barred}
+use Rattle.dn_remain.specs.{Remaining.opening_remaining, Remaining.unless, Remaining.wary_of, Remaining.with_telling, Remaining.with_wary, RunsRemain.LeadsRemain, RunsRemain.NextRemain, RunsRemain.RunsRemain}
+use Rattle.dn_remain.specs.{Wary.Report, Wary.on_give_up, Wary.on_report, Wary.report_to, declared.events.RemainEvent.RemainEvent, declared.events.RemainEvent.TheVariants.Own}
+use Rattle.dn_remain.specs.{declared.events.RemainEvent.TheVariants.GiveUp, declared.events.RemainEvent.TheVariants.Tell, declared.events.RemainEvent.TheVariants.Hear}
 
 -- the marks of a world, by its history
 pub marking_of : {S : Type 0} → Physics S → Marking

@@ -7,15 +7,11 @@
 #![tactic(auto)]
 
 mod game;
-#[cfg(test)]
-mod game_tests;
 mod happened;
 mod laws;
 mod lived;
 mod played;
 mod playing;
-#[cfg(test)]
-mod tests;
 mod under_way;
 
 pub use dn_game::{Flight, GameConfig, GameFault};

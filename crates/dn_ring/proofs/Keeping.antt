@@ -1,10 +1,9 @@
 -- What a ring keeps of a whole list of commands.
-use Rattle.std.proofs.Common.{◌≡◌, ◌≤◌, ◌+◌, ◌-◌, ℕ, zero, suc, List, [], ◌∷◌, ◌++◌, length, drop, None, inl, inr, true, false, ◌<◌, refl, ap, sym, ◌∙◌, arith}
-use Rattle.std.specs.Prelude.{slice_get, nat_le}
-use Rattle.std.proofs.lemmas.List.{drop-append-le, drop-drop, drop_all, length-append, length-drop}
+use Rattle.std.proofs.{Common.{◌≡◌, ◌≤◌, ◌+◌, ◌-◌, ℕ, zero, suc, List, [], ◌∷◌, ◌++◌, length, drop, None, ◌<◌, refl, ap, sym, ◌∙◌, arith}, lemmas.List.{drop-append-le, drop-drop, drop_all, length-append, length-drop}}
 use Rattle.std.proofs.lemmas.Bool.{cases_lt, lt-ltb, le-ltb, le-leb, lt-leb}
+use Rattle.std.specs.Prelude.{slice_get}
 use Rattle.dn_tic.specs.declared.command.TicCmd.{TicCmd}
-use Rattle.dn_ring.specs.Ring.{put, get, since, ring_of, last_of}
+use Rattle.dn_ring.specs.Ring.{put, get, since, ring_of}
 
 -- one more command
 pub put-ring_of : (n : ℕ) (cs : List TicCmd) (c : TicCmd) → put n (ring_of n cs) c ≡ ring_of n (cs ++ c ∷ [])
@@ -37,34 +36,16 @@ slice_get-past (x ∷ xs) (suc j) h = slice_get-past xs j (omega arith)
 
 -- the commands from a tic on, and none from a tic that is not there yet
 pub since-ring_of : (n : ℕ) (cs : List TicCmd) (g : ℕ) → length cs ≤ g + n → since (ring_of n cs) g ≡ drop g cs
-since-ring_of n cs g h =
-    let kept = length-drop (length cs - n) cs in
-    let skipped : ℕ = length (last_of n cs) - (length cs - g) in
-    let joined = drop-drop skipped (length cs - n) cs in
-    elim (cases_lt g (length cs)) [
-      | inl below ↦ joined ∙ ap (λ (k : ℕ). drop k cs) (omega arith)
-      | inr past ↦ joined ∙ drop_all _ cs (omega arith) ∙ sym (drop_all g cs past)
-    ]
+since-ring_of n cs g h = grind (arith, length-drop, drop-drop, cases_lt, drop_all)
 
 -- and nothing of what came before them
 pub get-gone : (n : ℕ) (cs : List TicCmd) (g : ℕ) → g + n < length cs → get n (ring_of n cs) g ≡ None
-get-gone n cs g h =
-    let first = lt-ltb g (length cs) (omega arith) in
-    let second : nat_le (length cs - g) n ≡ false = lt-leb (length cs - g) n (omega arith) in
-    rw (first, second) refl
+get-gone n cs g h = grind (arith, lt-ltb, lt-leb)
 
 -- what a ring gives of the last commands is what is held
 pub get-ring_of : (n : ℕ) (cs : List TicCmd) (g : ℕ) → length cs ≤ g + n → get n (ring_of n cs) g ≡ slice_get cs g
 get-ring_of n cs g h =
-    elim (cases_lt g (length cs)) [
-      | inl below ↦
-          let first = lt-ltb g (length cs) below in
-          let second : nat_le (length cs - g) n ≡ true = le-leb (length cs - g) n (omega arith) in
-          let place : length cs - n + (length (last_of n cs) - (length cs - g)) ≡ g =
-          omega (arith, length-drop (length cs - n) cs) in
-          rw (first, second) (slice_get-drop (length cs - n) (length (last_of n cs) - (length cs - g)) cs
-          ∙ ap (slice_get cs) place)
-      | inr past ↦
-          let first = le-ltb g (length cs) past in
-          rw first (sym (slice_get-past cs g past))
-    ]
+    grind (arith, cases_lt, lt-ltb, le-leb, length-drop, slice_get-drop, le-ltb, slice_get-past)
+
+-- what a ring keeps of a list, in all
+pub ruleset kept_of_lists = (put-ring_of, get-ring_of, since-ring_of, get-gone)

@@ -1,17 +1,33 @@
 -- The table of a ring.
-use Rattle.std.proofs.Common.{◌≡◌, ◌≤◌, ◌<◌, ◌+◌, ◌-◌, ◌%◌, ℕ, zero, suc, List, [], ◌∷◌, ◌++◌, length, map, take, drop, get_or, set, Some, true, refl, ap, sym, ◌∙◌, arith, length-append, drop-cons}
-use Rattle.std.specs.Prelude.{min, All, slice_get, nat_le}
-use Rattle.std.specs.List.{range_with_len}
-use Rattle.std.proofs.lemmas.Bool.{lt-ltb, le-leb}
-use Rattle.std.proofs.lemmas.List.{drop-append-le, length-drop, take_all, get_or-set_same, get_or-set_other}
-use Rattle.std.proofs.lemmas.List.Elements.{All-nil, All-append, All-take, All-drop}
-use Rattle.std.proofs.lemmas.List.FromFn.{length-map-range_with_len, get_or-map-range_with_len, map-range_with_len_more, take-map-range_with_len}
-use Rattle.std.proofs.lemmas.Option.{slice_get-get_or, slice_get_within}
-use Rattle.dn_tic.specs.Command.{IsCommand}
-use Rattle.dn_tic.specs.declared.command.TicCmd.{TicCmd}
+use Rattle.std.proofs.Common.{◌≡◌, ◌≤◌, ◌<◌, ◌+◌, ◌-◌, ◌%◌, ℕ, zero, suc, List, [], ◌∷◌, ◌++◌, length, map, take, drop, get_or, set, Some, true, refl, ap, sym, ◌∙◌, arith, length-append, drop-cons, ◌≢◌, inl, inr}
+use Rattle.std.proofs.{lemmas.Bool.{lt-ltb, le-leb, cases_lt}, lemmas.List.{drop-append-le, length-drop, take_all, get_or-set_same, get_or-set_other}, lemmas.List.Elements.{All-nil, All-append, All-take, All-drop}}
+use Rattle.std.proofs.{lemmas.List.FromFn.{length-map-range_with_len, get_or-map-range_with_len, map-range_with_len_more, take-map-range_with_len}, lemmas.Option.{slice_get-get_or, slice_get_within}}
+use Rattle.std.specs.{Prelude.{min, All, slice_get, nat_le}, List.range_with_len}
+use Rattle.dn_tic.specs.{Command.IsCommand, declared.command.TicCmd.TicCmd}
 use Rattle.dn_ring.specs.Ring.{Ring, put, get, since, ring_of, last_of, no_command, in_slot, last_in, IsTable, AreSlotsOf}
 use Rattle.dn_ring.proofs.Keeping.{get-ring_of}
-use Rattle.dn_ring.proofs.Places.{next_place, around, apart, below}
+use native.Mathlib.Nat.{mod-lt, mod-eq_of_lt, mod-add-mod, mod-eq-sub-mod}
+
+-- Places of a ring.
+-- so many places on, before the end and past it
+pub next_place : (n a j : ℕ) → a % n + j < n → (a + j) % n ≡ a % n + j
+next_place n a j l = sym (mod-add-mod a n j) ∙ mod-eq_of_lt l
+
+pub around : (n a j : ℕ) → n ≤ a % n + j → a % n + j < n + n → (a + j) % n ≡ a % n + j - n
+around n a j low high = sym (mod-add-mod a n j) ∙ (mod-eq-sub-mod low ∙ mod-eq_of_lt (omega arith))
+
+-- two tics less than a round apart have two places
+pub apart : (n a b : ℕ) → 0 < n → a < b → b < a + n → a % n ≢ b % n
+apart n a b some less near e =
+    let place : a % n < n = mod-lt a some in
+    let whole : (a + (b - a)) % n ≡ b % n = ap (λ (k : ℕ). k % n) (omega arith) in
+    elim (cases_lt (a % n + (b - a)) n) [
+      | inl l ↦ let x = next_place n a (b - a) l in omega arith
+      | inr m ↦ let x = around n a (b - a) m (omega arith) in omega arith
+    ]
+
+pub below : (n a : ℕ) → 0 < n → a % n < n
+below n a some = mod-lt a some
 
 module _ {X : Type 0} where
   -- two functions that agree on each number of a range
@@ -140,15 +156,7 @@ module _ (n count tic many : ℕ) (some : 0 < n) (slots : List TicCmd) (low : ti
 
   in_table : map (in_slot n slots) (range_with_len tic many)
       ≡ take many (since (record { count = count; last = last_in n count slots }) tic)
-  in_table =
-      let long = length-map-range_with_len (in_slot n slots) (count - n) (min count n) in
-      let skipped : length (last_in n count slots) - (count - tic) ≡ tic - (count - n) = omega arith in
-      let begin : count - n + (tic - (count - n)) ≡ tic = omega arith in
-      let all : min count n - (tic - (count - n)) ≡ count - tic = omega arith in
-      sym (ap (take many) (ap (λ (k : ℕ). drop k (last_in n count slots)) skipped
-      ∙ drop_range (in_slot n slots) (tic - (count - n)) (count - n) (min count n)
-      ∙ (λ i. map (in_slot n slots) (range_with_len (begin i) (all i))))
-      ∙ take-map-range_with_len (in_slot n slots) tic (count - tic) many (omega arith))
+  in_table = grind (arith, length-map-range_with_len, drop_range, take-map-range_with_len)
 
   -- one piece
   piece : (from a few : ℕ) → a + few ≤ n → a ≡ from % n
@@ -176,9 +184,7 @@ module _ (n count tic many : ℕ) (some : 0 < n) (slots : List TicCmd) (low : ti
 
 -- as many as there are
 pub all_since : (ring : Ring) (tic : ℕ) → take (ring.count - tic) (since ring tic) ≡ since ring tic
-all_since ring tic =
-    let kept = length-drop (length ring.last - (ring.count - tic)) ring.last in
-    take_all (ring.count - tic) (since ring tic) (omega arith)
+all_since ring tic = grind (arith, length-drop, take_all)
 
 -- and in the ranges of their fields
 module _ (slots : List TicCmd) (valid : All IsCommand slots) where

@@ -86,6 +86,7 @@ impl<const PLACES: usize> RingBuffer<PLACES> {
 
     /// The commands from a tic on, of those that are there, in two pieces of which the second goes on where the
     /// first ends. Where they part is not promised.
+    #[tactic(auto, using(crate::proofs::Slots::all_since))]
     pub fn since(&self, tic: u32) -> (&[TicCmd], &[TicCmd])
         requires low { tic ≤ self.now.count }
         requires high { self.now.count ≤ tic + PLACES }

@@ -1,17 +1,8 @@
 -- Every list of bytes is opened as something.
-use Rattle.std.proofs.Common.{◌≡◌, ◌≢◌, ◌<◌, ◌≤◌, ◌+◌, ◌^◌, ◌⊎◌, ℕ, List, ◌∷◌, All, length, take, drop, get_or, refl, ap, sym, ◌∙◌, arith, Option, Some, None, Result, Ok, Err, inl, inr}
-use Rattle.std.specs.Prelude.{slice_index}
-use Rattle.std.specs.Int.{w32, from_le_bytes}
-use Rattle.std.specs.Str.{bytes_eq}
-use Rattle.std.proofs.lemmas.Bool.{cases_eq, cases_lt, cases_Bool}
-use Rattle.std.proofs.lemmas.List.{get_or-drop, get_or_past, length-take, length-take-le, length-drop}
-use Rattle.std.proofs.lemmas.List.Elements.{All-get_or}
-use Rattle.std.proofs.lemmas.Slice.Eq.{bytes_eq-Decides}
-use Rattle.dn_seal.specs.declared.opened.Opened.{Opened}
-use Rattle.dn_seal.specs.declared.opened.SealFault.{SealFault}
-use Rattle.dn_seal.specs.declared.opened.SealFault.TheVariants.{Short, Long, Suite, Kind, Game, Receiver, Tag, Request}
-use Rattle.dn_seal.specs.Hmac.{tag_of}
-use Rattle.dn_seal.specs.Keys.{suite_byte}
+use Rattle.std.proofs.{Common.{◌≡◌, ◌≢◌, ◌<◌, ◌≤◌, ◌+◌, ◌^◌, ◌⊎◌, ℕ, List, ◌∷◌, All, length, take, drop, get_or, refl, ap, sym, ◌∙◌, arith, Option, Some, None, Result, Ok, Err, inl, inr}, lemmas.Bool.{cases_eq, cases_lt, cases_Bool}}
+use Rattle.std.proofs.{lemmas.List.{get_or-drop, get_or_past, length-take, length-take-le, length-drop}, lemmas.List.Elements.All-get_or, lemmas.Slice.Eq.bytes_eq-Decides}
+use Rattle.std.specs.{Prelude.slice_index, Int.{w32, from_le_bytes}, Str.bytes_eq}
+use Rattle.dn_seal.specs.{declared.opened.Opened.Opened, declared.opened.SealFault.SealFault, declared.opened.SealFault.TheVariants.{Short, Long, Suite, Kind, Game, Receiver, Tag, Request}, Hmac.tag_of, Keys.suite_byte}
 use Rattle.dn_seal.specs.Opening.{Sealing, envelopes, IsOpenedAs, IsSized, IsOfSuite, IsOfKind, IsOfGame, IsFor, IsTagged, told_game, told_body, told_tag, told_tic, ask_in}
 use Rattle.dn_seal.proofs.Openings.{assembled, asked-small, datagram-short}
 
@@ -37,10 +28,7 @@ four_small _ fits long = absurd (omega arith)
 
 module _ (s : Sealing) (bytes : List ℕ) (all : All (λ byte. byte < 256) bytes) where
   fits : (i : ℕ) → get_or bytes i 0 < 256
-  fits i = elim (cases_lt i (length bytes)) [
-    | inl below ↦ All-get_or (λ byte. byte < 256) bytes i 0 below all
-    | inr past ↦ let none = get_or_past bytes i 0 (omega arith) in omega arith
-  ]
+  fits i = grind (arith, cases_lt, All-get_or, get_or_past)
 
   small : (i : ℕ) → i + 4 ≤ length bytes → from_le_bytes w32 (take 4 (drop i bytes)) < 2 ^ 32
   small i long = four_small (drop i bytes)

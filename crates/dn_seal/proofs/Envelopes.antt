@@ -1,15 +1,9 @@
 -- What stands where in an envelope.
-use Rattle.std.proofs.Common.{◌≡◌, ◌<◌, ◌≤◌, ◌+◌, ◌-◌, ◌^◌, ℕ, List, [], ◌∷◌, ◌++◌, length, take, drop, refl, ap, ◌∙◌, arith, Option, Some, None}
-use Rattle.std.specs.Prelude.{slice_index, IfSome}
-use Rattle.std.specs.Int.{w32, to_le_bytes, from_le_bytes}
-use Rattle.std.proofs.lemmas.List.{length-append, length-take-le}
-use Rattle.std.proofs.lemmas.Nat.{from_le_bytes-to_le_bytes_4}
+use Rattle.std.proofs.{Common.{◌≡◌, ◌<◌, ◌≤◌, ◌+◌, ◌-◌, ◌^◌, ℕ, List, [], ◌∷◌, ◌++◌, length, take, drop, refl, ap, ◌∙◌, arith, Option, Some, None}, lemmas.List.{length-append, length-take-le}, lemmas.Nat.from_le_bytes-to_le_bytes_4}
 use Rattle.std.proofs.Math.Seq.{take-append_seam, drop-append_seam}
+use Rattle.std.specs.{Prelude.{slice_index, IfSome}, Int.{w32, to_le_bytes, from_le_bytes}}
 use Rattle.sha2.specs.Sha256.{sha256, digest_bytes}
-use Rattle.dn_seal.specs.Hmac.{hmac, key_block, tag_of, turned}
-use Rattle.dn_seal.specs.Envelope.{Letter, ask_bytes, head_bytes, body_bytes, envelope}
-use Rattle.dn_seal.specs.Keys.{suite_byte}
-use Rattle.dn_seal.specs.Opening.{told_game, told_body, told_tag, told_tic, ask_in}
+use Rattle.dn_seal.specs.{Hmac.{hmac, tag_of}, Envelope.{Letter, ask_bytes, head_bytes, body_bytes, envelope}, Keys.suite_byte, Opening.{told_game, told_body, told_tag, told_tic, ask_in}}
 
 length-sha256 : (m : List ℕ) → length (sha256 m) ≡ 32
 unfolding sha256 digest_bytes
@@ -17,9 +11,7 @@ length-sha256 m = refl
 
 pub length-tag : (key m : List ℕ) → length (tag_of key m) ≡ 16
 unfolding hmac
-length-tag key m =
-    let long = length-sha256 (turned 0x5c (key_block key) ++ sha256 (turned 0x36 (key_block key) ++ m)) in
-    length-take-le 16 _ (omega (arith, long))
+length-tag key m = grind (arith, length-sha256, length-take-le)
 
 -- eight bytes of a list, one by one
 pub eight : (xs : List ℕ) → 8 ≤ length xs → (P : List ℕ → Type 0)
@@ -33,13 +25,7 @@ headed l g =
     (suite_byte l.suite ∷ 1 ∷ []) ++ g ++ (l.from ∷ l.to ∷ []) ++ to_le_bytes w32 l.start ++ ask_bytes l.ask
 
 pub length-head : (l : Letter) → 8 ≤ length l.game → length (head_bytes l) ≡ 21
-length-head l long =
-    eight l.game long (λ g. length (headed l g) ≡ 21) (λ a b c d e f g h. go a b c d e f g h l.ask)
-  where
-    go : (a b c d e f g h : ℕ) (ask : Option ℕ)
-        → length (headed (record l { ask = ask }) (a ∷ b ∷ c ∷ d ∷ e ∷ f ∷ g ∷ h ∷ [])) ≡ 21
-    go a b c d e f g h None = refl
-    go a b c d e f g h (Some tic) = refl
+length-head l long = grind (arith, eight)
 
 module _ (key : List ℕ) (l : Letter) (long : 8 ≤ length l.game) where
   pub length-body : length (body_bytes l) ≡ 21 + length l.datagram
@@ -47,9 +33,7 @@ module _ (key : List ℕ) (l : Letter) (long : 8 ≤ length l.game) where
       ∙ ap (λ (n : ℕ). n + length l.datagram) (length-head l long)
 
   pub length-envelope : length (envelope key l) ≡ 37 + length l.datagram
-  length-envelope =
-      let both = length-append (body_bytes l) (tag_of key (body_bytes l)) in
-      omega (arith, both, length-body, length-tag key (body_bytes l))
+  length-envelope = grind (arith, length-append, length-body, length-tag)
 
   seam : length (envelope key l) - 16 ≡ length (body_bytes l)
   seam = omega (arith, length-envelope, length-body)
@@ -63,15 +47,7 @@ module _ (key : List ℕ) (l : Letter) (long : 8 ≤ length l.game) where
       ∙ drop-append_seam (body_bytes l) (tag_of key (body_bytes l))
 
   pub datagram-envelope : drop 21 (told_body (envelope key l)) ≡ l.datagram
-  datagram-envelope = ap (drop 21) body-envelope
-      ∙ eight l.game long (λ g. drop 21 (headed l g ++ l.datagram) ≡ l.datagram)
-      (λ a b c d e f g h. go a b c d e f g h l.ask)
-    where
-      go : (a b c d e f g h : ℕ) (ask : Option ℕ)
-          → drop 21 (headed (record l { ask = ask }) (a ∷ b ∷ c ∷ d ∷ e ∷ f ∷ g ∷ h ∷ []) ++ l.datagram)
-          ≡ l.datagram
-      go a b c d e f g h None = refl
-      go a b c d e f g h (Some tic) = refl
+  datagram-envelope = grind (arith, body-envelope, eight)
 
   -- what stands behind the head
   abbrev rest : List ℕ
@@ -96,9 +72,7 @@ module _ (key : List ℕ) (l : Letter) (long : 8 ≤ length l.game) where
       (λ a b c d e f g h. refl)
 
   pub start-envelope : l.start < 2 ^ 32 → from_le_bytes w32 (take 4 (drop 12 (envelope key l))) ≡ l.start
-  start-envelope small = eight l.game long
-      (λ g. from_le_bytes w32 (take 4 (drop 12 (headed l g ++ l.datagram ++ rest))) ≡ l.start)
-      (λ a b c d e f g h. from_le_bytes-to_le_bytes_4 l.start small)
+  start-envelope small = grind (arith, eight, from_le_bytes-to_le_bytes_4)
 
   pub ask-envelope : IfSome l.ask (λ tic. tic < 2 ^ 32)
       → ask_in (slice_index (envelope key l) 16) (told_tic (envelope key l)) ≡ Some l.ask

@@ -1,18 +1,9 @@
 -- Bytes are opened as one thing, and what passes all tests is an envelope.
-use Rattle.std.proofs.Common.{◌≡◌, ◌≢◌, ◌⊎◌, ◌<◌, ◌≤◌, ◌+◌, ◌-◌, ◌^◌, ℕ, zero, suc, List, [], ◌∷◌, ◌++◌, length, take, drop, get_or, refl, ap, sym, ◌∙◌, arith, Option, Some, None, Result, Ok, Err, inl, inr, Bool, true, false}
-use Rattle.std.specs.Prelude.{slice_index, IfSome, ◌==◌, ◌&&◌, if◌then◌else◌}
-use Rattle.std.specs.Int.{w32, to_le_bytes, from_le_bytes}
-use Rattle.std.proofs.lemmas.Bool.{cases_eq, eq-eqb, ne_eqb}
-use Rattle.std.proofs.lemmas.List.{take-append-drop, take-take, length-take-le, length-drop}
-use Rattle.std.proofs.lemmas.Nat.{le_bytes_4}
-use Rattle.std.proofs.lemmas.Option.{same_Some}
-use Rattle.dn_seal.specs.declared.opened.Opened.{Opened}
-use Rattle.dn_seal.specs.declared.opened.SealFault.{SealFault}
-use Rattle.dn_seal.specs.declared.opened.SealFault.TheVariants.{Short, Long, Suite, Kind, Game, Receiver, Tag, Request}
-use Rattle.dn_seal.specs.Hmac.{tag_of}
-use Rattle.dn_seal.specs.Keys.{suite_byte}
-use Rattle.dn_seal.specs.Envelope.{ask_bytes, head_bytes, body_bytes, envelope}
-use Rattle.dn_seal.specs.Opening.{Sealing, envelopes, letter_to, IsOpenedAs, IsSized, IsFor, IsTagged, told_game, told_body, told_tag, told_tic, ask_in}
+use Rattle.std.proofs.Common.{◌≡◌, ◌≢◌, ◌⊎◌, ◌<◌, ◌≤◌, ◌+◌, ◌-◌, ◌^◌, ℕ, zero, suc, List, [], ◌∷◌, ◌++◌, length, take, drop, get_or, refl, ap, sym, ◌∙◌, arith, Option, Some, None, Result, Ok, Err, inl, inr}
+use Rattle.std.proofs.{lemmas.Bool.{eq-eqb, ne_eqb}, lemmas.List.{take-append-drop, take-take, length-take-le, length-drop}, lemmas.Nat.le_bytes_4, lemmas.Option.same_Some}
+use Rattle.std.specs.{Prelude.{slice_index, IfSome, ◌==◌, ◌&&◌, if◌then◌else◌}, Int.{w32, to_le_bytes, from_le_bytes}}
+use Rattle.dn_seal.specs.{declared.opened.Opened.Opened, declared.opened.SealFault.SealFault, declared.opened.SealFault.TheVariants.{Short, Long, Suite, Kind, Game, Receiver, Tag, Request}, Hmac.tag_of, Keys.suite_byte}
+use Rattle.dn_seal.specs.{Envelope.{ask_bytes, head_bytes, body_bytes, envelope}, Opening.{Sealing, envelopes, letter_to, IsOpenedAs, IsSized, IsFor, IsTagged, told_game, told_body, told_tag, told_tic, ask_in}}
 use Rattle.dn_seal.proofs.Envelopes.{length-envelope, body-envelope, tag-envelope, datagram-envelope, game-envelope, from-envelope, to-envelope, start-envelope, ask-envelope}
 
 module _ (s : Sealing) (bytes : List ℕ) (o : Opened) (is : IsOpenedAs s bytes (Ok o)) where
@@ -75,21 +66,11 @@ module _ (s : Sealing) (bytes : List ℕ) where
 
   pub only_short : length bytes < 37 → (read : Result Opened SealFault) → IsOpenedAs s bytes read
       → Err Short ≡ read
-  only_short few read h = go (by_length read h)
-    where
-      go : IsByLength read → Err Short ≡ read
-      go (inl short) = short.1
-      go (inr (inl long)) = absurd (omega (arith, few, long.0))
-      go (inr (inr sized)) = absurd (omega (arith, few, sized.0))
+  only_short few read h = grind (arith, by_length)
 
   pub only_long : 141 < length bytes → (read : Result Opened SealFault) → IsOpenedAs s bytes read
       → Err Long ≡ read
-  only_long many read h = go (by_length read h)
-    where
-      go : IsByLength read → Err Long ≡ read
-      go (inl short) = absurd (omega (arith, many, short.0))
-      go (inr (inl long)) = long.1
-      go (inr (inr sized)) = absurd (omega (arith, many, sized.1))
+  only_long many read h = grind (arith, by_length)
 
   -- nor have those whose tag is wrong
   pub only_tag : IsFor envelopes s bytes → told_tag bytes ≢ tag_of s.seal.key (told_body bytes)
@@ -140,40 +121,12 @@ four_bytes a b c d n ha hb hc hd e =
 no_request : (q a b c d : ℕ) (ask : Option ℕ)
     → (if q == 0 && from_le_bytes w32 (a ∷ b ∷ c ∷ d ∷ []) == 0 then Some None else None) ≡ Some ask
     → q ∷ a ∷ b ∷ c ∷ d ∷ [] ≡ ask_bytes ask
-no_request q a b c d ask e = elim (cases_eq q 0) [
-  | inl none ↦ elim (cases_eq (from_le_bytes w32 (a ∷ b ∷ c ∷ d ∷ [])) 0) [
-    | inl empty ↦
-        let off = eq-eqb q 0 none in
-        let nil = eq-eqb (from_le_bytes w32 (a ∷ b ∷ c ∷ d ∷ [])) 0 empty in
-        let told : None ≡ ask = same_Some None ask (rw (off, nil) at e) in
-        let za : a ≡ 0 = omega arith in
-        let zb : b ≡ 0 = omega arith in
-        let zc : c ≡ 0 = omega arith in
-        let zd : d ≡ 0 = omega arith in
-        (λ i. none i ∷ za i ∷ zb i ∷ zc i ∷ zd i ∷ []) ∙ ap ask_bytes told
-    | inr some ↦
-        let off = eq-eqb q 0 none in
-        let not_nil = ne_eqb (from_le_bytes w32 (a ∷ b ∷ c ∷ d ∷ [])) 0 some in
-        absurd (let never : ◌≡◌ {A = Option (Option ℕ)} None (Some ask) = rw (off, not_nil) at e in cc)
-  ]
-  | inr other ↦
-      let off = ne_eqb q 0 other in
-      absurd (let never : ◌≡◌ {A = Option (Option ℕ)} None (Some ask) = rw off at e in cc)
-]
+no_request q a b c d ask e = grind (arith, off, eq-eqb, same_Some, ne_eqb)
 
 -- the bytes of a request that was read
 pub ask_is : (q a b c d : ℕ) (ask : Option ℕ) → a < 256 → b < 256 → c < 256 → d < 256
     → ask_in q (from_le_bytes w32 (a ∷ b ∷ c ∷ d ∷ [])) ≡ Some ask → q ∷ a ∷ b ∷ c ∷ d ∷ [] ≡ ask_bytes ask
-ask_is q a b c d ask ha hb hc hd e =
-    let tic : ℕ = from_le_bytes w32 (a ∷ b ∷ c ∷ d ∷ []) in
-    elim (cases_eq q 1) [
-      | inl one ↦
-          let on = eq-eqb q 1 one in
-          let told : Some tic ≡ ask = same_Some (Some tic) ask (rw on at e) in
-          let four = four_bytes a b c d tic ha hb hc hd refl in
-          (λ i. one i ∷ four i) ∙ ap ask_bytes told
-      | inr other ↦ let off = ne_eqb q 1 other in no_request q a b c d ask (rw off at e)
-    ]
+ask_is q a b c d ask ha hb hc hd e = grind (arith, eq-eqb, same_Some, four_bytes, off, ne_eqb, no_request)
 
 -- the 21 bytes in front, by what was read of them
 head_is : (bytes : List ℕ) (s : Sealing) (o : Opened) → ((i : ℕ) → get_or bytes i 0 < 256) → 21 ≤ length bytes
@@ -210,19 +163,7 @@ assembled bytes s o fits tests from start ask datagram =
 pub asked-small : (flag tic : ℕ) (ask : Option ℕ) → tic < 2 ^ 32 → ask_in flag tic ≡ Some ask
     → IfSome ask (λ t. t < 2 ^ 32)
 asked-small flag tic None small e = tt
-asked-small flag tic (Some t) small e = elim (cases_eq flag 1) [
-  | inl one ↦
-      let on = eq-eqb flag 1 one in
-      let told : tic ≡ t = same_Some tic t (same_Some (Some tic) (Some t) (rw on at e)) in
-      omega arith
-  | inr other ↦
-      let off = ne_eqb flag 1 other in
-      absurd (none_asked (flag == 0 && tic == 0) t (rw off at e))
-]
-  where
-    none_asked : (test : Bool) (t : ℕ) → (if test then Some None else None) ≡ Some (Some t) → ⊥
-    none_asked true t e = let told : None ≡ Some t = same_Some None (Some t) e in cc
-    none_asked false t e = let never : ◌≡◌ {A = Option (Option ℕ)} None (Some (Some t)) = e in cc
+asked-small flag tic (Some t) small e = grind (arith, eq-eqb, same_Some, off, ne_eqb)
 
 -- a datagram in an envelope is not too long
 pub datagram-short : (bytes : List ℕ) → length bytes ≤ 141 → length (drop 21 (told_body bytes)) ≤ 104

@@ -1,8 +1,6 @@
 -- Numbers whose bits do not differ are equal.
-use Rattle.std.proofs.Common.{◌≡◌, ◌/◌, ◌%◌, ◌^◌, ℕ, sym, ap, ◌∙◌, arith}
+use Rattle.std.proofs.{Common.{◌≡◌, ◌/◌, ◌%◌, ◌^◌, ℕ, sym, ap, ◌∙◌, arith}, lemmas.Nat.{le_or_l, le_or_r}, lemmas.Nat.Bits.{same_from_bits, bit_at_xor, bit_at-zero, bit_at-lt}}
 use Rattle.std.specs.Prelude.{bit_xor, bit_or}
-use Rattle.std.proofs.lemmas.Nat.{le_or_l, le_or_r}
-use Rattle.std.proofs.lemmas.Nat.Bits.{same_from_bits, bit_at_xor, bit_at-zero, bit_at-lt}
 
 pub same_bits : (a b : ℕ) → bit_xor a b ≡ 0 → a ≡ b
 same_bits a b none =

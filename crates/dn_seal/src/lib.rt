@@ -9,8 +9,6 @@ mod seal;
 mod sealer;
 mod suite;
 mod tag;
-#[cfg(test)]
-mod tests;
 
 pub use appending::append;
 pub use laws::every_list_is_opened;

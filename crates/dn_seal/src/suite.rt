@@ -23,6 +23,7 @@ pub(crate) fn suite_byte(suite: Suite) -> u8
 }
 
 /// The text that a key is derived of.
+#[tactic(auto, unfolding(crate::specs::Keys::label))]
 pub(crate) fn label(suite: Suite) -> [u8; 19]
     ensures { result ≡ label suite }
 {

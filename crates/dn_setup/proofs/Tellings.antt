@@ -1,12 +1,8 @@
 -- Every packet says something as a set-up packet.
-use Rattle.std.proofs.Common.{◌≡◌, ◌<◌, ◌≤◌, ◌%◌, ◌/◌, ◌==◌, ℕ, zero, suc, Bool, true, false, refl, arith, inl, inr, Ok, Err}
+use Rattle.std.proofs.{Common.{◌≡◌, ◌<◌, ◌≤◌, ◌%◌, ◌/◌, ◌==◌, ℕ, zero, suc, Bool, true, false, refl, arith, inl, inr, Ok, Err}, lemmas.Bool.{cases_lt, cases_eq}}
 use Rattle.std.specs.Prelude.{bit_and}
-use Rattle.std.proofs.lemmas.Bool.{cases_lt, cases_eq}
 use Rattle.dn_packet.specs.declared.packet.Packet.{Packet}
-use Rattle.dn_setup.specs.declared.setup.SetupFault.TheVariants.{NotSetup, Version, Range}
-use Rattle.dn_setup.specs.Settings.{Settings, choice}
-use Rattle.dn_setup.specs.Starts.{bit}
-use Rattle.dn_setup.specs.Setup.{HasSetup, Carries, Told, version}
+use Rattle.dn_setup.specs.{declared.setup.SetupFault.TheVariants.{NotSetup, Version, Range}, Settings.{Settings, choice}, Starts.bit, Setup.{HasSetup, Carries, Told, version}}
 
 -- a bit is 0 or 1, and a number below 2 is a bit
 bit_small : (b : Bool) → bit b ≤ 1

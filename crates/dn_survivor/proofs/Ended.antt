@@ -1,41 +1,112 @@
 -- In every game an end that was told past a gap is that of one who has left.
-use Rattle.std.proofs.Common.{◌≡◌, ℕ, ◌<◌, ◌≤◌, refl, sym, ap, subst, ◌∙◌, arith, inl, inr, List, [], ◌∷◌}
-use Rattle.std.specs.Prelude.{Bool, true, false, nat_lt, Option, Some, None, slice_get}
-use Rattle.std.proofs.lemmas.Bool.{cases_Bool, cases_eq, cond_both}
+use Rattle.std.proofs.Common.{◌≡◌, ◌≢◌, ℕ, ℤ, refl, sym, ap, ◌∙◌, inl, inr, arith, ◌<◌, ◌≤◌, subst, List, [], ◌∷◌}
+use Rattle.std.specs.Prelude.{◌⊎◌, Bool, true, false, Option, Some, None, slice_get}
+use Rattle.std.proofs.lemmas.Bool.{both_ways, cond_both, cond-true, cases_Bool}
 use Rattle.std.proofs.lemmas.Option.{none-some, same_Some}
-use Rattle.dn_tic.specs.declared.command.TicCmd.{TicCmd}
-use Rattle.dn_tic.specs.declared.input.Input.TheVariants.{Pressed, Given}
+use Rattle.dn_tic.specs.{declared.input.Input.Input, declared.command.TicCmd.TicCmd, declared.input.Input.TheVariants.Pressed, declared.input.Input.TheVariants.Given}
 use Rattle.dn_setup.specs.Settings.{Settings}
-use Rattle.dn_machine.specs.declared.events.Event.{Event}
-use Rattle.dn_machine.specs.declared.events.Event.TheVariants.{Build, Give, Send, Deliver, Run, Quit, Stop}
-use Rattle.dn_machine.specs.declared.events.Refusal.{Refusal}
-use Rattle.dn_machine.specs.Flight.{Flight}
-use Rattle.dn_machine.specs.Game.{Game, own_marks, posted, refused_at, refused, delivered, on_event, applied_if, applied, opening_game}
+use Rattle.dn_machine.specs.{Building.on_build, declared.answers.Heard.Heard, declared.answers.Phase.Phase, declared.peer.Peer.Peer, Flight.Flight, Hearing.on_packet, Limits.Limits, Node.Node, Node.put, Node.ends_of}
+use Rattle.dn_machine.specs.{Node.got, Running.on_quit, Running.on_run_but, Sending.on_send, declared.events.Event.Event, Game.Game, Game.own_marks, Game.posted, Game.delivered}
+use Rattle.dn_machine.specs.{Game.on_event, Game.opening_game, Node.made, Node.has_left, Worlds.Rules, declared.events.Event.TheVariants.Build, declared.events.Event.TheVariants.Give}
+use Rattle.dn_machine.specs.{declared.events.Event.TheVariants.Send, declared.events.Event.TheVariants.Deliver, declared.events.Event.TheVariants.Run, declared.events.Event.TheVariants.Quit}
+use Rattle.dn_machine.specs.{declared.events.Event.TheVariants.Stop}
+use Rattle.dn_machine.proofs.{Calls.build_cases, Calls.packet_cases, Calls.quit_cases, Calls.send_cases, Put.put_off, Put.view_kept, Put.put_at}
+use Rattle.dn_remain.specs.{Wary.Report, Wary.Wary, Wary.after_news, Wary.noted_gone, Wary.on_give_up, Wary.on_report, Wary.with_gone, Wary.with_report, Vanished.Commands.Holder, Vanished.Commands.Had}
+use Rattle.dn_remain.specs.{Vanished.Commands.seen, Vanished.Commands.past_seen, Seen.now_of, RunsRemain.NextRemain, Relaying.RelayEvent, Relaying.NextRelayed, Relaying.LeadsRelayed, Relaying.RunsRelayed}
+use Rattle.dn_remain.specs.{declared.events.RemainEvent.RemainEvent, Remaining.Remaining, Remaining.wary_of, Remaining.with_wary, Remaining.after_run, Remaining.is_barred}
+use Rattle.dn_remain.specs.{Remaining.is_barred_flight, Remaining.opening_remaining}
+use Rattle.dn_remain.proofs.{ButRuns.run_but_cases, Cases.give_up_cases, Cases.news_cases, Cases.report_cases, Vanished.Always.always, Vanished.Handing.was_seen, Vanished.Invariant.IsKept, Vanished.Invariant.IsLater}
+use Rattle.dn_remain.proofs.{Reached.IsReached, ButRuns.IsNoRun, Followed.IsFollowed, Followed.AreFollowed, Followed.anchored, Each.each_event, Each.each_remain, Vanished.Put.at_put}
+use Rattle.dn_survivor.proofs.Waries.{news_gone}
 use Rattle.dn_machine.specs.Node as machine
-use Rattle.dn_machine.specs.Node.{put, ends_of, got, made, has_left}
-use Rattle.dn_machine.specs.Worlds.{Rules}
-use Rattle.dn_machine.proofs.Put.{put_at, put_off}
-use Rattle.dn_remain.specs.Vanished.Commands.{Holder, Had, seen, past_seen}
 use Rattle.dn_remain.specs.Vanished.Node as counted
-use Rattle.dn_remain.proofs.Vanished.Always.{always}
-use Rattle.dn_remain.proofs.Vanished.Handing.{was_seen}
-use Rattle.dn_remain.proofs.Vanished.Invariant.{IsKept, IsLater}
-use Rattle.dn_remain.specs.Seen.{now_of}
-use Rattle.dn_remain.specs.Wary.{Report, Wary, on_give_up, on_report}
-use Rattle.dn_remain.specs.Remaining as remaining
-use Rattle.dn_remain.specs.Remaining.{Telling, Remaining, wary_of, with_wary, unless, with_telling, after_run, after_event, is_barred, is_barred_flight, opening_remaining}
-use Rattle.dn_remain.specs.RunsRemain.{NextRemain}
 use Rattle.dn_remain.specs.Relaying as relaying
-use Rattle.dn_remain.specs.Relaying.{RelayEvent, NextRelayed, LeadsRelayed, RunsRelayed}
-use Rattle.dn_remain.proofs.Reached.{IsReached}
 use Rattle.dn_remain.proofs.Relayed as relayed
-use Rattle.dn_remain.specs.declared.events.RemainEvent.{RemainEvent}
-use Rattle.dn_remain.specs.declared.events.RemainEvent.TheVariants.{Own, GiveUp, Tell, Hear}
-use Rattle.dn_remain.proofs.ButRuns.{IsNoRun}
-use Rattle.dn_remain.proofs.Followed.{IsFollowed, AreFollowed, anchored}
 use Rattle.dn_remain.proofs.Histories
 use Rattle.dn_remain.proofs.Remains
-use Rattle.dn_survivor.proofs.Frozen.{IsFrozen, frozen_built, frozen_give_up, frozen_heard, frozen_quit, frozen_ran, frozen_report, frozen_sent}
+
+-- Of one who is given up no call tells another end, but a decision.
+
+-- the end that is known of each of these is as it was, or lies behind all commands of the player that are there
+abbrev pub IsFrozen : (ℕ → Bool) → Node → Node → Type 0
+IsFrozen gone old new = (p : ℕ) → gone p ≡ true
+    → (ends_of new p ≡ ends_of old p) ⊎ (ends_of new p ≡ Some (got new p))
+
+module _ (limits : Limits) (me : ℕ) (gone : ℕ → Bool) (node : Node) where
+  pub frozen_sent : (to : ℕ) → IsFrozen gone node (on_send limits me node to).0
+  frozen_sent to = send_cases limits me node (λ (x : Node × Option Flight). IsFrozen gone node x.0) to
+      (λ p g. inl refl)
+      (λ other gathers p g. inl refl)
+      (λ other plays p g. inl (ap (λ (ends : ℕ → Option ℕ). ends p)
+      (view_kept (λ (x : Peer). x.end) node.peers to _ refl)))
+      (λ other left p g. inl (ap (λ (ends : ℕ → Option ℕ). ends p)
+      (view_kept (λ (x : Peer). x.end) node.peers to _ refl)))
+
+  pub frozen_quit : IsFrozen gone node (on_quit node).0
+  frozen_quit = quit_cases limits me node (λ (n : Node). IsFrozen gone node n) (λ p g. inl refl)
+      (λ on p g. inl refl)
+
+  pub frozen_built : (input : Input) → IsFrozen gone node (on_build limits me node input).0
+  frozen_built input = build_cases limits me node (λ (n : Node). IsFrozen gone node n) input (λ same p g. inl refl)
+      (λ plays room p g. inl refl)
+
+  pub frozen_ran : (set : ℕ → Bool) (marks : ℕ → ℤ) → IsFrozen gone node (on_run_but limits set node marks).0
+  frozen_ran set marks = run_but_cases limits me set node marks (λ (n : Node). IsFrozen gone node n)
+      (λ same p g. inl refl) (λ player plays nobody off p g. inl refl) (λ plays nobody full p g. inl refl)
+      (λ plays nobody room p g. inl refl)
+
+  -- nothing of one who is given up is heard
+  pub frozen_heard : (flight : Flight) → gone flight.from ≡ false
+      → IsFrozen gone node (on_packet limits me node flight).0
+  frozen_heard flight open_from = packet_cases limits me node flight
+      (λ (x : Node × Heard). IsFrozen gone node x.0) (record {
+        dropped = λ number why p g. inl refl;
+        starts = λ s listens kind p g. inl refl;
+        completes = λ word g all p given. inl refl;
+        notes = λ word g some p given. inl refl;
+        commands = λ plays. record {
+          dropped = λ number why p g. inl refl;
+          stale = λ l p g. inl (ap (λ (x : Peer). x.end) (put_off node.peers flight.from p _ (another p g)));
+          gap = λ l p g. inl (ap (λ (x : Peer). x.end) (put_off node.peers flight.from p _ (another p g)));
+          takes = λ first high p g. inl (ap (λ (x : Peer). x.end)
+              (put_off node.peers flight.from p _ (another p g)));
+        };
+        requests = λ ended p g. inl (ap (λ (x : Peer). x.end)
+            (put_off node.peers flight.from p _ (another p g)));
+      })
+    where
+      another : (p : ℕ) → gone p ≡ true → p ≢ flight.from
+      another p g e = both_ways (gone p) (ap gone e ∙ open_from) g
+
+-- to need to hear no more of one tells no end
+noted_peers : (limits : Limits) (node : Node) (player : ℕ) (phase : Phase)
+    → (noted_gone limits node player phase).peers ≡ node.peers
+noted_peers limits node player phase = grind (arith, cond_both)
+
+module _ (limits : Limits) (me : ℕ) (wary : Wary) where
+  frozen_news : IsFrozen wary.gone wary.node (after_news limits me wary).node
+  frozen_news = grind (arith, news_cases, cond-true)
+
+-- and nothing else tells one
+frozen_after : (limits : Limits) (me : ℕ) (wary : Wary) (old : Node)
+    → ((p : ℕ) → ends_of wary.node p ≡ ends_of old p)
+    → IsFrozen (after_news limits me wary).gone old (after_news limits me wary).node
+frozen_after limits me wary old same p g = grind (arith, frozen_news, news_gone)
+
+module _ (limits : Limits) (me : ℕ) (wary : Wary) where
+  pub frozen_report : (from : ℕ) (report : Report)
+      → IsFrozen (on_report limits me wary from report).0.gone wary.node
+      (on_report limits me wary from report).0.node
+  frozen_report from report = report_cases limits me wary (λ (w : Wary). IsFrozen w.gone wary.node w.node) from
+      report (λ p g. inl refl)
+      (λ phase here there newer. frozen_after limits me (with_report wary from report) wary.node (λ p. refl))
+
+  pub frozen_give_up : (player : ℕ)
+      → IsFrozen (on_give_up limits me wary player).0.gone wary.node (on_give_up limits me wary player).0.node
+  frozen_give_up player = give_up_cases limits me wary (λ (w : Wary). IsFrozen w.gone wary.node w.node) player
+      (λ p g. inl refl)
+      (λ phase low apart new. frozen_after limits me (with_gone limits wary player) wary.node
+      (λ p. ap (λ (ps : ℕ → Peer). (ps p).end) (noted_peers limits wary.node player wary.node.phase)))
 
 -- an end past a gap is that of one who has left, and lies behind all that it made
 abbrev pub AreEnded : Remaining → Type 0
@@ -52,17 +123,7 @@ stays gone old new same q p g = inl (ap (λ (nodes : ℕ → machine.Node). ends
 -- one node is another
 one : (gone : ℕ → ℕ → Bool) (old new : Game) (q : ℕ) (node : machine.Node) → new.nodes ≡ put old.nodes q node
     → IsFrozen (gone q) (old.nodes q) node → AreFrozen gone old new
-one gone old new q node is frozen x =
-    let at : new.nodes x ≡ put old.nodes q node x = ap (λ (nodes : ℕ → machine.Node). nodes x) is in
-    elim (cases_eq x q) [
-      | inl e ↦
-          let here : new.nodes x ≡ node = at ∙ put_at old.nodes q x node e in
-          subst (λ (n : machine.Node). IsFrozen (gone x) (old.nodes x) n) (sym here)
-          (subst (λ (k : ℕ). IsFrozen (gone k) (old.nodes k) node) (sym e) frozen)
-      | inr n ↦
-          let here : new.nodes x ≡ old.nodes x = at ∙ put_off old.nodes q x node n in
-          λ p g. inl (ap (λ (m : machine.Node). ends_of m p) here)
-    ]
+one gone old new q node is frozen x = grind (arith, IsFrozen, at_put)
 
 posted_nodes : (game : Game) (o : Option Flight) → (posted game o).0.nodes ≡ game.nodes
 posted_nodes game o = grind arith
@@ -89,73 +150,26 @@ module _ {S : Type 0} (rules : Rules S) (all : Remaining) where
       (frozen_quit rules.limits node (all.gone node) (all.game.nodes node))
   happens (Stop node) n b = stays all.gone all.game (on_event rules all.game (Stop node)).0 refl
 
-  applies : (event : Event) → IsNoRun event → is_barred all event ≡ false
-      → AreFrozen all.gone all.game (applied rules all.game event).0
-  unfolding applied
-  applies event n b = go (refused rules.players all.game event)
-    where
-      go : (o : Option Refusal) → AreFrozen all.gone all.game (applied_if rules all.game event o).0
-      go (Some refusal) = stays all.gone all.game all.game refl
-      go None = happens event n b
-
-  run_on : (node : ℕ) (o : Option Refusal) → AreFrozen all.gone all.game (after_run rules all node o)
-  run_on node (Some refusal) = stays all.gone all.game all.game refl
-  run_on node None = one all.gone all.game (after_run rules all node None) node _ refl
-      (frozen_ran rules.limits node (all.gone node) (all.game.nodes node) (all.gone node)
-      (own_marks rules (all.game.nodes node)))
-
-  occurs : (event : Event) → is_barred all event ≡ false → AreFrozen all.gone all.game (after_event rules all event)
-  occurs (Build node keys) b = applies (Build node keys) tt b
-  occurs (Give node command) b = applies (Give node command) tt b
-  occurs (Send node to) b = applies (Send node to) tt b
-  occurs (Deliver which) b = applies (Deliver which) tt b
-  occurs (Run node) b = run_on node (refused_at rules.players all.game node)
-  occurs (Quit node) b = applies (Quit node) tt b
-  occurs (Stop node) b = applies (Stop node) tt b
-
   -- another node is put in the place of one, with whom it has given up
   placed : (q : ℕ) (wary : Wary) → IsFrozen wary.gone (all.game.nodes q) wary.node
       → AreFrozen (with_wary all q wary).gone all.game (with_wary all q wary).game
-  placed q wary frozen = one (with_wary all q wary).gone all.game (with_wary all q wary).game q wary.node refl
-      (subst (λ (g : ℕ → Bool). IsFrozen g (all.game.nodes q) wary.node)
-      (sym (put_at all.gone q q wary.gone refl)) frozen)
-
-  by_refusal : (o : Option Refusal) (new : Remaining) → AreFrozen new.gone all.game new.game
-      → AreFrozen (unless o all new).gone all.game (unless o all new).game
-  by_refusal (Some refusal) new h = stays all.gone all.game all.game refl
-  by_refusal None new h = h
-
-  heard : (o : Option Telling) → AreFrozen (remaining.after_hearing rules.limits all o).gone all.game
-      (remaining.after_hearing rules.limits all o).game
-  heard None = stays all.gone all.game all.game refl
-  heard (Some t) = by_refusal (refused_at rules.players all.game t.to) _
-      (placed t.to (on_report rules.limits t.to (wary_of all t.to) t.from t.report).0
-      (frozen_report rules.limits t.to (wary_of all t.to) t.from t.report))
+  placed q wary frozen = grind (arith, one, IsFrozen, put_at)
 
   abbrev Goes : Remaining → Type 0
   Goes next = AreFrozen next.gone all.game next.game
 
   frozen_on : (event : RemainEvent) (next : Remaining) → NextRemain rules all event next → Goes next
-  frozen_on (Own event) next (inl barred) = subst Goes (sym barred.1) (stays all.gone all.game all.game refl)
-  frozen_on (Own event) next (inr goes) = subst Goes (sym goes.3) (elim goes.2 [
-    | inl is ↦ subst (λ (g : Game). AreFrozen all.gone all.game g) (sym is) (occurs event goes.0)
-    | inr left ↦ stays all.gone all.game goes.1 (ap (λ (g : Game). g.nodes) left.1)
-  ])
-  frozen_on (GiveUp node player) next is = subst Goes (sym is)
-      (by_refusal (refused_at rules.players all.game node) _
-      (placed node (on_give_up rules.limits node (wary_of all node) player).0
-      (frozen_give_up rules.limits node (wary_of all node) player)))
-  frozen_on (Tell node to) next goes = elim goes [
-    | inl is ↦ subst Goes (sym is) (by_refusal (refused_at rules.players all.game node) _
-        (cond_both (nat_lt to rules.players) _ _ Goes (λ low. telling node to _)
-        (λ high. stays all.gone all.game all.game refl)))
-    | inr is ↦ subst Goes (sym is) (stays all.gone all.game all.game refl)
-  ]
-    where
-      telling : (node to : ℕ) (o : Option Report) → Goes (with_telling all node to o)
-      telling node to None = stays all.gone all.game all.game refl
-      telling node to (Some report) = stays all.gone all.game all.game refl
-  frozen_on (Hear which) next is = subst Goes (sym is) (heard (slice_get all.reports which))
+  frozen_on = each_remain rules all Goes (stays all.gone all.game all.game refl)
+      (λ event goes. each_event rules all (λ event g. is_barred all event ≡ false → AreFrozen all.gone all.game g)
+      (λ event b. stays all.gone all.game all.game refl) (λ event none n b. happens event n b)
+      (λ node none b. one all.gone all.game (after_run rules all node None) node _ refl
+      (frozen_ran rules.limits node (all.gone node) (all.game.nodes node) (all.gone node)
+      (own_marks rules (all.game.nodes node)))) event goes)
+      (λ node player none. placed node (on_give_up rules.limits node (wary_of all node) player).0
+      (frozen_give_up rules.limits node (wary_of all node) player))
+      (λ node to low report is. stays all.gone all.game all.game refl)
+      (λ which t e none. placed t.to (on_report rules.limits t.to (wary_of all t.to) t.from t.report).0
+      (frozen_report rules.limits t.to (wary_of all t.to) t.from t.report))
 
   -- so what is known of the ends is known after each event
   module _ (older : List (ℕ → Holder TicCmd)) (h : IsFollowed Histories.known rules all older)

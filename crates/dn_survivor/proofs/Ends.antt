@@ -1,42 +1,65 @@
 -- The ends of all who are given up, as `dn_remain` decides them.
-use Rattle.std.proofs.Common.{◌≡◌, ◌≢◌, ◌<◌, ◌≤◌, ◌+◌, ◌-◌, ℕ, zero, suc, Bool, true, false, List, length, refl, sym, ap, subst, ◌∙◌, arith, inl, inr, Option, Some, None}
-use Rattle.std.specs.Prelude.{◌||◌, if◌then◌else◌}
+use Rattle.std.proofs.Common.{◌≡◌, ◌+◌, ℕ, refl, subst, ◌∙◌, add-one, ◌≤◌, ◌-◌, false, List, ◌++◌, length, take, drop, sym, ap, arith, ◌≢◌, ◌<◌, zero, suc, Bool, true, inl, inr, Option, Some, None}
+use Rattle.std.specs.Prelude.{◌||◌, max, if◌then◌else◌}
+use Rattle.std.specs.List.{list_any}
+use Rattle.std.proofs.Math.Seq.{take-length}
+use Rattle.std.proofs.lemmas.List.{length-append}
+use Rattle.std.proofs.lemmas.List.Folds.{list_any-append}
 use Rattle.std.specs.Option.{unwrap_or}
 use Rattle.std.proofs.lemmas.Bool.{cases_Bool, both_ways, cond-true, cond-false}
+use Rattle.dn_machine.specs.{Limits.Limits, Node.ends_of, Node.is_ended, Settling.settled_one, declared.answers.Phase.Phase, Node.got, Node.ran, Settling.settled_to}
+use Rattle.dn_lockstep.specs.{Contents.Contents, Steps.IsAfter, Steps.Steps, declared.lockstep.settling.Settled.Settled, Phases.is_listening, Rings.is_stop, Settling.has_gap, Settling.is_no_peer, Settling.is_other_end}
+use Rattle.dn_lockstep.specs.{Settling.missing, Settling.on_settle}
+use Rattle.dn_survivor.specs.{declared.others.Others.Others, declared.answers.Ends.Ends, Ending.settled_below, Ending.settled_with, Ending.end_by, Ending.settled_by, Represents.CanTakeAll, OfOthers.Keeping.commands_of}
+use Rattle.dn_survivor.specs.{OfOthers.Keeping.first_of, OfOthers.Keeping.has, OfOthers.Keeping.nodes_of, OfOthers.Keeping.own_of, OfOthers.Keeping.told_of}
 use Rattle.dn_tic.specs.declared.command.TicCmd.{TicCmd}
-use Rattle.dn_machine.specs.declared.answers.Phase.{Phase}
-use Rattle.dn_machine.specs.declared.answers.Phase.TheVariants.{Listening, Gathering, Playing, Ended}
-use Rattle.dn_machine.specs.Limits.{Limits}
-use Rattle.dn_machine.specs.Node as machine
-use Rattle.dn_machine.specs.Node.{put, ends_of, got, is_ended, ran}
-use Rattle.dn_machine.specs.Settling.{settled_one, settled_to}
 use Rattle.dn_machine.proofs.Put.{put_off}
-use Rattle.dn_lockstep.specs.declared.lockstep.settling.Settled.{Settled}
-use Rattle.dn_lockstep.specs.Phases.{is_listening}
-use Rattle.dn_lockstep.specs.Settling.{is_no_peer, is_other_end, on_settle}
 use Rattle.dn_lockstep.proofs.Turns.{in_turn}
-use Rattle.dn_remain.specs.Vanished.Calls.{can_decide}
-use Rattle.dn_remain.specs.Vanished.Commands.{Holder, fresh_holder, seen}
-use Rattle.dn_remain.specs.Vanished.Decisions.{on_decision}
-use Rattle.dn_remain.specs.Vanished.Reports.{decided_end}
-use Rattle.dn_survivor.specs.declared.others.Others.{Others}
-use Rattle.dn_survivor.specs.OfOthers.Keeping.{commands_of, first_of, has, nodes_of, own_of, told_of}
+use Rattle.dn_remain.specs.{Vanished.Calls.can_decide, Vanished.Commands.Holder, Vanished.Commands.fresh_holder, Vanished.Commands.seen, Vanished.Decisions.on_decision, Vanished.Reports.decided_end}
+use Rattle.dn_remain.specs.{Taking.commands_decided, Wary.Report, Wary.Wary, Wary.can_settle, Wary.is_in_game, Wary.or_fresh, Wary.report_of, Wary.settled}
+use Rattle.dn_survivor.proofs.OfOthers.Catching.{Suffices, suffices}
+use Rattle.dn_machine.specs.Node as machine
+use Rattle.dn_lockstep.proofs.Wholes as wholes
 use Rattle.dn_survivor.specs.OfOthers.Represents as others
 use Rattle.dn_survivor.proofs.OfOthers.Agreeing as agreeing
-use Rattle.dn_survivor.proofs.OfOthers.Catching.{Suffices, suffices}
-use Rattle.dn_remain.specs.Taking.{commands_decided}
-use Rattle.dn_remain.specs.Wary.{Report, Wary, can_settle, is_in_game, or_fresh, report_of, settled}
-use Rattle.dn_survivor.specs.declared.answers.Ends.{Ends}
-use Rattle.dn_survivor.specs.Ending.{end_by, ends_with, settled_below, settled_by, settled_with}
-use Rattle.dn_survivor.specs.Represents.{CanTakeAll}
-use Rattle.dn_survivor.proofs.Settling.{settles}
+
+-- One end that is settled by what is kept of the others.
+
+module _ (limits : Limits) (me player first : ℕ) (m : machine.Node) (commands decided : List TicCmd)
+    (near : first ≤ machine.got m player)
+    (whole : m.held player ++ drop (machine.got m player - first) commands ≡ decided)
+    (long : length decided ≡ max (machine.got m player) (first + length commands)) where
+  abbrev behind : List TicCmd
+  behind = drop (machine.got m player - first) commands
+
+  counts : length decided ≡ machine.got m player + length behind
+  counts = ap length (sym whole) ∙ length-append (m.held player) behind
+
+  missing_is : missing (machine.got m player) (length decided) first commands ≡ behind
+  missing_is =
+      let many : length decided - machine.got m player ≡ length behind = omega (arith, counts) in
+      ap (λ (k : ℕ). take k behind) many ∙ take-length behind
+
+  no_gap : has_gap (machine.got m player) (length decided) first commands ≡ false
+  no_gap = grind (arith, long, near)
+
+  -- none of the missing ones would end a demo, if none of all would
+  clear : list_any is_stop decided ≡ false → list_any is_stop behind ≡ false
+  clear fair = grind (arith, list_any-append)
+
+  pub settles : is_no_peer limits.players me player ≡ false → (is_listening m.phase || is_ended m.phase) ≡ false
+      → length decided ≤ machine.ran m + limits.places → list_any is_stop decided ≡ false
+      → is_other_end (machine.ran m) (ends_of m player) (length decided) ≡ false
+      → on_settle limits me m player (length decided) first commands
+      ≡ (settled_one m player decided, Settled.Taken (length decided - machine.got m player))
+  settles peer within room fair same =
+      let many : length behind ≡ length decided - machine.got m player = omega (arith, counts) in
+      wholes.settles limits me player first m commands decided behind whole missing_is no_gap peer within room
+      (clear fair) same ∙ ap (λ (k : ℕ). (settled_one m player decided, Settled.Taken k)) many
 
 -- who is in a game neither listens nor has ended
 pub in_game : (phase : Phase) → is_in_game phase ≡ true → (is_listening phase || is_ended phase) ≡ false
-in_game Listening h = absurd (both_ways false refl h)
-in_game Gathering h = refl
-in_game Playing h = refl
-in_game (Ended cause) h = absurd (both_ways false refl h)
+in_game phase h = grind (arith, both_ways)
 
 -- a report that never came tells nothing, in either crate's words
 fresh_is : (o : Option Report) → unwrap_or o fresh_holder ≡ or_fresh o
@@ -57,20 +80,8 @@ leaves zero gone commands m = record { held = λ p h. refl; peers = λ p h. refl
 leaves (suc bound) gone commands m =
     let before = leaves bound gone commands m in
     elim (cases_Bool (gone bound)) [
-      | inl on ↦ rw on (record {
-        held = λ p h. put_off (settled_to bound gone commands m).held bound p (commands bound)
-            (λ e. absurd (omega (arith, e, h))) ∙ before.held p (omega (arith, h));
-        peers = λ p h. put_off (settled_to bound gone commands m).peers bound p _
-            (λ e. absurd (omega (arith, e, h))) ∙ before.peers p (omega (arith, h));
-        rows = before.rows;
-        phase = before.phase;
-      })
-      | inr off ↦ rw off (record {
-        held = λ p h. before.held p (omega (arith, h));
-        peers = λ p h. before.peers p (omega (arith, h));
-        rows = before.rows;
-        phase = before.phase;
-      })
+      | inl on ↦ grind (arith, put_off)
+      | inr off ↦ grind arith
     ]
 
 module _ (limits : Limits) (me : ℕ) (kept : Others) (wary : Wary) (mine : me < limits.players)
@@ -138,9 +149,7 @@ module _ (limits : Limits) (me : ℕ) (kept : Others) (wary : Wary) (mine : me <
         subst (λ (k : ℕ). length (commands player) ≤ k + limits.places) (sym before.rows) take.room in
         let within : (is_listening m.phase || is_ended m.phase) ≡ false =
         ap (λ (p : Phase). is_listening p || is_ended p) before.phase ∙ in_game wary.node.phase here in
-        let same : is_other_end (ran m) (ends_of m player) (length (commands player)) ≡ false =
-        (λ i. is_other_end (before.rows i) ((before.peers player (omega arith)) i).end (length (commands player)))
-        ∙ take.same_end in
+        let same : is_other_end (ran m) (ends_of m player) (length (commands player)) ≡ false = grind arith in
         ap (λ (k : ℕ). on_settle limits me m player k (first_of limits.players me kept player)
         (commands_of limits.players me kept player)) end
         ∙ settles limits me player (first_of limits.players me kept player) m
@@ -157,14 +166,8 @@ module _ (limits : Limits) (me : ℕ) (kept : Others) (wary : Wary) (mine : me <
         let so_far : machine.Node = settled_to bound wary.gone commands wary.node in
         ap (settled_with limits me kept bound) before
         ∙ elim (cases_Bool (wary.gone bound)) [
-          | inl on ↦
-              cond-true (has kept.gone bound) _ _ (alike ∙ on)
-              ∙ (ap (λ (x : machine.Node × Settled). (x.0, ends_with Ends.Taken bound x.1))
-              (one bound so_far on (leaves bound wary.gone commands wary.node))
-              ∙ ap (λ (m : machine.Node). (m, Ends.Taken)) (sym (cond-true (wary.gone bound) _ _ on)))
-          | inr off ↦
-              cond-false (has kept.gone bound) _ _ (alike ∙ off)
-              ∙ ap (λ (m : machine.Node). (m, Ends.Taken)) (sym (cond-false (wary.gone bound) _ _ off))
+          | inl on ↦ grind (arith, cond-true, one, leaves)
+          | inr off ↦ grind (arith, cond-false)
         ]
 
     -- all of them: the node that has decided
@@ -174,41 +177,36 @@ module _ (limits : Limits) (me : ℕ) (kept : Others) (wary : Wary) (mine : me <
               (λ player. or_fresh (wary.newest player))),
           Ends.Taken,
         )
-    decides =
-        all limits.players (omega arith)
-        ∙ (λ i. ((in_turn limits.players wary.node wary.gone commands alone ∙ is) i, Ends.Taken))
-      where
-        alone : (player : ℕ) → limits.players ≤ player → wary.gone player ≡ false
-        alone player past = elim (cases_Bool (wary.gone player)) [
-          | inl on ↦ let low = below player on in absurd (omega (arith, low, past))
-          | inr off ↦ off
-        ]
-
-        list : (p : ℕ) → (if wary.gone p then commands p else wary.node.held p) ≡ commands p
-        list p = elim (cases_Bool (wary.gone p)) [
-          | inl on ↦ rw on refl
-          | inr off ↦ rw off refl
-        ]
-
-        peer : (p : ℕ) → (if wary.gone p
-            then record (wary.node.peers p) { end = Some (length (commands p)); want = false }
-            else wary.node.peers p)
-            ≡ (if wary.gone p
-            then record (wary.node.peers p) {
-              end = (on_decision limits.players me (report_of wary) (λ player. or_fresh (wary.newest player))).ends p;
-              want = false;
-            }
-            else wary.node.peers p)
-        peer p = elim (cases_Bool (wary.gone p)) [
-          | inl on ↦ rw on refl
-          | inr off ↦ rw off refl
-        ]
-
-        is : turned ≡ settled wary.node wary.gone
-            (on_decision limits.players me (report_of wary) (λ player. or_fresh (wary.newest player)))
-        is = λ i. record wary.node { held = λ p. list p i; peers = λ p. peer p i }
+    decides = grind (arith, all, in_turn, below)
 
   -- the test is the same
   pub tests : can_decide limits.players me (own_of kept (λ player. 0)) (nodes_of kept) ≡ can_settle limits me wary
   tests = agreeing.decide limits.players limits.places me kept wary.gone wary.newest r (seen (report_of wary))
       (λ player. 0) (λ p h. refl)
+
+-- One call of the lockstep after another.
+
+-- what two calls make of a node
+pub chain : {A B : Type 0} {old mid new : Contents} {done : A} {last : B}
+    (first : Limits → ℕ → machine.Node → machine.Node × A)
+    (next : Limits → ℕ → machine.Node × A → machine.Node × B)
+    → Steps old mid first (λ a. done ≡ a) → Steps mid new (λ limits me m. next limits me (m, done)) (λ b. last ≡ b)
+    → Steps old new (λ limits me m. next limits me (first limits me m)) (λ b. last ≡ b)
+chain {A} {B} {old} {mid} {new} {done} {last} first next one two =
+    record {
+      same = two.same ∙ one.same;
+      step = λ limits me m r.
+          let a = one.step limits me m r in
+          let P : A → Type 0 = λ x. IsAfter limits me new (next limits me ((first limits me m).0, x)) (λ b. last ≡ b) in
+          subst P a.answer (two.step limits me (first limits me m).0 a.node);
+    }
+
+module _ (limits : Limits) (me : ℕ) (others : Others) (m : machine.Node) where
+  pub below_zero : settled_below limits me others 0 m ≡ (m, Ends.Taken)
+  unfolding settled_below
+  below_zero = refl
+
+  pub below_next : (player : ℕ) → settled_below limits me others (player + 1) m
+      ≡ settled_with limits me others player (settled_below limits me others player m)
+  unfolding settled_below
+  below_next player = rw (add-one player) refl

@@ -1,26 +1,14 @@
 -- What is answered in a game of survivors.
-use Rattle.std.proofs.Common.{◌≡◌, ◌<◌, ℕ, true, false, sym, ◌∙◌, inl, inr}
+use Rattle.std.proofs.Common.{◌≡◌, ◌<◌, ℕ, true, false, sym, ◌∙◌, inl, inr, arith}
 use Rattle.std.specs.Prelude.{◌⊎◌, Some, slice_get}
 use Rattle.std.proofs.lemmas.Bool.{both_ways, cond-false}
 use Rattle.dn_setup.specs.Settings.{Settings}
-use Rattle.dn_machine.specs.declared.answers.Heard.{Heard}
+use Rattle.dn_machine.specs.{declared.answers.Heard.Heard, Flight.Flight, Flight.is_near, Limits.Limits}
 use Rattle.dn_machine.specs.Drops as drops
-use Rattle.dn_machine.specs.Flight.{Flight, is_near}
-use Rattle.dn_machine.specs.Limits.{Limits}
-use Rattle.dn_lockstep.specs.Hearing.{HearsNear}
-use Rattle.dn_lockstep.specs.Marking.{Marking}
-use Rattle.dn_lockstep.specs.Sent.{bytes_of}
-use Rattle.dn_lockstep.specs.Told.{made}
-use Rattle.dn_lockstep.specs.declared.lockstep.settling.Settled.{Settled}
-use Rattle.dn_remain.specs.Remaining.{wary_of, heard_of}
-use Rattle.dn_remain.specs.Wary.{on_give_up, on_report}
-use Rattle.dn_survivor.specs.Calls.{GivesUp, HearsReport}
-use Rattle.dn_survivor.specs.OneGame.{AreRemaining}
-use Rattle.dn_survivor.specs.Represents.{reported_is}
-use Rattle.dn_survivor.specs.Session.{Given, Session}
-use Rattle.dn_survivor.specs.Surviving.{Surviving, has_given_up}
-use Rattle.dn_survivor.specs.declared.answers.GivenUp.{GivenUp}
-use Rattle.dn_survivor.specs.declared.answers.Reported.{Reported}
+use Rattle.dn_lockstep.specs.{Hearing.HearsNear, Marking.Marking, Sent.bytes_of, Told.made, declared.lockstep.settling.Settled.Settled}
+use Rattle.dn_remain.specs.{Remaining.wary_of, Remaining.heard_of, Wary.on_give_up, Wary.on_report}
+use Rattle.dn_survivor.specs.{Calls.GivesUp, Calls.HearsReport, OneGame.AreRemaining, Represents.reported_is, Session.Given, Session.Session, Surviving.Surviving, Surviving.has_given_up, declared.answers.GivenUp.GivenUp}
+use Rattle.dn_survivor.specs.{declared.answers.Reported.Reported}
 use Rattle.dn_survivor.proofs.NodeAnswers.{is_dropped, is_excluded, never_improper, not_out, taken_given, taken_reported}
 use Rattle.dn_survivor.proofs.OneGame as game_of
 use Rattle.dn_survivor.proofs.Pairs.{steady}
@@ -42,8 +30,7 @@ module _ (marking : Marking) (limits : Limits) (settings : Settings) (session : 
 
     pub reported_taken : (other : ℕ) (reason : Settled)
         → HearsReport given.from given.report (session.survivors given.to) new (Reported.Untaken other reason) → ⊥
-    reported_taken other reason by =
-        taken_reported other reason _ (is_reported (Reported.Untaken other reason) by)
+    reported_taken other reason by = grind (arith, taken_reported, is_reported)
 
     pub not_excluded : HearsReport given.from given.report (session.survivors given.to) new Reported.Excluded → ⊥
     not_excluded by =

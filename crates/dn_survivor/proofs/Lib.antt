@@ -2,15 +2,11 @@ pub mod OfOthers
 pub mod ReportBytes
 pub mod Lists
 pub mod Lowest
-pub mod Chains
-pub mod Settling
 pub mod Ends
 pub mod Waries
 pub mod Reports
 pub mod Steps
-pub mod Frozen
 pub mod Ended
-pub mod Taken
 pub mod Refusing
 pub mod Decided
 pub mod Quiet
@@ -20,5 +16,4 @@ pub mod OneGame
 pub mod Moves
 pub mod Pairs
 pub mod Heard
-pub mod Unsettled
 pub mod Lent

@@ -5,10 +5,7 @@ use Rattle.std.specs.List.{cons_option, filter_map, range_with_len}
 use Rattle.std.specs.Option.{option_to_list}
 use Rattle.std.proofs.Math.Nat.{max-eq_left, max-eq_right}
 use Rattle.std.proofs.Math.Seq.{drop-cons}
-use Rattle.std.proofs.lemmas.Bool.{cases_eq, cases_lt, le-leb, lt-ltb, lt-leb}
-use Rattle.std.proofs.lemmas.List.{drop_all}
-use Rattle.std.proofs.lemmas.List.Elements.{All-append}
-use Rattle.std.proofs.lemmas.Option.{none-some}
+use Rattle.std.proofs.lemmas.{Bool.cases_eq, Bool.cases_lt, Bool.le-leb, Bool.lt-ltb, Bool.lt-leb, List.drop_all, List.Elements.All-append, Option.none-some}
 use Rattle.dn_tic.specs.declared.command.TicCmd.{TicCmd}
 use Rattle.dn_machine.specs.Node.{blank}
 
@@ -20,8 +17,7 @@ if_last places xs at =
 -- those from a place on are the last from there
 lasts_from : (places : ℕ) (xs : List TicCmd) (count from : ℕ) → from + count ≡ length xs
     → filter_map (if_last places xs) (range_with_len from count) ≡ drop (max from (length xs - places)) xs
-lasts_from places xs zero from e =
-    sym (drop_all (max from (length xs - places)) xs (grind (arith, e)))
+lasts_from places xs zero from e = grind (arith, drop_all)
 lasts_from places xs (suc count) from e =
     let rest = lasts_from places xs count (from + 1) (omega (arith, e)) in
     let low = lt-ltb from (length xs) (omega (arith, e)) in
@@ -34,20 +30,14 @@ lasts_from places xs (suc count) from e =
           rw (low, on, here) (ap (λ (ys : List TicCmd). get_or xs from blank ∷ ys)
           (rest ∙ ap (λ (k : ℕ). drop k xs) next)
           ∙ sym (drop-cons xs from blank (omega (arith, e))))
-      | inl far ↦
-          let off = lt-leb (length xs - from) places (omega (arith, far)) in
-          let here : max from (length xs - places) ≡ length xs - places = max-eq_right (omega (arith, far)) in
-          let next : max (from + 1) (length xs - places) ≡ length xs - places = max-eq_right (omega (arith, far)) in
-          rw (low, off, here) (rest ∙ ap (λ (k : ℕ). drop k xs) next)
+      | inl far ↦ grind (arith, lt-leb, max-eq_right)
     ]
 
 -- so those of the last twenty-four are the last, if no more are kept
 pub lasts : (places : ℕ) (xs : List TicCmd) → places ≤ 24
     → filter_map (if_last places xs) (range_with_len (length xs - 24) (min (length xs) 24))
     ≡ drop (length xs - places) xs
-lasts places xs few =
-    lasts_from places xs (min (length xs) 24) (length xs - 24) (grind arith)
-    ∙ ap (λ (k : ℕ). drop k xs) (max-eq_right (omega (arith, few)))
+lasts places xs few = grind (arith, lasts_from, max-eq_right)
 
 -- what is picked of one number more
 onto : {A : Type 0} (o : Option A) (us vs : List A) → cons_option o (us ++ vs) ≡ cons_option o us ++ vs
@@ -70,10 +60,7 @@ picks_next {A} f (suc count) from =
 pub picks_more : {A : Type 0} (f : ℕ → Option A) (from count next at : ℕ) → next ≡ count + 1 → at ≡ from + count
     → filter_map f (range_with_len from next)
     ≡ filter_map f (range_with_len from count) ++ option_to_list (f at)
-picks_more f from count next at is place =
-    let more : next ≡ suc count = omega (arith, is) in
-    ap (λ (k : ℕ). filter_map f (range_with_len from k)) more ∙ picks_next f count from
-    ∙ ap (λ (k : ℕ). filter_map f (range_with_len from count) ++ option_to_list (f k)) (sym place)
+picks_more f from count next at is place = grind (arith, picks_next)
 
 longer : {A : Type 0} (o : Option A) (xs : List A) → length (cons_option o xs) ≤ length xs + 1
 longer None xs = omega arith
@@ -99,10 +86,7 @@ pub one_less : {A : Type 0} (f : ℕ → Option A) (count from p : ℕ) → f p 
 one_less f zero from p none low high = absurd (omega (arith, low, high))
 one_less f (suc count) from p none low high =
     elim (cases_eq from p) [
-      | inl same ↦
-          let rest = picks_few f count (from + 1) in
-          let here = no_longer (f from) (filter_map f (range_with_len (from + 1) count)) (ap f same ∙ none) in
-          omega (arith, rest, here)
+      | inl same ↦ grind (arith, picks_few, no_longer)
       | inr other ↦
           let rest = one_less f count (from + 1) p none (omega (arith, low, other)) (omega (arith, high)) in
           let here = longer (f from) (filter_map f (range_with_len (from + 1) count)) in

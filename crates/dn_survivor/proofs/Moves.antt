@@ -1,20 +1,14 @@
 -- Rows of the moves that inputs make.
-use Rattle.std.proofs.Common.{◌≡◌, ◌<◌, ℕ, ℤ, Bool, true, false, cond, List, [], ◌∷◌, length, get_or, refl, ap, ◌∙◌, Option, Some, None, arith, ltb, inl, inr}
+use Rattle.std.proofs.Common.{◌≡◌, ◌<◌, ℕ, ℤ, Bool, false, cond, List, [], ◌∷◌, length, get_or, refl, Option, Some, None, arith, ltb}
 use Rattle.std.specs.Prelude.{if◌then◌else◌}
 use Rattle.std.specs.Option.{option_map}
 use Rattle.std.specs.List.{take_while}
-use Rattle.std.proofs.lemmas.Bool.{cases_Bool, cond-true, lt-ltb}
+use Rattle.std.proofs.lemmas.Bool.{cond-true, lt-ltb}
 use Rattle.std.proofs.lemmas.List.{get_or-take}
 use Rattle.std.proofs.lemmas.List.Folds.{length-prefix_len}
-use Rattle.dn_tic.specs.Pressed.{pressed}
-use Rattle.dn_tic.specs.Inputs.{last_input, made_of, made_by}
-use Rattle.dn_tic.specs.Command.{used}
-use Rattle.dn_tic.specs.declared.command.TicCmd.{TicCmd}
-use Rattle.dn_tic.specs.declared.command.Move.{Move}
-use Rattle.dn_tic.specs.declared.input.Input.{Input}
-use Rattle.dn_tic.specs.declared.input.Input.TheVariants.{Pressed, Given}
-use Rattle.dn_machine.specs.Limits.{row_of}
-use Rattle.dn_machine.specs.Node.{lacks}
+use Rattle.dn_tic.specs.{Pressed.pressed, Inputs.last_input, Inputs.made_of, Inputs.made_by, Command.used, declared.command.TicCmd.TicCmd, declared.command.Move.Move, declared.input.Input.Input}
+use Rattle.dn_tic.specs.{declared.input.Input.TheVariants.Pressed, declared.input.Input.TheVariants.Given}
+use Rattle.dn_machine.specs.{Limits.row_of, Node.lacks}
 use Rattle.dn_lockstep.proofs.RowsMade.{seat_at}
 
 -- no move has a mark
@@ -33,13 +27,7 @@ module _ (players : ℕ) (one other : ℕ → Option TicCmd)
     (same : (p : ℕ) → p < players → option_map used (one p) ≡ option_map used (other p)) where
   seat : (p : ℕ) → cond (ltb p players) (option_map used (one p)) None
       ≡ cond (ltb p players) (option_map used (other p)) None
-  seat p = elim (cases_Bool (ltb p players)) [
-    | inl low ↦ rw low (same p (ltb-low low))
-    | inr high ↦ rw high refl
-  ]
-    where
-      ltb-low : ltb p players ≡ true → p < players
-      ltb-low low = grind (arith, low)
+  seat p = grind arith
 
   pub row_alike : row_of players one ≡ row_of players other
   unfolding row_of
@@ -49,11 +37,7 @@ module _ (players : ℕ) (one other : ℕ → Option TicCmd)
 pub seat_there : (players : ℕ) (over : Bool) (c : TicCmd) (f : ℕ → Option TicCmd) (p : ℕ) → p < 4 → p < players
     → f p ≡ (if over then None else Some c) → lacks (row_of players f) p ≡ false
     → get_or (row_of players f) p None ≡ Some (used c)
-seat_there players true c f p four low is there =
-    let none = seat_at players f p four ∙ (cond-true (ltb p players) _ _ (lt-ltb p players low) ∙ ap (option_map used) is) in
-    absurd (grind (arith, none, there))
-seat_there players false c f p four low is there =
-    seat_at players f p four ∙ (cond-true (ltb p players) _ _ (lt-ltb p players low) ∙ ap (option_map used) is)
+seat_there players over c f p four low is there = grind (arith, seat_at, cond-true, lt-ltb)
 
 -- a row of the front is the row of its place
 pub front_at : (test : List (Option Move) → Bool) (rows : List (List (Option Move))) (tic : ℕ)

@@ -5,9 +5,7 @@ use Rattle.dn_lockstep.specs.declared.lockstep.settling.Settled.{Settled}
 use Rattle.dn_remain.specs.Wary.{Report, Wary, on_report}
 use Rattle.dn_remain.specs.declared.events.GivenUp as remain_given
 use Rattle.dn_remain.specs.declared.events.Reported as remain_reported
-use Rattle.dn_survivor.specs.Represents.{given_up_is, reported_is}
-use Rattle.dn_survivor.specs.declared.answers.GivenUp.{GivenUp}
-use Rattle.dn_survivor.specs.declared.answers.Reported.{Reported}
+use Rattle.dn_survivor.specs.{Represents.given_up_is, Represents.reported_is, declared.answers.GivenUp.GivenUp, declared.answers.Reported.Reported}
 
 -- no answer of a node is that an end was not taken
 module _ (player : ℕ) (reason : Settled) where

@@ -2,82 +2,38 @@
 use Rattle.std.proofs.Common.{◌≡◌, ◌≢◌, ◌<◌, ◌≤◌, ℕ, ℤ, pos, Bool, true, false, List, [], ◌∷◌, ◌++◌, Option, Some, None, refl, ap, sym, ◌∙◌, subst, arith, inl, inr}
 use Rattle.std.specs.Prelude.{nat_lt, get_or, slice_get, if◌then◌else◌, IfSome}
 use Rattle.std.specs.Option.{option_map}
-use Rattle.std.proofs.lemmas.Bool.{cases_Bool, cases_eq, cases_lt, both_ways, cond-true, lt-ltb, le-ltb}
+use Rattle.std.proofs.lemmas.Bool.{cases_Bool, cases_lt, both_ways, cond-true, lt-ltb, le-ltb}
 use Rattle.std.proofs.lemmas.Option.{none-some}
-use Rattle.dn_tic.specs.declared.command.Move.{Move}
-use Rattle.dn_tic.specs.declared.command.TicCmd.{TicCmd}
-use Rattle.dn_tic.specs.declared.input.Input.{Input}
-use Rattle.dn_tic.specs.declared.input.Input.TheVariants.{Pressed, Given as Handed}
-use Rattle.dn_survivor.specs.declared.report.Report.{Report as Told}
+use Rattle.dn_tic.specs.{declared.command.Move.Move, declared.command.TicCmd.TicCmd, declared.input.Input.Input, declared.input.Input.TheVariants.Pressed, declared.input.Input.TheVariants.Given as Handed}
+use Rattle.dn_survivor.specs.{declared.report.Report.Report as Told, OfOthers.Keeping.nothing_kept, Relaying.MayRelay, Relaying.told_gone, Calls.GivesUp, Calls.HearsReport, Calls.sent_unless, OneGame.AreRemaining}
+use Rattle.dn_survivor.specs.{OneGame.AreTelling, OneGame.IsGivenAs, OneGame.IsTelling, Represents.Represents, Represents.given_up_is, Represents.reported_is, Surviving.Surviving, Surviving.has_given_up}
+use Rattle.dn_survivor.specs.{Telling.report_for, declared.answers.GivenUp.GivenUp, declared.answers.Reported.Reported, Session.Given, Session.Session, Session.after_build, Session.after_packet, Session.after_relays}
+use Rattle.dn_survivor.specs.{Session.after_report, Session.opening_session, Session.with_survivor}
 use Rattle.dn_setup.specs.Settings.{Settings}
+use Rattle.dn_machine.specs.{declared.answers.Heard.Heard, declared.answers.Made.Made, declared.answers.Ran.Ran, declared.events.Event.Event, declared.events.Refusal.Refusal, declared.peer.Peer.Peer, Building.on_build}
+use Rattle.dn_machine.specs.{Flight.Flight, Flight.is_near, Hearing.on_packet, Limits.Limits, Limits.IsWindow, Node.put, Node.is_ended, Progress.build_of, Running.is_over, Running.on_quit, Running.on_run_but}
+use Rattle.dn_machine.specs.{Worlds.Inputs, Worlds.Rules, Relaying.packet_of_one, Relaying.relayed, Relaying.with_relayed, declared.events.Event.TheVariants.Send, declared.events.Event.TheVariants.Deliver}
+use Rattle.dn_machine.specs.{declared.events.Event.TheVariants.Run, declared.events.Event.TheVariants.Quit, Game.fresh, Game.opening_game, Game.own_marks, Game.refused_at, Game.refused_flight, Game.refused, Game.applied}
+use Rattle.dn_machine.specs.{Game.applied_if, Game.delivered, Game.on_event}
+use Rattle.dn_machine.proofs.{Pairs.accepted_build, Put.put_at, Put.put_off}
+use Rattle.dn_lockstep.specs.{Contents.Contents, Contents.end_in, Hearing.HearsNear, Hearing.Spares, Marking.History, Marking.Marking, Near.IsFair, OneGame.beside, OneGame.world_told, Rows.is_gone, Runs.RunsBy}
+use Rattle.dn_lockstep.specs.{Runs.marks_in, Sent.bytes_of, Sent.sent_to, Session.given_on, Session.taken_on, Session.told_on, Steps.Steps, Steps.Tells, Steps.IsAfter, Told.made, Told.command_told}
+use Rattle.dn_lockstep.proofs.{Counting.got_is, Running.but_same, Running.but_tells, Running.kept_same, Shown.tells_held, OneGame.IsQuiet, OneGame.Rows, OneGame.build_inputs, OneGame.build_rows, OneGame.fair_on}
+use Rattle.dn_lockstep.proofs.{OneGame.hear_quiet, OneGame.not_past, OneGame.own_is, OneGame.quit_quiet, OneGame.send_quiet, OneGame.sent_between}
+use Rattle.dn_remain.specs.{Vanished.Commands.Holder, RunsRemain.NextRemain, Wary.Report, Wary.Wary, Wary.on_give_up, Wary.on_report, Wary.report_to, declared.events.RemainEvent.RemainEvent, Seen.now_of}
+use Rattle.dn_remain.specs.{Remaining.Remaining, Remaining.Telling, Remaining.wary_of, Remaining.with_wary, Remaining.with_telling, Remaining.unless, Remaining.after_event, Remaining.after_hearing, Remaining.after_run}
+use Rattle.dn_remain.specs.{Remaining.after_telling, Remaining.is_barred, Remaining.is_barred_flight, Remaining.opening_remaining, declared.events.RemainEvent.TheVariants.Own}
+use Rattle.dn_remain.specs.{declared.events.RemainEvent.TheVariants.GiveUp, declared.events.RemainEvent.TheVariants.Tell, declared.events.RemainEvent.TheVariants.Hear}
+use Rattle.dn_remain.proofs.{Relayed.goes_on_by, Relayed.reached_by, Known.IsTold, Places.there, Vanished.Put.at_put, Vanished.Put.own_put, Reached.IsReached}
+use Rattle.dn_survivor.proofs.{Decided.gone_can, Decided.told_can, Quiet.give_up_quiet, Quiet.report_quiet, Quiet.run_inputs, Tellings.telling_at, Tellings.telling_more, Tellings.told_apart}
 use Rattle.dn_machine.specs.Drops as drops
-use Rattle.dn_machine.specs.declared.answers.Heard.{Heard}
-use Rattle.dn_machine.specs.declared.answers.Made.{Made}
-use Rattle.dn_machine.specs.declared.answers.Ran.{Ran}
-use Rattle.dn_machine.specs.declared.events.Event.{Event}
-use Rattle.dn_machine.specs.declared.events.Event.TheVariants.{Send, Deliver, Run, Quit}
-use Rattle.dn_machine.specs.declared.events.Refusal.{Refusal}
-use Rattle.dn_machine.specs.declared.peer.Peer.{Peer}
-use Rattle.dn_machine.specs.Building.{on_build}
-use Rattle.dn_machine.specs.Flight.{Flight, is_near}
-use Rattle.dn_machine.specs.Game.{fresh, opening_game, own_marks, refused_at, refused_flight, refused, applied, applied_if, delivered, on_event}
-use Rattle.dn_machine.specs.Hearing.{on_packet}
-use Rattle.dn_machine.specs.Limits.{Limits, IsWindow}
 use Rattle.dn_machine.specs.Node as machine
-use Rattle.dn_machine.specs.Node.{put, is_ended}
-use Rattle.dn_machine.specs.Progress.{build_of}
-use Rattle.dn_machine.specs.Running.{is_over, on_quit, on_run_but}
-use Rattle.dn_machine.specs.Worlds.{Inputs, Rules}
-use Rattle.dn_machine.proofs.Pairs.{accepted_build}
-use Rattle.dn_machine.proofs.Put.{put_at, put_off}
-use Rattle.dn_lockstep.specs.Contents.{Contents, end_in}
-use Rattle.dn_lockstep.specs.Hearing.{HearsNear, Spares}
-use Rattle.dn_lockstep.specs.Marking.{History, Marking}
-use Rattle.dn_lockstep.specs.Near.{IsFair}
-use Rattle.dn_lockstep.specs.OneGame.{beside, world_told}
 use Rattle.dn_lockstep.specs.Represents as lockstep
-use Rattle.dn_lockstep.specs.Rings.{count_of}
-use Rattle.dn_lockstep.specs.Rows.{is_gone}
-use Rattle.dn_lockstep.specs.Runs.{RunsBy, marks_in, row_told}
-use Rattle.dn_lockstep.specs.Sent.{bytes_of, sent_to}
-use Rattle.dn_lockstep.specs.Session.{given_on, taken_on, told_on}
-use Rattle.dn_lockstep.specs.Steps.{Steps, Tells, IsAfter}
-use Rattle.dn_lockstep.specs.Told.{made, command_told}
-use Rattle.dn_lockstep.proofs.Counting.{got_is}
-use Rattle.dn_lockstep.proofs.OneGame.{IsQuiet, Rows, build_inputs, build_rows, fair_on, hear_quiet, not_past, own_is, quit_quiet, send_quiet, sent_between}
-use Rattle.dn_lockstep.proofs.Running.{but_same, but_tells, kept_same}
-use Rattle.dn_survivor.specs.OfOthers.Keeping.{nothing_kept}
 use Rattle.dn_survivor.specs.OfOthers.Represents as others
-use Rattle.dn_remain.specs.Vanished.Commands.{Holder}
-use Rattle.dn_remain.specs.Remaining.{Remaining, Telling, wary_of, with_wary, with_telling, unless, after_event, after_hearing, after_run, after_telling, is_barred, is_barred_flight, opening_remaining}
-use Rattle.dn_remain.specs.RunsRemain.{NextRemain}
 use Rattle.dn_remain.specs.Relaying as relaying
-use Rattle.dn_remain.proofs.Relayed.{goes_on_by, reached_by}
-use Rattle.dn_machine.specs.Relaying.{packet_of_one, relayed, with_relayed}
-use Rattle.dn_lockstep.proofs.Shown.{tells_held}
-use Rattle.dn_survivor.specs.Relaying.{MayRelay, told_gone}
-use Rattle.dn_remain.specs.Wary.{Report, Wary, on_give_up, on_report, report_to}
-use Rattle.dn_remain.specs.declared.events.RemainEvent.{RemainEvent}
-use Rattle.dn_remain.specs.declared.events.RemainEvent.TheVariants.{Own, GiveUp, Tell, Hear}
-use Rattle.dn_remain.proofs.Known.{IsTold}
-use Rattle.dn_remain.specs.Seen.{now_of}
-use Rattle.dn_remain.proofs.Places.{there}
-use Rattle.dn_remain.proofs.Vanished.Put.{own_put}
-use Rattle.dn_remain.proofs.Reached.{IsReached}
-use Rattle.dn_survivor.specs.Calls.{GivesUp, HearsReport, sent_unless}
-use Rattle.dn_survivor.specs.OneGame.{AreRemaining, AreTelling, IsGivenAs, IsTelling}
-use Rattle.dn_survivor.specs.Represents.{Represents, given_up_is, reported_is}
 use Rattle.dn_survivor.specs.Session as session_of
-use Rattle.dn_survivor.specs.Session.{Given, Session, after_build, after_packet, after_relays, after_report, opening_session, reports_on, with_survivor}
-use Rattle.dn_survivor.specs.Surviving.{Surviving, has_given_up}
-use Rattle.dn_survivor.specs.Telling.{report_for}
-use Rattle.dn_survivor.specs.declared.answers.GivenUp.{GivenUp}
-use Rattle.dn_survivor.specs.declared.answers.Reported.{Reported}
-use Rattle.dn_survivor.proofs.Decided.{gone_can, told_can}
-use Rattle.dn_survivor.proofs.Quiet.{give_up_quiet, report_quiet, run_inputs}
 use Rattle.dn_survivor.proofs.Reports as telling
 use Rattle.dn_survivor.proofs.Steps as steps
-use Rattle.dn_survivor.proofs.Tellings.{telling_at, telling_more, told_apart}
 use Rattle.dn_survivor.proofs.Waries as waries
 
 -- what is read off the nodes, where one of them is another now
@@ -89,8 +45,7 @@ read_on f nodes values i m value each same p = grind arith
 read_same : {A : Type 0} (f : machine.Node → A) (nodes : ℕ → machine.Node) (values : ℕ → A) (i : ℕ)
     (m : machine.Node) → ((p : ℕ) → f (nodes p) ≡ values p) → f m ≡ f (nodes i) → (p : ℕ)
     → f (put nodes i m p) ≡ values p
-read_same {A = A} f nodes values i m each same p =
-    read_on f nodes values i m (values i) each (same ∙ each i) p ∙ ap (λ (g : ℕ → A). g p) (own_put values i)
+read_same {A = A} f nodes values i m each same p = grind (arith, read_on, own_put)
 
 module _ (marking : Marking) (limits : Limits) (settings : Settings) where
   abbrev pub rules : Rules History
@@ -131,11 +86,8 @@ module _ (marking : Marking) (limits : Limits) (settings : Settings) where
     known = reached_by rules settings game.events game.last game.runs
 
     -- a survivor that is what it was
-    pub keeps : (i : ℕ) (new : Surviving) → new ≡ session.survivors i
-        → Still (with_survivor session i new)
-    keeps i new same =
-        subst (λ (s : ℕ → Surviving). Still (record session { survivors = s }))
-        (sym (ap (put session.survivors i) same ∙ own_put session.survivors i)) game
+    pub keeps : (i : ℕ) (new : Surviving) → new ≡ session.survivors i → Still (with_survivor session i new)
+    keeps i new same = grind (arith, own_put)
 
     rows_stay : (i : ℕ) (m : machine.Node) → m.rows ≡ (node i).rows → (p : ℕ)
         → (put node i m p).rows ≡ session.told p
@@ -146,26 +98,28 @@ module _ (marking : Marking) (limits : Limits) (settings : Settings) where
     inputs_stay i m = read_same (λ (x : machine.Node). x.inputs) node session.inputs i m game.inputs
 
     module _ (i : ℕ) (mine : i < limits.players) where
+      abbrev old : Surviving
+      old = session.survivors i
+
+      abbrev wary : Wary
+      wary = wary_of game.last i
+
+      abbrev me : machine.Node
+      me = node i
+
       accepts : refused_at limits.players game.last.game i ≡ None
       accepts = rw (lt-ltb i limits.players mine, game.going i) refl
 
-      shown : Represents limits i (session.survivors i) (wary_of game.last i)
+      shown : Represents limits i old wary
       shown = game.nodes i mine
 
       -- of all players the survivor is another in one place, and of those where the nodes stay it is as it was
       placed : (next : Remaining) (new : Surviving) → ((p : ℕ) → p ≢ i → wary_of next p ≡ wary_of game.last p)
           → Represents limits i new (wary_of next i) → (p : ℕ) → p < limits.players
           → Represents limits p (put session.survivors i new p) (wary_of next p)
-      placed next new rest shows p below = elim (cases_eq p i) [
-        | inl e ↦
-            subst (λ (s : Surviving). Represents limits p s (wary_of next p))
-            (sym (put_at session.survivors i p new e))
-            (subst (λ (k : ℕ). Represents limits k new (wary_of next k)) (sym e) shows)
-        | inr n ↦
-            subst (λ (w : Wary). Represents limits p (put session.survivors i new p) w) (sym (rest p n))
-            (subst (λ (s : Surviving). Represents limits p s (wary_of game.last p))
-            (sym (put_off session.survivors i p new n)) (game.nodes p below))
-      ]
+      placed next new rest shows = at_put (λ p s. p < limits.players → Represents limits p s (wary_of next p))
+          session.survivors i new (λ below. shows) (λ p n below.
+          subst (Represents limits p (session.survivors p)) (sym (rest p n)) (game.nodes p below))
 
       -- the session with another survivor of this player, and what else joined it
       abbrev with_own : Inputs → List Flight → (ℕ → Rows) → Surviving → Session
@@ -174,15 +128,12 @@ module _ (marking : Marking) (limits : Limits) (settings : Settings) where
 
       -- after an event that changes this node alone
       changes : (event : RemainEvent) (next : Remaining) (inputs : Inputs) (packets : List Flight)
-          (rows : ℕ → Rows) (new : Surviving)
-          → NextRemain rules game.last event next
-          → ((p : ℕ) → p ≢ i → wary_of next p ≡ wary_of game.last p)
-          → Represents limits i new (wary_of next i)
+          (rows : ℕ → Rows) (new : Surviving) → NextRemain rules game.last event next
+          → ((p : ℕ) → p ≢ i → wary_of next p ≡ wary_of game.last p) → Represents limits i new (wary_of next i)
           → ((p : ℕ) → (next.game.nodes p).inputs ≡ inputs p) → next.game.flights ≡ packets
           → next.reports ≡ game.last.reports → ((p : ℕ) → (next.game.nodes p).rows ≡ rows p)
           → ((which : ℕ) (packet : Flight) → slice_get packets which ≡ Some packet → IsFair packet)
-          → next.game.stopped ≡ game.last.game.stopped
-          → Still (with_own inputs packets rows new)
+          → next.game.stopped ≡ game.last.game.stopped → Still (with_own inputs packets rows new)
       changes event next inputs packets rows new step rest shows takes same told tells fair on = record {
         window = game.window;
         events = game.events ++ relaying.Own event ∷ [];
@@ -199,8 +150,7 @@ module _ (marking : Marking) (limits : Limits) (settings : Settings) where
       }
 
       -- after a call that changes nothing of what is represented
-      stays : (new : Surviving) → Represents limits i new (wary_of game.last i)
-          → Still (with_survivor session i new)
+      stays : (new : Surviving) → Represents limits i new wary → Still (with_survivor session i new)
       stays new shows = record {
         window = game.window;
         events = game.events;
@@ -217,14 +167,11 @@ module _ (marking : Marking) (limits : Limits) (settings : Settings) where
 
       -- after an event of the machine, which adds to the packets
       owns : (event : Event) (m : machine.Node) (flights packets : List Flight) (inputs : Inputs)
-          (rows : ℕ → Rows) (new : Surviving) → is_barred game.last event ≡ false
-          → after_event rules game.last event
-          ≡ record { nodes = put node i m; stopped = game.last.game.stopped; flights = flights }
-          → Represents limits i new (record (wary_of game.last i) { node = m })
-          → ((p : ℕ) → (put node i m p).inputs ≡ inputs p) → flights ≡ packets
-          → ((which : ℕ) (packet : Flight) → slice_get packets which ≡ Some packet → IsFair packet)
-          → ((p : ℕ) → (put node i m p).rows ≡ rows p)
-          → Still (with_own inputs packets rows new)
+          (rows : ℕ → Rows) (new : Surviving) → is_barred game.last event ≡ false → after_event rules game.last
+          event ≡ record { nodes = put node i m; stopped = game.last.game.stopped; flights = flights }
+          → Represents limits i new (record wary { node = m }) → ((p : ℕ) → (put node i m p).inputs ≡ inputs p)
+          → flights ≡ packets → ((which : ℕ) (packet : Flight) → slice_get packets which ≡ Some packet → IsFair
+          packet) → ((p : ℕ) → (put node i m p).rows ≡ rows p) → Still (with_own inputs packets rows new)
       owns event m flights packets inputs rows new free is shows takes same fair tells =
           changes (Own event) (record game.last {
             game = record { nodes = put node i m; stopped = game.last.game.stopped; flights = flights };
@@ -247,14 +194,13 @@ module _ (marking : Marking) (limits : Limits) (settings : Settings) where
             node = x;
             gone = game.last.gone i;
             newest = game.last.newest i;
-          })) (sym (put_at node i i m refl)) shows)
-          takes same refl tells fair refl
+          })) (sym (put_at node i i m refl)) shows) takes same refl tells fair refl
 
       -- and where neither packets nor rows nor inputs join the session
       moves : (event : Event) (m : machine.Node) (new : Surviving) → is_barred game.last event ≡ false
           → after_event rules game.last event
           ≡ record { nodes = put node i m; stopped = game.last.game.stopped; flights = game.last.game.flights }
-          → Represents limits i new (record (wary_of game.last i) { node = m }) → IsQuiet (node i) m
+          → Represents limits i new (record wary { node = m }) → IsQuiet me m
           → Still (with_survivor session i new)
       moves event m new free is shows quiet =
           owns event m game.last.game.flights session.packets session.inputs session.told new free is shows
@@ -263,13 +209,12 @@ module _ (marking : Marking) (limits : Limits) (settings : Settings) where
       by_event : (event : Event) → refused limits.players game.last.game event ≡ None
           → (applied rules game.last.game event).0 ≡ (on_event rules game.last.game event).0
       unfolding applied
-      by_event event none =
-          ap (λ (o : Option Refusal). (applied_if rules game.last.game event o).0) none
+      by_event event none = ap (λ (o : Option Refusal). (applied_if rules game.last.game event o).0) none
 
       -- a build
       is_built : (input : Input) → after_event rules game.last (build_of i input)
           ≡ record {
-            nodes = put node i (on_build limits i (node i) input).0;
+            nodes = put node i (on_build limits i me input).0;
             stopped = game.last.game.stopped;
             flights = game.last.game.flights;
           }
@@ -281,70 +226,54 @@ module _ (marking : Marking) (limits : Limits) (settings : Settings) where
       free_build (Handed command) = refl
 
       pub builds : (new : Surviving) (input : Input) (made : Made)
-          → Steps (session.survivors i).lockstep new.lockstep (λ limits me m. on_build limits me m input)
-          (λ answer. made ≡ answer)
-          → new.others ≡ (session.survivors i).others
-          → Still (after_build session i input made new)
+          → Steps old.lockstep new.lockstep (λ limits me m. on_build limits me m input)
+          (λ answer. made ≡ answer) → new.others ≡ old.others → Still (after_build session i input made new)
       builds new input made by same =
-          let after = by.step limits i (node i) shown.node in
-          let taken : (on_build limits i (node i) input).0.inputs ≡ taken_on (session.inputs i) input made =
-          build_inputs limits i (node i) input
-          ∙ ap (λ (answer : Made). taken_on (node i).inputs input answer) (sym after.answer)
-          ∙ ap (λ (inputs : List Input). taken_on inputs input made) (game.inputs i) in
-          owns (build_of i input) (on_build limits i (node i) input).0 game.last.game.flights session.packets
+          let after = by.step limits i me shown.node in
+          let taken : (on_build limits i me input).0.inputs ≡ taken_on (session.inputs i) input made = grind (arith, build_inputs) in
+          owns (build_of i input) (on_build limits i me input).0 game.last.game.flights session.packets
           (put session.inputs i (taken_on (session.inputs i) input made)) session.told new (free_build input)
-          (is_built input)
-          (steps.stepped limits i (session.survivors i) new (wary_of game.last i) _ shown after.node same)
+          (is_built input) (steps.stepped limits i old new wary _ shown after.node same)
           (read_on (λ (x : machine.Node). x.inputs) node session.inputs i _ _ game.inputs taken)
-          game.packets game.fair (rows_stay i _ (build_rows limits i (node i) input))
+          game.packets game.fair (rows_stay i _ (build_rows limits i me input))
 
       -- a quit
       pub quits : (new : Surviving) (quit : Bool)
-          → Steps (session.survivors i).lockstep new.lockstep (λ limits me m. on_quit m) (λ answer. quit ≡ answer)
-          → new.others ≡ (session.survivors i).others
-          → Still (with_survivor session i new)
+          → Steps old.lockstep new.lockstep (λ limits me m. on_quit m) (λ answer. quit ≡ answer)
+          → new.others ≡ old.others → Still (with_survivor session i new)
       quits new quit by same =
-          moves (Quit i) (on_quit (node i)).0 new refl (by_event (Quit i) accepts)
-          (steps.stepped limits i (session.survivors i) new (wary_of game.last i) _ shown
-          (by.step limits i (node i) shown.node).node same)
-          (quit_quiet limits i (node i))
+          moves (Quit i) (on_quit me).0 new refl (by_event (Quit i) accepts)
+          (steps.stepped limits i old new wary _ shown (by.step limits i me shown.node).node same)
+          (quit_quiet limits i me)
 
       -- a run: the marks of the caller's world are those of the node's own
       pub runs : (new : Surviving) (marks : List ℤ) (ran : Ran) (row : Option (List (Option Move)))
           → ((tic other : ℕ) → ran ≡ Ran.Ran tic → other < limits.players
-          → is_over (end_in (session.survivors i).lockstep other) (session.survivors i).lockstep.ran ≡ false
+          → is_over (end_in old.lockstep other) old.lockstep.ran ≡ false
           → get_or marks other (pos 0) ≡ marking (world_told limits settings (session.told i)) other)
-          → RunsBy marks (session.survivors i).lockstep new.lockstep
-          (λ limits m marks. on_run_but limits (has_given_up (session.survivors i)) m marks)
-          (λ answer told. (ran ≡ answer) × (row ≡ told))
-          → new.others ≡ (session.survivors i).others
+          → RunsBy marks old.lockstep new.lockstep
+          (λ limits m marks. on_run_but limits (has_given_up old) m marks)
+          (λ answer told. (ran ≡ answer) × (row ≡ told)) → new.others ≡ old.others
           → Still (session_of.after_run session i row new)
       runs new marks ran row duty by others_same =
-          let n : Contents = (session.survivors i).lockstep in
+          let n : Contents = old.lockstep in
           let m : machine.Node = node i in
           let r = shown.node in
           let gone : ℕ → Bool = game.last.gone i in
-          let after = steps.runs limits i (session.survivors i) new (wary_of game.last i) shown marks ran row by
-          others_same in
+          let after = steps.runs limits i old new wary shown marks ran row by others_same in
           let same : ◌≡◌ {A = machine.Node × Ran} (on_run_but limits gone m (marks_in marks))
           (on_run_but limits gone m (own_marks rules m)) =
-          but_same limits gone m (marks_in marks) (own_marks rules m) (λ tic plays tells.
-          kept_same limits m (marks_in marks) (own_marks rules m) (λ p below present.
-          duty tic p (after.1 ∙ tells) below
-          (not_past n p (ap is_ended (r.stands.phase ∙ plays))
-          (ap (λ (x : ℕ). is_gone n.peers x p) r.table.ran
-          ∙ ap (λ (x : Option ℕ). is_over x (machine.ran m))
-          (ap (λ (x : Peer). x.end) (r.peers.known p below)) ∙ present))
-          ∙ ap (λ (rows : Rows). marking (world_told limits settings rows) p) (sym (game.rows i))
-          ∙ sym (own_is marking limits settings m p
-          ((known.1.set.nodes i).played ((known.1.set.nodes i).plays plays))))) in
+          but_same limits gone m (marks_in marks) (own_marks rules m)
+          (λ tic plays tells. kept_same limits m (marks_in marks) (own_marks rules m)
+          (λ p below present. duty tic p (after.1 ∙ tells) below (not_past n p
+          (ap is_ended (r.stands.phase ∙ plays)) (ap (λ (x : ℕ). is_gone n.peers x p) r.table.ran ∙ ap
+          (λ (x : Option ℕ). is_over x (machine.ran m)) (ap (λ (x : Peer). x.end) (r.peers.known p below))
+          ∙ present)) ∙ ap (λ (rows : Rows). marking (world_told limits settings rows) p) (sym (game.rows i))
+          ∙ sym (own_is marking limits settings m p ((known.1.set.nodes i).played
+          ((known.1.set.nodes i).plays plays))))) in
           let shows = subst (λ (x : machine.Node × Ran). Represents limits i new
-          (record (wary_of game.last i) { node = x.0 })) same after.0 in
-          let tells : (on_run_but limits gone m (own_marks rules m)).0.rows ≡ told_on (session.told i) row =
-          but_tells limits gone m (own_marks rules m)
-          ∙ ap (λ (x : machine.Node × Ran). told_on m.rows (row_told limits m x.1)) (sym same)
-          ∙ ap (told_on m.rows) (sym after.2)
-          ∙ ap (λ (rows : Rows). told_on rows row) (game.rows i) in
+          (record wary { node = x.0 })) same after.0 in
+          let tells : (on_run_but limits gone m (own_marks rules m)).0.rows ≡ told_on (session.told i) row = grind (arith, but_tells, Rows) in
           owns (Run i) (on_run_but limits gone m (own_marks rules m)).0 game.last.game.flights session.packets
           session.inputs (put session.told i (told_on (session.told i) row)) new refl
           (ap (after_run rules game.last i) accepts) shows
@@ -353,141 +282,113 @@ module _ (marking : Marking) (limits : Limits) (settings : Settings) where
 
       sends_to : (to : ℕ) → after_event rules game.last (Send i to)
           ≡ record {
-            nodes = put node i (sent_to to limits i (node i)).0;
+            nodes = put node i (sent_to to limits i me).0;
             stopped = game.last.game.stopped;
-            flights = given_on game.last.game.flights (sent_to to limits i (node i)).1;
+            flights = given_on game.last.game.flights (sent_to to limits i me).1;
           }
       unfolding applied
       sends_to to = grind arith
 
       -- who is not given up here is not given up there
-      free_of : (to : ℕ) → has_given_up (session.survivors i) to ≡ false → game.last.gone i to ≡ false
-      free_of to free = elim (cases_Bool (game.last.gone i to)) [
-        | inr off ↦ off
-        | inl on ↦
-            let peer = shown.peers to on in
-            let low : to < limits.players = grind (arith, peer) in
-            absurd (both_ways (game.last.gone i to) (sym (shown.others.given_up to low) ∙ free) on)
-      ]
+      free_of : (to : ℕ) → has_given_up old to ≡ false → game.last.gone i to ≡ false
+      free_of to free = grind (arith, shown, both_ways)
 
       -- its lockstep gives a packet in this way, and a datagram can carry it
       abbrev IsFairBy : (Limits → ℕ → machine.Node → machine.Node × Option Flight) → Type 0
-      IsFairBy by = Tells (session.survivors i).lockstep (λ limits me m. IfSome (by limits me m).1 IsFair)
+      IsFairBy by = Tells old.lockstep (λ limits me m. IfSome (by limits me m).1 IsFair)
 
       abbrev GivesBy : (Limits → ℕ → machine.Node → machine.Node × Option Flight) → Surviving
           → Option (List ℕ) → Type 0
-      GivesBy by new bytes = Steps (session.survivors i).lockstep new.lockstep by
-          (λ packet. bytes ≡ option_map bytes_of packet)
+      GivesBy by new bytes = Steps old.lockstep new.lockstep by (λ packet. bytes ≡ option_map bytes_of packet)
 
       pub gave_to : (to : ℕ) (new : Surviving) (bytes : Option (List ℕ))
-          → has_given_up (session.survivors i) to ≡ false → IsFairBy (sent_to to) → GivesBy (sent_to to) new bytes
-          → new.others ≡ (session.survivors i).others
-          → (packet : Option Flight) × IsGivenAs (session.survivors i) i to bytes packet
+          → has_given_up old to ≡ false → IsFairBy (sent_to to) → GivesBy (sent_to to) new bytes
+          → new.others ≡ old.others → (packet : Option Flight) × IsGivenAs old i to bytes packet
           × Still (after_packet session i packet new)
       gave_to to new bytes free fair by same =
           let r = shown.node in
-          let after = by.step limits i (node i) r in (
-            (sent_to to limits i (node i)).1,
+          let after = by.step limits i me r in (
+            (sent_to to limits i me).1,
             record {
-              players = sent_between limits i (node i) to;
+              players = sent_between limits i me to;
               bytes = after.answer;
-              aim = λ open_to numbers tells. tells limits i (node i) r;
+              aim = λ open_to numbers tells. tells limits i me r;
             },
-            owns (Send i to) (sent_to to limits i (node i)).0 _
-                (given_on session.packets (sent_to to limits i (node i)).1) session.inputs session.told new
-                (free_of to free) (sends_to to)
-                (steps.stepped limits i (session.survivors i) new (wary_of game.last i) _ shown after.node same)
-                (inputs_stay i _ (send_quiet limits i (node i) to).1)
-                (ap (λ (fs : List Flight). given_on fs (sent_to to limits i (node i)).1) game.packets)
-                (fair_on session.packets game.fair _ (fair limits i (node i) r)) (rows_stay i _ (send_quiet limits i (node i) to).0),
+            owns (Send i to) (sent_to to limits i me).0 _
+                (given_on session.packets (sent_to to limits i me).1) session.inputs session.told new
+                (free_of to free) (sends_to to) (steps.stepped limits i old new wary _ shown after.node same)
+                (inputs_stay i _ (send_quiet limits i me to).1)
+                (ap (λ (fs : List Flight). given_on fs (sent_to to limits i me).1) game.packets)
+                (fair_on session.packets game.fair _ (fair limits i me r)) (rows_stay i _ (send_quiet limits i me to).0),
           )
 
-      pub gives : (to : ℕ) (new : Surviving) (bytes : Option (List ℕ))
-          → IsFairBy (sent_unless (session.survivors i).others to)
-          → GivesBy (sent_unless (session.survivors i).others to) new bytes
-          → new.others ≡ (session.survivors i).others
-          → (packet : Option Flight) × IsGivenAs (session.survivors i) i to bytes packet
+      pub gives : (to : ℕ) (new : Surviving) (bytes : Option (List ℕ)) → IsFairBy (sent_unless old.others to)
+          → GivesBy (sent_unless old.others to) new bytes → new.others ≡ old.others
+          → (packet : Option Flight) × IsGivenAs old i to bytes packet
           × Still (after_packet session i packet new)
-      gives to new bytes fair by same = elim (cases_Bool (has_given_up (session.survivors i) to)) [
+      gives to new bytes fair by same = elim (cases_Bool (has_given_up old to)) [
         | inr free ↦ gave_to to new bytes free (as_sent free fair) (as_stepped free by) same
         | inl given ↦
             let after = subst (λ (x : machine.Node × Option Flight).
             IsAfter limits i new.lockstep x (λ packet. bytes ≡ option_map bytes_of packet)) (none_sent given)
-            (by.step limits i (node i) shown.node) in (
+            (by.step limits i me shown.node) in (
               None,
               record {
                 players = tt;
                 bytes = after.answer;
-                aim = λ open_to numbers tells.
-                    absurd (both_ways (has_given_up (session.survivors i) to) open_to given);
+                aim = λ open_to numbers tells. absurd (both_ways (has_given_up old to) open_to given);
               },
-              stays new (steps.stepped limits i (session.survivors i) new (wary_of game.last i) _ shown after.node
-                  same),
+              stays new (steps.stepped limits i old new wary _ shown after.node same),
             )
       ]
         where
           sent_if : Bool → Limits → ℕ → machine.Node → machine.Node × Option Flight
           sent_if b limits me m = if b then (m, None) else sent_to to limits me m
 
-          none_sent : has_given_up (session.survivors i) to ≡ true
-              → ◌≡◌ {A = machine.Node × Option Flight}
-              (sent_unless (session.survivors i).others to limits i (node i)) (node i, None)
+          none_sent : has_given_up old to ≡ true
+              → ◌≡◌ {A = machine.Node × Option Flight} (sent_unless old.others to limits i me) (node i, None)
           none_sent given = rw given refl
 
-          as_sent : has_given_up (session.survivors i) to ≡ false
-              → IsFairBy (sent_unless (session.survivors i).others to) → IsFairBy (sent_to to)
+          as_sent : has_given_up old to ≡ false → IsFairBy (sent_unless old.others to) → IsFairBy (sent_to to)
           as_sent free told = subst (λ (b : Bool). IsFairBy (sent_if b)) free told
 
-          as_stepped : has_given_up (session.survivors i) to ≡ false
-              → GivesBy (sent_unless (session.survivors i).others to) new bytes → GivesBy (sent_to to) new bytes
+          as_stepped : has_given_up old to ≡ false
+              → GivesBy (sent_unless old.others to) new bytes → GivesBy (sent_to to) new bytes
           as_stepped free told = subst (λ (b : Bool). GivesBy (sent_if b) new bytes) free told
 
       -- another node is put in its place, with whom it has given up and what it has heard
       elsewhere : (w : Wary) (p : ℕ) → p ≢ i → wary_of (with_wary game.last i w) p ≡ wary_of game.last p
-      elsewhere w p n = λ k. record {
-        node = put_off node i p w.node n k;
-        gone = put_off game.last.gone i p w.gone n k;
-        newest = put_off game.last.newest i p w.newest n k;
-      }
+      elsewhere w p n = grind (arith, put_off)
 
       becomes : (event : RemainEvent) (w : Wary) (new : Surviving)
-          → NextRemain rules game.last event (with_wary game.last i w)
-          → Represents limits i new w → IsQuiet (node i) w.node
-          → Still (with_survivor session i new)
-      becomes event w new step shows quiet =
-          changes event (with_wary game.last i w) session.inputs session.packets session.told new step (elsewhere w)
-          (subst (Represents limits i new) (sym (there game.last i w)) shows) (inputs_stay i w.node quiet.1)
-          game.packets refl (rows_stay i w.node quiet.0) game.fair refl
+          → NextRemain rules game.last event (with_wary game.last i w) → Represents limits i new w
+          → IsQuiet me w.node → Still (with_survivor session i new)
+      becomes event w new step shows quiet = grind (arith, changes, elsewhere, there, inputs_stay, rows_stay)
 
       -- a give-up
-      module _ (player : ℕ) (new : Surviving) (answer : GivenUp) (by : GivesUp player (session.survivors i) new answer)
+      module _ (player : ℕ) (new : Surviving) (answer : GivenUp) (by : GivesUp player old new answer)
         where
-          pub gave_up_is : Represents limits i new (on_give_up limits i (wary_of game.last i) player).0
-              × (answer ≡ given_up_is (on_give_up limits i (wary_of game.last i) player).1)
+          pub gave_up_is : Represents limits i new (on_give_up limits i wary player).0
+              × (answer ≡ given_up_is (on_give_up limits i wary player).1)
           gave_up_is =
-              waries.gave_up limits i (session.survivors i) new (wary_of game.last i) shown player answer
+              waries.gave_up limits i old new wary shown player answer
               (λ phase peer can. gone_can rules settings game.window game.events game.last game.runs i player mine
               (grind (arith, peer)) (λ e. absurd (grind (arith, peer, e))) phase can) by
 
           pub gives_up : Still (with_survivor session i new)
           gives_up =
-              becomes (GiveUp i player) (on_give_up limits i (wary_of game.last i) player).0 new
-              (sym (ap (λ (o : Option Refusal). unless o game.last
-              (with_wary game.last i (on_give_up limits i (wary_of game.last i) player).0)) accepts))
-              gave_up_is.0 (give_up_quiet limits i (wary_of game.last i) player)
+              becomes (GiveUp i player) (on_give_up limits i wary player).0 new
+              (sym (ap (λ (o : Option Refusal). unless o game.last (with_wary game.last i
+              (on_give_up limits i wary player).0)) accepts)) gave_up_is.0 (give_up_quiet limits i wary player)
 
       -- a report, if one is given
       module _ (to : ℕ) where
         -- to a number that is no player's there is none
-        none_past : limits.players ≤ to → report_for (session.survivors i) to ≡ None
-        none_past past =
-            let players = shown.node.whose.players in
-            let off = le-ltb to (session.survivors i).lockstep.players (omega (arith, past, players)) in
-            rw off refl
+        none_past : limits.players ≤ to → report_for old to ≡ None
+        none_past past = grind (arith, shown, le-ltb)
 
         tells_to : (to < limits.players) → (given : Option Told) (told : Option Report)
-            → report_to limits i (wary_of game.last i) to ≡ told
-            → others.AreTold limits.players limits.places to i given told
+            → report_to limits i wary to ≡ told → others.AreTold limits.players limits.places to i given told
             → Still (after_report session i to given)
         tells_to low None None is h = game
         tells_to low None (Some told) is h = absurd h
@@ -497,8 +398,7 @@ module _ (marking : Marking) (limits : Limits) (settings : Settings) where
           events = game.events ++ relaying.Own (Tell i to) ∷ [];
           last = with_telling game.last i to (Some told);
           runs = goes_on_by rules settings game.events (relaying.Own (Tell i to)) (opening_remaining settings)
-              game.last _ game.runs
-              (inl (sym (told_step is)));
+              game.last _ game.runs (inl (sym (told_step is)));
           nodes = game.nodes;
           inputs = game.inputs;
           packets = game.packets;
@@ -508,7 +408,7 @@ module _ (marking : Marking) (limits : Limits) (settings : Settings) where
                 from = refl;
                 to = refl;
                 sender = mine;
-                apart = told_apart limits i (wary_of game.last i) to told is;
+                apart = told_apart limits i wary to told is;
                 tells = h;
               });
           rows = game.rows;
@@ -516,24 +416,20 @@ module _ (marking : Marking) (limits : Limits) (settings : Settings) where
           going = game.going;
         }
           where
-            told_step : report_to limits i (wary_of game.last i) to ≡ Some told
+            told_step : report_to limits i wary to ≡ Some told
                 → after_telling limits game.last i to ≡ with_telling game.last i to (Some told)
             told_step is =
                 let on = lt-ltb to limits.players low in
-                ap (λ (o : Option Refusal). unless o game.last
-                (if nat_lt to limits.players
-                then with_telling game.last i to (report_to limits i (wary_of game.last i) to)
-                else game.last)) accepts
-                ∙ cond-true (nat_lt to limits.players) _ _ on
-                ∙ ap (with_telling game.last i to) is
+                ap (λ (o : Option Refusal). unless o game.last (if nat_lt to limits.players then with_telling
+                game.last i to (report_to limits i wary to) else game.last)) accepts ∙ cond-true
+                (nat_lt to limits.players) _ _ on ∙ ap (with_telling game.last i to) is
 
-        pub tells : (report : Option Told) → report ≡ report_for (session.survivors i) to
+        pub tells : (report : Option Told) → report ≡ report_for old to
             → Still (after_report session i to report)
         tells report is = elim (cases_lt to limits.players) [
-          | inl low ↦ tells_to low report (report_to limits i (wary_of game.last i) to) refl
+          | inl low ↦ tells_to low report (report_to limits i wary to) refl
               (subst (λ (o : Option Told). others.AreTold limits.players limits.places to i o
-              (report_to limits i (wary_of game.last i) to)) (sym is)
-              (telling.told limits i (session.survivors i) (wary_of game.last i) shown to low))
+              (report_to limits i wary to)) (sym is) (telling.told limits i old wary shown to low))
           | inr past ↦ subst (λ (o : Option Told). Still (after_report session i to o))
               (sym (is ∙ none_past past)) game
         ]
@@ -542,20 +438,16 @@ module _ (marking : Marking) (limits : Limits) (settings : Settings) where
       known_gone : (to player : ℕ) (given : Option Told) (told : Option Report)
           → others.AreTold limits.players limits.places i to given told → player < limits.players
           → told_gone given player ≡ true → relaying.told_gone told player ≡ true
-      known_gone to player None None is below h = h
-      known_gone to player None (Some told) is below h = absurd is
-      known_gone to player (Some given) None is below h = absurd is
-      known_gone to player (Some given) (Some told) is below h = sym (is.gone player below) ∙ h
+      known_gone to player given told is below h = grind arith
 
       -- a command that is told may be given to another
       pub relays : (player to tic : ℕ) (command : TicCmd) → player < limits.players → to < limits.players
-          → player ≢ to → MayRelay (session.survivors i) to
-          → command_told (session.survivors i).lockstep player tic ≡ Some command
+          → player ≢ to → MayRelay old to → command_told old.lockstep player tic ≡ Some command
           → IsFair (packet_of_one player to tic command)
           → Still (after_relays session (packet_of_one player to tic command ∷ []))
       relays player to tic command its there apart may told fair =
-          let has = tells_held limits i (session.survivors i).lockstep (node i) shown.node player tic command told in
-          let same : relayed (node i) player to tic ≡ packet_of_one player to tic command =
+          let has = tells_held limits i old.lockstep me shown.node player tic command told in
+          let same : relayed me player to tic ≡ packet_of_one player to tic command =
           ap (packet_of_one player to tic) (sym has.2) in
           let can : relaying.CanRelay limits.players game.last i player to tic =
           record {
@@ -574,7 +466,7 @@ module _ (marking : Marking) (limits : Limits) (settings : Settings) where
                 game.last _ game.runs (can, refl);
             nodes = game.nodes;
             inputs = game.inputs;
-            packets = ap (λ (fs : List Flight). fs ++ relayed (node i) player to tic ∷ []) game.packets
+            packets = ap (λ (fs : List Flight). fs ++ relayed me player to tic ∷ []) game.packets
                 ∙ ap (λ (f : Flight). session.packets ++ f ∷ []) same;
             reports = game.reports;
             rows = game.rows;
@@ -585,53 +477,51 @@ module _ (marking : Marking) (limits : Limits) (settings : Settings) where
           peer_below : (p : ℕ) → game.last.gone i p ≡ true → p < limits.players
           peer_below p gone = let peer = shown.peers p gone in elim (cases_lt p limits.players) [
             | inl low ↦ low
-            | inr past ↦
-                let off = le-ltb p limits.players past in
-                absurd (grind (arith, peer, off))
+            | inr past ↦ let off = le-ltb p limits.players past in absurd (grind (arith, peer, off))
           ]
 
     -- a packet that was given
     module _ (which : ℕ) (packet : Flight) (at : slice_get session.packets which ≡ Some packet) where
+      abbrev there_now : Surviving
+      there_now = session.survivors packet.to
+
+      abbrev its : machine.Node
+      its = node packet.to
+
       pub given_there : slice_get game.last.game.flights which ≡ Some packet
       given_there = ap (λ (fs : List Flight). slice_get fs which) game.packets ∙ at
 
       pub told_there : IsTold limits.players (now_of game.last.game game.last.gone ∷ known.0) packet
       told_there = known.1.followed.follows.flights which packet given_there
 
-      receiver : Represents limits packet.to (session.survivors packet.to) (wary_of game.last packet.to)
+      receiver : Represents limits packet.to there_now (wary_of game.last packet.to)
       receiver = game.nodes packet.to told_there.receiver
 
-      receiver_made : made (session.survivors packet.to).lockstep ≡ machine.made packet.to (node packet.to)
-      receiver_made =
-          let r = receiver.node in
-          ap (count_of (session.survivors packet.to).lockstep.rings) r.whose.number
-          ∙ got_is limits packet.to (session.survivors packet.to).lockstep (node packet.to) r packet.to
-          (omega (arith, told_there.receiver, r.whose.players))
+      receiver_made : made there_now.lockstep ≡ machine.made packet.to its
+      receiver_made = grind (arith, receiver, got_is, told_there)
 
       -- comes as it was given
       module _ (new : Surviving) (heard : Heard)
-          (near : is_near (made (session.survivors packet.to).lockstep) packet ≡ true)
-          (by : has_given_up (session.survivors packet.to) packet.from ≡ false
-          → HearsNear packet.from (bytes_of packet) (session.survivors packet.to).lockstep new.lockstep heard)
+          (near : is_near (made there_now.lockstep) packet ≡ true)
+          (by : has_given_up there_now packet.from ≡ false
+          → HearsNear packet.from (bytes_of packet) there_now.lockstep new.lockstep heard)
         where
           accepted_there : refused_flight game.last.game (Some packet) ≡ None
-          accepted_there =
-              let near_there = ap (λ (k : ℕ). is_near k packet) (sym receiver_made) ∙ near in
-              rw (near_there, game.going packet.to) refl
+          accepted_there = grind (arith, receiver_made)
 
-          pub heard_there : has_given_up (session.survivors packet.to) packet.from ≡ false
-              → IsAfter limits packet.to new.lockstep (on_packet limits packet.to (node packet.to) packet)
+          pub heard_there : has_given_up there_now packet.from ≡ false
+              → IsAfter limits packet.to new.lockstep (on_packet limits packet.to its packet)
               (λ answer. heard ≡ answer)
           heard_there free =
               let r = receiver.node in
               let told = told_there in
               let steps = by free packet (game.fair which packet at) refl refl
               (omega (arith, told.sender, r.whose.players)) (λ e. told.apart (e ∙ r.whose.number)) near in
-              steps.step limits packet.to (node packet.to) r
+              steps.step limits packet.to its r
 
           delivers : after_event rules game.last (Deliver which)
               ≡ record {
-                nodes = put node packet.to (on_packet limits packet.to (node packet.to) packet).0;
+                nodes = put node packet.to (on_packet limits packet.to its packet).0;
                 stopped = game.last.game.stopped;
                 flights = game.last.game.flights;
               }
@@ -640,20 +530,17 @@ module _ (marking : Marking) (limits : Limits) (settings : Settings) where
               (ap (refused_flight game.last.game) given_there ∙ accepted_there)
               ∙ ap (λ (o : Option Flight). (delivered rules game.last.game o).0) given_there
 
-          pub hears : (has_given_up (session.survivors packet.to) packet.from ≡ true → heard ≡ Heard.Dropped drops.given_up)
-              → Spares (session.survivors packet.to) new heard
-              → new.others ≡ (session.survivors packet.to).others
+          pub hears : (has_given_up there_now packet.from ≡ true → heard ≡ Heard.Dropped drops.given_up)
+              → Spares there_now new heard → new.others ≡ there_now.others
               → Still (with_survivor session packet.to new)
-          hears barred spares same = elim (cases_Bool (has_given_up (session.survivors packet.to) packet.from)) [
+          hears barred spares same = elim (cases_Bool (has_given_up there_now packet.from)) [
             | inl given ↦ keeps packet.to new (spares 15 (barred given))
             | inr free ↦
-                moves packet.to told_there.receiver (Deliver which)
-                (on_packet limits packet.to (node packet.to) packet).0 new
-                (ap (is_barred_flight game.last) given_there
-                ∙ free_of packet.to told_there.receiver packet.from free) delivers
-                (steps.stepped limits packet.to (session.survivors packet.to) new (wary_of game.last packet.to) _
-                receiver (heard_there free).node same)
-                (hear_quiet limits packet.to (node packet.to) packet)
+                moves packet.to told_there.receiver (Deliver which) (on_packet limits packet.to its packet).0
+                new (ap (is_barred_flight game.last) given_there ∙ free_of packet.to told_there.receiver
+                packet.from free) delivers (steps.stepped limits packet.to there_now new
+                (wary_of game.last packet.to) _ receiver (heard_there free).node same)
+                (hear_quiet limits packet.to its packet)
           ]
 
     -- a report that was given, and comes as it was given
@@ -666,11 +553,7 @@ module _ (marking : Marking) (limits : Limits) (settings : Settings) where
 
       pub there_at : slice_get game.last.reports which
           ≡ Some (record { from = given.from; to = given.to; report = holder })
-      there_at = told_at.1 ∙ (λ k. Some (record {
-        from = sym told_at.2.from k;
-        to = sym told_at.2.to k;
-        report = holder;
-      }))
+      there_at = grind (arith, told_at)
 
       pub to_one : (given.to < limits.players) × (holder.gone given.to ≡ false)
       to_one = known.1.told which (record { from = given.from; to = given.to; report = holder }) there_at
@@ -689,10 +572,9 @@ module _ (marking : Marking) (limits : Limits) (settings : Settings) where
 
         pub reports : Still (with_survivor session given.to new)
         reports =
-            becomes given.to to_one.0 (Hear which)
-            (on_report limits given.to (wary_of game.last given.to) given.from holder).0 new
-            (sym (ap (after_hearing limits game.last) there_at
-            ∙ ap (λ (o : Option Refusal). unless o game.last (with_wary game.last given.to
+            becomes given.to to_one.0 (Hear which) (on_report limits given.to (wary_of game.last given.to)
+            given.from holder).0 new (sym (ap (after_hearing limits game.last) there_at ∙ ap
+            (λ (o : Option Refusal). unless o game.last (with_wary game.last given.to
             (on_report limits given.to (wary_of game.last given.to) given.from holder).0))
-            (accepts given.to to_one.0)))
-            reported.0 (report_quiet limits given.to (wary_of game.last given.to) given.from holder)
+            (accepts given.to to_one.0))) reported.0 (report_quiet limits given.to (wary_of game.last given.to)
+            given.from holder)

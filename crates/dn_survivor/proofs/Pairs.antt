@@ -1,61 +1,27 @@
 -- What the survivors of one game tell of themselves agrees, since the nodes that they represent do.
-use Rattle.std.proofs.Common.{◌≡◌, ◌≢◌, ◌<◌, ◌≤◌, ◌||◌, ℕ, ◌+◌, ℤ, pos, Bool, true, false, List, [], ◌++◌, length, map, take, get_or, Option, Some, None, is_some, refl, ap, sym, ◌∙◌, subst, arith, inl, inr, drop, ◌*◌}
-use Rattle.std.specs.Prelude.{◌⊎◌, if◌then◌else◌, nat_lt, slice_get, Ok}
+use Rattle.std.proofs.Common.{◌≡◌, ◌≢◌, ◌<◌, ◌≤◌, ℕ, ◌+◌, ℤ, pos, true, false, List, [], ◌++◌, length, take, get_or, Option, Some, None, refl, ap, sym, ◌∙◌, subst, arith, inl, inr}
+use Rattle.std.specs.Prelude.{◌⊎◌, if◌then◌else◌, slice_get, Ok}
 use Rattle.std.specs.List.{take_while}
 use Rattle.std.specs.Option.{option_map}
 use Rattle.std.proofs.lemmas.Bool.{cases_Bool, cases_eq, cond-true, cond-false, lt-leb, ne_eqb}
 use Rattle.std.proofs.lemmas.Option.{none-some, same_Some, slice_get-get_or}
-use Rattle.dn_tic.specs.Command.{used}
-use Rattle.dn_tic.specs.Inputs.{made_by}
-use Rattle.dn_tic.specs.declared.command.Move.{Move}
-use Rattle.dn_tic.specs.declared.command.TicCmd.{TicCmd}
-use Rattle.dn_tic.specs.declared.input.Input.{Input}
-use Rattle.dn_setup.specs.Settings.{Settings}
-use Rattle.dn_setup.specs.Starts.{start_of}
-use Rattle.dn_demo.specs.Layout.{long_tics, command_size}
-use Rattle.dn_demo.specs.Places.{commands_in}
-use Rattle.dn_demo.specs.Reading.{IsReadAs, written_demo}
-use Rattle.dn_demo.specs.Text.{commands_of, demo_text, header_size}
-use Rattle.dn_machine.specs.Limits.{Limits}
-use Rattle.dn_machine.specs.Node as machine
-use Rattle.dn_machine.specs.Node.{blank, demo_rows, ends_of, has_left, held_at, is_ended, is_whole, lacks}
-use Rattle.dn_machine.specs.Promise.{IsPrefixOf}
-use Rattle.dn_machine.specs.Running.{is_over}
+use Rattle.dn_tic.specs.{Command.used, Inputs.made_by, declared.command.Move.Move, declared.command.TicCmd.TicCmd, declared.input.Input.Input}
+use Rattle.dn_setup.specs.{Settings.Settings, Starts.start_of}
+use Rattle.dn_demo.specs.{Layout.long_tics, Reading.IsReadAs, Reading.written_demo, Text.commands_of, Text.demo_text}
+use Rattle.dn_machine.specs.{Limits.Limits, Node.demo_rows, Node.ends_of, Node.has_left, Node.held_at, Node.is_ended, Node.is_whole, Node.lacks, Promise.IsPrefixOf, Running.is_over}
 use Rattle.dn_machine.proofs.Demos.{front_passes, front_short}
-use Rattle.dn_lockstep.specs.Contents.{Contents, end_in}
-use Rattle.dn_lockstep.specs.Demos.{recorded}
-use Rattle.dn_lockstep.specs.Marking.{Marking}
+use Rattle.dn_lockstep.specs.{Contents.Contents, Contents.end_in, Demos.recorded, Marking.Marking, Rows.seats_of, Told.HasStarted, Told.command_told, Told.got, Told.made}
+use Rattle.dn_lockstep.proofs.{Agreeing.own_marked, DemoTexts.AreFull, DemoTexts.recorded_in_text, DemosAgreeing.begun_or, DemosAgreeing.commands_prefix, DemosAgreeing.prefix_same, Replaying.read_back, Seats.seats_whole}
+use Rattle.dn_remain.specs.{Vanished.Commands.Holder, Promise.AgreeInPairs, Promise.FitsInPairs, Promise.SteadyInPairs, Remaining.wary_of, Seen.end_seen, Seen.reached, Wary.Report}
+use Rattle.dn_remain.proofs.{Fitted.pairs_fit, Marked.fronts_same, Promises.pairs_agree, Reached.IsReached, Seeing.reached_cases, Seeing.reached_some, Steady.pairs_steady}
+use Rattle.dn_survivor.specs.{OfOthers.Keeping.count_told, Agreed.AreAgreedInPairs, Agreed.FitInPairs, Agreed.IsPair, Agreed.move_told, Agreed.row_without, Demos.DemosAgreeInPairs, Demos.is_closed, Demos.rows_whole}
+use Rattle.dn_survivor.specs.{OneGame.AreRemaining, Represents.Represents, Session.Given, Session.Session, Surviving.Surviving, Surviving.end_settled, Surviving.has_given_up}
+use Rattle.dn_survivor.proofs.{Moves.front_at, Moves.row_alike, Moves.seat_there, Moves.used_same, OneGame.rules}
+use Rattle.dn_machine.specs.Node as machine
 use Rattle.dn_lockstep.specs.Represents as lockstep
-use Rattle.dn_lockstep.specs.Rows.{seats_of}
-use Rattle.dn_lockstep.specs.Told.{HasStarted, command_told, got, made}
-use Rattle.dn_lockstep.proofs.Agreeing.{own_marked}
-use Rattle.dn_lockstep.proofs.DemoTexts.{AreFull, recorded_in_text}
-use Rattle.dn_lockstep.proofs.DemosAgreeing.{begun_or, commands_prefix, prefix_same}
-use Rattle.dn_lockstep.proofs.Replaying.{read_back}
-use Rattle.dn_lockstep.proofs.Seats.{seats_whole}
 use Rattle.dn_lockstep.proofs.Shown
-use Rattle.dn_remain.specs.Vanished.Commands.{Holder}
 use Rattle.dn_remain.specs.Promise as pairs
-use Rattle.dn_remain.specs.Promise.{AgreeInPairs, FitsInPairs, SteadyInPairs}
-use Rattle.dn_remain.specs.Remaining.{Remaining, wary_of}
-use Rattle.dn_remain.specs.Seen.{end_seen, reached}
-use Rattle.dn_remain.specs.Wary.{Report}
-use Rattle.dn_remain.proofs.Fitted.{pairs_fit}
-use Rattle.dn_remain.proofs.Marked.{fronts_same}
-use Rattle.dn_remain.proofs.Promises.{pairs_agree}
-use Rattle.dn_remain.proofs.Reached.{IsReached}
-use Rattle.dn_remain.proofs.Seeing.{reached_cases, reached_some}
-use Rattle.dn_remain.proofs.Steady.{pairs_steady}
-use Rattle.dn_survivor.specs.OfOthers.Keeping.{count_told}
-use Rattle.dn_survivor.specs.Agreed.{AreAgreedInPairs, FitInPairs, IsPair, move_told, row_without}
-use Rattle.dn_survivor.specs.Demos.{DemosAgreeInPairs, is_closed, rows_whole}
-use Rattle.dn_survivor.specs.OneGame.{AreRemaining}
-use Rattle.dn_survivor.specs.Represents.{Represents}
-use Rattle.dn_survivor.specs.Session.{Given, Session}
-use Rattle.dn_survivor.specs.Surviving.{Surviving, end_settled, has_given_up}
-use Rattle.dn_survivor.proofs.Moves.{front_at, row_alike, seat_there, used_same}
 use Rattle.dn_survivor.proofs.OneGame as game_of
-use Rattle.dn_survivor.proofs.OneGame.{rules}
 
 none_recorded : (n : Contents) → n.demo.bytes ≡ [] → recorded n ≡ []
 none_recorded n none = grind arith
@@ -108,9 +74,7 @@ module _ (marking : Marking) (limits : Limits) (settings : Settings) (session : 
 
     -- who has not ended
     playing_on : is_ended n.phase ≡ false → has_left m ≡ false
-    playing_on on =
-        let off : is_ended m.phase ≡ false = ap is_ended (sym here.stands.phase) ∙ on in
-        grind (arith, off)
+    playing_on on = grind (arith, here)
 
     -- its own end, and another's
     own_end : end_in n q ≡ (if has_left m then Some (machine.made q m) else None)
@@ -127,39 +91,18 @@ module _ (marking : Marking) (limits : Limits) (settings : Settings) (session : 
     settled_other p low apart = λ i. reached (has p low i) (other_end p low apart i)
 
     settled_own : (a : ℕ) → end_settled now q ≡ Some a → (has_left m ≡ true) × (a ≡ machine.made q m)
-    settled_own a is =
-        by_left (has_left m) refl (sym (λ i. reached (has q mine i) (own_end i)) ∙ is)
-      where
-        by_left : (b : Bool) → has_left m ≡ b
-            → reached (machine.got m q) (if has_left m then Some (machine.made q m) else None) ≡ Some a
-            → (has_left m ≡ true) × (a ≡ machine.made q m)
-        by_left true left e = (
-          left,
-          sym (same_Some (machine.made q m) a (sym (reached_some (machine.got m q) (machine.made q m) (omega arith))
-              ∙ (sym (ap (reached (machine.got m q)) (cond-true (has_left m) _ _ left)) ∙ e))),
-        )
-        by_left false left e =
-            absurd (none-some a (sym (ap (reached (machine.got m q)) (cond-false (has_left m) _ _ left)) ∙ e))
+    settled_own a is = grind (arith, has, own_end, same_Some, reached_some, cond-true, none-some, cond-false)
 
     -- a tic that it ran is over for a player, as it tells it, just where it is for the node
     ran_all : machine.ran m ≤ machine.made q m
     ran_all = fits.run q q mine endless
 
     over_own : (tic : ℕ) → tic < machine.ran m → (o : Option ℕ) → end_settled now q ≡ o → is_over o tic ≡ false
-    over_own tic low None is = refl
-    over_own tic low (Some a) is =
-        let own = settled_own a is in
-        lt-leb a tic (omega (arith, own.1, ran_all, low))
+    over_own tic low o is = grind (arith, settled_own, lt-leb, ran_all)
 
     over_is : (p tic : ℕ) → p < limits.players → tic < machine.ran m
         → is_over (end_settled now p) tic ≡ is_over (end_seen m p) tic
-    over_is p tic low early = elim (cases_eq p q) [
-      | inr apart ↦ ap (λ (o : Option ℕ). is_over o tic) (settled_other p low apart)
-      | inl same ↦
-          ap (λ (k : ℕ). is_over (end_settled now k) tic) same
-          ∙ over_own tic early (end_settled now q) refl
-          ∙ sym (ap (λ (k : ℕ). is_over (end_seen m k) tic) same ∙ ap (λ (o : Option ℕ). is_over o tic) endless)
-    ]
+    over_is p tic low early = grind (arith, settled_other, over_own, endless)
 
     -- a command that the node has is the one that the player's inputs make
     held_is : (p tic : ℕ) → p < limits.players → tic < machine.got m p
@@ -229,9 +172,7 @@ module _ (marking : Marking) (limits : Limits) (settings : Settings) (session : 
     all_had : (p a : ℕ) → p < limits.players → end_settled now p ≡ Some a → got n p ≡ a
     all_had p a low is = elim (cases_eq p q) [
       | inr apart ↦ has p low ∙ agree.has_all q p a (sym (settled_other p low apart) ∙ is)
-      | inl same ↦
-          let own = settled_own a (ap (end_settled now) (sym same) ∙ is) in
-          ap (got n) same ∙ (has q mine ∙ sym own.1)
+      | inl same ↦ grind (arith, settled_own, has)
     ]
 
     -- of a player whom it has not given up
@@ -258,13 +199,7 @@ module _ (marking : Marking) (limits : Limits) (settings : Settings) (session : 
 
       text_is : n.demo.bytes ≡ demo_text long_tics (start_of settings) q (seats_of limits.players)
           (rows_whole limits.players session q) (is_closed limits.players session q n)
-      text_is =
-          let rows = whole_is in
-          let phase = sym here.stands.phase in
-          let count = sym ran in
-          Shown.played_bytes limits q n m here settings played (settings_are played)
-          ∙ (λ k. demo_text long_tics (start_of settings) q (seats_of limits.players) (rows k)
-          (is_ended (phase k) || nat_lt (length (rows k)) (count k)))
+      text_is = grind (arith, whole_is, here, ran, played, settings_are)
 
       reads_back : is_ended n.phase ≡ true → IsReadAs n.demo.bytes
           (Ok (written_demo long_tics (start_of settings) q (seats_of limits.players)
@@ -276,51 +211,21 @@ module _ (marking : Marking) (limits : Limits) (settings : Settings) (session : 
           (ap is_ended (sym here.stands.phase) ∙ over))
 
       full : AreFull limits.players (rows_whole limits.players session q)
-      full k low =
-          let rows : List (List (Option Move)) = session.told q in
-          let short = front_short (is_whole limits.players) rows in
-          let size = ap length (game.rows q) in
-          let early : k < n.ran = omega (arith, low, short, size, ran) in
-          let at : get_or rows k [] ≡ row_without limits.players session.inputs now k =
-          same_Some _ _ (sym (slice_get-get_or rows k [] (omega (arith, low, short))) ∙ row_is k early) in
-          let whole : is_whole limits.players (row_without limits.players session.inputs now k) ≡ true =
-          ap (is_whole limits.players) (sym at) ∙ front_passes (is_whole limits.players) rows k [] low in (
-            shown.few,
-            ap (map is_some) (front_at (is_whole limits.players) rows k low ∙ at)
-                ∙ seats_whole limits.players _ whole,
-          )
+      full k low = grind (arith, front_short, ran, same_Some, slice_get-get_or, row_is, front_passes, shown, front_at, seats_whole)
 
       recorded_is : recorded n ≡ commands_of long_tics (rows_whole limits.players session q)
-      recorded_is =
-          ap (λ (bytes : List ℕ). take (command_size long_tics * commands_in long_tics bytes)
-          (drop header_size bytes)) text_is
-          ∙ recorded_in_text limits.players _ _ _ _ full
+      recorded_is = grind (arith, text_is, recorded_in_text, full)
 
   -- a pair
   pair_is : (q r : ℕ) → IsPair limits session.survivors q r → pairs.IsPair limits game.last q r
-  pair_is q r k = record {
-    one = k.one;
-    other = k.other;
-    apart = k.apart;
-    here = sym (gone_is q k.one r k.other) ∙ k.here;
-    there = sym (gone_is r k.other q k.one) ∙ k.there;
-  }
+  pair_is q r k = grind (arith, here, gone_is)
 
   turned : (q r : ℕ) → IsPair limits session.survivors q r → IsPair limits session.survivors r q
-  turned q r k = record {
-    one = k.other;
-    other = k.one;
-    apart = λ e. k.apart (sym e);
-    here = k.there;
-    there = k.here;
-  }
+  turned q r k = grind (arith, here)
 
   same_rows : (q r tic : ℕ) → IsPair limits session.survivors q r → tic < (session.survivors q).lockstep.ran
       → tic < (session.survivors r).lockstep.ran → slice_get (session.told q) tic ≡ slice_get (session.told r) tic
-  same_rows q r tic k l o =
-      ap (λ (rows : List (List (Option Move))). slice_get rows tic) (sym (game.rows q))
-      ∙ agree.same q r tic (pair_is q r k) (omega (arith, l, ran q k.one)) (omega (arith, o, ran r k.other))
-      ∙ ap (λ (rows : List (List (Option Move))). slice_get rows tic) (game.rows r)
+  same_rows q r tic k l o = grind (arith, agree, pair_is, ran)
 
   length_is : (q : ℕ) → q < limits.players → (session.survivors q).lockstep.ran ≡ length (session.told q)
   length_is q mine = ran q mine ∙ ap (length {A = List (Option Move)}) (game.rows q)
@@ -343,9 +248,7 @@ module _ (marking : Marking) (limits : Limits) (settings : Settings) (session : 
   move_is q p tic mine its low there =
       let size = length_is q mine in
       let few = (shown q mine).few in
-      let at : get_or (session.told q) tic [] ≡ row_without limits.players session.inputs (session.survivors q) tic =
-      same_Some _ _ (sym (slice_get-get_or (session.told q) tic [] (omega (arith, low, size)))
-      ∙ row_is q mine tic low) in
+      let at : get_or (session.told q) tic [] ≡ row_without limits.players session.inputs (session.survivors q) tic = grind (arith, same_Some, slice_get-get_or, row_is) in
       ap (λ (row : List (Option Move)). get_or row p None) at
       ∙ seat_there limits.players (is_over (end_settled (session.survivors q) p) tic) _ _ p
       (omega (arith, its, few)) its refl (ap (λ (row : List (Option Move)). lacks row p) (sym at) ∙ there)

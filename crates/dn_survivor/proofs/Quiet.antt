@@ -1,18 +1,11 @@
 -- What a run, a give-up and a report leave of the inputs and the rows of a node.
-use Rattle.std.proofs.Common.{◌≡◌, ℕ, ℤ, Bool, true, refl}
+use Rattle.std.proofs.Common.{◌≡◌, ℕ, ℤ, Bool, refl, arith}
 use Rattle.std.proofs.lemmas.Bool.{cond_both}
-use Rattle.dn_setup.specs.Gathered.{all_noted}
-use Rattle.dn_machine.specs.declared.answers.Heard.{Heard}
-use Rattle.dn_machine.specs.declared.answers.Phase.{Phase}
-use Rattle.dn_machine.specs.declared.answers.Phase.TheVariants.{Listening, Gathering, Playing, Ended}
-use Rattle.dn_machine.specs.Limits.{Limits}
-use Rattle.dn_machine.specs.Node as machine
-use Rattle.dn_machine.specs.Node.{put}
-use Rattle.dn_machine.specs.Running.{on_run_but}
+use Rattle.dn_machine.specs.{declared.answers.Phase.Phase, Limits.Limits, Node.put, Running.on_run_but}
 use Rattle.dn_lockstep.proofs.OneGame.{IsQuiet}
 use Rattle.dn_remain.specs.Wary.{Report, Wary, after_news, noted_gone, on_give_up, on_report, with_gone, with_report}
-use Rattle.dn_remain.proofs.ButRuns.{run_but_cases}
-use Rattle.dn_remain.proofs.Cases.{news_cases, give_up_cases, report_cases}
+use Rattle.dn_remain.proofs.{ButRuns.run_but_cases, Cases.news_cases, Cases.give_up_cases, Cases.report_cases}
+use Rattle.dn_machine.specs.Node as machine
 
 pub run_inputs : (limits : Limits) (gone : ℕ → Bool) (m : machine.Node) (marks : ℕ → ℤ)
     → (on_run_but limits gone m marks).0.inputs ≡ m.inputs
@@ -21,11 +14,7 @@ run_inputs limits gone m marks = run_but_cases limits 0 gone m marks (λ (x : ma
 
 noted_quiet : (limits : Limits) (m : machine.Node) (player : ℕ) (phase : Phase)
     → IsQuiet m (noted_gone limits m player phase)
-noted_quiet limits m player Listening = (refl, refl)
-noted_quiet limits m player Playing = (refl, refl)
-noted_quiet limits m player (Ended cause) = (refl, refl)
-noted_quiet limits m player Gathering = cond_both (all_noted limits.players (put m.noted player true)) _ _
-    (λ (x : machine.Node × Heard). IsQuiet m x.0) (λ all. (refl, refl)) (λ some. (refl, refl))
+noted_quiet limits m player phase = grind (arith, cond_both, IsQuiet)
 
 module _ (limits : Limits) (me : ℕ) (wary : Wary) where
   news_quiet : (m : machine.Node) → IsQuiet m wary.node → IsQuiet m (after_news limits me wary).node

@@ -2,51 +2,31 @@
 use Rattle.std.proofs.Common.{◌≡◌, ◌≢◌, ◌<◌, ◌≤◌, ◌+◌, ℕ, zero, suc, Bool, true, false, List, refl, sym, ap, subst, ◌∙◌, arith, inl, inr, Option, Some, None}
 use Rattle.std.specs.Prelude.{◌⊎◌, ◌||◌, not, nat_lt, if◌then◌else◌}
 use Rattle.std.specs.List.{list_any}
-use Rattle.std.proofs.lemmas.Bool.{both_ways, cases_Bool, cases_eq, cond_both, eq-eqb, le-ltb}
+use Rattle.std.proofs.lemmas.Bool.{both_ways, cases_Bool, cond_both, eq-eqb, le-ltb}
 use Rattle.std.proofs.lemmas.List.{get_or-set_other}
 use Rattle.std.proofs.lemmas.Option.{same_Some}
 use Rattle.dn_tic.specs.declared.command.TicCmd.{TicCmd}
-use Rattle.dn_survivor.specs.declared.report.Report.{Report}
-use Rattle.dn_machine.specs.Drops as drops
-use Rattle.dn_setup.specs.Gathered.{all_noted}
-use Rattle.dn_machine.specs.declared.answers.Heard.{Heard}
-use Rattle.dn_machine.specs.declared.answers.Phase.{Phase}
-use Rattle.dn_machine.specs.declared.answers.Phase.TheVariants.{Listening, Gathering, Playing, Ended}
-use Rattle.dn_machine.specs.Limits.{Limits}
-use Rattle.dn_machine.specs.Node as machine
-use Rattle.dn_machine.specs.Node.{ends_of, got, is_ended, put, ran}
-use Rattle.dn_lockstep.specs.declared.lockstep.settling.Settled.{Settled}
-use Rattle.dn_lockstep.specs.Phases.{is_listening}
-use Rattle.dn_lockstep.specs.Represents as lockstep
-use Rattle.dn_lockstep.specs.Rings.{is_stop}
-use Rattle.dn_lockstep.specs.Settling.{has_gap, is_no_peer, is_other_end, missing, on_excuse, on_settle, refused_end, settled_unless}
-use Rattle.dn_remain.specs.Vanished.Calls.{can_decide}
-use Rattle.dn_remain.specs.Vanished.Reports.{share}
+use Rattle.dn_survivor.specs.{declared.report.Report.Report, declared.others.Others.Others, OfOthers.Hearing.reported_as, OfOthers.Hearing.with_newest, declared.answers.Ends.Ends, declared.answers.GivenUp.GivenUp}
+use Rattle.dn_survivor.specs.{declared.answers.Reported.Reported, Surviving.Surviving, Surviving.has_given_up, OfOthers.Keeping.commands_of, OfOthers.Keeping.first_of, OfOthers.Keeping.has, OfOthers.Keeping.nodes_of}
+use Rattle.dn_survivor.specs.{OfOthers.Keeping.own_of, OfOthers.Keeping.told_of, Calls.GivesUp, Calls.GivesUpUnless, Calls.HearsReport, Calls.HearsReportUnless, Calls.given_up_as, Calls.refused_give_up}
+use Rattle.dn_survivor.specs.{Calls.refused_report, Calls.reported_by, Calls.unkept, Calls.with_gone, Ending.IsRefusal, Ending.decided_by, Ending.end_by, Ending.ends_with, Ending.settled_below, Ending.settled_by}
+use Rattle.dn_machine.specs.{declared.answers.Phase.Phase, Limits.Limits, Node.ends_of, Node.got, Node.is_ended, Node.ran, declared.answers.Phase.TheVariants.Gathering, declared.answers.Phase.TheVariants.Playing}
+use Rattle.dn_lockstep.specs.{declared.lockstep.settling.Settled.Settled, Phases.is_listening, Rings.is_stop, Settling.has_gap, Settling.is_no_peer, Settling.is_other_end, Settling.missing, Settling.on_excuse}
+use Rattle.dn_lockstep.specs.{Settling.on_settle, Settling.refused_end, Settling.settled_unless}
+use Rattle.dn_remain.specs.{Vanished.Calls.can_decide, Vanished.Reports.share, Wary.is_in_game, Wary.noted_gone}
 use Rattle.dn_remain.proofs.Vanished.Put.{highest_bounds}
+use Rattle.dn_survivor.proofs.{Ends.in_game, Waries.excused, Waries.still_in}
+use Rattle.dn_machine.specs.Drops as drops
+use Rattle.dn_machine.specs.Node as machine
+use Rattle.dn_lockstep.specs.Represents as lockstep
 use Rattle.dn_survivor.specs.declared.others.hearing.Reported as noted
-use Rattle.dn_survivor.specs.declared.others.Others.{Others}
-use Rattle.dn_survivor.specs.OfOthers.Hearing.{reported_as, with_newest}
-use Rattle.dn_survivor.specs.OfOthers.Keeping.{commands_of, first_of, has, nodes_of, own_of, told_of}
-use Rattle.dn_remain.specs.Wary.{is_in_game, noted_gone}
-use Rattle.dn_survivor.specs.declared.answers.Ends.{Ends}
-use Rattle.dn_survivor.specs.declared.answers.GivenUp.{GivenUp}
-use Rattle.dn_survivor.specs.declared.answers.Reported.{Reported}
-use Rattle.dn_survivor.specs.Calls.{GivesUp, GivesUpUnless, HearsReport, HearsReportUnless, given_up_as, refused_give_up, refused_report, reported_by, unkept, with_gone}
-use Rattle.dn_survivor.specs.Ending.{IsRefusal, decided_by, end_by, ends_with, settled_below, settled_by}
-use Rattle.dn_survivor.specs.Surviving.{Surviving, has_given_up}
-use Rattle.dn_survivor.proofs.Ends.{in_game}
-use Rattle.dn_survivor.proofs.Waries.{excused, still_in}
 
 -- an end that lies behind all commands that are there, of another player, is refused for one of four reasons
 refused_as : (gap overrun stops other : Bool) (reason : Settled)
     → (if gap then Some Settled.Gap else (if overrun then Some Settled.Overrun else (
     if stops then Some Settled.Stopper else (if other then Some Settled.OtherEnd else None)))) ≡ Some reason
     → IsRefusal reason
-refused_as true overrun stops other reason e = inl (sym (same_Some _ _ e))
-refused_as false true stops other reason e = inr (inl (sym (same_Some _ _ e)))
-refused_as false false true other reason e = inr (inr (inl (sym (same_Some _ _ e))))
-refused_as false false false true reason e = inr (inr (inr (sym (same_Some _ _ e))))
-refused_as false false false false reason e = absurd (cc)
+refused_as gap overrun stops other reason e = grind (arith, same_Some)
 
 -- what is answered of an end that is not taken is why it is refused
 why : (o : Option Settled) (m : machine.Node) (player end first : ℕ) (commands : List TicCmd) (reason : Settled)
@@ -65,26 +45,14 @@ told : (ends : Ends) (player : ℕ) (settled : Settled) (other : ℕ) (reason : 
     → ends_with ends player settled ≡ Ends.Untaken other reason
     → (ends ≡ Ends.Untaken other reason)
     ⊎ ((player ≡ other) × (settled ≡ reason) × ((count : ℕ) → settled ≢ Settled.Taken count))
-told Ends.Awaited player settled other reason e = absurd (cc)
-told (Ends.Untaken first why) player settled other reason e = inl e
-told Ends.Taken player (Settled.Taken count) other reason e = absurd (cc)
-told Ends.Taken player Settled.NotAPlayer other reason e = inr (cc, cc, λ count f. cc)
-told Ends.Taken player Settled.NotPlaying other reason e = inr (cc, cc, λ count f. cc)
-told Ends.Taken player Settled.Gap other reason e = inr (cc, cc, λ count f. cc)
-told Ends.Taken player Settled.Behind other reason e = inr (cc, cc, λ count f. cc)
-told Ends.Taken player Settled.Overrun other reason e = inr (cc, cc, λ count f. cc)
-told Ends.Taken player Settled.Stopper other reason e = inr (cc, cc, λ count f. cc)
-told Ends.Taken player Settled.OtherEnd other reason e = inr (cc, cc, λ count f. cc)
+told ends player settled other reason e = grind arith
 
 module _ (limits : Limits) (me : ℕ) (others : Others) (mine : me < limits.players)
     (own : has others.gone me ≡ false) where
   -- a player of the game who is given up is another
   apart : (player : ℕ) → player < limits.players → has others.gone player ≡ true
       → is_no_peer limits.players me player ≡ false
-  apart player low given = elim (cases_eq player me) [
-    | inl same ↦ absurd (both_ways (has others.gone player) (ap (has others.gone) same ∙ own) given)
-    | inr other ↦ grind (arith, low, other)
-  ]
+  apart player low given = grind (arith, both_ways)
 
   -- the end is at least what is there
   enough : (player : ℕ) (m : machine.Node) → got m player ≤ end_by limits me others player m
@@ -164,34 +132,22 @@ module _ (limits : Limits) (me : ℕ) (others : Others) (mine : me < limits.play
   -- and no decision changes the phase
   pub decides_phase : (m : machine.Node) → (is_listening m.phase || is_ended m.phase) ≡ false
       → (decided_by limits me others m).0.phase ≡ m.phase
-  decides_phase m within =
-      cond_both (can_decide limits.players me (own_of others (λ player. 0)) (nodes_of others)) _ _
-      (λ (x : machine.Node × Ends). x.0.phase ≡ m.phase)
-      (λ can. (below m within limits.players (omega arith)).0) (λ cannot. refl)
+  decides_phase m within = grind (arith, cond_both, below)
 
 -- to wait no longer for one who is given up may start a game
 noted_phase : (limits : Limits) (m : machine.Node) (player : ℕ) (phase : Phase) → m.phase ≡ phase
     → ((noted_gone limits m player phase).phase ≡ m.phase)
     ⊎ ((m.phase ≡ Gathering) × ((noted_gone limits m player phase).phase ≡ Playing))
-noted_phase limits m player Listening e = inl refl
-noted_phase limits m player Playing e = inl refl
-noted_phase limits m player (Ended cause) e = inl refl
-noted_phase limits m player Gathering e = cond_both (all_noted limits.players (put m.noted player true)) _ _
-    (λ (x : machine.Node × Heard). (x.0.phase ≡ m.phase) ⊎ ((m.phase ≡ Gathering) × (x.0.phase ≡ Playing)))
-    (λ all. inr (e, refl)) (λ some. inl refl)
+noted_phase limits m player phase e = grind (arith, cond_both)
 
 -- only ends are not taken
 given_is : (ends : Ends) (other : ℕ) (reason : Settled) → GivenUp.Untaken other reason ≡ given_up_as ends
     → ends ≡ Ends.Untaken other reason
-given_is Ends.Awaited other reason e = absurd (cc)
-given_is Ends.Taken other reason e = absurd (cc)
-given_is (Ends.Untaken first why) other reason e = cc
+given_is ends other reason e = grind arith
 
 reported_is : (ends : Ends) (other : ℕ) (reason : Settled) → Reported.Untaken other reason ≡ reported_by ends
     → ends ≡ Ends.Untaken other reason
-reported_is Ends.Awaited other reason e = absurd (cc)
-reported_is Ends.Taken other reason e = absurd (cc)
-reported_is (Ends.Untaken first why) other reason e = cc
+reported_is ends other reason e = grind arith
 
 -- why a give-up is refused
 module _ (old new : Surviving) (player : ℕ) where
@@ -201,54 +157,18 @@ module _ (old new : Surviving) (player : ℕ) where
       × (new ≡ old)
       ⊎ ((is_no_peer old.lockstep.players old.lockstep.me player ≡ false)
       × (is_in_game old.lockstep.phase ≡ true) × GivesUpUnless None player old new answer)
-  refusal_is (Some reason) answer is h = inl (
-    subst (λ (r : GivenUp). (r ≡ GivenUp.NotAPlayer) ⊎ ((r ≡ GivenUp.NotPlaying) ⊎ (r ≡ GivenUp.Already)))
-        (sym h.0)
-        (by_test (is_no_peer old.lockstep.players old.lockstep.me player) (is_in_game old.lockstep.phase)
-        (has_given_up old player) reason is),
-    h.1,
-  )
-    where
-      by_test : (stranger here given : Bool) (reason : GivenUp)
-          → (if stranger then Some GivenUp.NotAPlayer else (if not here then Some GivenUp.NotPlaying else (
-          if given then Some GivenUp.Already else None))) ≡ Some reason
-          → (reason ≡ GivenUp.NotAPlayer) ⊎ ((reason ≡ GivenUp.NotPlaying) ⊎ (reason ≡ GivenUp.Already))
-      by_test true here given reason e = inl (sym (same_Some _ _ e))
-      by_test false false given reason e = inr (inl (sym (same_Some _ _ e)))
-      by_test false true true reason e = inr (inr (sym (same_Some _ _ e)))
-      by_test false true false reason e = absurd (cc)
-  refusal_is None answer is h = inr (
-    (by_test (is_no_peer old.lockstep.players old.lockstep.me player) (is_in_game old.lockstep.phase)
-        (has_given_up old player) is).0,
-    (by_test (is_no_peer old.lockstep.players old.lockstep.me player) (is_in_game old.lockstep.phase)
-        (has_given_up old player) is).1,
-    h,
-  )
-    where
-      by_test : (stranger here given : Bool)
-          → (if stranger then Some GivenUp.NotAPlayer else (if not here then Some GivenUp.NotPlaying else (
-          if given then Some GivenUp.Already else None))) ≡ None
-          → (stranger ≡ false) × (here ≡ true)
-      by_test true here given e = absurd (cc)
-      by_test false false given e = absurd (cc)
-      by_test false true true e = absurd (cc)
-      by_test false true false e = (refl, refl)
+  refusal_is (Some reason) answer is h = grind (arith, same_Some)
+  refusal_is None answer is h = grind arith
 
   -- no survivor gives up its own player
   stays_own : is_no_peer old.lockstep.players old.lockstep.me player ≡ false
       → has old.others.gone old.lockstep.me ≡ false
       → has (with_gone old.others player).gone old.lockstep.me ≡ false
-  stays_own peer own = elim (cases_eq old.lockstep.me player) [
-    | inl same ↦ absurd (grind (arith, peer, same))
-    | inr other ↦ get_or-set_other old.others.gone player old.lockstep.me true false other ∙ own
-  ]
+  stays_own peer own = grind (arith, get_or-set_other)
 
   pub own_stays : (answer : GivenUp) → has_given_up old old.lockstep.me ≡ false → GivesUp player old new answer
       → has_given_up new old.lockstep.me ≡ false
-  own_stays answer own by = elim (refusal_is (refused_give_up old player) answer refl by) [
-    | inl same ↦ ap (λ (s : Surviving). has_given_up s old.lockstep.me) same.1 ∙ own
-    | inr gives ↦ ap (λ (o : Others). has o.gone old.lockstep.me) gives.2.0 ∙ stays_own gives.0 own
-  ]
+  own_stays answer own by = grind (arith, refusal_is, stays_own)
 
   -- a lockstep that takes part in the game, whose survivor gives up another player of it
   module _ (limits : Limits) (me : ℕ) (m : machine.Node) (mine : me < limits.players)
@@ -256,21 +176,14 @@ module _ (old new : Surviving) (player : ℕ) where
       (gives : is_no_peer old.lockstep.players old.lockstep.me player ≡ false)
       (plays : is_in_game old.lockstep.phase ≡ true) where
     free : has (with_gone old.others player).gone me ≡ false
-    free =
-        let number = r.whose.number in
-        ap (has (with_gone old.others player).gone) (sym number)
-        ∙ stays_own gives (ap (has old.others.gone) number ∙ own)
+    free = grind (arith, stays_own)
 
     excused_is : (on_excuse limits me m player).0 ≡ noted_gone limits m player m.phase
-    excused_is = excused limits me m player
-        (sym (λ i. is_no_peer (r.whose.players i) (r.whose.number i) player) ∙ gives)
+    excused_is = grind (arith, excused)
 
     within : (is_listening (on_excuse limits me m player).0.phase || is_ended (on_excuse limits me m player).0.phase)
         ≡ false
-    within =
-        let phase : is_in_game m.phase ≡ true = ap is_in_game (sym r.stands.phase) ∙ plays in
-        in_game (on_excuse limits me m player).0.phase (ap (λ (x : machine.Node). is_in_game x.phase) excused_is
-        ∙ still_in limits m player m.phase refl phase)
+    within = grind (arith, in_game, excused_is, still_in)
 
   pub gave_up : (limits : Limits) (me : ℕ) (m : machine.Node) (other : ℕ) (reason : Settled)
       → me < limits.players → lockstep.Represents limits me old.lockstep m
@@ -278,13 +191,7 @@ module _ (old new : Surviving) (player : ℕ) where
       → IsRefusal reason × (other < limits.players) × (has_given_up new other ≡ true)
   gave_up limits me m other reason mine r own by =
       elim (refusal_is (refused_give_up old player) (GivenUp.Untaken other reason) refl by) [
-        | inl same ↦ absurd (elim same.0 [
-          | inl e ↦ cc
-          | inr rest ↦ elim rest [
-            | inl e ↦ cc
-            | inr e ↦ cc
-          ]
-        ])
+        | inl same ↦ grind arith
         | inr gives ↦
             let after = gives.2.1.step limits me m r in
             let is = decides limits me (with_gone old.others player) mine
@@ -297,30 +204,13 @@ module _ (old new : Surviving) (player : ℕ) where
       → lockstep.Represents limits me old.lockstep m → has_given_up old me ≡ false → GivesUp player old new answer
       → (new.lockstep.phase ≡ old.lockstep.phase)
       ⊎ ((old.lockstep.phase ≡ Gathering) × (new.lockstep.phase ≡ Playing))
-  phases limits me m answer mine r own by = elim (refusal_is (refused_give_up old player) answer refl by) [
-    | inl same ↦ inl (ap (λ (s : Surviving). s.lockstep.phase) same.1)
-    | inr gives ↦
-        let after : new.lockstep.phase ≡ (noted_gone limits m player m.phase).phase =
-        (gives.2.1.step limits me m r).node.stands.phase
-        ∙ (decides_phase limits me (with_gone old.others player) mine
-        (free limits me m mine r own gives.0 gives.1) (on_excuse limits me m player).0
-        (within limits me m mine r own gives.0 gives.1)
-        ∙ ap (λ (x : machine.Node). x.phase) (excused_is limits me m mine r own gives.0 gives.1)) in
-        elim (noted_phase limits m player m.phase refl) [
-          | inl same ↦ inl (after ∙ (same ∙ sym r.stands.phase))
-          | inr starts ↦ inr (r.stands.phase ∙ starts.0, after ∙ starts.1)
-        ]
-  ]
+  phases limits me m answer mine r own by = grind (arith, refusal_is, decides_phase, free, within, excused_is, noted_phase)
 
 -- why a report is not kept
 module _ (old new : Surviving) (from : ℕ) (report : Report) where
   unkept_is : (n : noted.Reported) (other : ℕ) (reason : Settled) → unkept n ≡ Some (Reported.Untaken other reason)
       → ⊥
-  unkept_is noted.Reported.Kept other reason e = absurd (cc)
-  unkept_is noted.Reported.GivenUp other reason e = absurd (cc)
-  unkept_is noted.Reported.Excluded other reason e = absurd (cc)
-  unkept_is noted.Reported.Improper other reason e = absurd (cc)
-  unkept_is noted.Reported.Stale other reason e = absurd (cc)
+  unkept_is n other reason e = grind arith
 
   -- it is kept where an end is not taken
   by_test : (here stranger : Bool) (rest : Option Reported) (other : ℕ) (reason : Settled)
@@ -330,12 +220,7 @@ module _ (old new : Surviving) (from : ℕ) (report : Report) where
       if stranger then Some (Reported.Dropped drops.stranger) else rest)) ≡ o
       → HearsReportUnless o from report old new (Reported.Untaken other reason)
       → (here ≡ true) × HearsReportUnless None from report old new (Reported.Untaken other reason)
-  by_test false stranger rest other reason never (Some r) e h = absurd (cc)
-  by_test false stranger rest other reason never None e h = absurd (cc)
-  by_test true true rest other reason never (Some r) e h = absurd (cc)
-  by_test true true rest other reason never None e h = absurd (cc)
-  by_test true false rest other reason never (Some r) e h = absurd (never (e ∙ ap Some (sym h.0)))
-  by_test true false rest other reason never None e h = (refl, h)
+  by_test here stranger rest other reason never o e h = grind arith
 
   pub reported : (limits : Limits) (me : ℕ) (m : machine.Node) (other : ℕ) (reason : Settled)
       → me < limits.players → lockstep.Represents limits me old.lockstep m
@@ -354,9 +239,4 @@ module _ (old new : Surviving) (from : ℕ) (report : Report) where
 
   pub own_heard : (answer : Reported) → has_given_up old old.lockstep.me ≡ false → HearsReport from report old new answer
       → has_given_up new old.lockstep.me ≡ false
-  own_heard answer own by = by_refusal (refused_report old from report) by
-    where
-      by_refusal : (o : Option Reported) → HearsReportUnless o from report old new answer
-          → has_given_up new old.lockstep.me ≡ false
-      by_refusal (Some reason) h = ap (λ (s : Surviving). has_given_up s old.lockstep.me) h.1 ∙ own
-      by_refusal None h = ap (λ (o : Others). has o.gone old.lockstep.me) h.0 ∙ own
+  own_heard answer own by = grind arith

@@ -1,32 +1,21 @@
 -- The report that a survivor gives tells what its node has.
 use Rattle.std.proofs.Common.{◌≡◌, ◌≢◌, ◌<◌, ◌≤◌, ◌+◌, ◌-◌, ℕ, zero, suc, Bool, false, List, [], ◌∷◌, length, add-one, refl, sym, ap, subst, ◌∙◌, arith, inl, inr, Some, None}
-use Rattle.std.specs.Prelude.{All, ◌&&◌, ◌||◌, ◌==◌, not, nat_le, min, if◌then◌else◌}
+use Rattle.std.specs.Prelude.{All, ◌&&◌, ◌||◌, ◌==◌, not, min, if◌then◌else◌}
 use Rattle.std.specs.List.{filter_map, range_with_len}
-use Rattle.std.specs.Option.{is_some, option_or}
+use Rattle.std.specs.Option.{option_or}
 use Rattle.std.proofs.lemmas.Bool.{cases_Bool, cases_eq, cases_lt, eq-eqb, ne_eqb, lt-ltb}
 use Rattle.dn_ring.specs.Ring.{Ring}
-use Rattle.dn_survivor.specs.declared.report.Tail.{Tail}
-use Rattle.dn_survivor.specs.ReportBytes.Text.{AreInOrder, AreTold, IsTail}
-use Rattle.dn_machine.specs.Limits.{Limits}
-use Rattle.dn_machine.specs.Node as machine
-use Rattle.dn_machine.specs.Node.{got, held_at, is_ended, lowest}
-use Rattle.dn_lockstep.specs.Contents.{Contents}
-use Rattle.dn_lockstep.specs.Represents as lockstep
-use Rattle.dn_lockstep.specs.Rings.{count_of, get, ring_of}
-use Rattle.dn_lockstep.specs.Settling.{is_no_peer}
-use Rattle.dn_lockstep.specs.Told.{command_told}
+use Rattle.dn_survivor.specs.{declared.report.Tail.Tail, ReportBytes.Text.AreInOrder, ReportBytes.Text.AreTold, ReportBytes.Text.IsTail, OfOthers.Hearing.tells_either, OfOthers.Keeping.count_told, OfOthers.Keeping.has}
+use Rattle.dn_survivor.specs.{OfOthers.Keeping.last_told, OfOthers.Represents.Tells, Represents.Represents, Surviving.Surviving, Telling.last_in, Telling.report_for, Telling.report_in, Telling.tails_in, Telling.told_in}
+use Rattle.dn_machine.specs.{Limits.Limits, Node.got, Node.is_ended, Node.lowest}
+use Rattle.dn_lockstep.specs.{Contents.Contents, Rings.count_of, Rings.ring_of, Settling.is_no_peer, Told.command_told}
 use Rattle.dn_lockstep.proofs.Keeping.{get_within}
-use Rattle.dn_remain.specs.Vanished.Decisions.{last_of}
-use Rattle.dn_survivor.specs.OfOthers.Hearing.{tells_either}
-use Rattle.dn_survivor.specs.OfOthers.Keeping.{count_told, has, last_told}
-use Rattle.dn_survivor.specs.OfOthers.Represents.{Tells}
-use Rattle.dn_survivor.specs.OfOthers.Represents as others
-use Rattle.dn_remain.specs.Wary.{Wary, has_gone, report_of, report_to}
-use Rattle.dn_survivor.specs.Represents.{Represents}
-use Rattle.dn_survivor.specs.Surviving as now
-use Rattle.dn_survivor.specs.Surviving.{Surviving}
-use Rattle.dn_survivor.specs.Telling.{last_in, report_for, report_in, tails_in, told_in}
+use Rattle.dn_remain.specs.{Vanished.Decisions.last_of, Wary.Wary, Wary.has_gone, Wary.report_of, Wary.report_to}
 use Rattle.dn_survivor.proofs.Lists.{if_last, lasts, one_less, picks_few, two_less}
+use Rattle.dn_machine.specs.Node as machine
+use Rattle.dn_lockstep.specs.Represents as lockstep
+use Rattle.dn_survivor.specs.OfOthers.Represents as others
+use Rattle.dn_survivor.specs.Surviving as now
 
 -- tests that are alike find the same number
 pub lowest_alike : (bound : ℕ) (f g : ℕ → Bool) → ((i : ℕ) → i < bound → f i ≡ g i) → lowest bound f ≡ lowest bound g
@@ -46,11 +35,7 @@ module _ (n : Contents) (to : ℕ) where
       → (count_told (tails from count) p ≡ count_of n.rings p) × (last_told (tails from count) p ≡ last_in n p)
   own_told zero from p apart other low high = absurd (omega (arith, low, high))
   own_told (suc count) from p apart other low high = elim (cases_eq from p) [
-    | inl same ↦
-        let one = ne_eqb from n.me (λ e. apart (sym same ∙ e)) in
-        let two = ne_eqb from to (λ e. other (sym same ∙ e)) in
-        let here = eq-eqb from p same in
-        rw (one, two, here) (ap (count_of n.rings) same, ap (last_in n) same)
+    | inl same ↦ grind (arith, ne_eqb, eq-eqb)
     | inr later ↦
         let rest = own_told count (from + 1) p apart other (omega (arith, low, later)) (omega (arith, high)) in
         let off = ne_eqb from p later in
@@ -67,9 +52,7 @@ module _ (n : Contents) (to : ℕ) where
       let rest = neither count (from + 1) in
       elim (cases_Bool (from == n.me || from == to)) [
         | inl skip ↦ rw skip rest
-        | inr told ↦
-            let turned : (from == to || from == n.me) ≡ false = grind (arith, told) in
-            rw (told, turned) rest
+        | inr told ↦ grind arith
       ]
 
   -- so there is room for what is told of the others, of whom there are two at most
@@ -80,23 +63,10 @@ module _ (n : Contents) (to : ℕ) where
       let to_none : told_in n to to ≡ None =
       let one = ne_eqb to n.me apart in let two = eq-eqb to to refl in rw (one, two) refl in
       elim (cases_lt player 2) [
-        | inl early ↦
-            let few = picks_few (told_in n to) (player + 1) 0 in
-            omega (arith, few, early)
+        | inl early ↦ grind (arith, picks_few)
         | inr late ↦ elim (cases_lt player 3) [
-          | inr last ↦
-              let few = two_less (told_in n to) (player + 1) 0 to n.me apart to_none me_none (omega arith)
-              (omega (arith, other, four, last)) (omega arith) (omega (arith, mine, four, last)) in
-              omega (arith, few, low, four)
-          | inl third ↦ elim (cases_lt n.me 3) [
-            | inl within ↦
-                let few = one_less (told_in n to) (player + 1) 0 n.me me_none (omega arith) (omega (arith, within, late)) in
-                omega (arith, few, third)
-            | inr past ↦
-                let few = one_less (told_in n to) (player + 1) 0 to to_none (omega arith)
-                (omega (arith, past, late, apart, other, mine, four)) in
-                omega (arith, few, third)
-          ]
+          | inr last ↦ grind (arith, two_less)
+          | inl third ↦ grind (arith, one_less)
         ]
       ]
 
@@ -118,16 +88,7 @@ in_order n to (suc count) from =
 -- so players may be told so
 pub are_told : (n : Contents) (to : ℕ) (told : List Tail) → told ≡ tails_in n to → n.players ≤ 4
     → n.me < n.players → to < n.players → to ≢ n.me → All IsTail told → AreTold told
-are_told n to told is four mine other apart all =
-    let last : (n.players - 1) + 1 ≡ n.players = omega (arith, mine) in
-    let few = few_tails n to (n.players - 1) n.players (omega (arith, mine)) four mine other apart in
-    let same = ap (λ (k : ℕ). length (tails n to 0 k)) last in
-    let size = ap length is in
-    record {
-      few = omega (arith, few, same, size);
-      order = subst (AreInOrder 0) (sym is) (in_order n to n.players 0);
-      tails = all;
-    }
+are_told n to told is four mine other apart all = grind (arith, few_tails, in_order)
 
 -- what a lockstep tells of a player's commands is what its node has
 module _ (limits : Limits) (me : ℕ) (n : Contents) (m : machine.Node) (r : lockstep.Represents limits me n m)
@@ -139,20 +100,7 @@ module _ (limits : Limits) (me : ℕ) (n : Contents) (m : machine.Node) (r : loc
   count_is = ap (λ (k : Ring). k.count) ring
 
   told_is : (tic : ℕ) → command_told n player tic ≡ if_last limits.places (m.held player) tic
-  told_is tic =
-      let mine = lt-ltb player n.players (let a = r.whose.players in omega (arith, a, below)) in
-      let near : nat_le (count_of n.rings player - tic) n.places ≡ nat_le (got m player - tic) limits.places =
-      λ i. nat_le (count_is i - tic) (r.whose.places i) in
-      let kept = ap (λ (k : Ring). get k tic) ring in
-      elim (cases_Bool (nat_le (got m player - tic) limits.places)) [
-        | inl on ↦
-            let both = near ∙ on in
-            let is = get_within limits.places (m.held player) tic (omega (arith, few)) (grind (arith, on)) in
-            rw (mine, both) (kept ∙ is)
-        | inr off ↦
-            let both = near ∙ off in
-            rw (mine, both, off) (grind arith)
-      ]
+  told_is tic = grind (arith, lt-ltb, count_is, ring, get_within)
 
   last_is : last_in n player ≡ last_of limits.places (m.held player)
   last_is =
@@ -188,9 +136,7 @@ module _ (limits : Limits) (me : ℕ) (old : Surviving) (wary : Wary) (r : Repre
         }
 
     gone_is : now.has_gone old ≡ has_gone limits wary
-    gone_is =
-        ap (λ (k : ℕ). is_some (lowest k (has old.others.gone))) r.node.whose.players
-        ∙ ap is_some (lowest_alike limits.players (has old.others.gone) wary.gone (λ p h. r.others.given_up p h))
+    gone_is = grind (arith, lowest_alike)
 
     pub told : others.AreTold limits.players limits.places to me (report_for old to) (report_to limits me wary to)
     told =

@@ -1,12 +1,10 @@
 -- The reports that were given are those that were told, one for one.
-use Rattle.std.proofs.Common.{◌≡◌, ◌≢◌, ℕ, zero, suc, List, [], ◌∷◌, ◌++◌, length, Some, refl, ap, subst, arith}
+use Rattle.std.proofs.Common.{◌≡◌, ◌≢◌, ℕ, zero, suc, List, [], ◌∷◌, ◌++◌, length, Some, refl, ap, arith}
 use Rattle.std.specs.Prelude.{slice_get}
 use Rattle.std.proofs.lemmas.Option.{none-some}
 use Rattle.dn_machine.specs.Limits.{Limits}
-use Rattle.dn_remain.specs.Remaining.{Telling}
-use Rattle.dn_remain.specs.Wary.{Report, Wary, report_to}
-use Rattle.dn_survivor.specs.OneGame.{AreTelling, IsTelling}
-use Rattle.dn_survivor.specs.Session.{Given}
+use Rattle.dn_remain.specs.{Remaining.Telling, Wary.Report, Wary.Wary, Wary.report_to}
+use Rattle.dn_survivor.specs.{OneGame.AreTelling, OneGame.IsTelling, Session.Given}
 
 -- a report that was given is one that was told
 pub telling_at : (limits : Limits) (reports : List Given) (tellings : List Telling) → AreTelling limits reports tellings
@@ -15,8 +13,7 @@ pub telling_at : (limits : Limits) (reports : List Given) (tellings : List Telli
 telling_at limits [] [] h which given at = absurd (none-some given at)
 telling_at limits [] (t ∷ tellings) h which given at = absurd h
 telling_at limits (g ∷ reports) [] h which given at = absurd h
-telling_at limits (g ∷ reports) (t ∷ tellings) h zero given at =
-    (t, refl, subst (λ (x : Given). IsTelling limits x t) (cc) h.0)
+telling_at limits (g ∷ reports) (t ∷ tellings) h zero given at = grind arith
 telling_at limits (g ∷ reports) (t ∷ tellings) h (suc which) given at =
     telling_at limits reports tellings h.1 which given at
 

@@ -1,42 +1,26 @@
 -- The calls of a survivor are those of a node of `dn_remain`.
-use Rattle.std.proofs.Common.{◌≡◌, ◌≢◌, ◌<◌, ◌≤◌, ℕ, Bool, true, false, refl, sym, ap, subst, ◌∙◌, arith, inl, inr, Option, Some, None}
+use Rattle.std.proofs.Common.{◌≡◌, ◌≢◌, ◌<◌, ◌≤◌, ℕ, Bool, true, false, refl, ap, subst, ◌∙◌, arith, inl, inr, Option, Some, None}
 use Rattle.std.specs.Prelude.{not, if◌then◌else◌}
-use Rattle.std.proofs.lemmas.Bool.{cases_Bool, cases_eq, cond_both, true≢false}
-use Rattle.dn_survivor.specs.declared.report.Report.{Report as Told}
-use Rattle.dn_setup.specs.Gathered.{all_noted}
-use Rattle.dn_machine.specs.Drops as drops
-use Rattle.dn_machine.specs.declared.answers.Phase.{Phase}
-use Rattle.dn_machine.specs.declared.answers.Phase.TheVariants.{Listening, Gathering, Playing, Ended}
-use Rattle.dn_machine.specs.declared.answers.Heard.{Heard}
-use Rattle.dn_machine.specs.Limits.{Limits}
-use Rattle.dn_machine.specs.Node as machine
-use Rattle.dn_machine.specs.Node.{put}
+use Rattle.std.proofs.lemmas.Bool.{cases_Bool, cond_both, true≢false}
+use Rattle.dn_survivor.specs.{declared.report.Report.Report as Told, declared.others.Others.Others, OfOthers.Keeping.has, OfOthers.Hearing.reported_as, OfOthers.Hearing.with_newest, OfOthers.Represents.Tells}
+use Rattle.dn_survivor.specs.{declared.answers.Ends.Ends, declared.answers.GivenUp.GivenUp, declared.answers.Reported.Reported, Ending.decided_by, Surviving.Surviving, Calls.GivesUp, Calls.GivesUpUnless}
+use Rattle.dn_survivor.specs.{Calls.HearsReport, Calls.given_up_as, Calls.given_up_by, Calls.heard_by, Calls.refused_give_up, Calls.refused_report, Calls.reported_by, Represents.CanTakeAll, Represents.Represents}
+use Rattle.dn_survivor.specs.{Represents.given_up_is, Represents.reported_is}
+use Rattle.dn_machine.specs.{declared.answers.Phase.Phase, Limits.Limits, Node.put}
 use Rattle.dn_machine.proofs.Put.{put_off}
+use Rattle.dn_lockstep.specs.{Settling.is_no_peer, Settling.on_excuse, Settling.on_excuse_in, Steps.IsAfter, Steps.Steps}
+use Rattle.dn_remain.specs.{Vanished.Calls.is_newer, Vanished.Commands.seen, Wary.Report, Wary.Wary, Wary.after_news, Wary.can_settle, Wary.is_in_game, Wary.newest_seen, Wary.noted_gone, Wary.on_give_up, Wary.on_report}
+use Rattle.dn_remain.specs.{Wary.with_gone, Wary.with_report}
+use Rattle.dn_survivor.proofs.Ends.{decides, tests}
+use Rattle.dn_machine.specs.Node as machine
 use Rattle.dn_lockstep.specs.Represents as lockstep
-use Rattle.dn_lockstep.specs.Settling.{is_no_peer, on_excuse, on_excuse_in}
-use Rattle.dn_lockstep.specs.Steps.{IsAfter, Steps}
-use Rattle.dn_remain.specs.Vanished.Calls.{is_newer}
-use Rattle.dn_remain.specs.Vanished.Commands.{seen}
-use Rattle.dn_survivor.specs.declared.others.Others.{Others}
 use Rattle.dn_survivor.specs.declared.others.hearing.Reported as noted
-use Rattle.dn_survivor.specs.OfOthers.Keeping.{has}
-use Rattle.dn_survivor.specs.OfOthers.Hearing.{reported_as, with_newest}
 use Rattle.dn_survivor.specs.OfOthers.Represents as others
-use Rattle.dn_survivor.specs.OfOthers.Represents.{Tells}
 use Rattle.dn_survivor.proofs.OfOthers.Agreeing as agreeing
 use Rattle.dn_survivor.proofs.OfOthers.Keeping as keeping
 use Rattle.dn_remain.specs.declared.events.GivenUp as remain_given
 use Rattle.dn_remain.specs.declared.events.Reported as remain_reported
-use Rattle.dn_remain.specs.Wary.{Report, Wary, after_news, can_settle, is_in_game, newest_seen, noted_gone, on_give_up, on_report, with_gone, with_report}
-use Rattle.dn_survivor.specs.declared.answers.Ends.{Ends}
-use Rattle.dn_survivor.specs.declared.answers.GivenUp.{GivenUp}
-use Rattle.dn_survivor.specs.declared.answers.Reported.{Reported}
 use Rattle.dn_survivor.specs.Calls as call
-use Rattle.dn_survivor.specs.Calls.{GivesUp, GivesUpUnless, HearsReport, HearsReportUnless, given_up_as, given_up_by, heard_by, refused_give_up, refused_report, reported_by, unkept}
-use Rattle.dn_survivor.specs.Ending.{decided_by}
-use Rattle.dn_survivor.specs.Represents.{CanTakeAll, Represents, given_up_is, reported_is}
-use Rattle.dn_survivor.specs.Surviving.{Surviving}
-use Rattle.dn_survivor.proofs.Ends.{decides, tests}
 
 -- what has become of the ends, where all can be taken
 abbrev ends_if : Bool → Ends
@@ -61,30 +45,14 @@ module _ (limits : Limits) (me : ℕ) (kept : Others) (wary : Wary) (mine : me <
     (can : can_settle limits me wary ≡ true → CanTakeAll limits me wary) where
   pub news : decided_by limits me kept wary.node
       ≡ ((after_news limits me wary).node, ends_if (can_settle limits me wary))
-  news =
-      let test = tests limits me kept wary mine r peers here in
-      elim (cases_Bool (can_settle limits me wary)) [
-        | inl on ↦
-            let both = test ∙ on in
-            let all = decides limits me kept wary mine r peers here (can on) in
-            rw (both, on) all
-        | inr off ↦
-            let both = test ∙ off in
-            rw (both, off) refl
-      ]
+  news = grind (arith, tests, decides)
 
 -- and nothing else changes
 pub news_gone : (limits : Limits) (me : ℕ) (wary : Wary) → (after_news limits me wary).gone ≡ wary.gone
-news_gone limits me wary = elim (cases_Bool (can_settle limits me wary)) [
-  | inl on ↦ rw on refl
-  | inr off ↦ rw off refl
-]
+news_gone limits me wary = grind arith
 
 news_newest : (limits : Limits) (me : ℕ) (wary : Wary) → (after_news limits me wary).newest ≡ wary.newest
-news_newest limits me wary = elim (cases_Bool (can_settle limits me wary)) [
-  | inl on ↦ rw on refl
-  | inr off ↦ rw off refl
-]
+news_newest limits me wary = grind arith
 
 -- so a survivor represents the node afterwards, if its lockstep does
 shows : (limits : Limits) (me : ℕ) (now : Surviving) (wary : Wary) → me < limits.players → limits.players ≤ 4
@@ -92,26 +60,12 @@ shows : (limits : Limits) (me : ℕ) (now : Surviving) (wary : Wary) → me < li
     → ((player : ℕ) → wary.gone player ≡ true → is_no_peer limits.players me player ≡ false)
     → lockstep.Represents limits me now.lockstep (after_news limits me wary).node
     → Represents limits me now (after_news limits me wary)
-shows limits me now wary mine few room r peers node =
-    record {
-      player = mine;
-      few = few;
-      kept = room;
-      node = node;
-      others = subst (λ (g : ℕ → Bool). others.Represents limits.players limits.places me now.others g
-          (after_news limits me wary).newest) (sym (news_gone limits me wary))
-          (subst (λ (n : ℕ → Option Report). others.Represents limits.players limits.places me now.others wary.gone n)
-          (sym (news_newest limits me wary)) r);
-      peers = λ player given. peers player (ap (λ (g : ℕ → Bool). g player) (sym (news_gone limits me wary)) ∙ given);
-    }
+shows limits me now wary mine few room r peers node = grind (arith, news_gone, news_newest)
 
 -- to wait no longer for a player before the start is to have noted it
 excused_in : (limits : Limits) (m : machine.Node) (player : ℕ) (phase : Phase)
     → (on_excuse_in limits m player phase).0 ≡ noted_gone limits m player phase
-excused_in limits m player Listening = refl
-excused_in limits m player Gathering = refl
-excused_in limits m player Playing = refl
-excused_in limits m player (Ended cause) = refl
+excused_in limits m player phase = grind arith
 
 pub excused : (limits : Limits) (me : ℕ) (m : machine.Node) (player : ℕ)
     → is_no_peer limits.players me player ≡ false
@@ -122,11 +76,7 @@ excused limits me m player peer = rw peer (excused_in limits m player m.phase)
 -- and leaves it in the game
 pub still_in : (limits : Limits) (m : machine.Node) (player : ℕ) (phase : Phase) → m.phase ≡ phase
     → is_in_game phase ≡ true → is_in_game (noted_gone limits m player phase).phase ≡ true
-still_in limits m player Listening e h = absurd (true≢false (sym h))
-still_in limits m player (Ended cause) e h = absurd (true≢false (sym h))
-still_in limits m player Playing e h = ap is_in_game e
-still_in limits m player Gathering e h = cond_both (all_noted limits.players (put m.noted player true)) _ _
-    (λ (x : machine.Node × Heard). is_in_game x.0.phase ≡ true) (λ all. refl) (λ some. ap is_in_game e)
+still_in limits m player phase e h = grind (arith, true≢false, cond_both)
 
 module _ (limits : Limits) (me : ℕ) (old new : Surviving) (wary : Wary) (r : Represents limits me old wary) where
   same_peer : (player : ℕ) → is_no_peer old.lockstep.players old.lockstep.me player
@@ -149,13 +99,7 @@ module _ (limits : Limits) (me : ℕ) (old new : Surviving) (wary : Wary) (r : R
       → ((p : ℕ) → now.gone p ≡ true → is_no_peer limits.players me p ≡ false)
       → x ≡ ((after_news limits me now).node, is) → IsAfter limits me new.lockstep x (λ a. answer ≡ a)
       → Represents limits me new (after_news limits me now) × (answer ≡ is)
-  represented {A} now kept answer same is_kept peers after step = (
-    shows limits me new now r.player r.few r.kept
-        (subst (λ (o : Others). others.Represents limits.players limits.places me o now.gone now.newest)
-        (sym same) is_kept) peers
-        (subst (λ (y : machine.Node × A). lockstep.Represents limits me new.lockstep y.0) after step.node),
-    step.answer ∙ ap (λ (y : machine.Node × A). y.1) after,
-  )
+  represented {A} now kept answer same is_kept peers after step = grind (arith, shows)
 
   module _ (player : ℕ) (answer : GivenUp) where
     abbrev IsGivenUp : Wary × remain_given.GivenUp → Type 0
@@ -164,11 +108,7 @@ module _ (limits : Limits) (me : ℕ) (old new : Surviving) (wary : Wary) (r : R
     refuses : (reason : remain_given.GivenUp) → refused_give_up old player ≡ Some (given_up_is reason)
         → on_give_up limits me wary player ≡ (wary, reason) → GivesUp player old new answer
         → IsGivenUp (on_give_up limits me wary player)
-    refuses reason e is h =
-        let told : (answer ≡ given_up_is reason) × (new ≡ old) =
-        subst (λ (o : Option GivenUp). GivesUpUnless o player old new answer) e h in
-        subst IsGivenUp (sym is)
-        (subst (λ (s : Surviving). Represents limits me s wary) (sym told.1) r, told.0)
+    refuses reason e is h = grind arith
 
     module _ (peer : is_no_peer limits.players me player ≡ false) (here : is_in_game wary.node.phase ≡ true)
         (can : can_settle limits me (with_gone limits wary player) ≡ true
@@ -177,10 +117,7 @@ module _ (limits : Limits) (me : ℕ) (old new : Surviving) (wary : Wary) (r : R
       given = with_gone limits wary player
 
       peers : (p : ℕ) → given.gone p ≡ true → is_no_peer limits.players me p ≡ false
-      peers p h = elim (cases_eq p player) [
-        | inl same ↦ ap (is_no_peer limits.players me) same ∙ peer
-        | inr other ↦ r.peers p (sym (put_off wary.gone player p true other) ∙ h)
-      ]
+      peers p h = grind (arith, put_off)
 
       kept : others.Represents limits.players limits.places me (call.with_gone old.others player) given.gone given.newest
       kept = keeping.given_up limits.players limits.places me old.others wary.gone wary.newest r.others player
@@ -202,10 +139,7 @@ module _ (limits : Limits) (me : ℕ) (old new : Surviving) (wary : Wary) (r : R
             after_news limits me given,
             if can_settle limits me given then remain_given.GivenUp.Decided else remain_given.GivenUp.Waiting,
           )
-      gives h =
-          let shown = represented given (call.with_gone old.others player) answer h.0 kept peers after
-          (h.1.step limits me wary.node r.node) in
-          (shown.0, shown.1 ∙ given_is (can_settle limits me given))
+      gives h = grind (arith, represented, kept, peers, after, given_is)
 
     pub gave_up : (is_in_game wary.node.phase ≡ true → is_no_peer limits.players me player ≡ false
         → can_settle limits me (with_gone limits wary player) ≡ true
@@ -213,23 +147,16 @@ module _ (limits : Limits) (me : ℕ) (old new : Surviving) (wary : Wary) (r : R
         → IsGivenUp (on_give_up limits me wary player)
     unfolding on_give_up
     gave_up can h = elim (cases_Bool (is_no_peer limits.players me player)) [
-      | inl stranger ↦
-          let mine = same_peer player ∙ stranger in
-          refuses remain_given.GivenUp.NotAPlayer (rw mine refl) (rw stranger refl) h
+      | inl stranger ↦ grind (arith, same_peer, refuses)
       | inr peer ↦
           let mine = same_peer player ∙ peer in
           elim (cases_Bool (is_in_game wary.node.phase)) [
-            | inr out ↦
-                let both = same_phase ∙ out in
-                refuses remain_given.GivenUp.NotPlaying (rw (mine, both) refl) (rw (peer, out) refl) h
+            | inr out ↦ grind (arith, same_phase, refuses)
             | inl here ↦
                 let both = same_phase ∙ here in
                 let alike = same_gone player peer in
                 elim (cases_Bool (wary.gone player)) [
-                  | inl gone ↦
-                      let known = alike ∙ gone in
-                      refuses remain_given.GivenUp.Already (rw (mine, both, known) refl)
-                      (rw (peer, here, gone) refl) h
+                  | inl gone ↦ grind (arith, refuses)
                   | inr stays ↦
                       let known = alike ∙ stays in
                       let none : refused_give_up old player ≡ None = rw (mine, both, known) refl in
@@ -251,11 +178,7 @@ module _ (limits : Limits) (me : ℕ) (old new : Surviving) (wary : Wary) (r : R
     unheard : (reason : remain_reported.Reported) → refused_report old from report ≡ Some (reported_is reason)
         → on_report limits me wary from holder ≡ (wary, reason) → HearsReport from report old new answer
         → IsReported (on_report limits me wary from holder)
-    unheard reason e is h =
-        let told : (answer ≡ reported_is reason) × (new ≡ old) =
-        subst (λ (o : Option Reported). HearsReportUnless o from report old new answer) e h in
-        subst IsReported (sym is)
-        (subst (λ (s : Surviving). Represents limits me s wary) (sym told.1) r, told.0)
+    unheard reason e is h = grind arith
 
     -- the tests of what is kept of the others
     noted_as : reported_as old.lockstep.players old.lockstep.me old.others from report
@@ -300,38 +223,6 @@ module _ (limits : Limits) (me : ℕ) (old new : Surviving) (wary : Wary) (r : R
     pub heard : HearsReport from report old new answer → IsReported (on_report limits me wary from holder)
     unfolding on_report
     heard h = elim (cases_Bool (is_in_game wary.node.phase)) [
-      | inr out ↦
-          let both = same_phase ∙ out in
-          unheard (remain_reported.Reported.Dropped drops.not_playing) (rw both refl) (rw out refl) h
-      | inl here ↦
-          let both = same_phase ∙ here in
-          let another = peer in
-          let note = noted_as in
-          elim (cases_Bool (wary.gone from)) [
-            | inl gone ↦
-                let is : reported_as old.lockstep.players old.lockstep.me old.others from report
-                ≡ noted.Reported.GivenUp = note ∙ rw gone refl in
-                unheard (remain_reported.Reported.Dropped drops.given_up) (rw (both, another, is) refl)
-                (rw (here, gone) refl) h
-            | inr stays ↦ elim (cases_Bool (holder.gone me)) [
-              | inl out ↦
-                  let is : reported_as old.lockstep.players old.lockstep.me old.others from report
-                  ≡ noted.Reported.Excluded = note ∙ rw (stays, out) refl in
-                  unheard remain_reported.Reported.Excluded (rw (both, another, is) refl)
-                  (rw (here, stays, out) refl) h
-              | inr within ↦ elim (cases_Bool (is_newer limits.players (newest_seen wary from) (seen holder))) [
-                | inr late ↦
-                    let is : reported_as old.lockstep.players old.lockstep.me old.others from report
-                    ≡ noted.Reported.Stale = note ∙ rw (stays, within, late) refl in
-                    unheard remain_reported.Reported.Stale (rw (both, another, is) refl)
-                    (rw (here, stays, within, late) refl) h
-                | inl new_one ↦
-                    let is : reported_as old.lockstep.players old.lockstep.me old.others from report
-                    ≡ noted.Reported.Kept = note ∙ rw (stays, within, new_one) refl in
-                    let none : refused_report old from report ≡ None = rw (both, another, is) refl in
-                    let told = subst (λ (o : Option Reported). HearsReportUnless o from report old new answer) none h in
-                    rw (here, stays, within, new_one) (hears here told)
-              ]
-            ]
-          ]
+      | inr out ↦ grind (arith, same_phase, unheard)
+      | inl here ↦ grind (arith, same_phase, peer, noted_as, unheard, hears)
     ]

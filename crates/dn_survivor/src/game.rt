@@ -23,6 +23,7 @@ ghost use Rattle.dn_survivor.specs.{Telling.report_for, declared.answers.GivenUp
 /// New survivors of the same limits, one for each player, of which player 0's has these settings, are those of
 /// one game. Each premise is what `Survivor::new` says of one of them, by its clauses `opened` and `others`;
 /// the limits are those of a window of a game of four at most, as `windows_hold` and `new`'s `admitted` say.
+#[tactic(auto, using(crate::proofs::OneGame::opens))]
 pub fn remaining_game_opens()
     ensures { (marking : Marking) (limits : Limits) (settings : Settings) (survivors : ℕ → Surviving)
         → IsWindow limits → limits.players ≤ 4 → limits.places ≤ 24
@@ -40,7 +41,7 @@ pub fn remaining_game_opens()
 /// told, of the players who take part in the tic (`ran`). Whom a survivor gives up, and when, is not asked.
 /// `built` is of the lockstep's `build` and `give`, `quit` of its `quit`, `gave` of `packet`, `gave_to` of
 /// `packet_to`, `told` of `report`, and `kept` of a call that changes nothing.
-#[tactic(auto, using(crate::proofs::OneGame::keeps))]
+#[tactic(auto, using(crate::proofs::OneGame::builds, crate::proofs::OneGame::gave_to, crate::proofs::OneGame::gives, crate::proofs::OneGame::gives_up, crate::proofs::OneGame::hears, crate::proofs::OneGame::quits, crate::proofs::OneGame::relays, crate::proofs::OneGame::reports, crate::proofs::OneGame::runs, crate::proofs::OneGame::tells, crate::proofs::OneGame::keeps))]
 pub fn remaining_game_goes_on()
     ensures built { (marking : Marking) (limits : Limits) (settings : Settings) (session : Session) (player : ℕ)
         (new : Surviving) (input : Input) (made : Made)

@@ -33,6 +33,7 @@ impl Survivor {
     /// all reports are there with it, the ends of all who are given up are settled; else the lockstep stays as
     /// it is. Of several reasons not to keep it the first counts: it does not play, a stranger, one who is
     /// given up, `Excluded`, `Improper`, `Stale`. While nobody is given up the lockstep stays as it is.
+    #[tactic(auto, using(dn_lockstep::proofs::After::steps))]
     pub fn hear(&mut self, from: u8, report: Report) -> Reported
         ensures hears { HearsReport from report (surviving self.old) (surviving self.new) result }
         ensures waits { result ≡ Reported.Kept

@@ -19,6 +19,7 @@ ghost use Rattle.dn_survivor.specs.{declared.answers.Reported.Reported};
 /// `undecided` return is what the node tells, and whose report it lacks. `ran` is of `run_into`, and `stepped`
 /// of each call that is the lockstep's alone, and of `receive`, `packet` and `packet_to` for one who is not
 /// given up; for one who is, `barred` says that the node has given it up.
+#[tactic(auto, using(crate::proofs::Steps::asked, crate::proofs::Steps::opened, crate::proofs::Steps::runs, crate::proofs::Steps::stepped, crate::proofs::Reports::told, crate::proofs::Waries::gave_up, crate::proofs::Waries::heard))]
 pub fn calls_are_wary()
     ensures opened { (limits : Limits) (me : ℕ) (now : Surviving) (node : machine.Node)
         → me < limits.players → limits.players ≤ 4 → limits.places ≤ 24
@@ -68,6 +69,7 @@ pub fn calls_are_wary()
 /// reasons: `Gap`, `Overrun`, `Stopper`, `OtherEnd`. Whatever was told, true or false: the premises are that
 /// the lockstep represents a node, as each does, and that its own player is not given up. That no survivor
 /// gives up its own player is said by `own` and `own_heard`; a new one has given up nobody.
+#[tactic(auto, using(crate::proofs::Refusing::gave_up, crate::proofs::Refusing::own_heard, crate::proofs::Refusing::own_stays, crate::proofs::Refusing::reported))]
 pub fn ends_are_refused_for_reasons()
     ensures gave_up { (limits : Limits) (me : ℕ) (old new : Surviving) (node : machine.Node) (player other : ℕ)
         (reason : Settled) → me < limits.players → lockstep.Represents limits me old.lockstep node
@@ -88,6 +90,7 @@ pub fn ends_are_refused_for_reasons()
 
 /// A give-up leaves the phase as it is, but that a lockstep that gathers may start. So the phases before and
 /// after it tell whether it did.
+#[tactic(auto, using(crate::proofs::Refusing::phases))]
 pub fn give_ups_may_start()
     ensures { (limits : Limits) (me : ℕ) (old new : Surviving) (node : machine.Node) (player : ℕ)
         (answer : GivenUp) → me < limits.players → lockstep.Represents limits me old.lockstep node

@@ -50,6 +50,7 @@ impl Survivor {
     }
 
     /// As `Lockstep::packet`; none to one who is given up.
+    #[tactic(auto, using(dn_lockstep::proofs::After::steps, dn_lockstep::proofs::After::after))]
     pub fn packet(&mut self, to: u8) -> Option<ArrayVec<u8, MAX_DATAGRAM>>
         ensures step { Steps (surviving self.old).lockstep (surviving self.new).lockstep
             (λ limits me m. sent_unless (surviving self.old).others to limits me m)

@@ -71,6 +71,7 @@ impl Survivor {
     /// Of the players who are given up the one with the lowest number whose end is not settled: the lockstep
     /// knows no end of the player, or lacks a command before it. A run waits for such a player once it has come
     /// to the first command that is missing. None where the ends of all who are given up are settled.
+    #[tactic(auto, using(dn_lockstep::proofs::Lowest::lowest_found, crate::proofs::Lowest::fails_next, crate::proofs::Lowest::lowest_none))]
     pub fn unsettled(&self) -> Option<u8>
         ensures { result ≡ unsettled_in (surviving self.now) }
     {
@@ -112,6 +113,7 @@ impl Survivor {
     }
 
     /// Whether somebody is given up.
+    #[tactic(auto, using(dn_lockstep::proofs::Lowest::lowest_found, crate::proofs::Lowest::lowest_none))]
     pub(crate) fn has_gone(&self) -> bool
         ensures { result ≡ has_gone (surviving self.now) }
     {

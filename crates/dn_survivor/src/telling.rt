@@ -40,6 +40,7 @@ impl Survivor {
     ghost use Rattle.dn_survivor.specs.{Surviving.surviving, Telling.last_in, Telling.report_for, Telling.tails_in, Telling.told_in};
 
     /// The last commands of a player, as many as the lockstep keeps.
+    #[tactic(auto, using(crate::proofs::Lists::all_more, crate::proofs::Lists::none_of, crate::proofs::Lists::once, crate::proofs::Lists::picks_few, crate::proofs::Lists::picks_more, crate::proofs::Lists::up_to))]
     fn last_commands(&self, player: u8) -> ArrayVec<TicCmd, TAIL_COMMANDS>
         requires { player < (surviving self.now).lockstep.players }
         ensures last { result.items ≡ last_in (surviving self.now).lockstep player }
@@ -70,6 +71,7 @@ impl Survivor {
     }
 
     /// What it tells a player of the others.
+    #[tactic(auto, using(crate::proofs::Lists::all_more, crate::proofs::Lists::none_of, crate::proofs::Lists::picks_more, crate::proofs::Reports::are_told, crate::proofs::Reports::few_tails))]
     fn told(&self, to: u8) -> ArrayVec<Tail, MAX_TOLD>
         requires below { to < (surviving self.now).lockstep.players }
         requires other { to ≢ (surviving self.now).lockstep.me }

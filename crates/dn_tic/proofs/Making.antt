@@ -1,15 +1,9 @@
 -- The command that one more input makes.
-use Rattle.std.proofs.Common.{◌≡◌, ℕ, ◌-◌, List, [], ◌∷◌, ◌++◌, length, map, get_or, ℤ, negsuc, ◌≤ℤ◌, refl, ap, ◌∙◌, sym, arith, length-append}
-use Rattle.std.proofs.Math.Seq.{get_or-append_seam}
-use Rattle.std.proofs.Math.ListN.{get_or-map}
-use Rattle.std.proofs.lemmas.List.{map-append}
+use Rattle.std.proofs.{Common.{◌≡◌, ℕ, ◌-◌, List, [], ◌∷◌, ◌++◌, length, map, get_or, ℤ, negsuc, ◌≤ℤ◌, refl, ap, ◌∙◌, sym, arith, length-append}, Math.Seq.get_or-append_seam, Math.ListN.get_or-map, lemmas.List.map-append}
 use Rattle.std.proofs.lemmas.Int.{ints, clamps}
-use Rattle.dn_tic.specs.declared.input.Command.{Command}
-use Rattle.dn_tic.specs.declared.input.Input.{Input}
-use Rattle.dn_tic.specs.declared.input.Input.TheVariants.{Pressed, Given}
-use Rattle.dn_tic.specs.Pressed.{turn_hold, pressed, command_of}
+use Rattle.dn_tic.specs.{declared.input.Command.Command, declared.input.Input.Input, declared.input.Input.TheVariants.{Pressed, Given}, Pressed.{turn_hold, pressed, command_of}}
 use Rattle.dn_tic.specs.Inputs.{state_of, states_of, hold_of, given, last_input, made_of, made_by}
-use Rattle.dn_tic.proofs.Pressing.{pressed-push, forward-low}
+use Rattle.dn_tic.proofs.Pressing.{pressed-push, forward_low}
 
 -- the last of some inputs and one more
 pub last_input-push : (inputs : List Input) (input : Input) → last_input (inputs ++ input ∷ []) ≡ input
@@ -33,10 +27,7 @@ made_by-push inputs input mark =
 pub made_by-pressed : (inputs : List Input) (keys hold : ℕ) (mark : ℤ)
     → hold ≡ turn_hold (states_of inputs ++ keys ∷ [])
     → command_of keys hold mark ≡ made_by (inputs ++ Pressed keys ∷ []) mark
-made_by-pressed inputs keys hold mark e =
-    pressed-push (states_of inputs) keys hold mark e
-    ∙ ap (λ (states : List ℕ). pressed states mark) (sym (states_of-push inputs (Pressed keys)))
-    ∙ sym (made_by-push inputs (Pressed keys) mark)
+made_by-pressed inputs keys hold mark e = grind (arith, pressed-push, states_of-push, made_by-push)
 
 pub hold_of-push : (inputs : List Input) (input : Input) (hold : ℕ)
     → hold ≡ turn_hold (states_of inputs ++ state_of input ∷ []) → hold ≡ hold_of (inputs ++ input ∷ [])
@@ -51,7 +42,7 @@ made_by-given inputs command mark = made_by-push inputs (Given command) mark
 forward_of : (input : Input) (inputs : List Input) (mark : ℤ)
     → negsuc 126 ≤ℤ (made_of input inputs mark).forward
 forward_of (Pressed keys) inputs mark =
-    let low = forward-low (states_of inputs) mark in omega (arith, ints, low)
+    let low = forward_low (states_of inputs) mark in omega (arith, ints, low)
 forward_of (Given command) inputs mark = omega (arith, ints, clamps)
 
 pub made_by-forward : (inputs : List Input) (mark : ℤ) → negsuc 126 ≤ℤ (made_by inputs mark).forward
@@ -84,9 +75,10 @@ last_pressed states place inputs mark = go (get_or-map Pressed states place 0)
 pub made_by-pressed_alone : (states : List ℕ) (mark : ℤ)
     → made_by (map Pressed states) mark ≡ pressed states mark
 unfolding made_by
-made_by-pressed_alone states mark =
-    last_pressed states (length (map Pressed states) - 1) (map Pressed states) mark
-    ∙ ap (λ (all : List ℕ). pressed all mark) (states_pressed states)
+made_by-pressed_alone states mark = grind (arith, last_pressed, states_pressed)
 
-pub hold_of-pressed_alone : (states : List ℕ) → hold_of (map Pressed states) ≡ turn_hold states
-hold_of-pressed_alone states = ap turn_hold (states_pressed states)
+pub hold_of_pressed : (states : List ℕ) → hold_of (map Pressed states) ≡ turn_hold states
+hold_of_pressed states = ap turn_hold (states_pressed states)
+
+-- what the laws of commands are proved by
+pub ruleset pressed_laws = (made_by-forward, made_by-pressed_alone, hold_of_pressed)

@@ -1,10 +1,8 @@
 -- The command that one more key state makes.
-use Rattle.std.proofs.Common.{◌≡◌, ℕ, ◌-◌, Bool, true, false, ◌-ℤ◌, ◌*ℤ◌, SFits, to_z, of_z, List, [], ◌∷◌, ◌++◌, length, get_or, ℤ, pos, negsuc, ◌+ℤ◌, ◌≤ℤ◌, refl, ap, ◌∙◌, arith, length-append}
-use Rattle.std.proofs.Math.Seq.{get_or-append_seam}
-use Rattle.std.specs.Int.{w16, from_bool}
+use Rattle.std.proofs.{Common.{◌≡◌, ℕ, ◌-◌, Bool, true, false, ◌-ℤ◌, ◌*ℤ◌, SFits, to_z, of_z, List, [], ◌∷◌, ◌++◌, length, get_or, ℤ, pos, negsuc, ◌+ℤ◌, ◌≤ℤ◌, refl, ap, ◌∙◌, arith, length-append}, Math.Seq.get_or-append_seam}
 use Rattle.std.proofs.lemmas.Int.{ints, clamps}
-use Rattle.dn_tic.specs.declared.keys.Key.TheVariants.{Forward, Back, StrafeRight, StrafeLeft}
-use Rattle.dn_tic.specs.Pressed.{pressed, clamped, amount_if, opposed, strafed, forward_amount, side_amount, command_of, turn_hold, last_state}
+use Rattle.std.specs.Int.{w16, from_bool}
+use Rattle.dn_tic.specs.{declared.keys.Key.TheVariants.{Forward, Back, StrafeRight, StrafeLeft}, Pressed.{pressed, clamped, amount_if, opposed, strafed, forward_amount, side_amount, command_of, turn_hold, last_state}}
 
 -- the last of some states and one more
 pub last_state-push : (states : List ℕ) (keys : ℕ) → last_state (states ++ keys ∷ []) ≡ keys
@@ -25,14 +23,14 @@ clamped-low x = omega (arith, ints, clamps)
 pub clamped-high : (x : ℤ) → clamped x ≤ℤ pos 50
 clamped-high x = omega (arith, ints, clamps)
 
-pub forward-low : (states : List ℕ) (mark : ℤ) → negsuc 49 ≤ℤ (pressed states mark).forward
+pub forward_low : (states : List ℕ) (mark : ℤ) → negsuc 49 ≤ℤ (pressed states mark).forward
 unfolding pressed
-forward-low states mark =
+forward_low states mark =
     clamped-low (opposed (last_state states) Forward Back (forward_amount (last_state states)))
 
-pub forward-high : (states : List ℕ) (mark : ℤ) → (pressed states mark).forward ≤ℤ pos 50
+pub forward_high : (states : List ℕ) (mark : ℤ) → (pressed states mark).forward ≤ℤ pos 50
 unfolding pressed
-forward-high states mark =
+forward_high states mark =
     clamped-high (opposed (last_state states) Forward Back (forward_amount (last_state states)))
 
 -- the difference of two keys, and its product with an amount, in the code's sixteen bits

@@ -1,10 +1,7 @@
 -- A command is found again in its bytes.
-use Rattle.std.proofs.Common.{◌≡◌, ◌<◌, ◌/◌, ◌%◌, ℕ, ℤ, List, [], ◌++◌, ap, sym, ◌∙◌, arith, w8}
-use Rattle.std.specs.Int.{w16, cast_signed, cast_unsigned}
-use Rattle.std.specs.Prelude.{FitsSigned}
-use Rattle.std.proofs.lemmas.Int.{to_z-of_z, ints}
-use Rattle.dn_tic.specs.Command.{command_bytes, IsCommand}
-use Rattle.dn_tic.specs.declared.command.TicCmd.{TicCmd}
+use Rattle.std.proofs.{Common.{◌≡◌, ◌<◌, ◌/◌, ◌%◌, ℕ, ℤ, List, [], ◌++◌, ap, sym, ◌∙◌, arith, w8}, lemmas.Int.{to_z-of_z, ints}}
+use Rattle.std.specs.{Int.{w16, cast_signed, cast_unsigned}, Prelude.FitsSigned}
+use Rattle.dn_tic.specs.{Command.{command_bytes, IsCommand}, declared.command.TicCmd.TicCmd}
 
 -- a signed number by its bits
 same_signed : (w : _) (x y : ℤ) → FitsSigned w x → FitsSigned w y → cast_unsigned w x ≡ cast_unsigned w y

@@ -1,10 +1,8 @@
 -- The lowest weapon key that is down, by the zeros below its bit.
 use Rattle.std.proofs.Common.{◌≡◌, ◌+◌, ◌/◌, ◌%◌, ◌<◌, ℕ, zero, suc, cond, not, refl, sym, arith}
-use Rattle.std.specs.Prelude.{◌==◌}
+use Rattle.std.specs.{Prelude.◌==◌, List.position_or_len}
 use lib.Count.{count_trailing_zeros, under}
-use Rattle.std.specs.List.{position_or_len}
-use Rattle.dn_tic.specs.Keys.{is_down}
-use Rattle.dn_tic.specs.Pressed.{weapons}
+use Rattle.dn_tic.specs.{Keys.is_down, Pressed.weapons}
 
 -- a bit that is 1 stops the count, and else the count goes on behind it
 below : (bit other rest more : ℕ) → bit < 2 → bit ≡ other → rest ≡ more

@@ -98,6 +98,7 @@ pub(crate) fn turn(keys: Keys, hold: u8) -> i16
 }
 
 /// The place of the lowest weapon key that is down, and their number where none is.
+#[tactic(auto, using(crate::proofs::Weapons::lowest_weapon))]
 fn lowest_weapon(keys: Keys) -> u8
     ensures { result ≡ position_or_len (is_down keys) weapons }
 {

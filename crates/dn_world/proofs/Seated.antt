@@ -1,8 +1,7 @@
 -- Who is present, and where.
 use Rattle.std.proofs.Common.{◌≡◌, ◌<◌, ◌≤◌, ℕ, zero, suc, Bool, true, false, List, [], ◌∷◌, length, Option, Some, None, get_or, set, refl, sym, ap, ◌∙◌, arith, if◌then◌else◌}
-use Rattle.dn_world.specs.declared.spot.Spot.{Spot}
+use Rattle.dn_world.specs.{declared.spot.Spot.Spot, Plane.{seat, seats, spot_at, spot_moved, spot_after, next_spots, first_spot, first_spots}}
 use Rattle.dn_tic.specs.declared.command.Move.{Move}
-use Rattle.dn_world.specs.Plane.{seat, seats, spot_at, spot_moved, spot_after, next_spots, first_spot, first_spots}
 use Rattle.dn_world.proofs.Steps.{seat-moved}
 
 pub seat-is : (p : Bool) (s : Spot) → seat p s ≡ (if p then Some s else None)
@@ -14,11 +13,8 @@ pub begun : (ps : List Bool) → length ps ≡ 4
 begun [] e = refl
 begun (a ∷ []) e = λ i. seat-is a (first_spot 0) i ∷ []
 begun (a ∷ b ∷ []) e = λ i. seat-is a (first_spot 0) i ∷ seat-is b (first_spot 1) i ∷ []
-begun (a ∷ b ∷ c ∷ []) e = λ i. seat-is a (first_spot 0) i ∷ seat-is b (first_spot 1) i ∷ seat-is c
-    (first_spot 2) i ∷ []
-begun (a ∷ b ∷ c ∷ d ∷ []) e =
-    λ i. seat-is a (first_spot 0) i ∷ seat-is b (first_spot 1) i ∷ seat-is c (first_spot 2) i ∷ seat-is d
-    (first_spot 3) i ∷ []
+begun (a ∷ b ∷ c ∷ []) e = grind (arith, seat-is)
+begun (a ∷ b ∷ c ∷ d ∷ []) e = grind (arith, seat-is)
 begun (a ∷ b ∷ c ∷ d ∷ p ∷ ps) e = absurd (omega (arith, e))
 
 pub beyond : (ps : List Bool) (ss : List Spot) (n : ℕ) → length ps ≤ n → None ≡ spot_at (seats ps ss) n
@@ -39,8 +35,7 @@ seen : (p q r s : Bool) (ss : List Spot) (ms : List (Option Move)) (o a b c d : 
     → d ≡ spot_moved (get_or (set (set (set ss 0 a) 1 b) 2 c) 3 o) (get_or ms 3 None)
     → seats (p ∷ q ∷ r ∷ s ∷ []) (set (set (set (set ss 0 a) 1 b) 2 c) 3 d)
     ≡ next_spots (seats (p ∷ q ∷ r ∷ s ∷ []) ss) ms
-seen p q r s (w ∷ x ∷ y ∷ z ∷ []) (i ∷ j ∷ k ∷ l ∷ []) o a b c d es em ea eb ec ed =
-    λ n. goes p w a i ea n ∷ goes q x b j eb n ∷ goes r y c k ec n ∷ goes s z d l ed n ∷ []
+seen p q r s (w ∷ x ∷ y ∷ z ∷ []) (i ∷ j ∷ k ∷ l ∷ []) o a b c d es em ea eb ec ed = grind (arith, goes)
 seen p q r s _ _ o a b c d es em ea eb ec ed = absurd (omega (arith, es, em))
 
 pub all_go : (ps : List Bool) (ss : List Spot) (ms : List (Option Move)) (o a b c d : Spot) → length ps ≡ 4

@@ -1,7 +1,10 @@
 -- What the functions of a handle do, whatever it holds.
 use Rattle.std.proofs.Common.{◌≡◌, ℕ, List, map, [], ◌∷◌, ◌++◌, refl, sym, ◌∙◌, lit<}
-use mathlib.Core.Bool.{true, false}
 use Rattle.std.specs.Prelude.{Some, None}
+use Rattle.std.proofs.raw_atomic.Walks.{proved, proved_at}
+use Rattle.std.proofs.Handle.{heap_val, heap_Tells}
+use Rattle.std.specs.declared.alloc.Global.{Global}
+use mathlib.Core.Bool.{true, false}
 use base.Fraction.{full_share}
 use base.Fml.{ftrue, flft}
 use base.Logic.{SProp, emp, never, fst∗}
@@ -33,14 +36,10 @@ use denote.Triple.End.{Kepts}
 use denote.Triple.Entry.{Res}
 use denote.Triple.Spec.{Meets}
 use denote.Triple.Walked.{Stays, walk_of, stay_dropped, stay_ref, Goes-dropped, Goes-ref, says, ends_at}
-use Rattle.std.proofs.raw_atomic.Walks.{proved, proved_at}
-use Rattle.std.proofs.Handle.{heap_val, heap_Tells}
-use Rattle.std.specs.declared.alloc.Global.{Global}
 use Rattle.zirmegat.specs.Held.{held, owned}
+use Rattle.zirmegat.proofs.{Values.runs_at, Values.both, Values.loose_in, Values.loose_out, Values.loose_good, Handles.Z, Handles.LZ, Handles.g, Handles.Handle, Handles.word, Handles.handle_type, Handles.row}
+use Rattle.zirmegat.proofs.{Handles.handle_out, Handles.handle_in, Handles.shown_in, Handles.live_out}
 use Rattle.zirmegat.specs.contracts.loose.Loose as loose
-use Rattle.zirmegat.proofs.Values.{runs_at, both, loose_in, loose_out, loose_good}
-use Rattle.zirmegat.proofs.Allocator.{Z, LZ, g}
-use Rattle.zirmegat.proofs.Handles.{Handle, word, handle_type, row, handle_out, handle_in, shown_in, live_out}
 
 -- `K` says which handle. Each function has its signature, its clauses and its code as Rattle makes them.
 module _ {M : Type 1} (𝓤 : Ura M) (𝓛 : Logic 𝓤) (𝓜 : Model 𝓤 𝓛.H) (𝓡 : Running 𝓤 𝓛.H 𝓜) {N : RattleType}

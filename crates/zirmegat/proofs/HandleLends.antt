@@ -1,8 +1,11 @@
 -- What a handle lends, whatever it holds.
 use Rattle.std.proofs.Common.{◌≡◌, ℕ, List, map, [], ◌∷◌, refl, sym, ◌∙◌}
-use mathlib.Core.Bool.{true}
 use Rattle.std.specs.Prelude.{Some}
 use Rattle.std.specs.Borrow.{Lends}
+use Rattle.std.proofs.raw_atomic.Walks.{proved}
+use Rattle.std.proofs.VecSteps.Shapes.{after}
+use Rattle.std.specs.declared.alloc.Global.{Global}
+use mathlib.Core.Bool.{true}
 use base.Fml.{GName, Fml, ftrue, fsep, flft}
 use base.Fraction.{full_share}
 use base.Logic.{ent, sep, never, fst∗, id⊢}
@@ -31,12 +34,8 @@ use denote.Steps.{nothing, heard, opens}
 use denote.Triple.Clauses.{Ended, Clauses, closing}
 use denote.Triple.Spec.{Meets}
 use denote.Triple.Walked.{Stays, walk_of, stay_dropped, Goes-spent_ref, says, ends_at}
-use Rattle.std.proofs.raw_atomic.Walks.{proved}
-use Rattle.std.proofs.VecSteps.Shapes.{after}
-use Rattle.std.specs.declared.alloc.Global.{Global}
 use Rattle.zirmegat.specs.Held.{held, owned}
-use Rattle.zirmegat.proofs.Handles.{Handle, word, handle_type, row, handle_out, handle_in, live_out}
-use Rattle.zirmegat.proofs.Allocator.{g}
+use Rattle.zirmegat.proofs.Handles.{Handle, word, handle_type, row, handle_out, handle_in, live_out, g}
 
 module _ {N : RattleType} (one : One N.mir) (K : Handle N) where
   abbrev H : RattleType

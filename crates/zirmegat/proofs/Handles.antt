@@ -1,9 +1,12 @@
 -- A handle of C, whatever it holds: its machine value, and what it owns.
-use Rattle.std.proofs.Common.{◌≡◌, List, [], ◌∷◌, refl, sym, ◌∙◌, ◌++◌}
-use mathlib.Core.Bool.{Bool, true}
+use Rattle.std.specs.declared.alloc.Allocator.{Ghosts}
+use Rattle.std.proofs.Common.{refl, ◌≡◌, List, [], ◌∷◌, sym, ◌∙◌, ◌++◌}
 use Rattle.std.specs.Prelude.{Option, Some, None}
-use base.Logic.{via, never, never_e, id⊢}
 use Rattle.std.specs.declared.alloc.Global.{Global}
+use denote.RattleType.{RattleType, Valss}
+use denote.Param.Laws.{Laws}
+use mathlib.Core.Bool.{Bool, true}
+use base.Logic.{via, never, never_e, id⊢}
 use base.Fml.{Fml, fex, fsep, ftrue}
 use seplogic.Ra.Ura.{Ura}
 use mir.Syntax.{Sym, Ty, ty_struct, ty_bool, ty_ptr, tcons, tnil}
@@ -11,12 +14,20 @@ use mir.Val.{Val, vbool, vstruct, of_list}
 use types.Logic.{Logic}
 use types.Kit.{Item, Goal, Seq, Step, step, given, learn, use1, ‵, ◌$◌, drop, fsplit, fjoin, fpick, fpack, feq_i, feq_l, rewrite}
 use denote.Exit.{unseen}
-use denote.RattleType.{RattleType, Valss}
 use denote.Builtin.{RawPtr, bool}
 use denote.RawPtr.{Ptr, ptr_val}
 use denote.Steps.{nothing}
 use denote.Struct.Struct.{Shape, within}
 use Rattle.zirmegat.specs.Held.{held, owned}
+use Rattle.std.specs.contracts.alloc.Global as heap
+use Rattle.std.proofs.alloc.Global.TheLaws as heap_laws
+use Rattle.std.specs.contracts.impls.GlobalAllocator.TheImpl as impl
+use Rattle.dn_lockstep.specs.contracts.lockstep.Lockstep as lockstep
+use Rattle.dn_link.specs.contracts.link.Link as the_link
+use Rattle.zirmegat.specs.contracts.reader.DemoReader as reader
+use Rattle.zirmegat.specs.contracts.handle.LockstepHandle as node
+use Rattle.zirmegat.specs.contracts.link_handle.LinkHandle as link
+use Rattle.zirmegat.specs.contracts.demo_handle.DemoHandle as demo
 
 -- a handle that may hold a value of this row: its struct, by its name, its row and its fields
 pub record Handle (N : RattleType) : Type 1 where
@@ -85,3 +96,49 @@ module _ {N : RattleType} (K : Handle N) where
     live_out t p None k =
         use1 𝓛 (given ⊥ (‵ ftrue)) (via 𝓤 (never 𝓤) (id⊢ 𝓤 (never 𝓤)) (never_e 𝓤 _)) $ learn t (λ z. absurd z)
     live_out t p (Some x) k = k x refl
+
+-- The three handles: of a node, of a link, and of a reader of a demo.
+
+abbrev pub node_handle : Handle lockstep.the_row
+node_handle = record {
+  name = node.struct.name;
+  struct = node.the_row;
+  live = λ h. h.live;
+  at = λ h. h.at;
+  value = λ h. h.node;
+  make = λ b p n. record { live = b; at = p; node = n };
+  made = λ b p n. (refl, refl, refl);
+}
+
+abbrev pub demo_handle : Handle reader.the_row
+demo_handle = record {
+  name = demo.struct.name;
+  struct = demo.the_row;
+  live = λ h. h.live;
+  at = λ h. h.at;
+  value = λ h. h.reader;
+  make = λ b p n. record { live = b; at = p; reader = n };
+  made = λ b p n. (refl, refl, refl);
+}
+
+abbrev pub link_handle : Handle the_link.the_row
+link_handle = record {
+  name = link.struct.name;
+  struct = link.the_row;
+  live = λ h. h.live;
+  at = λ h. h.at;
+  value = λ h. h.link;
+  make = λ b p n. record { live = b; at = p; link = n };
+  made = λ b p n. (refl, refl, refl);
+}
+
+-- The row of the allocator, its laws and its ghosts.
+
+abbrev pub Z : RattleType
+Z = heap.the_row
+
+abbrev pub LZ : Laws Z
+LZ = heap_laws.the_row_laws
+
+abbrev pub g : Ghosts Z.Denot
+g = impl.ghosts

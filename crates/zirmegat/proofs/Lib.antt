@@ -1,8 +1,6 @@
 pub mod Handles
 pub mod HandleFunctions
-pub mod HandleKinds
 pub mod HandleLends
-pub mod Allocator
 pub mod Values
 pub mod Calling
 pub mod Opening

@@ -1,14 +1,9 @@
 -- Whether a node is made, of whatever stands for it.
 use Rattle.std.proofs.Common.{◌≡◌, inl, inr, refl, subst}
 use Rattle.std.specs.Prelude.{ℕ, Option, Some, None, Result, Ok, Err}
-use Rattle.dn_lockstep.specs.declared.config.Config.{Config}
-use Rattle.dn_lockstep.specs.declared.config.NodeFault.{NodeFault}
-use Rattle.dn_lockstep.specs.Contents.{Contents, whose}
-use Rattle.dn_lockstep.specs.Opening.{IsAdmittedWithin, whose_within}
+use Rattle.dn_lockstep.specs.{declared.config.Config.Config, declared.config.NodeFault.NodeFault, Contents.Contents, Contents.whose, Opening.IsAdmittedWithin, Opening.whose_within}
 use Rattle.dn_setup.specs.Settings.{Settings}
-use Rattle.zirmegat.specs.declared.config.NodeConfig.{NodeConfig}
-use Rattle.zirmegat.specs.Codes.{fault_code}
-use Rattle.zirmegat.specs.Opening.{IsChosen, IsFresh, IsMade, OpensWithin, config_of}
+use Rattle.zirmegat.specs.{declared.config.NodeConfig.NodeConfig, Codes.fault_code, Opening.IsChosen, Opening.IsFresh, Opening.IsMade, Opening.OpensWithin, Opening.config_of}
 
 pub made_again : {A B : Type 0} (config : Config) (ahead : ℕ) (one : A) (other : B)
     → IsAdmittedWithin {A = A} config ahead (Ok one) → IsAdmittedWithin {A = B} config ahead (Ok other)

@@ -3,9 +3,7 @@ use Rattle.std.proofs.Common.{◌≡◌, ◌<◌, ◌≤◌, ℕ, ◌+◌, List,
 use Rattle.std.proofs.Math.Seq.{take-length, drop-cons}
 use Rattle.std.proofs.lemmas.List.{take_more, take-append-drop, length-take-le}
 use Rattle.dn_machine.specs.declared.events.Event.{Event}
-use Rattle.dn_game.specs.Scripts.Lines.{lines, IsSkipped, IsLineOf, IsBad}
-use Rattle.dn_game.specs.Scripts.Script.{size_limit, AreEventsOf, none, skipped, told, StandsBehind, IsReadAs}
-use Rattle.dn_game.specs.declared.script.reading.ScriptFault.TheVariants.{Line, Memory}
+use Rattle.dn_game.specs.{Scripts.Lines.{lines, IsSkipped, IsLineOf, IsBad}, Scripts.Script.{size_limit, AreEventsOf, none, skipped, told, StandsBehind, IsReadAs}, declared.script.reading.ScriptFault.TheVariants.{Line, Memory}}
 
 -- a line more that is skipped, and one that is an event's
 AreEventsOf-skipped : {all : List (List ℕ)} {events : List Event} (line : List ℕ) → AreEventsOf all events
@@ -77,10 +75,7 @@ module _ {text : List ℕ} {count number : ℕ} {events : List Event} {line : Li
 pub all_read : {text : List ℕ} {count number : ℕ} {events : List Event} → HaveRead text count number events
     → count ≡ length (lines text)
     → IsReadAs text (Ok events)
-all_read {text} {count} {number} {events} h all =
-    let whole : take count (lines text) ≡ lines text = ap (λ n. take n (lines text)) all
-    ∙ take-length (lines text) in
-    (h.short, rw whole at h.good)
+all_read {text} {count} {number} {events} h all = grind (arith, take-length)
 
 pub nothing_read : {text : List ℕ} → length text ≤ size_limit → HaveRead text 0 0 []
 nothing_read short = record { short = short; counted = refl; good = none }

@@ -1,20 +1,12 @@
 -- The keys of a script: each letter is that of one key, and letters are one set of keys.
-use Rattle.std.proofs.Common.{◌≡◌, ◌≢◌, ◌<◌, ◌≤◌, ℕ, ◌^◌, ◌*◌, ◌+◌, ◌%◌, Bool, true, eqb, List, [], ◌∷◌, ◌++◌, length, get_or, take, Option, Some, None, refl, sym, ap, ◌∙◌, subst, inl, inr, lit<, arith}
-use Rattle.std.specs.Prelude.{codes, bit_or, unwrap_or, ◌↔◌}
-use Rattle.std.specs.List.{All, Contains}
-use Rattle.std.specs.Int.{bit_at, w32}
+use Rattle.std.proofs.Common.{◌≡◌, ◌≢◌, ◌<◌, ℕ, Bool, true, false, not, eqb, List, get_or, sym, ap, ◌∙◌, subst, inl, inr, arith, ◌≤◌, ◌^◌, ◌*◌, ◌+◌, ◌%◌, [], ◌∷◌, ◌++◌, length, take, Option, Some, None, refl, lit<}
+use Rattle.std.specs.{Prelude.{codes, bit_or, unwrap_or, ◌↔◌}, List.{All, list_all, Contains}, Int.{bit_at, w32}}
+use Rattle.std.proofs.lemmas.{Bool.{ne_eqb, not-true, eqb-true, eq-eqb, cases_eq, agree_below_at}, List.{get_or_default, take_more}, List.Sums.AllPass-from_list_all, Str.Parse.digit_at}
+use Rattle.std.proofs.lemmas.{List.Elements.{All-nil, All-more, Contains-push, Contains-push_cases, Contains-append_left}, Option.{same_Some, none-some}, List.Quantifiers.position-Some, Nat.{pow_below, or_lt}}
+use Rattle.std.proofs.lemmas.{Nat.Bits.{bit_at-zero, bit_at-lt, bit_at_set_same, bit_at_set_other, same_from_bits_below}}
 use Rattle.std.proofs.Math.Seq.{take-length}
-use Rattle.std.proofs.lemmas.Bool.{eqb-true, eq-eqb, cases_eq, agree_below_at}
-use Rattle.std.proofs.lemmas.List.{get_or_default, take_more}
-use Rattle.std.proofs.lemmas.List.Elements.{All-nil, All-more, Contains-push, Contains-push_cases, Contains-append_left}
-use Rattle.std.proofs.lemmas.Option.{same_Some, none-some}
-use Rattle.std.proofs.lemmas.List.Quantifiers.{position-Some}
-use Rattle.std.proofs.lemmas.Nat.{pow_below, or_lt}
-use Rattle.std.proofs.lemmas.Nat.Bits.{bit_at-zero, bit_at-lt, bit_at_set_same, bit_at_set_other, same_from_bits_below}
-use Rattle.dn_tic.specs.declared.keys.Key.{Key}
-use Rattle.dn_tic.specs.declared.keys.Key.TheVariants.{Forward, Back, Left, Right, StrafeLeft, StrafeRight, Strafe, Speed, Attack, Use, Weapon1, Weapon2, Weapon3, Weapon4, Weapon5, Weapon6, Weapon7, Weapon8}
-use Rattle.dn_tic.specs.Keys.{place_of}
-use Rattle.dn_game.specs.Scripts.Words.{AreKeys, AreLetters, letters, place_in_letters}
+use Rattle.dn_game.specs.Scripts.Words.{IsNumber, AreKeys, place_in_letters, AreLetters, letters}
+use Rattle.dn_tic.specs.{declared.keys.Key.Key, declared.keys.Key.TheVariants.{Forward, Back, Left, Right, StrafeLeft, StrafeRight, Strafe, Speed, Attack, Use, Weapon1, Weapon2, Weapon3, Weapon4, Weapon5, Weapon6, Weapon7, Weapon8}, Keys.place_of}
 
 -- the keys in the order of their bits
 key_at : ℕ → Key
@@ -33,9 +25,7 @@ some_from o i e h = grind arith
 
 -- each letter stands at one place
 pub letter_found : (i : ℕ) → i < 18 → place_in_letters (get_or letters i 0) ≡ Some i
-letter_found i h =
-    let tests : ℕ → Bool = λ k. eqb (unwrap_or (place_in_letters (get_or letters k 0)) 18) k in
-    some_from _ i (eqb-true _ _ (agree_below_at tests (λ k. true) 18 i refl h)) h
+letter_found i h = grind (arith, some_from, eqb-true, agree_below_at)
 
 -- a byte that is found is the letter at its place
 found_letter : (byte i : ℕ) → place_in_letters byte ≡ Some i → (i < 18) × (get_or letters i 0 ≡ byte)
@@ -57,9 +47,7 @@ known_found byte (k, within, same) =
 
 -- a letter is no byte that is not found
 pub letter_is_not : (byte other : ℕ) → Contains letters byte → place_in_letters other ≡ None → byte ≢ other
-letter_is_not byte other known missing e =
-    let place = known_found byte known in
-    none-some place.0 (sym missing ∙ ap place_in_letters (sym e) ∙ place.1)
+letter_is_not byte other known missing e = grind (arith, known_found, known, none-some)
 
 -- keys whose bits are those of the letters in a word
 pub record AreBits (word : List ℕ) (keys : ℕ) : Type 0 where
@@ -175,3 +163,29 @@ one_keys word a b (inr p) (inr q) = same_from_bits_below 18 a b p.small q.small 
     let key = key_at i in
     let same = same_bit a b (place_of key) (same_keys word a b p q key) (same_keys word b a q p key) in
     subst (λ k. bit_at a k ≡ bit_at b k) (place_at i h) same)
+
+-- Words of a script that lack a byte, as a space or a line feed.
+
+abbrev pub Lacks : ℕ → List ℕ → Type 0
+Lacks byte text = All (λ b. eqb b byte ≡ false) text
+
+-- as a test of each of its bytes tells
+abbrev pub is_lacking : ℕ → List ℕ → Bool
+is_lacking byte text = list_all (λ b. not (eqb b byte)) text
+
+pub lacks : (byte : ℕ) (text : List ℕ) → is_lacking byte text ≡ true → Lacks byte text
+lacks byte text h =
+    λ i d within. not-true _ (AllPass-from_list_all (λ b. not (eqb b byte)) text h i d within)
+
+pub number_lacks : (byte : ℕ) (word : List ℕ) (n : ℕ) → byte < 48 → IsNumber word n → Lacks byte word
+number_lacks byte word n small h i d within =
+    let digit = digit_at word i h.digits within in
+    let other : get_or word i 0 ≢ byte = omega (arith, digit) in
+    ap (λ b. eqb b byte) (get_or_default word i d 0 within) ∙ ne_eqb _ _ other
+
+pub keys_lack : (byte : ℕ) (word : List ℕ) (keys : ℕ) → is_lacking byte (codes "-") ≡ true
+    → place_in_letters byte ≡ None → AreKeys word keys → Lacks byte word
+keys_lack byte word keys other missing (inl none) =
+    subst (Lacks byte) (sym none.0) (lacks byte (codes "-") other)
+keys_lack byte word keys other missing (inr some) =
+    λ i d within. ne_eqb _ _ (letter_is_not _ byte (some.known i d within) missing)

@@ -1,14 +1,10 @@
 -- The lines of a script: where their words end, and that a line is that of one event.
 use Rattle.std.proofs.Common.{◌≡◌, ◌≢◌, ℕ, true, false, eqb, List, [], ◌∷◌, ◌++◌, get_or, append_assoc, refl, sym, ap, ◌∙◌, subst, arith}
 use Rattle.std.specs.Prelude.{codes}
-use Rattle.std.proofs.lemmas.Bool.{eqb-false}
-use Rattle.std.proofs.lemmas.List.{append_cancel_left}
-use Rattle.std.proofs.lemmas.List.Elements.{All-head, All-tail}
-use Rattle.dn_machine.specs.declared.events.Event.{Event}
-use Rattle.dn_machine.specs.declared.events.Event.TheVariants.{Build, Give, Send, Deliver, Run, Quit, Stop}
-use Rattle.dn_game.specs.Scripts.Words.{IsNumber, AreKeys}
-use Rattle.dn_game.specs.Scripts.Lines.{HasNoSpace, IsLineOf}
-use Rattle.dn_game.proofs.Scripts.Lacking.{is_lacking, lacks, number_lacks}
+use Rattle.std.proofs.lemmas.{Bool.eqb-false, List.append_cancel_left, List.Elements.{All-head, All-tail}}
+use Rattle.dn_machine.specs.{declared.events.Event.Event, declared.events.Event.TheVariants.{Build, Give, Send, Deliver, Run, Quit, Stop}}
+use Rattle.dn_game.specs.{Scripts.Words.{IsNumber, AreKeys}, Scripts.Lines.{HasNoSpace, IsLineOf}}
+use Rattle.dn_game.proofs.Scripts.Keys.{is_lacking, lacks, number_lacks}
 
 -- texts that begin with two bytes are two
 pub heads_differ : {x y : ℕ} {s t : List ℕ} → eqb x y ≡ false → x ∷ s ≡ y ∷ t → ⊥

@@ -1,13 +1,8 @@
 -- The numbers of a script.
 use Rattle.std.proofs.Common.{◌≡◌, ◌<◌, ◌≤◌, ℕ, ◌^◌, ◌*◌, ◌+◌, ◌-◌, List, length, get_or, take, ap, ◌∙◌, arith}
-use Rattle.std.specs.Str.Parse.{AllDigits, digits_value}
-use Rattle.std.specs.Int.{IsInRange, IsOutOfRange}
-use Rattle.std.proofs.Math.Nat.{pow-le-pow_right}
-use Rattle.std.proofs.Math.Seq.{take-length}
-use Rattle.std.proofs.lemmas.List.{length-take-le}
-use Rattle.std.proofs.lemmas.Str.{digit_value_digit}
-use Rattle.std.proofs.lemmas.Int.Digits.{digits_value-lt, digits_value_more, digits_more}
-use Rattle.std.proofs.lemmas.Str.Parse.{digit_at}
+use Rattle.std.specs.{Str.Parse.{AllDigits, digits_value}, Int.{IsInRange, IsOutOfRange}}
+use Rattle.std.proofs.Math.{Nat.pow-le-pow_right, Seq.take-length}
+use Rattle.std.proofs.lemmas.{List.length-take-le, Str.digit_value_digit, Int.Digits.{digits_value-lt, digits_value_more, digits_more}, Str.Parse.digit_at}
 use Rattle.dn_game.specs.Scripts.Words.{IsNumber}
 
 -- the first i bytes of a word are digits, and this is their number
@@ -43,9 +38,7 @@ more_digits word i number h within digit =
 -- a word with another byte is no number
 pub not_number : (word : List ℕ) (i : ℕ) → i < length word → IsOutOfRange 48 57 (get_or word i 0) → (n : ℕ)
     → ¬ IsNumber word n
-not_number word i within other n number =
-    let digit = digit_at word i number.digits within in
-    omega (arith, other, digit)
+not_number word i within other n number = grind (arith, digit_at)
 
 -- a word of digits is a number
 pub whole_number : (word : List ℕ) (i number : ℕ) → AreDigits word i number → i ≡ length word

@@ -2,14 +2,11 @@
 use Rattle.std.proofs.Common.{◌≡◌, ◌≢◌, ◌<◌, ℕ, List, length, take, refl, ◌∙◌, arith, Option, Some, None, inl, inr, false}
 use Rattle.std.specs.Prelude.{slice_index, ◌==◌, nat_lt, if◌then◌else◌}
 use Rattle.std.specs.Str.{bytes_eq}
-use Rattle.std.proofs.lemmas.Bool.{cases_Bool, cases_lt, eq-eqb, ne_eqb, le-ltb, lt-ltb}
-use Rattle.std.proofs.lemmas.Slice.Eq.{bytes_eq-Decides}
-use Rattle.dn_seal.specs.Hmac.{tag_of}
-use Rattle.dn_seal.specs.Keys.{suite_byte}
+use Rattle.std.proofs.lemmas.{Bool.cases_Bool, Bool.cases_lt, Bool.eq-eqb, Bool.ne_eqb, Bool.le-ltb, Bool.lt-ltb, Slice.Eq.bytes_eq-Decides}
+use Rattle.dn_seal.specs.{Hmac.tag_of, Keys.suite_byte}
 use Rattle.dn_seal.specs.Opening.{Sealing, IsSized, IsOfSuite, IsOfKind, IsOfGame, IsFor, IsTagged, told_body, told_game, told_tag}
-use Rattle.dn_link.specs.declared.notice.fault.ReportDatagramFault.{ReportDatagramFault}
+use Rattle.dn_link.specs.{declared.notice.fault.ReportDatagramFault.ReportDatagramFault, SealedReports.Opening.sealed_reports, SealedReports.Opening.IsOfPlayer}
 use Rattle.dn_link.specs.declared.notice.fault.ReportDatagramFault.TheVariants.{Short, Long, Suite, Kind, Game, Receiver, Tag, Sender}
-use Rattle.dn_link.specs.SealedReports.Opening.{sealed_reports, IsOfPlayer}
 
 other_lists : (xs ys : List ℕ) → xs ≢ ys → bytes_eq xs ys ≡ false
 other_lists xs ys other = elim (cases_Bool (bytes_eq xs ys)) [
@@ -53,10 +50,7 @@ module _ (s : Sealing) (bytes : List ℕ) where
       rw (off, on) refl
 
   sized : IsSized sealed_reports bytes → found ≡ from_suite
-  sized t =
-      let a = le-ltb (length bytes) 29 t.0 in
-      let b = le-ltb 425 (length bytes) t.1 in
-      rw (a, b) refl
+  sized t = let a = le-ltb (length bytes) 29 t.0 in let b = le-ltb 425 (length bytes) t.1 in rw (a, b) refl
 
   pub suite : IsSized sealed_reports bytes → slice_index bytes 0 ≢ suite_byte s.seal.suite → found ≡ Some Suite
   suite t wrong =
@@ -64,9 +58,7 @@ module _ (s : Sealing) (bytes : List ℕ) where
       sized t ∙ rw off refl
 
   of_suite : IsOfSuite sealed_reports s bytes → found ≡ from_kind
-  of_suite t =
-      let on = eq-eqb (slice_index bytes 0) (suite_byte s.seal.suite) t.1 in
-      sized t.0 ∙ rw on refl
+  of_suite t = let on = eq-eqb (slice_index bytes 0) (suite_byte s.seal.suite) t.1 in sized t.0 ∙ rw on refl
 
   pub kind : IsOfSuite sealed_reports s bytes → slice_index bytes 1 ≢ 3 → found ≡ Some Kind
   kind t wrong = let off = ne_eqb (slice_index bytes 1) 3 wrong in of_suite t ∙ rw off refl
@@ -75,9 +67,7 @@ module _ (s : Sealing) (bytes : List ℕ) where
   of_kind t = let on = eq-eqb (slice_index bytes 1) 3 t.1 in of_suite t.0 ∙ rw on refl
 
   pub game : IsOfKind sealed_reports s bytes → told_game bytes ≢ take 8 s.seal.game → found ≡ Some Game
-  game t wrong =
-      let off = other_lists (told_game bytes) (take 8 s.seal.game) wrong in
-      of_kind t ∙ rw off refl
+  game t wrong = let off = other_lists (told_game bytes) (take 8 s.seal.game) wrong in of_kind t ∙ rw off refl
 
   of_game : IsOfGame sealed_reports s bytes → found ≡ from_receiver
   of_game t =

@@ -1,19 +1,12 @@
 -- Bytes are opened as one thing, and what passes all tests and is read as a report is a sealed one.
 use Rattle.std.proofs.Common.{◌≡◌, ◌⊎◌, ◌≤◌, ◌-◌, ℕ, List, [], ◌∷◌, ◌++◌, length, take, drop, refl, ap, sym, ◌∙◌, subst, arith, Some, None, Result, Ok, Err, inl, inr}
 use Rattle.std.specs.Prelude.{slice_index}
-use Rattle.std.proofs.lemmas.List.{take-append-drop, take-take, length-take, length-take-le, length-drop}
-use Rattle.std.proofs.lemmas.Option.{same_Some, none-some}
-use Rattle.dn_survivor.specs.declared.report.Report.{Report}
-use Rattle.dn_survivor.specs.declared.report.ReportFault.{ReportFault}
-use Rattle.dn_survivor.specs.ReportBytes.Read.{IsReadAs}
+use Rattle.std.proofs.lemmas.{List.take-append-drop, List.take-take, List.length-take, List.length-take-le, List.length-drop, Option.same_Some, Option.none-some}
+use Rattle.dn_survivor.specs.{declared.report.Report.Report, declared.report.ReportFault.ReportFault, ReportBytes.Read.IsReadAs}
 use Rattle.dn_survivor.proofs.ReportBytes.Once.{one_reading}
-use Rattle.dn_seal.specs.Hmac.{tag_of}
-use Rattle.dn_seal.specs.Keys.{suite_byte}
-use Rattle.dn_seal.specs.Opening.{Sealing, told_body, told_game}
-use Rattle.dn_seal.specs.Sealing.{front_bytes}
-use Rattle.dn_link.specs.declared.notice.fault.ReportDatagramFault.{ReportDatagramFault}
+use Rattle.dn_seal.specs.{Hmac.tag_of, Keys.suite_byte, Opening.Sealing, Opening.told_body, Opening.told_game, Sealing.front_bytes}
+use Rattle.dn_link.specs.{declared.notice.fault.ReportDatagramFault.ReportDatagramFault, SealedReports.Text.body_bytes}
 use Rattle.dn_link.specs.declared.notice.fault.ReportDatagramFault.TheVariants.{Short, Long, Suite, Kind, Game, Receiver, Tag, Sender, Form}
-use Rattle.dn_link.specs.SealedReports.Text.{body_bytes}
 use Rattle.dn_link.specs.SealedReports.Opening.{told_report, IsOfPlayer, IsOpenedAs, IsReportFrom}
 use Rattle.dn_link.proofs.SealedReports.Sealed.{its_from, its_report, of_player}
 use Rattle.dn_link.proofs.SealedReports.Found as fault
@@ -33,8 +26,7 @@ outcome from (Err fault) = Err (Form fault)
 abbrev IsWorkedOut : Sealing → List ℕ → Result (ℕ × Report) ReportDatagramFault → Type 0
 IsWorkedOut s bytes opened =
     ((f : ReportDatagramFault) × (fault.found s bytes ≡ Some f) × (opened ≡ Err f))
-    ⊎ ((fault.found s bytes ≡ None)
-    × ((read : Result Report ReportFault) × IsReadAs (told_report bytes) read
+    ⊎ ((fault.found s bytes ≡ None) × ((read : Result Report ReportFault) × IsReadAs (told_report bytes) read
     × (opened ≡ outcome (slice_index bytes 10) read)))
 
 worked_out : (s : Sealing) (bytes : List ℕ) (opened : Result (ℕ × Report) ReportDatagramFault)

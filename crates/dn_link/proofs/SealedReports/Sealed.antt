@@ -3,17 +3,11 @@ use Rattle.std.proofs.Common.{◌≡◌, ◌≢◌, ◌<◌, ◌≤◌, ◌+◌,
 use Rattle.std.specs.Prelude.{slice_index}
 use Rattle.std.proofs.lemmas.List.{length-append, length-take, length-take-le}
 use Rattle.std.proofs.Math.Seq.{take-append_seam, drop-append_seam}
-use Rattle.dn_survivor.specs.declared.report.Report.{Report}
-use Rattle.dn_survivor.specs.declared.report.Tail.{Tail}
-use Rattle.dn_survivor.specs.ReportBytes.Text.{report_bytes, IsReport}
+use Rattle.dn_survivor.specs.{declared.report.Report.Report, declared.report.Tail.Tail, ReportBytes.Text.report_bytes, ReportBytes.Text.IsReport}
 use Rattle.dn_survivor.proofs.ReportBytes.Lengths.{longest, report_length}
-use Rattle.dn_seal.specs.declared.seal.Seal.{Seal}
-use Rattle.dn_seal.specs.Hmac.{tag_of}
-use Rattle.dn_seal.specs.Keys.{suite_byte}
-use Rattle.dn_seal.specs.Opening.{Sealing, IsOfGame, told_body, told_game, told_tag}
+use Rattle.dn_seal.specs.{declared.seal.Seal.Seal, Hmac.tag_of, Keys.suite_byte, Opening.Sealing, Opening.IsOfGame, Opening.told_body, Opening.told_game, Opening.told_tag}
 use Rattle.dn_seal.proofs.Envelopes.{eight, length-tag}
-use Rattle.dn_link.specs.SealedReports.Text.{body_bytes, sealed_report_bytes}
-use Rattle.dn_link.specs.SealedReports.Opening.{sealed_reports, told_report, IsOfPlayer}
+use Rattle.dn_link.specs.{SealedReports.Text.body_bytes, SealedReports.Text.sealed_report_bytes, SealedReports.Opening.sealed_reports, SealedReports.Opening.told_report, SealedReports.Opening.IsOfPlayer}
 
 -- a body with these bytes of the game's number
 abbrev numbered : Seal → List ℕ → ℕ → ℕ → Report → List ℕ
@@ -62,9 +56,8 @@ module _ (seal : Seal) (from to : ℕ) (report : Report) where
 
   module _ (long : 8 ≤ length seal.game) where
     pub its_report : told_report text ≡ report_bytes report
-    its_report = ap (drop 12) its_body
-        ∙ eight seal.game long (λ g. drop 12 (numbered seal g from to report) ≡ report_bytes report)
-        (λ a b c d e f g h. refl)
+    its_report = ap (drop 12) its_body ∙ eight seal.game long (λ g. drop 12 (numbered seal g from to report)
+        ≡ report_bytes report) (λ a b c d e f g h. refl)
 
     its_game : told_game text ≡ take 8 seal.game
     its_game = eight seal.game long (λ g. told_game (numbered seal g from to report ++ tag) ≡ g)

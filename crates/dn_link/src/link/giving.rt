@@ -17,6 +17,7 @@ impl Link {
     /// and the one of the moment, oldest first, up to where there may be no room for one more, and how far this
     /// player is. Before the game starts it says who is there, and player 0 gives the settings once all are.
     /// After the end it says goodbye. None to a number that is no peer's, nor to one who is given up.
+    #[tactic(auto, using(crate::proofs::Handing::may_before, crate::proofs::Linking::same_reported, crate::proofs::Places::peer_at, crate::proofs::Places::peers_put))]
     pub fn datagram(&mut self, to: u8) -> Option<ArrayVec<u8, 1200>>
         ensures gives { IfSome result (λ bytes. Gives (seal_of self.old) (identity_of self.old) (pace_of self.old) to
             (linked self.old) (linked self.new) bytes.items) }

@@ -19,6 +19,7 @@ impl Link {
     }
 
     /// What is kept of a peer.
+    #[tactic(auto, using(crate::proofs::Places::peer_at))]
     pub(super) fn peer(&self, player: u8) -> &Peer
         requires { player < 4 }
         ensures { state_of result.now ≡ (linked self.now).peers player }

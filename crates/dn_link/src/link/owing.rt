@@ -13,6 +13,7 @@ impl Link {
     ghost use Rattle.dn_link.specs.{Linking.identity_of, Linking.linked, Linking.seal_of, Pace.still_owed, Pacing.pace_of};
 
     /// Makes the command of this input.
+    #[tactic(auto, using(dn_survivor::proofs::Lent::lent_steps))]
     fn make(&mut self, input: Input) -> Made
         ensures step { Steps (linked self.old).node (linked self.new).node
             (λ limits me m. on_build limits me m input) (λ made. result ≡ made) }

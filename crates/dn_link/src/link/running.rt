@@ -26,6 +26,7 @@ impl Link {
     ghost use Rattle.dn_link.specs.{Linked.IsWhole, Linking.identity_of, Linking.linked, Linking.seal_of, Pacing.pace_of, Running.RunsBut};
 
     /// As `Lockstep::run`, but no mark is compared of players who are given up.
+    #[tactic(auto, using(dn_lockstep::proofs::After::steps))]
     pub fn run(&mut self, marks: &[i16; 4]) -> (Ran, Option<[Option<Move>; 4]>)
         ensures step { IsWhole (linked self.old) → RunsBy marks.now (linked self.old).node (linked self.new).node
             (λ limits m marks. on_run limits m marks) (λ ran row. (result.0 ≡ ran) × (result.1 ≡ row)) }

@@ -8,6 +8,7 @@ ghost use Rattle.dn_link.specs.{SealedReports.Text.sealed_report_bytes};
 
 /// What was written is read back: a sealed report is opened by its receiver as that report, from its sender,
 /// and as nothing else. Another player of the game finds that it is the receiver of none.
+#[tactic(auto, using(crate::proofs::SealedReports::Openings::one_opening, crate::proofs::SealedReports::Sealed::its_to, crate::proofs::SealedReports::Sealed::of_game))]
 pub fn reports_are_read_back()
     ensures back { (sealing : Sealing) (from : ℕ) (report : Report)
         → 8 ≤ length sealing.seal.game → from < 4 → from ≢ sealing.me → IsReport report
@@ -27,6 +28,7 @@ pub fn reports_are_read_back()
 /// What is opened as a report has kind 3 as its second byte, and a sealed report has it. No tag of one is over
 /// bytes over which a tag of another kind is, since these begin with another kind: 1 in an envelope, 2 in a
 /// link's datagram, 4 in a greeting.
+#[tactic(auto, using(crate::proofs::SealedReports::Openings::passes))]
 pub fn reports_have_their_kind()
     ensures read { (sealing : Sealing) (bytes : List ℕ) (from : ℕ) (report : Report)
         → IsOpenedAs sealing bytes (Ok (from, report)) → slice_index bytes 1 ≡ 3 }

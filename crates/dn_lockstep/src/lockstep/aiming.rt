@@ -122,6 +122,7 @@ impl Lockstep {
     }
 
     /// The numbers of a packet of commands.
+    #[tactic(auto, using(crate::proofs::Sending::aim_is, crate::proofs::Counting::made_is))]
     fn aim_of_commands(&self, to: u8) -> Aim
         requires { to < (contents self.now).players }
         ensures told { Tells (contents self.now)
@@ -141,6 +142,7 @@ impl Lockstep {
     /// The numbers of a packet that a node gives which has played and ended: it asks for no commands. It is an
     /// EXIT packet (`d_net.c`, D_QuitNetGame) where it carries the last command, so that the peers know all
     /// up to the node's end, and else one like those before.
+    #[tactic(auto, using(crate::proofs::Sending::aim_is, crate::proofs::Sending::left_flags, crate::proofs::Sending::exit_given, crate::proofs::Sending::none_given, crate::proofs::Counting::made_is))]
     fn aim_of_exit(&self, to: u8) -> Option<Aim>
         requires below { to < (contents self.now).players }
         ensures told { (cause : Cause) → Tells (contents self.now)

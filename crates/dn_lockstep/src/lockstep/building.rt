@@ -13,6 +13,7 @@ impl Lockstep {
 
     /// Whether [`Lockstep::build`] and [`Lockstep::give`] would make a command now: it plays, and fewer of its
     /// commands wait to be run than its window allows.
+    #[tactic(auto, using(crate::proofs::Changing::makes_not, crate::proofs::Changing::makes_near, crate::proofs::Changing::not_playing, crate::proofs::Counting::made_is))]
     pub fn can_build(&self) -> bool
         ensures value { result ≡ can_make (contents self.now) }
         ensures told { Tells (contents self.now)

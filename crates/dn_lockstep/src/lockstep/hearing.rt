@@ -93,6 +93,7 @@ impl Lockstep {
     }
 
     /// Hears a set-up packet, which only a listener takes, and only from the key player.
+    #[tactic(auto, using(crate::proofs::After::after))]
     fn hear_set_up(&mut self, from: u8, packet: &Packet) -> Heard
         ensures same { whose (contents self.new) ≡ whose (contents self.old) }
         ensures step { (told : Result Settings SetupFault) → IsSetupReadAs packet.now told

@@ -26,6 +26,7 @@ impl Lockstep {
     ghost use Rattle.dn_lockstep.specs.{Contents.contents, Runs.FillsIn, Runs.RunsBy, Runs.RunsOne, Runs.TellsNoRow, Runs.WaitsAsItWas};
 
     /// Runs the next tic, as `run_into` does. Returns the row of moves too, if the tic was run.
+    #[tactic(auto, using(crate::proofs::After::steps, crate::proofs::Running::no_row))]
     pub fn run(&mut self, marks: &[i16; 4]) -> (Ran, Option<[Option<Move>; 4]>)
         ensures step { RunsBy marks.now (contents self.old) (contents self.new)
             (λ limits m marks. on_run limits m marks) (λ ran row. (result.0 ≡ ran) × (result.1 ≡ row)) }

@@ -2,10 +2,8 @@
 use Rattle.std.specs.Prelude.{slice_get, slice_index_or}
 use Rattle.std.proofs.Common.{◌≡◌, ◌≤◌, ◌+◌, ℕ, zero, suc, Bool, false, Some, None, List, [], ◌∷◌, ◌++◌, length, drop, append_assoc, append-nil, refl, ap, arith}
 use Rattle.std.proofs.lemmas.Option.{slice_get_within}
-use Rattle.dn_node.specs.declared.node.Node.{Node}
-use Rattle.dn_node.specs.Contents.{contents}
-use Rattle.dn_netgame.specs.Texts.NodeLines.{node_line}
-use Rattle.dn_netgame.specs.Texts.GameLines.{node_lines}
+use Rattle.dn_node.specs.{declared.node.Node.Node, Contents.contents}
+use Rattle.dn_netgame.specs.{Texts.NodeLines.node_line, Texts.GameLines.node_lines}
 
 -- what stands at a place, and what stands behind it
 drop_at : {X : Type 0} (xs : List X) (i : ℕ) (x : X) → slice_get xs i ≡ Some x
@@ -39,7 +37,4 @@ pub lines_done : {W : Type 0} (stopped : List Bool) (number : ℕ) (nodes : List
     → slice_get nodes number ≡ None
     → (old ++ node_lines stopped number (drop number nodes) ≡ whole) × (number ≤ length nodes)
     → old ≡ whole
-lines_done {W} stopped number nodes old whole gone so_far =
-    let step : node_lines stopped number (drop number nodes) ≡ [] =
-    ap (node_lines stopped number) (drop_past nodes number gone) in
-    grind (arith, append-nil {A = ℕ})
+lines_done {W} stopped number nodes old whole gone so_far = grind (arith, drop_past, append-nil)

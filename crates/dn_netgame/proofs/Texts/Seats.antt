@@ -1,8 +1,7 @@
 -- The line of a seat, from what a world tells of it.
 use Rattle.std.proofs.Common.{◌≡◌, ℕ, ℤ, [], Option, Some, None, refl}
 use Rattle.std.specs.Option.{option_map}
-use Rattle.dn_world.specs.declared.spot.Spot.{Spot}
-use Rattle.dn_world.specs.Plane.{mark_of}
+use Rattle.dn_world.specs.{declared.spot.Spot.Spot, Plane.mark_of}
 use Rattle.dn_netgame.specs.Texts.DemoLines.{player_line, seat_line}
 
 pub empty_seat : (player : ℕ) (o : Option Spot) → option_map {T = Spot} {U = ℤ} (λ s. s.x) o ≡ None

@@ -1,10 +1,13 @@
 -- Runs one after another.
-use Rattle.std.proofs.Common.{◌≡◌, ◌<◌, ◌+◌, ◌⊎◌, inl, inr, ℕ, suc, true, false, refl, ap, sym, ◌∙◌, subst, arith, rules}
-use Rattle.dn_machine.specs.declared.answers.Ran.{Ran}
-use Rattle.dn_machine.specs.Worlds.{Rules}
+use Rattle.std.proofs.Common.{◌≡◌, [], ◌∷◌, ◌+◌, ℕ, zero, suc, refl, ap, ◌∙◌, arith, ◌<◌, List, length, set, ◌⊎◌, inl, inr, true, false, sym, subst, rules}
+use Rattle.dn_tic.specs.declared.input.Input.{Input}
+use Rattle.dn_netgame.specs.{Turning.Rounds.{AreOf, Seat, rules_at, AreSeated}, Turning.Running.{is_ran, after_runs, next_ran, IsRunOn}}
+use Rattle.rand_pcg.specs.Lcg.{Lcg, next, advance, next_state, state_after}
+use Rattle.dn_world.specs.Physics.{Physics}
+use Rattle.dn_machine.specs.{Node.put, declared.answers.Ran.Ran, Worlds.Rules, Game.on_own_run}
+use Rattle.dn_machine.proofs.Put.{set_and_put}
+use Rattle.dn_node.specs.{declared.node.Node.Node, Contents.contents, Represents.Represents}
 use Rattle.dn_machine.specs.Node as machine
-use Rattle.dn_netgame.specs.Turning.Running.{is_ran, after_runs, next_ran, IsRunOn}
-use Rattle.dn_machine.specs.Game.{on_own_run}
 
 -- all runs so far ran a tic
 pub record RanSoFar {S : Type 0} (rules : Rules S) (old : machine.Node) (ran : ℕ)
@@ -49,3 +52,44 @@ not_ran (Ran.Waiting player) never = refl
 not_ran Ran.DemoFull never = refl
 not_ran (Ran.Inconsistent player was should) never = refl
 not_ran Ran.NotPlaying never = refl
+
+-- A turn at one place.
+
+-- another node in one place, and what it represents in its seat
+pub seated_with : {W S : Type 0} (state : W → S) (physics : Physics S) (nodes : List (Node W))
+    (seats : ℕ → Seat) (place : ℕ) (n : Node W) (seat : Seat)
+    → AreSeated state physics nodes seats → place < length nodes
+    → Represents state (rules_at physics seat) seat.me (contents n) seat.node
+    → AreSeated state physics (set nodes place n) (put seats place seat)
+seated_with {W} {S} state physics nodes seats place n seat before below is =
+    set_and_put (λ (i : ℕ) (x : Node W) (s : Seat). Represents state (rules_at physics s) s.me (contents x) s.node)
+    nodes seats place n seat before below is
+
+-- a node's number is that of one of four players
+pub one_of_four : {W : Type 0} (n : Node W) → (contents n).me < 4
+one_of_four n = omega (arith, n.lockstep.me_below, n.lockstep.few)
+
+-- One word after another.
+
+after_one : (w m increment n state : ℕ) → next_state w m increment (state_after w m increment n state)
+    ≡ state_after w m increment (suc n) state
+unfolding state_after
+after_one w m increment zero state = refl
+after_one w m increment (suc n) state = after_one w m increment n (next_state w m increment state)
+
+-- a generator that is a number of words on, and then one more
+pub one_more : (w m n : ℕ) (g : Lcg) → next w m (advance w m n g) ≡ advance w m (n + 1) g
+one_more w m n g = grind (arith, after_one)
+
+pub no_more : (w m : ℕ) (g : Lcg) → g ≡ advance w m 0 g
+unfolding state_after
+no_more w m g = refl
+
+-- four inputs, each of which is that of its player
+pub of_four : (by : ℕ → Input) (a b c d : Input) → a ≡ by 0 → b ≡ by 1 → c ≡ by 2 → d ≡ by 3
+    → AreOf by (a ∷ b ∷ c ∷ d ∷ [])
+of_four by a b c d zeroth first second third zero below = zeroth
+of_four by a b c d zeroth first second third (suc zero) below = first
+of_four by a b c d zeroth first second third (suc (suc zero)) below = second
+of_four by a b c d zeroth first second third (suc (suc (suc zero))) below = third
+of_four by a b c d zeroth first second third (suc (suc (suc (suc n)))) below = absurd (omega (arith, below))

@@ -35,6 +35,7 @@ fn push_players(text: &mut String, present: [bool; 4]) -> Result<(), AllocError>
     text.push_str("\n")
 }
 
+#[tactic(auto, unfolding(crate::specs::Texts::DemoLines::choice_fields))]
 fn push_choice(text: &mut String, version: u8, start: &Start) -> Result<(), AllocError>
     ensures { OnOk result (string_bytes text.new ≡ string_bytes text.old ++ choice_fields version start.now) }
 {
@@ -47,6 +48,7 @@ fn push_choice(text: &mut String, version: u8, start: &Start) -> Result<(), Allo
     push_fields(text, &fields)
 }
 
+#[tactic(auto, unfolding(crate::specs::Texts::DemoLines::rule_fields))]
 fn push_rules(text: &mut String, start: &Start, view: u8) -> Result<(), AllocError>
     ensures { OnOk result (string_bytes text.new ≡ string_bytes text.old ++ rule_fields start.now view) }
 {
@@ -69,6 +71,7 @@ fn push_header(text: &mut String, version: u8, start: &Start, view: u8) -> Resul
     push_rules(text, start, view)
 }
 
+#[tactic(auto, unfolding(crate::specs::Texts::DemoLines::size_line))]
 fn push_size(text: &mut String, tics: u64, cut: u64, after: u64) -> Result<(), AllocError>
     ensures { OnOk result (string_bytes text.new ≡ string_bytes text.old ++ size_line tics cut after) }
 {
@@ -80,6 +83,7 @@ fn push_size(text: &mut String, tics: u64, cut: u64, after: u64) -> Result<(), A
     push_line(text, &fields)
 }
 
+#[tactic(auto, unfolding(crate::specs::Texts::DemoLines::player_line))]
 fn push_player(
     text: &mut String,
     player: u8,

@@ -23,6 +23,7 @@ fn push_nodes<W: World>(text: &mut String, game: &Game<W>) -> Result<(), AllocEr
     Ok(())
 }
 
+#[tactic(auto, unfolding(crate::specs::Texts::GameLines::events_line))]
 fn push_events<W: World>(text: &mut String, played: &Played<W>) -> Result<(), AllocError>
     ensures { OnOk result (string_bytes text.new ≡ string_bytes text.old ++ events_line played.now) }
 {

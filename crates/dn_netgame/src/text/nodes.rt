@@ -40,6 +40,7 @@ fn push_counts<W: World>(text: &mut String, node: &Node<W>) -> Result<(), AllocE
 }
 
 /// Whose node it is, and where it stands.
+#[tactic(auto, unfolding(crate::specs::Texts::NodeLines::standing))]
 fn push_standing<W: World>(text: &mut String, node: &Node<W>) -> Result<(), AllocError>
     ensures { OnOk result (string_bytes text.new ≡ string_bytes text.old ++ standing (contents node.now)) }
 {
@@ -48,6 +49,7 @@ fn push_standing<W: World>(text: &mut String, node: &Node<W>) -> Result<(), Allo
 }
 
 /// How many commands it made, how many tics it ran, and how many commands it has of each player.
+#[tactic(auto, unfolding(crate::specs::Texts::NodeLines::progress))]
 fn push_progress<W: World>(text: &mut String, node: &Node<W>) -> Result<(), AllocError>
     ensures { OnOk result (string_bytes text.new ≡ string_bytes text.old ++ progress (contents node.now)) }
 {
@@ -61,6 +63,7 @@ fn push_progress<W: World>(text: &mut String, node: &Node<W>) -> Result<(), Allo
 }
 
 /// How many bytes its demo has.
+#[tactic(auto, unfolding(crate::specs::Texts::NodeLines::demo_size))]
 fn push_demo_size<W: World>(text: &mut String, node: &Node<W>) -> Result<(), AllocError>
     ensures { OnOk result (string_bytes text.new ≡ string_bytes text.old ++ demo_size (contents node.now)) }
 {
@@ -76,6 +79,7 @@ fn line_end(stopped: bool) -> &'static str
 
 /// Appends the line of a node, which also tells whether its program has stopped. Err where memory is refused:
 /// what the text then holds is not said, and the caller is to throw it away.
+#[tactic(auto, unfolding(crate::specs::Texts::NodeLines::node_line))]
 pub fn push_node<W: World>(
     text: &mut String,
     node: &Node<W>,

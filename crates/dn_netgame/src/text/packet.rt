@@ -21,6 +21,7 @@ fn push_fault(text: &mut String, fault: PacketFault) -> Result<(), AllocError>
     text.push_str(words)
 }
 
+#[tactic(auto, unfolding(crate::specs::Texts::PacketLines::packet_line))]
 fn push_packet(text: &mut String, packet: &Packet) -> Result<(), AllocError>
     ensures { OnOk result (string_bytes text.new
         ≡ string_bytes text.old ++ packet_line packet.now) }
@@ -35,6 +36,7 @@ fn push_packet(text: &mut String, packet: &Packet) -> Result<(), AllocError>
     push_line(text, &fields)
 }
 
+#[tactic(auto, unfolding(crate::specs::Texts::PacketLines::command_line))]
 fn push_command(text: &mut String, index: usize, command: TicCmd) -> Result<(), AllocError>
     ensures { OnOk result (string_bytes text.new
         ≡ string_bytes text.old ++ command_line index command) }

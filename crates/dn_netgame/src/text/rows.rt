@@ -7,6 +7,7 @@ use dn_measure::push_line;
 use dn_tic::Move;
 use std::alloc::AllocError;
 
+#[tactic(auto, unfolding(crate::specs::Texts::RowLines::move_line))]
 fn push_move(text: &mut String, tic: u64, player: u8, step: Move) -> Result<(), AllocError>
     ensures { OnOk result (string_bytes text.new ≡ string_bytes text.old ++ move_line tic player step) }
 {

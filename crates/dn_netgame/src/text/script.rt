@@ -7,6 +7,7 @@ use dn_measure::push_line;
 use std::alloc::{AllocError, Global};
 
 /// The line that tells of a script's bad line by its number, counted from 1. Err where memory is refused.
+#[tactic(auto, unfolding(crate::specs::Texts::ScriptLines::bad_line))]
 pub fn text_of_bad_line(alloc: Global, number: usize) -> Result<String, AllocError>
     ensures { IfOk result (λ text. string_bytes text ≡ bad_line number) }
 {

@@ -12,6 +12,7 @@ use std::alloc::AllocError;
 /// Appends the line of an event in a trace: its number, the event in the words of a script, and its answer in
 /// words. Err where memory is refused: what the text then holds is not said, and the caller is to throw it
 /// away.
+#[tactic(auto, unfolding(crate::specs::Texts::TraceLines::trace_line))]
 pub fn push_trace_line(
     text: &mut String,
     number: usize,

@@ -29,6 +29,7 @@ impl Streams {
     ghost use Rattle.dn_netgame.specs.Turning.Streams.{AreAt};
 
     /// The generators before the first round.
+    #[tactic(auto, using(crate::proofs::Turning::Tics::no_more))]
     pub(crate) fn new(seed: u64) -> Streams
         ensures { AreAt seed 0 result }
     {

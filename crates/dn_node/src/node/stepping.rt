@@ -22,6 +22,7 @@ impl<W: World> Node<W> {
     ghost use Rattle.dn_lockstep.specs.{Giving.gives, Giving.IsSilent, Giving.aim_in, Giving.size_in, Commands.makes, Commands.can_make, Hearing.Spares};
 
     /// Whether [`Node::build`] and [`Node::give`] would make a command now.
+    #[tactic(auto, using(crate::proofs::Stepping::tells))]
     pub fn can_build(&self) -> bool
         ensures value { result ≡ can_make (locked (contents self.now)) }
         ensures told { Tells W.state W.physics (contents self.now)
@@ -54,6 +55,7 @@ impl<W: World> Node<W> {
     }
 
     /// The exact numbers of the packet that `packet` would give now.
+    #[tactic(auto, using(crate::proofs::Stepping::tells))]
     pub fn aim(&self, to: u8) -> Option<Aim>
         ensures told { Tells W.state W.physics (contents self.now)
             (λ rules me m. result ≡ option_map aim_of (sent_to to rules.limits me m).1) }

@@ -7,11 +7,7 @@ use Rattle.dn_machine.proofs.Put.{put_at, put_off}
 use Rattle.dn_machine.specs.Node.{put}
 use Rattle.dn_remain.specs.Vanished.Node.{Node, Was}
 use Rattle.dn_remain.specs.Vanished.Steps.{Act, Make, Take, Learn, Run, GiveUp, Leave, Decide, Acts, IsRun, HandsOn}
-use Rattle.dn_remain.proofs.Vanished.Invariant.{IsDecision, IsKept}
-use Rattle.dn_remain.proofs.Vanished.Deciding.{got_out}
-use Rattle.dn_remain.proofs.Vanished.Stepping.{was_q, was_other}
-use Rattle.dn_remain.proofs.Vanished.Always.{always}
-use Rattle.dn_remain.proofs.Vanished.Views.{outside}
+use Rattle.dn_remain.proofs.{Vanished.Invariant.IsDecision, Vanished.Invariant.IsKept, Vanished.Deciding.got_out, Vanished.Stepping.each_was, Vanished.Always.always, Vanished.Views.outside}
 
 -- all states of the one history are states of the other
 abbrev IsPast : List (ℕ → Node) → List (ℕ → Node) → Type 0
@@ -86,19 +82,9 @@ module _ (players ahead : ℕ) (all : List (ℕ → Node)) (whole : IsKept playe
       let step = run.0 in
       let late : IsPast (nodes ∷ older) all = λ y v k. past y v (inr k) in
       let before = behind (nodes ∷ older) run.1 late in
-      let at : Was (put nodes step.q step.new ∷ nodes ∷ older) x u =
-      subst (λ (s : ℕ → Node). Was (s ∷ nodes ∷ older) x u) step.next_is w in
-      elim (cases_eq x step.q) [
-        | inr m ↦ before x u l n (was_other nodes older step.q step.new x u m at) g t
-        | inl e ↦ elim (was_q nodes older step.q step.new u
-            (subst (λ (i : ℕ). Was (put nodes step.q step.new ∷ nodes ∷ older) i u) e at)) [
-              | inr o ↦ before step.q u step.player (λ i. n (e ∙ i)) o g (subst (λ (i : ℕ). d.gone i ≡ true) e t)
-              | inl k ↦
-                  let a : step.new.got p ≤ d.got p = new_behind nodes older late before step.q step.player step.here
-                  (always players ahead (nodes ∷ older) run.1) (λ i. n (e ∙ i))
-                  (subst (λ (i : ℕ). d.gone i ≡ true) e t) step.act step.new step.acts
-                  (sym (ap (λ (m : Node). m.gone p) k) ∙ g) in
-                  let c : u.got p ≡ step.new.got p = ap (λ (m : Node). m.got p) k in
-                  omega arith
-            ]
-      ]
+      each_was nodes older step.q step.new
+      (λ x u. x < players → (x ≡ p → ⊥) → u.gone p ≡ false → d.gone x ≡ true → u.got p ≤ d.got p)
+      (λ l n g t. new_behind nodes older late before step.q step.player step.here
+      (always players ahead (nodes ∷ older) run.1) n t step.act step.new step.acts g)
+      (λ x u o l n g t. before x u l n o g t) x u
+      (subst (λ (s : ℕ → Node). Was (s ∷ nodes ∷ older) x u) step.next_is w) l n g t

@@ -1,21 +1,13 @@
 -- The last commands of a list that is told are enough for a decision.
 use Rattle.std.proofs.Common.{◌≡◌, ℕ, ◌+◌, ◌-◌, ◌<◌, ◌≤◌, refl, sym, ◌∙◌, ap, subst, arith, inl, inr, List, [], ◌∷◌, ◌++◌, length, take, drop}
 use Rattle.std.specs.Prelude.{true, false}
-use Rattle.std.proofs.lemmas.Bool.{both_ways, cases_lt, cond-true, cond-false}
-use Rattle.std.proofs.lemmas.List.{take-append-drop, take-append-le, drop-drop}
+use Rattle.std.proofs.lemmas.{Bool.both_ways, Bool.cases_lt, Bool.cond-true, Bool.cond-false, List.take-append-drop, List.take-append-le, List.drop-drop}
 use Rattle.std.proofs.Math.Seq.{take-append_seam, take-length}
-use Rattle.dn_machine.specs.Promise.{IsPrefixOf}
-use Rattle.dn_machine.specs.Node.{put}
+use Rattle.dn_machine.specs.{Promise.IsPrefixOf, Node.put}
 use Rattle.dn_remain.specs.Vanished.Steps.{IsRun}
 use Rattle.dn_remain.specs.Vanished.Commands.{Holder, seen, past_seen, holders, Handed, AreHanded}
 use Rattle.dn_remain.specs.Vanished.Decisions.{HasHeardLists, IsReady, longest, told, on_decision, caught_up}
-use Rattle.dn_remain.proofs.Vanished.Invariant.{IsKept}
-use Rattle.dn_remain.proofs.Vanished.Views.{stands_outside}
-use Rattle.dn_remain.proofs.Vanished.Always.{always}
-use Rattle.dn_remain.proofs.Vanished.Tests.{bounded}
-use Rattle.dn_remain.proofs.Vanished.Fitting.{fits}
-use Rattle.dn_remain.proofs.Vanished.Handing.{handed, was_seen}
-use Rattle.dn_remain.proofs.Vanished.Lists.{pieces, own_below}
+use Rattle.dn_remain.proofs.{Vanished.Invariant.IsKept, Vanished.Views.stands_outside, Vanished.Always.always, Vanished.Tests.bounded, Vanished.Fitting.fits, Vanished.Handing.handed, Vanished.Handing.was_seen, Vanished.Lists.pieces, Vanished.Lists.own_below}
 
 module _ {C : Type 0} where
   -- of two prefixes of one list the shorter begins the longer
@@ -82,7 +74,7 @@ module _ {C : Type 0} where
 
     above : (p : ℕ) → (nodes q).gone p ≡ true
         → length ((nodes q).held p) ≤ length ((on_decision players q (nodes q) heard).held p)
-    above p t = grind (arith, own_below, length, cond-true)
+    above p t = grind (arith, own_below, cond-true)
 
     is_player : (p : ℕ) → (nodes q).gone p ≡ true → p < players
     is_player p t = elim (cases_lt p players) [

@@ -2,16 +2,12 @@
 use Rattle.std.proofs.Common.{◌≡◌, ℕ, ◌<◌, ◌≤◌, ltb, zero, suc, refl, sym, ◌∙◌, ap, arith, inl, inr, List, [], ◌∷◌, ◌++◌, length, get_or}
 use Rattle.std.specs.Prelude.{◌⊎◌, true, false, not, Option, None, slice_get}
 use Rattle.std.specs.List.{take_while, prefix_len}
-use Rattle.std.proofs.lemmas.Bool.{cases_lt, not-true, lt-ltb, le-ltb, cond-true, cond-false}
-use Rattle.std.proofs.lemmas.List.Sums.{prefix_len-le-length, prefix_len_passes}
-use Rattle.std.proofs.lemmas.List.Folds.{length-prefix_len}
+use Rattle.std.proofs.lemmas.{Bool.cases_lt, Bool.not-true, Bool.lt-ltb, Bool.le-ltb, Bool.cond-true, Bool.cond-false, List.Sums.prefix_len-le-length, List.Sums.prefix_len_passes, List.Folds.length-prefix_len}
 use Rattle.dn_machine.proofs.Put.{same_functions}
 use Rattle.dn_machine.specs.Promise.{IsPrefixOf}
-use Rattle.dn_remain.specs.Vanished.Promise.{lacks_at}
-use Rattle.dn_remain.specs.Vanished.Steps.{IsRun}
+use Rattle.dn_remain.specs.{Vanished.Promise.lacks_at, Vanished.Steps.IsRun}
 use Rattle.dn_remain.specs.Vanished.Commands.{Holder, seen, past_seen, Had, AreHanded, is_whole, commands_at, commands_to, demo}
-use Rattle.dn_remain.proofs.Vanished.Tests.{every_at}
-use Rattle.dn_remain.proofs.Vanished.Handing.{front_self, front_joined, shared}
+use Rattle.dn_remain.proofs.{Vanished.Tests.every_at, Vanished.Handing.front_self, Vanished.Handing.front_joined, Vanished.Handing.shared}
 
 -- how many tics a demo has
 demo_length : {C : Type 0} → ℕ → Holder C → ℕ
@@ -39,8 +35,7 @@ module _ {C : Type 0} where
   fewer players u n zero l = grind (arith, front_self)
   fewer players u n (suc m) l = elim (cases_lt n (suc m)) [
     | inl k ↦ front_joined _ _ _ (fewer players u n m (omega arith)) (commands_at players u m ∷ [], refl)
-    | inr k ↦
-        let e : n ≡ suc m = omega arith in front_self _ _ (ap (λ (i : ℕ). commands_to players u i) e)
+    | inr k ↦ let e : n ≡ suc m = omega arith in front_self _ _ (ap (λ (i : ℕ). commands_to players u i) e)
   ]
 
   module _ (players ahead : ℕ) (history : List (ℕ → Holder C)) (h : AreHanded history)
@@ -69,8 +64,7 @@ module _ {C : Type 0} where
 
     shorter : demo_length players u ≤ demo_length players v → IsPrefixOf (demo players u) (demo players v)
     unfolding demo_length
-    shorter l = front_joined _ _ _
-        (front_self _ _ (same_to (demo_length players u) (omega arith) l))
+    shorter l = front_joined _ _ _ (front_self _ _ (same_to (demo_length players u) (omega arith) l))
         (fewer players v (demo_length players u) (demo_length players v) l)
 
   pub demos : (players ahead : ℕ) (history : List (ℕ → Holder C)) → AreHanded history

@@ -1,15 +1,12 @@
 -- How many commands a node has that it has not run, and what else fits.
 use Rattle.std.proofs.Common.{◌≡◌, ℕ, ◌+◌, ◌<◌, ◌≤◌, refl, sym, ◌∙◌, ap, subst, arith, inl, inr, List, [], ◌∷◌}
 use Rattle.std.specs.Prelude.{true, false, None}
-use Rattle.std.proofs.lemmas.Bool.{both_ways, cases_eq, cases_Bool}
-use Rattle.dn_machine.proofs.Put.{put_at, put_off}
-use Rattle.dn_machine.specs.Node.{put}
+use Rattle.std.proofs.lemmas.Bool.{both_ways, cases_Bool}
+use Rattle.dn_machine.proofs.Put.{put_at}
 use Rattle.dn_remain.specs.Vanished.Node.{Node, ran, now, Was}
-use Rattle.dn_remain.specs.Vanished.Steps.{Act, Make, Take, Learn, Run, GiveUp, Leave, Decide, Acts, IsRun}
+use Rattle.dn_remain.specs.Vanished.Steps.{Act, Acts, IsRun}
 use Rattle.dn_remain.specs.Vanished.Promise.{Fits}
-use Rattle.dn_remain.proofs.Vanished.Mild.{cases_Option}
-use Rattle.dn_remain.proofs.Vanished.Always.{always}
-use Rattle.dn_remain.proofs.Vanished.Windows.{roomy, now_was}
+use Rattle.dn_remain.proofs.{Vanished.Mild.cases_Option, Vanished.Stepping.each_was, Vanished.Always.always, Vanished.Windows.roomy, Vanished.Windows.now_was}
 
 -- a step after which a node has left changes no count
 module _ (players ahead : ℕ) (nodes : ℕ → Node) (older : List (ℕ → Node)) (q : ℕ) (here : (nodes q).left ≡ false)
@@ -19,17 +16,10 @@ module _ (players ahead : ℕ) (nodes : ℕ → Node) (older : List (ℕ → Nod
 
     counted : (act : Act) (new : Node) → Acts players ahead (nodes ∷ older) q act new → new.left ≡ true → (p : ℕ)
         → (new.got p ≡ (nodes q).got p) × (ran new ≡ ran (nodes q))
-    counted Make new a t p = absurd (changed _ new a.1 refl t)
-    counted Take new a t p = absurd (changed _ new a.8 refl t)
-    counted Learn new a t p = absurd (changed _ new a.5 refl t)
-    counted Run new a t p = absurd (changed _ new a.1 refl t)
-    counted GiveUp new a t p = absurd (changed _ new a.3 refl t)
-    counted Leave new a t p = (ap (λ (n : Node). n.got p) a, ap (λ (n : Node). ran n) a)
-    counted Decide new a t p = absurd (changed _ new a.2 refl t)
+    counted act new a t p = grind (arith, changed)
 
 unread_now : (players ahead : ℕ) (history : List (ℕ → Node)) → IsRun players ahead history → (x p : ℕ)
-    → x < players → (now history x).left ≡ false
-    → (now history x).got p ≤ ran (now history x) + (ahead + ahead)
+    → x < players → (now history x).left ≡ false → (now history x).got p ≤ ran (now history x) + (ahead + ahead)
 unread_now players ahead history run x p l h =
     let kept = always players ahead history run in
     let room = roomy players ahead history run in
@@ -42,27 +32,21 @@ unread : (players ahead : ℕ) (history : List (ℕ → Node)) → IsRun players
     → x < players → Was history x u → u.got p ≤ ran u + (ahead + ahead)
 unread players ahead [] run x p u l w = absurd run
 unread players ahead (nodes ∷ []) run x p u l w = grind arith
-unread players ahead (next ∷ (nodes ∷ older)) run x p u l w = elim w [
-  | inr o ↦ unread players ahead (nodes ∷ older) run.1 x p u l o
-  | inl e ↦
-      let step = run.0 in
-      let at : next x ≡ put nodes step.q step.new x = ap (λ (f : ℕ → Node). f x) step.next_is in
-      subst (λ (n : Node). n.got p ≤ ran n + (ahead + ahead)) (sym e)
-      (elim (cases_Bool (next x).left) [
-        | inr f ↦ unread_now players ahead (next ∷ (nodes ∷ older)) run x p l f
-        | inl t ↦ subst (λ (n : Node). n.got p ≤ ran n + (ahead + ahead)) (sym at)
-            (elim (cases_eq x step.q) [
-              | inr n ↦ subst (λ (n : Node). n.got p ≤ ran n + (ahead + ahead)) (sym (put_off nodes step.q x step.new n))
-                  (unread players ahead (nodes ∷ older) run.1 x p (nodes x) l (inl refl))
-              | inl d ↦
-                  let i = put_at nodes step.q x step.new d in
-                  let gone : step.new.left ≡ true = sym (ap (λ (n : Node). n.left) (at ∙ i)) ∙ t in
-                  let c = counted players ahead nodes older step.q step.here step.act step.new step.acts gone p in
-                  let before = unread players ahead (nodes ∷ older) run.1 step.q p (nodes step.q) step.player (inl refl) in
-                  subst (λ (n : Node). n.got p ≤ ran n + (ahead + ahead)) (sym i) (omega (arith, c.0, c.1))
-            ])
-      ])
-]
+unread players ahead (next ∷ (nodes ∷ older)) run x p u l w =
+    let step = run.0 in
+    let at : next step.q ≡ step.new =
+    ap (λ (f : ℕ → Node). f step.q) step.next_is ∙ put_at nodes step.q step.q step.new refl in
+    each_was nodes older step.q step.new (λ x u. x < players → u.got p ≤ ran u + (ahead + ahead))
+    (λ l. elim (cases_Bool step.new.left) [
+      | inr f ↦ subst (λ (n : Node). n.got p ≤ ran n + (ahead + ahead)) at
+          (unread_now players ahead (next ∷ (nodes ∷ older)) run step.q p l (ap (λ (n : Node). n.left) at ∙ f))
+      | inl t ↦
+          let c = counted players ahead nodes older step.q step.here step.act step.new step.acts t p in
+          let before = unread players ahead (nodes ∷ older) run.1 step.q p (nodes step.q) step.player (inl refl) in
+          omega (arith, c.0, c.1)
+    ])
+    (λ x u o l. unread players ahead (nodes ∷ older) run.1 x p u l o) x u
+    (subst (λ (s : ℕ → Node). Was (s ∷ nodes ∷ older) x u) step.next_is w) l
 
 pub fits : (players ahead : ℕ) (history : List (ℕ → Node)) → IsRun players ahead history
     → Fits players ahead history
@@ -72,14 +56,11 @@ fits players ahead history run =
     let here = now_was players ahead history run in
     let lacking : (x r p : ℕ) (v : Node) → x < players → p < players → (now history x).left ≡ false
     → Was history r v → v.gone x ≡ false → (now history x).ends p ≡ None
-    → v.got p ≤ (now history x).got p + (ahead + ahead) =
-    λ x r p v l m h w o e.
+    → v.got p ≤ (now history x).got p + (ahead + ahead) = λ x r p v l m h w o e.
     let a = room.own x (now history x) (here x) in
     let b = room.near x r p v l h w o in
-    let c : ran (now history x) ≤ (now history x).got p =
-    (kept.sound x (now history x) (here x)).ahead p m e in
-    omega arith
-    in
+    let c : ran (now history x) ≤ (now history x).got p = (kept.sound x (now history x) (here x)).ahead p m e in
+    omega arith in
     record {
       held = λ x p u w. (kept.sound x u w).made p;
       own = room.own;

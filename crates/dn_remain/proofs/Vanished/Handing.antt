@@ -1,17 +1,12 @@
 -- Lists that are handed on piece by piece are fronts of their makers' lists.
 use Rattle.std.proofs.Common.{◌≡◌, ℕ, ◌<◌, zero, suc, refl, sym, ◌∙◌, ap, subst, arith, inl, inr, List, [], ◌∷◌, ◌++◌, append_assoc, length, take, drop}
 use Rattle.std.specs.Prelude.{◌⊎◌, false, slice_get}
-use Rattle.std.proofs.lemmas.Bool.{cases_eq}
-use Rattle.std.proofs.lemmas.List.{take-append-drop}
+use Rattle.std.proofs.lemmas.{Bool.cases_eq, List.take-append-drop}
 use Rattle.dn_machine.proofs.Put.{put_at, put_off}
-use Rattle.dn_machine.specs.Promise.{IsPrefixOf}
-use Rattle.dn_machine.specs.Node.{put}
-use Rattle.dn_remain.specs.Vanished.Node.{Was}
-use Rattle.dn_remain.specs.Vanished.Promise.{lacks_at}
-use Rattle.dn_remain.specs.Vanished.Steps.{IsRun}
+use Rattle.dn_machine.specs.{Promise.IsPrefixOf, Node.put}
+use Rattle.dn_remain.specs.{Vanished.Node.Was, Vanished.Promise.lacks_at, Vanished.Steps.IsRun}
 use Rattle.dn_remain.specs.Vanished.Commands.{Holder, seen, past_seen, holders, Had, AreHanded}
-use Rattle.dn_remain.proofs.Vanished.Always.{always}
-use Rattle.dn_remain.proofs.Vanished.Promises.{agree}
+use Rattle.dn_remain.proofs.{Vanished.Always.always, Vanished.Promises.agree}
 
 append_none : {C : Type 0} (xs : List C) → xs ++ [] ≡ xs
 append_none [] = refl

@@ -19,7 +19,7 @@ empty_if_short (x ∷ xs) e = absurd (omega arith)
 
 module _ {C : Type 0} where
   longer_counts : (xs ys : List C) → length (longer xs ys) ≡ max (length xs) (length ys)
-  longer_counts xs ys = grind (arith, cases_lt, length, cond-true, ltb, lt-ltb, max-eq_right, cond-false, le-ltb, max-eq_left)
+  longer_counts xs ys = grind (arith, cases_lt, cond-true, lt-ltb, max-eq_right, cond-false, le-ltb, max-eq_left)
 
   longest_counts : (n : ℕ) (lists : ℕ → List C) → length (longest n lists) ≡ highest n (λ r. length (lists r))
   unfolding longest highest
@@ -31,7 +31,7 @@ module _ {C : Type 0} where
   longest_reached : (n : ℕ) (lists : ℕ → List C) → 0 < n → (r : ℕ) × (r < n) × (longest n lists ≡ lists r)
   unfolding longest
   longest_reached zero lists h = absurd (omega arith)
-  longest_reached (suc zero) lists h = grind (arith, length, cond-true, ltb, lt-ltb, cond-false, le-ltb, empty_if_short)
+  longest_reached (suc zero) lists h = grind (arith, cond-true, lt-ltb, cond-false, le-ltb, empty_if_short)
   longest_reached (suc (suc n)) lists h =
       let k = longest_reached (suc n) lists (omega arith) in
       let a : List C = longest (suc n) lists in
@@ -43,7 +43,7 @@ module _ {C : Type 0} where
 
   module _ (players q : ℕ) (holder : Holder C) (heard : ℕ → Holder C) where
     told_counts : (p r : ℕ) → length (told q holder heard p r) ≡ share q (seen holder) (λ s. seen (heard s)) p r
-    told_counts p r = grind (arith, length_if, eqb, cond, length)
+    told_counts p r = grind (arith, length_if)
 
     end_counts : (p : ℕ) → length (longest players (told q holder heard p))
         ≡ decided_end players q (seen holder) (λ s. seen (heard s)) p
@@ -51,7 +51,7 @@ module _ {C : Type 0} where
 
     got_counts : (p : ℕ) → length ((on_decision players q holder heard).held p)
         ≡ (decided players q (seen holder) (λ s. seen (heard s))).got p
-    got_counts p = grind (arith, length_if, cond, length, end_counts)
+    got_counts p = grind (arith, length_if, end_counts)
 
     ends_count : (p : ℕ) → (on_decision players q holder heard).ends p
         ≡ (decided players q (seen holder) (λ s. seen (heard s))).ends p

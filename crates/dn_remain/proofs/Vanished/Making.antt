@@ -1,14 +1,11 @@
 -- Every command was made by a step that might make it.
-use Rattle.std.proofs.Common.{◌≡◌, ℕ, ◌+◌, ◌<◌, ◌≤◌, refl, ◌∙◌, ap, arith, inl, inr, List, [], ◌∷◌}
+use Rattle.std.proofs.Common.{◌≡◌, ℕ, ◌+◌, ◌<◌, ◌≤◌, refl, ◌∙◌, ap, subst, arith, inl, inr, List, [], ◌∷◌}
 use Rattle.std.specs.Prelude.{false}
 use Rattle.std.proofs.lemmas.Bool.{cases_eq, cases_lt}
 use Rattle.dn_machine.proofs.Put.{put_at, put_off}
-use Rattle.dn_machine.specs.Node.{put}
 use Rattle.dn_remain.specs.Vanished.Node.{Node, ran, now, Was}
 use Rattle.dn_remain.specs.Vanished.Steps.{Act, Make, Take, Learn, Run, GiveUp, Leave, Decide, Acts, IsRun}
-use Rattle.dn_remain.proofs.Vanished.Invariant.{IsKept}
-use Rattle.dn_remain.proofs.Vanished.Deciding.{got_out}
-use Rattle.dn_remain.proofs.Vanished.Always.{always}
+use Rattle.dn_remain.proofs.{Vanished.Put.at_put, Vanished.Invariant.IsKept, Vanished.Deciding.got_out, Vanished.Always.always}
 
 module _ (players ahead : ℕ) (nodes : ℕ → Node) (older : List (ℕ → Node)) (q : ℕ) (l : q < players)
     (here : (nodes q).left ≡ false) (kept : IsKept players (nodes ∷ older)) (tic : ℕ)
@@ -47,21 +44,16 @@ made players ahead [] run p tic k = absurd run
 made players ahead (nodes ∷ []) run p tic k = grind arith
 made players ahead (next ∷ (nodes ∷ older)) run p tic k =
     let step = run.0 in
-    let at : next p ≡ put nodes step.q step.new p = ap (λ (f : ℕ → Node). f p) step.next_is in
-    elim (cases_lt tic ((nodes p).got p)) [
-      | inl m ↦
-          let before = made players ahead (nodes ∷ older) run.1 p tic m in
-          (before.0, inr before.1, before.2, before.3)
-      | inr m ↦ elim (cases_eq p step.q) [
-        | inr n ↦ grind (arith, put_off)
-        | inl e ↦
-            let a : (next p).got p ≡ step.new.got p =
-            ap (λ (n : Node). n.got p) (at ∙ put_at nodes step.q p step.new e) in
-            let b : step.new.got p ≡ step.new.got step.q = ap step.new.got e in
-            let c : (nodes p).got p ≡ (nodes step.q).got step.q = ap (λ (i : ℕ). (nodes i).got i) e in
-            let d = made_new players ahead nodes older step.q step.player step.here
-            (always players ahead (nodes ∷ older) run.1) tic (omega arith) step.act step.new step.acts (omega arith) in
-            let f : ran (nodes p) ≡ ran (nodes step.q) = ap (λ (i : ℕ). ran (nodes i)) e in
-            (nodes p, inr (inl refl), c ∙ d.0, omega (arith, d.1))
-      ]
-    ]
+    let lift : (p : ℕ) → tic < (nodes p).got p → (maker : Node) × Was (next ∷ (nodes ∷ older)) p maker
+    × (maker.got p ≡ tic) × (tic < ran maker + ahead) =
+    λ p m. let before = made players ahead (nodes ∷ older) run.1 p tic m in (before.0, inr before.1, before.2, before.3) in
+    at_put (λ p n. tic < n.got p → (maker : Node) × Was (next ∷ (nodes ∷ older)) p maker × (maker.got p ≡ tic)
+    × (tic < ran maker + ahead)) nodes step.q step.new
+    (λ k. elim (cases_lt tic ((nodes step.q).got step.q)) [
+      | inl m ↦ lift step.q m
+      | inr m ↦
+          let d = made_new players ahead nodes older step.q step.player step.here
+          (always players ahead (nodes ∷ older) run.1) tic m step.act step.new step.acts k in
+          (nodes step.q, inr (inl refl), d.0, d.1)
+    ])
+    (λ p n. lift p) p (subst (λ (n : Node). tic < n.got p) (ap (λ (f : ℕ → Node). f p) step.next_is) k)

@@ -2,15 +2,8 @@
 use Rattle.std.proofs.Common.{◌≡◌, ℕ, ◌+◌, ◌<◌, ◌≤◌, subst, arith, inl, inr, List}
 use Rattle.std.specs.Prelude.{false}
 use Rattle.std.proofs.lemmas.Bool.{cases_eq, cases_Bool}
-use Rattle.dn_remain.specs.Vanished.Node.{Node, ran, Was}
-use Rattle.dn_remain.specs.Vanished.Steps.{IsRun}
-use Rattle.dn_remain.specs.Vanished.Promise.{Marked, lacks_at}
-use Rattle.dn_remain.proofs.Vanished.Always.{always}
-use Rattle.dn_remain.proofs.Vanished.Promises.{agree}
-use Rattle.dn_remain.proofs.Vanished.Windows.{roomy}
-use Rattle.dn_remain.proofs.Vanished.Behind.{behind}
-use Rattle.dn_remain.proofs.Vanished.Rowing.{rows_alike}
-use Rattle.dn_remain.proofs.Vanished.Marks.{marks}
+use Rattle.dn_remain.specs.{Vanished.Node.Node, Vanished.Node.ran, Vanished.Node.Was, Vanished.Steps.IsRun, Vanished.Promise.Marked, Vanished.Promise.lacks_at}
+use Rattle.dn_remain.proofs.{Vanished.Always.always, Vanished.Promises.agree, Vanished.Windows.roomy, Vanished.Behind.behind, Vanished.Marks.rows_alike, Vanished.Marks.marks}
 
 -- of a player whom a node has not given up, it has nothing that was made after a decision without the node
 module _ (players ahead : ℕ) (history : List (ℕ → Node)) (run : IsRun players ahead history) where

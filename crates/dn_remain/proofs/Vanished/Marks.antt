@@ -1,21 +1,65 @@
 -- Where a command comes from, its maker had the rows that the one who has it has.
-use Rattle.std.proofs.Common.{◌≡◌, ℕ, ◌+◌, ◌<◌, ◌≤◌, refl, sym, ◌∙◌, ap, subst, arith, inl, inr, List, [], ◌∷◌}
+use Rattle.std.proofs.Common.{◌≡◌, ℕ, ◌<◌, ◌≤◌, sym, ◌∙◌, arith, inl, inr, List, ◌+◌, refl, ap, subst, [], ◌∷◌}
 use Rattle.std.specs.Prelude.{false, Some}
-use Rattle.std.proofs.lemmas.Bool.{both_ways, cases_eq, cases_Bool}
+use Rattle.std.proofs.lemmas.Bool.{lt-leb, both_ways, cases_eq, cases_Bool}
+use Rattle.dn_machine.specs.{Running.is_over, Node.put}
+use Rattle.dn_remain.specs.{Vanished.Node.Node, Vanished.Node.ran, Vanished.Node.Was, Vanished.Promise.lacks_at, Vanished.Node.fresh, Vanished.Reports.HasHeard, Vanished.Reports.decided_end, Vanished.Reports.decided}
+use Rattle.dn_remain.specs.{Vanished.Steps.Act, Vanished.Steps.Make, Vanished.Steps.Take, Vanished.Steps.Learn, Vanished.Steps.Run, Vanished.Steps.GiveUp, Vanished.Steps.Leave, Vanished.Steps.Decide}
+use Rattle.dn_remain.specs.{Vanished.Steps.Acts, Vanished.Steps.Step, Vanished.Steps.IsRun, Vanished.Steps.HandsOn}
+use Rattle.dn_remain.proofs.{Vanished.Invariant.IsDecision, Vanished.Invariant.IsKept, Vanished.Mild.cases_Option, Vanished.Views.outside, Vanished.Invariant.IsGrown, Vanished.Stepping.was_other}
+use Rattle.dn_remain.proofs.{Vanished.Stepping.each_was, Vanished.Always.always, Vanished.Behind.behind, Vanished.Behind.handed_behind, Vanished.Promises.agree, Vanished.Windows.IsRoomy, Vanished.Windows.roomy}
+use Rattle.dn_remain.proofs.{Vanished.Deciding.got_in, Vanished.Deciding.got_out, Vanished.Deciding.reached, Vanished.Deciding.not_q}
 use Rattle.dn_machine.proofs.Put.{put_at, put_off}
-use Rattle.dn_machine.specs.Node.{put}
-use Rattle.dn_remain.specs.Vanished.Node.{Node, ran, fresh, Was}
-use Rattle.dn_remain.specs.Vanished.Reports.{HasHeard, decided_end, decided}
-use Rattle.dn_remain.specs.Vanished.Steps.{Act, Make, Take, Learn, Run, GiveUp, Leave, Decide, Acts, Step, IsRun, HandsOn}
-use Rattle.dn_remain.specs.Vanished.Promise.{lacks_at}
-use Rattle.dn_remain.proofs.Vanished.Invariant.{IsGrown, IsKept}
-use Rattle.dn_remain.proofs.Vanished.Stepping.{was_q, was_other}
-use Rattle.dn_remain.proofs.Vanished.Deciding.{got_in, got_out, reached, not_q}
-use Rattle.dn_remain.proofs.Vanished.Always.{always}
-use Rattle.dn_remain.proofs.Vanished.Behind.{behind, handed_behind}
-use Rattle.dn_remain.proofs.Vanished.Rowing.{rows_alike}
-use Rattle.dn_remain.proofs.Vanished.Promises.{agree}
-use Rattle.dn_remain.proofs.Vanished.Windows.{IsRoomy, roomy}
+
+-- Two nodes ran the same rows, where one has not given up the other, and that other had decided nothing without it.
+
+module _ (players : ℕ) (history : List (ℕ → Node)) (kept : IsKept players history) (x p : ℕ) (u v : Node)
+    (l : x < players) (m : p < players) (n : (x ≡ p → ⊥)) (w : Was history x u) (y : Was history p v)
+    (g : u.gone p ≡ false)
+    (free : (d : Node) → IsDecision players history p d → d.got p ≤ v.got p → d.gone x ≡ false) where
+  -- an end that one knows is not below what the other has
+  below_u : (r e : ℕ) → u.ends r ≡ Some e → v.got r ≤ e
+  below_u r e s = elim ((kept.sound x u w).source r e s) [
+    | inl k ↦ grind arith
+    | inr d ↦
+        let o : d.0.gone p ≡ false = outside d.0.gone u.gone p d.4 g in
+        let t = d.1.sees p m o in
+        let a : t.0.got r ≤ d.0.got r = t.3 r d.2 in
+        let b : d.0.got r ≡ e = d.3 in
+        elim (kept.pairs p v t.0 y t.1) [
+          | inl order ↦ let c : v.got r ≤ t.0.got r = order.got r in omega arith
+          | inr order ↦ elim t.2 [
+            | inr gone ↦ grind arith
+            | inl same ↦ elim (order.frozen r (same r ∙ d.2)) [
+              | inl c ↦ omega arith
+              | inr k ↦
+                  let c : k.0.got r ≤ d.0.got r = kept.met x p d.0 k.0 l m n d.1.was k.1.was o (free k.0 k.1 k.5) r
+                  (d.0.got r) (d.1.known r d.2) in
+                  let f : k.0.got r ≡ v.got r = k.4 in
+                  omega arith
+            ]
+          ]
+        ]
+  ]
+
+  below_v : (r e : ℕ) → v.ends r ≡ Some e → u.got r ≤ e
+  below_v r e s = elim ((kept.sound p v y).source r e s) [
+    | inl k ↦ grind arith
+    | inr d ↦
+        let c : u.got r ≤ d.0.got r = kept.met p x d.0 u m l (λ i. n (sym i)) d.1.was w (free d.0 d.1 d.5) g r
+        (d.0.got r) (d.1.known r d.2) in
+        let b : d.0.got r ≡ e = d.3 in
+        omega arith
+  ]
+
+  over_same : (r tic : ℕ) → r < players → tic < ran u → tic < ran v → is_over (u.ends r) tic ≡ is_over (v.ends r) tic
+  over_same r tic i j k = elim (cases_Option (u.ends r)) [
+    | inl s ↦ grind (arith, cases_Option, below_v, lt-leb)
+    | inr s ↦ grind (arith, below_u, cases_Option, lt-leb, below_v)
+  ]
+
+  pub rows_alike : (r tic : ℕ) → r < players → tic < ran u → tic < ran v → lacks_at u tic r ≡ lacks_at v tic r
+  rows_alike r tic i j k = grind (arith, over_same)
 
 -- two nodes have the same in a row that both ran
 pub record IsSameRow (u maker : Node) (back r : ℕ) : Type 0 where
@@ -34,60 +78,28 @@ row_grown u v maker back r g h = grind arith
 module _ (players ahead : ℕ) (nodes : ℕ → Node) (older : List (ℕ → Node)) (q : ℕ) (l : q < players)
     (here : (nodes q).left ≡ false) (kept : IsKept players (nodes ∷ older))
     (low : ahead + ahead ≤ 12) (room : IsRoomy players ahead (nodes ∷ older)) (marked : IsMarked players (nodes ∷ older)) where
-  -- its rows are those of one who told it something, as neither had given up the other
-  told_row : (p r back tic : ℕ) (sent : Node) → p < players → r < players → (q ≡ p → ⊥)
-      → Was (nodes ∷ older) p sent → sent.gone q ≡ false → (nodes q).gone p ≡ false → (a : ℕ) → tic < sent.got a
-      → back + 12 ≤ tic → back < ran sent → (back < ran (nodes q))
-      × (lacks_at (nodes q) back r ≡ lacks_at sent back r)
-  told_row p r back tic sent m n f w g o a b c d =
-      let s = room.near q p a sent l here w g in
-      let t = room.own q (nodes q) (inl refl) in
-      let k : back < ran (nodes q) = omega arith in
-      (k, (agree players (nodes ∷ older) kept).rows_same q p r back (nodes q) sent l m n f (inl refl) w o g k d)
+  abbrev past : List (ℕ → Node)
+  past = nodes ∷ older
 
-  -- by commands that their maker sent
-  from_sent : (p tic back r : ℕ) (sent maker : Node) → p < players → r < players → (q ≡ p → ⊥)
-      → Was (nodes ∷ older) p sent → Was (nodes ∷ older) p maker → sent.gone q ≡ false
-      → (nodes q).gone p ≡ false → maker.got p ≡ tic → tic < sent.got p → back + 12 ≤ tic
-      → IsSameRow (nodes q) maker back r
-  from_sent p tic back r sent maker m n f w y g o e s b =
-      let t : maker.got p ≤ ran maker + ahead = room.own p maker y in
-      let i : back < ran maker = omega arith in
-      elim (kept.pairs p maker sent y w) [
-        | inr order ↦ let c : sent.got p ≤ maker.got p = order.got p in absurd (omega arith)
-        | inl order ↦ grind (arith, told_row)
-      ]
+  -- its rows are those of the makers of these commands of others
+  abbrev AreRows : (ℕ → ℕ) → Type 0
+  AreRows got = (p tic back r : ℕ) (maker : Node) → p < players → r < players → (q ≡ p → ⊥) → Was past p maker
+      → maker.got p ≡ tic → tic < got p → back + 12 ≤ tic → IsSameRow (nodes q) maker back r
 
-  old_row : (p tic back r : ℕ) (maker : Node) → p < players → r < players → (q ≡ p → ⊥)
-      → Was (nodes ∷ older) p maker → maker.got p ≡ tic → tic < (nodes q).got p → back + 12 ≤ tic
-      → IsSameRow (nodes q) maker back r
+  old_row : AreRows (nodes q).got
   old_row p tic back r maker m n f w e s b = marked.marked q p tic back r (nodes q) maker l m n f (inl refl) w e s b
 
-  -- one count was raised to what its maker sent
-  raised_row : (a end : ℕ) (sent : Node) → Was (nodes ∷ older) a sent → sent.gone q ≡ false
-      → (nodes q).gone a ≡ false → end ≤ sent.got a → (p tic back r : ℕ) (maker : Node) → p < players
-      → r < players → (q ≡ p → ⊥) → Was (nodes ∷ older) p maker → maker.got p ≡ tic
-      → tic < put (nodes q).got a end p → back + 12 ≤ tic → IsSameRow (nodes q) maker back r
-  raised_row a end sent w g o h p tic back r maker m n f y e s b = elim (cases_eq p a) [
-    | inl d ↦
-        let c = put_at (nodes q).got a p end d in
-        from_sent a tic back r sent maker (subst (λ (i : ℕ). i < players) d m) n (λ i. f (i ∙ sym d)) w
-        (subst (λ (i : ℕ). Was (nodes ∷ older) i maker) d y) g o (ap maker.got (sym d) ∙ e) (omega arith) b
-    | inr d ↦
-        let c = put_off (nodes q).got a p end d in
-        old_row p tic back r maker m n f y e (omega arith) b
-  ]
+  -- it made one command more
+  own_row : (end : ℕ) → AreRows (put (nodes q).got q end)
+  own_row end p tic back r maker m n f y e s b =
+      let c = put_off (nodes q).got q p end (λ i. f (sym i)) in
+      old_row p tic back r maker m n f y e (omega arith) b
 
   -- one count was raised to what another handed on
-  handed_row : IsRun players ahead (nodes ∷ older) → (a end : ℕ) (sent : Node)
-      → HandsOn players (nodes ∷ older) (nodes q) a sent → sent.gone q ≡ false
-      → (nodes q).gone a ≡ false → end ≤ sent.got a → (p tic back r : ℕ) (maker : Node) → p < players
-      → r < players → (q ≡ p → ⊥) → Was (nodes ∷ older) p maker → maker.got p ≡ tic
-      → tic < put (nodes q).got a end p → back + 12 ≤ tic → IsSameRow (nodes q) maker back r
+  handed_row : IsRun players ahead past → (a end : ℕ) (sent : Node) → HandsOn players past (nodes q) a sent
+      → sent.gone q ≡ false → (nodes q).gone a ≡ false → end ≤ sent.got a → AreRows (put (nodes q).got a end)
   handed_row run a end sent hands g o h p tic back r maker m n f y e s b = elim (cases_eq p a) [
-    | inr d ↦
-        let c = put_off (nodes q).got a p end d in
-        old_row p tic back r maker m n f y e (omega arith) b
+    | inr d ↦ let c = put_off (nodes q).got a p end d in old_row p tic back r maker m n f y e (omega arith) b
     | inl d ↦
         let c = put_at (nodes q).got a p end d in
         let i : sent.got p ≡ sent.got a = ap sent.got d in
@@ -100,24 +112,30 @@ module _ (players ahead : ℕ) (nodes : ℕ → Node) (older : List (ℕ → Nod
         record {
           ran_it = mine;
           made_it = its;
-          same = rows_alike players (nodes ∷ older) kept q p (nodes q) maker l m f (inl refl) y open_p
+          same = rows_alike players past kept q p (nodes q) maker l m f (inl refl) y open_p
               (λ k decides below. elim (cases_Bool (k.gone q)) [
                 | inr z ↦ z
                 | inl z ↦
-                    let x : sent.got p ≤ k.got p = handed_behind players ahead (nodes ∷ older) kept p k decides
-                    nodes older (λ i u w. w)
-                    (λ i u l n w g t. behind players ahead (nodes ∷ older) kept p k decides (nodes ∷ older) run
-                    (λ i u w. w) i u l n w g t) q (nodes q) sent
-                    (subst (λ (i : ℕ). HandsOn players (nodes ∷ older) (nodes q) i sent) (sym d) hands) g open_p z in
+                    let x : sent.got p ≤ k.got p = handed_behind players ahead past kept p k decides nodes older
+                    (λ i u w. w) (behind players ahead past kept p k decides past run (λ i u w. w)) q (nodes q) sent
+                    (subst (λ (i : ℕ). HandsOn players past (nodes q) i sent) (sym d) hands) g open_p z in
                     absurd (omega arith)
               ]) r back n mine its;
         }
   ]
 
-  decided_row : (heard : ℕ → Node) → HasHeard players (nodes ∷ older) q (nodes q) heard → (p tic back r : ℕ)
-      (maker : Node) → p < players → r < players → (q ≡ p → ⊥) → Was (nodes ∷ older) p maker
-      → maker.got p ≡ tic → tic < (decided players q (nodes q) heard).got p → back + 12 ≤ tic
-      → IsSameRow (nodes q) maker back r
+  -- its rows are those of one who told it something, as neither had given up the other
+  told_row : (p r back tic : ℕ) (sent : Node) → p < players → r < players → (q ≡ p → ⊥) → Was past p sent
+      → sent.gone q ≡ false → (nodes q).gone p ≡ false → (a : ℕ) → tic < sent.got a → back + 12 ≤ tic
+      → back < ran sent → (back < ran (nodes q)) × (lacks_at (nodes q) back r ≡ lacks_at sent back r)
+  told_row p r back tic sent m n f w g o a b c d =
+      let s = room.near q p a sent l here w g in
+      let t = room.own q (nodes q) (inl refl) in
+      let k : back < ran (nodes q) = omega arith in
+      (k, (agree players past kept).rows_same q p r back (nodes q) sent l m n f (inl refl) w o g k d)
+
+  decided_row : (heard : ℕ → Node) → HasHeard players past q (nodes q) heard
+      → AreRows (decided players q (nodes q) heard).got
   decided_row heard hears p tic back r maker m n f y e s b = elim (cases_Bool ((nodes q).gone p)) [
     | inr t ↦
         let c = got_out players nodes older q l here kept heard hears p t in
@@ -130,8 +148,7 @@ module _ (players ahead : ℕ) (nodes : ℕ → Node) (older : List (ℕ → Nod
               let ev = hears k.0 k.1 k.2 k.3 in
               let d : decided_end players q (nodes q) heard p ≡ (heard k.0).got p = k.4 in
               let u : tic < (heard k.0).got p = omega arith in
-              let apart : (k.0 ≡ p → ⊥) = λ i. both_ways ((nodes q).gone p)
-              (ap (nodes q).gone (sym i) ∙ k.3) t in
+              let apart : (k.0 ≡ p → ⊥) = λ i. both_ways ((nodes q).gone p) (ap (nodes q).gone (sym i) ∙ k.3) t in
               let there = marked.marked k.0 p tic back r (heard k.0) maker k.1 m n apart ev.0 y e u b in
               let row = told_row k.0 r back tic (heard k.0) k.1 n (λ i. k.2 (sym i)) ev.0
               (not_q players nodes older q l here kept heard hears k.0 k.1 k.2 k.3) k.3 p u b there.ran_it in
@@ -139,44 +156,21 @@ module _ (players ahead : ℕ) (nodes : ℕ → Node) (older : List (ℕ → Nod
         ]
   ]
 
-  -- the same state, where its counts are those of a state that is named
-  same_got : (new next : Node) (p tic : ℕ) → next ≡ new → tic < next.got p → tic < new.got p
-  same_got new next p tic e s = let a : next.got p ≡ new.got p = ap (λ (n : Node). n.got p) e in omega arith
+  -- whose counts are those of a state that is named
+  at : (new next : Node) → next ≡ new → AreRows new.got → AreRows next.got
+  at new next e h = subst (λ (n : Node). AreRows n.got) (sym e) h
 
-  new_row : IsRun players ahead (nodes ∷ older) → (act : Act) (new : Node) → Acts players ahead (nodes ∷ older) q act new → (p tic back r : ℕ)
-      (maker : Node) → p < players → r < players → (q ≡ p → ⊥) → Was (nodes ∷ older) p maker
-      → maker.got p ≡ tic → tic < new.got p → back + 12 ≤ tic → IsSameRow (nodes q) maker back r
-  new_row run Make new a p tic back r maker m n f y e s b =
-      let c : put (nodes q).got q ((nodes q).got q + 1) p ≡ (nodes q).got p =
-      put_off (nodes q).got q p ((nodes q).got q + 1) (λ i. f (sym i)) in
-      let d = same_got (record (nodes q) { got = put (nodes q).got q ((nodes q).got q + 1) }) new p tic a.1 s in
-      old_row p tic back r maker m n f y e (omega arith) b
-  new_row run Take new a p tic back r maker m n f y e s b =
-      handed_row run a.0 a.1 a.2 a.3 a.4 a.5 a.7 p tic back r maker m n f y e
-      (same_got (record (nodes q) { got = put (nodes q).got a.0 a.1 }) new p tic a.8 s) b
-  new_row run Learn new a p tic back r maker m n f y e s b =
-      raised_row a.0 ((nodes a.0).got a.0) (nodes a.0) (inl refl) a.4 a.2 (omega arith) p tic back r maker m n f y e
-      (same_got (record (nodes q) {
-        got = put (nodes q).got a.0 ((nodes a.0).got a.0);
-        ends = put (nodes q).ends a.0 (Some ((nodes a.0).got a.0));
-      }) new p tic a.5 s) b
-  new_row run Run new a p tic back r maker m n f y e s b =
-      let c : new.got p ≡ (nodes q).got p = ap (λ (n : Node). n.got p) a.1 in
-      old_row p tic back r maker m n f y e (omega arith) b
-  new_row run GiveUp new a p tic back r maker m n f y e s b =
-      let c : new.got p ≡ (nodes q).got p = ap (λ (n : Node). n.got p) a.3 in
-      old_row p tic back r maker m n f y e (omega arith) b
-  new_row run Leave new a p tic back r maker m n f y e s b =
-      let c : new.got p ≡ (nodes q).got p = ap (λ (n : Node). n.got p) a in
-      old_row p tic back r maker m n f y e (omega arith) b
-  new_row run Decide new a p tic back r maker m n f y e s b =
-      decided_row a.0 a.1 p tic back r maker m n f y e
-      (same_got (decided players q (nodes q) a.0) new p tic a.2 s) b
+  new_row : IsRun players ahead past → (act : Act) (new : Node) → Acts players ahead past q act new → AreRows new.got
+  new_row run Make new a = at _ new a.1 (own_row ((nodes q).got q + 1))
+  new_row run Take new a = at _ new a.8 (handed_row run a.0 a.1 a.2 a.3 a.4 a.5 a.7)
+  new_row run Learn new a = at _ new a.5 (handed_row run a.0 ((nodes a.0).got a.0) (nodes a.0)
+      (a.0, inl refl, inl refl) a.4 a.2 (omega arith))
+  new_row run Run new a = at _ new a.1 old_row
+  new_row run GiveUp new a = at _ new a.3 old_row
+  new_row run Leave new a = at _ new a old_row
+  new_row run Decide new a = at _ new a.2 (decided_row a.0 a.1)
 
-  module _ (new : Node) (kept' : IsKept players (put nodes q new ∷ nodes ∷ older))
-      (row : (p tic back r : ℕ) (maker : Node) → p < players → r < players → (q ≡ p → ⊥)
-      → Was (nodes ∷ older) p maker → maker.got p ≡ tic → tic < new.got p → back + 12 ≤ tic
-      → IsSameRow (nodes q) maker back r) where
+  module _ (new : Node) (kept' : IsKept players (put nodes q new ∷ past)) (row : AreRows new.got) where
     rises : (p : ℕ) → (nodes q).got p ≤ new.got p
     rises p =
         let a = (kept'.order q (nodes q) (inr (inl refl))).got p in
@@ -187,40 +181,23 @@ module _ (players ahead : ℕ) (nodes : ℕ → Node) (older : List (ℕ → Nod
     grown = grind (arith, IsGrown, put_at)
 
     -- the maker's state is an old one, or nobody else has the command yet
-    by_old : (x p tic back r : ℕ) (u maker : Node) → x < players → p < players → r < players → (x ≡ p → ⊥)
-        → Was (put nodes q new ∷ nodes ∷ older) x u → Was (nodes ∷ older) p maker → maker.got p ≡ tic
-        → tic < u.got p → back + 12 ≤ tic → IsSameRow u maker back r
-    by_old x p tic back r u maker l m n f w y e s b = elim (cases_eq x q) [
-      | inr a ↦ marked.marked x p tic back r u maker l m n f (was_other nodes older q new x u a w) y e s b
-      | inl a ↦ elim (was_q nodes older q new u
-          (subst (λ (i : ℕ). Was (put nodes q new ∷ nodes ∷ older) i u) a w)) [
-            | inr o ↦ marked.marked q p tic back r u maker (subst (λ (i : ℕ). i < players) a l) m n
-                (λ i. f (a ∙ i)) o y e s b
-            | inl d ↦ subst (λ (n : Node). IsSameRow n maker back r) (sym d) (row_grown (nodes q) new maker back r grown
-                (row p tic back r maker m n (λ i. f (a ∙ i)) y e
-                (let c : u.got p ≡ new.got p = ap (λ (n : Node). n.got p) d in omega arith) b))
-          ]
-    ]
+    by_old : (p tic back r : ℕ) (maker : Node) → p < players → r < players → Was (nodes ∷ older) p maker
+        → maker.got p ≡ tic → back + 12 ≤ tic → (x : ℕ) (u : Node) → Was (put nodes q new ∷ nodes ∷ older) x u
+        → x < players → (x ≡ p → ⊥) → tic < u.got p → IsSameRow u maker back r
+    by_old p tic back r maker m n y e b = each_was nodes older q new
+        (λ x u. x < players → (x ≡ p → ⊥) → tic < u.got p → IsSameRow u maker back r)
+        (λ l f s. row_grown (nodes q) new maker back r grown (row p tic back r maker m n f y e s b))
+        (λ x u w l f s. marked.marked x p tic back r u maker l m n f w y e s b)
 
     marked_after : IsMarked players (put nodes q new ∷ nodes ∷ older)
     marked_after = record {
-      marked = λ x p tic back r u maker l m n f w y e s b. elim (cases_eq p q) [
-        | inr a ↦ by_old x p tic back r u maker l m n f w (was_other nodes older q new p maker a y) e s b
-        | inl a ↦ elim (was_q nodes older q new maker
-            (subst (λ (i : ℕ). Was (put nodes q new ∷ nodes ∷ older) i maker) a y)) [
-              | inr o ↦ by_old x p tic back r u maker l m n f w
-                  (subst (λ (i : ℕ). Was (nodes ∷ older) i maker) (sym a) o) e s b
-              | inl d ↦
-                  let g : (x ≡ q → ⊥) = λ i. f (i ∙ sym a) in
-                  let k : u.got q ≤ (nodes q).got q =
-                  (kept.sound x u (was_other nodes older q new x u g w)).made q in
-                  let h : u.got p ≡ u.got q = ap u.got a in
-                  let i : maker.got p ≡ maker.got q = ap maker.got a in
-                  let j : maker.got q ≡ new.got q = ap (λ (n : Node). n.got q) d in
-                  let c = rises q in
-                  absurd (omega arith)
-            ]
-      ];
+      marked = λ x p tic back r u maker l m n f w y e s b. each_was nodes older q new
+          (λ p maker. p < players → (x ≡ p → ⊥) → maker.got p ≡ tic → tic < u.got p → IsSameRow u maker back r)
+          (λ m f e s.
+          let k : u.got q ≤ (nodes q).got q = (kept.sound x u (was_other nodes older q new x u f w)).made q in
+          let c = rises q in
+          absurd (omega arith))
+          (λ p maker y m f e s. by_old p tic back r maker m n y e b x u w l f s) p maker y m f e s;
     }
 
 steps : (players ahead : ℕ) → ahead + ahead ≤ 12 → (nodes : ℕ → Node) (older : List (ℕ → Node)) (next : ℕ → Node)

@@ -1,16 +1,13 @@
 -- The steps that decide nothing keep all.
 use Rattle.std.proofs.Common.{◌≡◌, ℕ, ◌<◌, ◌≤◌, refl, arith, inl, inr, List, ◌∷◌}
 use Rattle.std.specs.Prelude.{◌⊎◌, true, false, Option, Some, None}
-use Rattle.std.proofs.lemmas.Bool.{both_ways, lt-leb}
-use Rattle.std.proofs.lemmas.Option.{none-some}
+use Rattle.std.proofs.lemmas.{Bool.both_ways, Bool.lt-leb, Option.none-some}
 use Rattle.dn_machine.proofs.Put.{put_at, put_off}
-use Rattle.dn_machine.specs.Running.{is_over}
-use Rattle.dn_machine.specs.Node.{put}
+use Rattle.dn_machine.specs.{Running.is_over, Node.put}
 use Rattle.dn_remain.specs.Vanished.Node.{Node, ran, now, Was, Within}
 use Rattle.dn_remain.specs.Vanished.Promise.{lacks_at}
 use Rattle.dn_remain.proofs.Vanished.Invariant.{IsGrown, IsLater, HasSource, IsSound, IsMet, IsKept}
-use Rattle.dn_remain.proofs.Vanished.Views.{outside, source_kept}
-use Rattle.dn_remain.proofs.Vanished.Stepping.{IsGood, grows, stays}
+use Rattle.dn_remain.proofs.{Vanished.Views.outside, Vanished.Views.source_kept, Vanished.Stepping.IsGood, Vanished.Stepping.grows, Vanished.Stepping.stays}
 
 pub cases_Option : {A : Type 0} (o : Option A) → (o ≡ None) ⊎ ((x : A) × (o ≡ Some x))
 cases_Option None = inl refl

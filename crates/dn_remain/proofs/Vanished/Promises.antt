@@ -3,15 +3,12 @@ use Rattle.std.proofs.Common.{◌≡◌, ℕ, ◌<◌, ◌≤◌, sym, arith, Li
 use Rattle.std.specs.Prelude.{false, Some, None}
 use Rattle.std.proofs.lemmas.Bool.{lt-leb, leb-false}
 use Rattle.dn_machine.specs.Running.{is_over}
-use Rattle.dn_remain.specs.Vanished.Node.{Node, ran, Was}
-use Rattle.dn_remain.specs.Vanished.Promise.{Agree, Lasts, lacks_at}
-use Rattle.dn_remain.proofs.Vanished.Invariant.{IsKept}
-use Rattle.dn_remain.proofs.Vanished.Mild.{cases_Option}
+use Rattle.dn_remain.specs.{Vanished.Node.Node, Vanished.Node.ran, Vanished.Node.Was, Vanished.Promise.Agree, Vanished.Promise.Lasts, Vanished.Promise.lacks_at}
+use Rattle.dn_remain.proofs.{Vanished.Invariant.IsKept, Vanished.Mild.cases_Option}
 
 module _ (players : ℕ) (history : List (ℕ → Node)) (kept : IsKept players history) where
-  ends_same : (x z p a b : ℕ) (u v : Node) → x < players → z < players → (x ≡ z → ⊥)
-      → Was history x u → Was history z v → u.gone z ≡ false → v.gone x ≡ false
-      → u.ends p ≡ Some a → v.ends p ≡ Some b → a ≡ b
+  ends_same : (x z p a b : ℕ) (u v : Node) → x < players → z < players → (x ≡ z → ⊥) → Was history x u
+      → Was history z v → u.gone z ≡ false → v.gone x ≡ false → u.ends p ≡ Some a → v.ends p ≡ Some b → a ≡ b
   ends_same x z p a b u v l m n w y f g s t =
       let c : v.got p ≤ a = kept.met x z u v l m n w y f g p a s in
       let d : u.got p ≤ b = kept.met z x v u m l (λ e. n (sym e)) y w g f p b t in

@@ -39,7 +39,5 @@ highest_reached zero f h = absurd (omega arith)
 highest_reached (suc zero) f h = (0, omega arith, omega arith)
 highest_reached (suc (suc n)) f h = elim (cases_lt (highest (suc n) f) (f (suc n))) [
   | inl l ↦ (suc n, omega arith, max-eq_right (omega arith))
-  | inr l ↦
-      let k = highest_reached (suc n) f (omega arith) in
-      (k.0, omega (arith, k.1), max-eq_left l ∙ k.2)
+  | inr l ↦ let k = highest_reached (suc n) f (omega arith) in (k.0, omega (arith, k.1), max-eq_left l ∙ k.2)
 ]

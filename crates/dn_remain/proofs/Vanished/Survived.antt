@@ -1,12 +1,10 @@
 -- Three players, one of whom vanishes: player 2 gets its only command from player 1's report, and runs on.
-use Rattle.std.proofs.Common.{◌≡◌, ℕ, ◌+◌, ◌<◌, zero, suc, refl, arith, inl, List, [], ◌∷◌, ◌++◌}
+use Rattle.std.proofs.Common.{◌≡◌, ℕ, ◌+◌, ◌<◌, refl, arith, inl, List, [], ◌∷◌, ◌++◌}
 use Rattle.std.specs.Prelude.{true, false, Some}
 use Rattle.std.proofs.lemmas.Bool.{true≢false}
-use Rattle.dn_machine.specs.Running.{is_over}
-use Rattle.dn_machine.specs.Node.{put}
+use Rattle.dn_machine.specs.{Running.is_over, Node.put}
 use Rattle.dn_remain.specs.Vanished.Node.{Node, fresh, ran, now}
-use Rattle.dn_remain.specs.Vanished.Promise.{lacks_at}
-use Rattle.dn_remain.specs.Vanished.Reports.{HasHeard, highest, decided}
+use Rattle.dn_remain.specs.{Vanished.Promise.lacks_at, Vanished.Reports.HasHeard, Vanished.Reports.highest, Vanished.Reports.decided}
 use Rattle.dn_remain.specs.Vanished.Steps.{Act, Make, Take, Run, GiveUp, Decide, Acts, Step, IsRun}
 
 step : (nodes : ℕ → Node) (older : List (ℕ → Node)) (q : ℕ) (act : Act) (new : Node) → q < 3
@@ -53,24 +51,15 @@ abbrev n12 : ℕ → Node
 n12 = put n11 2 (record (n11 2) { rows = (n11 2).rows ++ (λ p. is_over ((n11 2).ends p) (ran (n11 2))) ∷ [] })
 
 hears : HasHeard 3 (n9 ∷ n8 ∷ n7 ∷ n6 ∷ n5 ∷ n4 ∷ n3 ∷ n2 ∷ n1 ∷ n0 ∷ []) 2 (n9 2) n9
-hears zero l n o = absurd (true≢false o)
-hears (suc zero) l n o = (inl refl, inl (λ p. refl))
-hears (suc (suc zero)) l n o = absurd (n refl)
-hears (suc (suc (suc r))) l n o = absurd (omega arith)
+hears is l n o = grind (arith, true≢false)
 
 runs0 : (p : ℕ) → p < 3 → is_over ((n10 2).ends p) (ran (n10 2)) ≡ false → ran (n10 2) < (n10 2).got p
 unfolding highest
-runs0 zero l h = omega arith
-runs0 (suc zero) l h = omega arith
-runs0 (suc (suc zero)) l h = omega arith
-runs0 (suc (suc (suc r))) l h = absurd (omega arith)
+runs0 p l h = grind arith
 
 runs1 : (p : ℕ) → p < 3 → is_over ((n11 2).ends p) (ran (n11 2)) ≡ false → ran (n11 2) < (n11 2).got p
 unfolding highest
-runs1 zero l h = absurd (true≢false h)
-runs1 (suc zero) l h = omega arith
-runs1 (suc (suc zero)) l h = omega arith
-runs1 (suc (suc (suc r))) l h = absurd (omega arith)
+runs1 p l h = grind (arith, true≢false)
 
 run1 : IsRun 3 5 (n1 ∷ n0 ∷ [])
 run1 = (step n0 ([]) 0 Make (record (n0 0) { got = put (n0 0).got 0 ((n0 0).got 0 + 1) }) (omega arith) refl (omega arith, refl), refl)

@@ -7,9 +7,8 @@ use Rattle.dn_machine.specs.Node.{put}
 use Rattle.dn_remain.specs.Vanished.Node.{Node, now, Was, Within}
 use Rattle.dn_remain.specs.Vanished.Reports.{Stands, HasHeard}
 use Rattle.dn_remain.specs.Vanished.Calls.{every, is_within_at, is_report, is_report_in, is_heard, can_decide, report_or}
-use Rattle.dn_remain.specs.Vanished.Steps.{Act, Make, Take, Learn, Run, GiveUp, Leave, Decide, Acts, IsRun}
-use Rattle.dn_remain.proofs.Vanished.Views.{both_within}
-use Rattle.dn_remain.proofs.Vanished.Mild.{cases_Option}
+use Rattle.dn_remain.specs.Vanished.Steps.{Act, Acts, IsRun}
+use Rattle.dn_remain.proofs.{Vanished.Views.both_within, Vanished.Mild.cases_Option}
 
 pub every_at : (bound : ℕ) (test : ℕ → Bool) (i : ℕ) → every bound test ≡ true → i < bound → test i ≡ true
 unfolding every
@@ -24,13 +23,7 @@ every_at (suc bound) test i h l =
 module _ (players ahead : ℕ) (nodes : ℕ → Node) (older : List (ℕ → Node)) (q : ℕ) where
   next_bounded : (act : Act) (new : Node) → Acts players ahead (nodes ∷ older) q act new
       → ((p : ℕ) → players ≤ p → (nodes q).gone p ≡ false) → (p : ℕ) → players ≤ p → new.gone p ≡ false
-  next_bounded Make new a h p l = ap (λ (n : Node). n.gone p) a.1 ∙ h p l
-  next_bounded Take new a h p l = ap (λ (n : Node). n.gone p) a.8 ∙ h p l
-  next_bounded Learn new a h p l = ap (λ (n : Node). n.gone p) a.5 ∙ h p l
-  next_bounded Run new a h p l = ap (λ (n : Node). n.gone p) a.1 ∙ h p l
-  next_bounded GiveUp new a h p l = grind (arith, put_off)
-  next_bounded Leave new a h p l = ap (λ (n : Node). n.gone p) a ∙ h p l
-  next_bounded Decide new a h p l = ap (λ (n : Node). n.gone p) a.2 ∙ h p l
+  next_bounded act new a h p l = grind (arith, put_off)
 
 pub bounded : (players ahead : ℕ) (history : List (ℕ → Node)) → IsRun players ahead history → (x : ℕ) (u : Node)
     → Was history x u → (p : ℕ) → players ≤ p → u.gone p ≡ false

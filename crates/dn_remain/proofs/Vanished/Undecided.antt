@@ -1,13 +1,10 @@
 -- What a node lacks that cannot decide; and that the tests ask for no more than they need.
-use Rattle.std.proofs.Common.{◌≡◌, ℕ, ◌<◌, eqb, zero, suc, refl, ◌∙◌, ap, arith, inl, inr, List}
+use Rattle.std.proofs.Common.{◌≡◌, ℕ, ◌<◌, zero, suc, refl, ◌∙◌, ap, arith, inl, inr, List}
 use Rattle.std.specs.Prelude.{Bool, true, false, ◌&&◌, ◌||◌, Option, Some}
 use Rattle.std.proofs.lemmas.Bool.{both_ways, cases_Bool, eq-eqb, cond-true, true≢false}
-use Rattle.dn_remain.specs.Vanished.Node.{Node, Was, Within}
-use Rattle.dn_remain.specs.Vanished.Reports.{Stands}
+use Rattle.dn_remain.specs.{Vanished.Node.Node, Vanished.Node.Was, Vanished.Node.Within, Vanished.Reports.Stands, Vanished.Promise.Steady}
 use Rattle.dn_remain.specs.Vanished.Calls.{Keeper, every, is_within_at, is_report, can_decide, after_news, is_newer}
-use Rattle.dn_remain.specs.Vanished.Promise.{Steady}
-use Rattle.dn_remain.proofs.Vanished.Invariant.{IsLater, IsKept}
-use Rattle.dn_remain.proofs.Vanished.Views.{same_within, same_turned}
+use Rattle.dn_remain.proofs.{Vanished.Invariant.IsLater, Vanished.Invariant.IsKept, Vanished.Views.same_within, Vanished.Views.same_turned}
 
 both : (a b : Bool) → a ≡ true → b ≡ true → (a && b) ≡ true
 both a b e f = ap (λ (x : Bool). x && b) e ∙ f
@@ -54,13 +51,13 @@ module _ (players q : ℕ) (node : Node) (newest : ℕ → Option Node) where
   pub can : ((r : ℕ) → r < players → (r ≡ q → ⊥) → node.gone r ≡ false
       → (report : Node) × (newest r ≡ Some report) × Stands node.gone report)
       → can_decide players q node newest ≡ true
-  can h = grind (arith, every_from, first, eqb, eq-eqb, second, stands_is)
+  can h = grind (arith, every_from, first, eq-eqb, second, stands_is)
 
   -- whoever cannot lacks a report of one whom it has not given up
   pub lacking : can_decide players q node newest ≡ false
       → (r : ℕ) × (r < players) × (r ≡ q → ⊥) × (node.gone r ≡ false)
       × ((report : Node) → newest r ≡ Some report → Stands node.gone report → ⊥)
-  lacking h = grind (arith, every_fails, neither, eqb, both_ways, eq-eqb, stands_is)
+  lacking h = grind (arith, every_fails, neither, both_ways, eq-eqb, stands_is)
 
 -- whoever can decide has decided, once it has heard the news
 pub decided_now : (players q : ℕ) (keeper : Keeper) (p : ℕ)

@@ -1,19 +1,13 @@
 -- How far counts may lie apart.
 use Rattle.std.proofs.Common.{◌≡◌, ℕ, ◌+◌, ◌<◌, ◌≤◌, refl, sym, ◌∙◌, ap, subst, arith, inl, inr, List, [], ◌∷◌}
 use Rattle.std.specs.Prelude.{false, None}
-use Rattle.std.proofs.lemmas.Bool.{both_ways}
-use Rattle.std.proofs.lemmas.List.{length_push}
+use Rattle.std.proofs.lemmas.{Bool.both_ways, List.length_push}
 use Rattle.dn_machine.proofs.Put.{put_at, put_off}
 use Rattle.dn_machine.specs.Node.{put}
 use Rattle.dn_remain.specs.Vanished.Node.{Node, ran, fresh, now, Was}
 use Rattle.dn_remain.specs.Vanished.Reports.{HasHeard, decided}
-use Rattle.dn_remain.specs.Vanished.Steps.{Act, Make, Take, Learn, Run, GiveUp, Leave, Decide, Acts, Step, IsRun, HandsOn}
-use Rattle.dn_remain.proofs.Vanished.Invariant.{IsKept}
-use Rattle.dn_remain.proofs.Vanished.Views.{outside, stands_outside}
-use Rattle.dn_remain.proofs.Vanished.Stepping.{was_q, was_other}
-use Rattle.dn_remain.proofs.Vanished.Mild.{cases_Option}
-use Rattle.dn_remain.proofs.Vanished.Deciding.{got_in, got_out, reached}
-use Rattle.dn_remain.proofs.Vanished.Always.{always}
+use Rattle.dn_remain.specs.Vanished.Steps.{Act, Acts, Step, IsRun, HandsOn}
+use Rattle.dn_remain.proofs.{Vanished.Invariant.IsKept, Vanished.Views.outside, Vanished.Views.stands_outside, Vanished.Stepping.was_q, Vanished.Stepping.was_other, Vanished.Mild.cases_Option, Vanished.Deciding.got_in, Vanished.Deciding.got_out, Vanished.Deciding.reached, Vanished.Always.always}
 
 pub record IsRoomy (players ahead : ℕ) (history : List (ℕ → Node)) : Type 0 where
   -- nobody made more commands beyond the tics run than the window allows
@@ -79,13 +73,7 @@ module _ (players ahead : ℕ) (nodes : ℕ → Node) (older : List (ℕ → Nod
 
   near_new : (act : Act) (new : Node) → Acts players ahead (nodes ∷ older) q act new → (x p : ℕ) → x < players
       → (nodes x).left ≡ false → new.gone x ≡ false → new.got p ≤ (nodes x).got x + ahead
-  near_new Make new a = grind (arith, at, not_ended, near_put, near_old)
-  near_new Take new a = grind (arith, at, handed_near, near_put, near_old)
-  near_new Learn new a = grind (arith, at, near_put, near_old, sent_near)
-  near_new Run new a = grind (arith, at, near_old)
-  near_new GiveUp new a = grind (arith, at, near_old, both_ways, put_at, put_off)
-  near_new Leave new a = grind (arith, at, near_old)
-  near_new Decide new a = grind (arith, at, near_decided)
+  near_new act new a = grind (arith, at, not_ended, near_put, near_old, handed_near, sent_near, both_ways, put_at, put_off, near_decided)
 
   own_old : (nodes q).got q ≤ ran (nodes q) + ahead
   own_old = roomy.own q (nodes q) (inl refl)
@@ -94,13 +82,7 @@ module _ (players ahead : ℕ) (nodes : ℕ → Node) (older : List (ℕ → Nod
   own_put p end h = grind (arith, put_at, put_off, own_old)
 
   own_new : (act : Act) (new : Node) → Acts players ahead (nodes ∷ older) q act new → new.got q ≤ ran new + ahead
-  own_new Make new a = grind (arith, at, own_put)
-  own_new Take new a = grind (arith, at, own_put, own_old)
-  own_new Learn new a = grind (arith, at, own_put)
-  own_new Run new a = grind (arith, at, length_push, own_old)
-  own_new GiveUp new a = at (λ (n : Node). n.got q ≤ ran n + ahead) _ new a.3 own_old
-  own_new Leave new a = at (λ (n : Node). n.got q ≤ ran n + ahead) _ new a own_old
-  own_new Decide new a = grind (arith, at, got_out, own_old)
+  own_new act new a = grind (arith, at, own_put, own_old, length_push, got_out)
 
   module _ (new : Node) (kept' : IsKept players (put nodes q new ∷ nodes ∷ older))
       (fresh_own : new.got q ≤ ran new + ahead)

@@ -35,6 +35,7 @@ pub fn tests_are_exact()
 
 /// A node that has not decided lacks a report of a player whom it has not given up: either none came, or the
 /// newest does not stand for its set. After each call, one that lacks none has decided.
+#[tactic(auto, using(crate::proofs::Vanished::Undecided::lacking, crate::proofs::Vanished::Undecided::decided_now))]
 pub fn undecided_lack_a_report()
     ensures lacks { (players q : ℕ) (node : Node) (newest : ℕ → Option Node)
         → can_decide players q node newest ≡ false
@@ -46,6 +47,7 @@ pub fn undecided_lack_a_report()
 {}
 
 /// Nothing is lost with a report that is refused as older than the newest.
+#[tactic(auto, using(crate::proofs::Vanished::Always::always, crate::proofs::Vanished::Undecided::steady))]
 pub fn refused_reports_tell_no_more()
     ensures { (players ahead : ℕ) (history : List (ℕ → Node)) → IsRun players ahead history
         → Steady players history }

@@ -41,6 +41,7 @@ pub fn split_games_share_commands<C>()
 
 /// And of any two demos one is a prefix of the other, since a demo ends before the first row that lacks a
 /// player.
+#[tactic(auto, using(crate::proofs::Vanished::Demos::demos))]
 pub fn demos_agree<C>()
     ensures { (players ahead : ℕ) (history : List (ℕ → Holder C)) (x z : ℕ) (u v : Holder C)
         → AreHanded history → IsRun players ahead (past_seen history) → Had history x u → Had history z v
@@ -49,6 +50,7 @@ pub fn demos_agree<C>()
 
 /// A decision on lists is the decision on their counts. Each list that it leaves is one that the node had or
 /// was told, and so it is handed on.
+#[tactic(auto, using(crate::proofs::Vanished::Lists::counts, crate::proofs::Vanished::Lists::pieces, crate::proofs::Vanished::Catching::hands_on))]
 pub fn decisions_on_lists<C>()
     ensures counted { (players q : ℕ) (holder : Holder C) (heard : ℕ → Holder C)
         → seen (on_decision players q holder heard) ≡ decided players q (seen holder) (λ r. seen (heard r)) }

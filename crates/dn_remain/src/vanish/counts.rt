@@ -8,6 +8,7 @@ ghost use Rattle.dn_remain.specs.{Vanished.Promise.Marked, Vanished.Promise.lack
 /// After every list of steps, whichever packets and reports were lost, repeated, delayed or reordered: any two
 /// nodes that have not given up each other know the same ends, and ran the tics that both ran with the same
 /// players.
+#[tactic(auto, using(crate::proofs::Vanished::Always::always, crate::proofs::Vanished::Promises::agree))]
 pub fn remaining_agree()
     ensures { (players ahead : ℕ) (history : List (ℕ → Node)) → IsRun players ahead history
         → Agree players history }
@@ -15,6 +16,7 @@ pub fn remaining_agree()
 
 /// And what a node has it keeps: a known end never changes, nobody comes back who was given up, and no row that
 /// was run is changed.
+#[tactic(auto, using(crate::proofs::Vanished::Always::always, crate::proofs::Vanished::Promises::lasts))]
 pub fn what_is_known_lasts()
     ensures { (players ahead : ℕ) (history : List (ℕ → Node)) → IsRun players ahead history → Lasts history }
 {}
@@ -31,6 +33,7 @@ pub fn the_given_up_are_frozen()
 /// And no count runs away. A node has at most twice the window of a player's commands that it has not run; what
 /// was made is at most the window ahead of the tics that its maker ran, and of what each other player had made
 /// who is not given up and has not left; and whatever packet or report may come to a node fits.
+#[tactic(auto, using(crate::proofs::Vanished::Fitting::fits))]
 pub fn windows_fit()
     ensures { (players ahead : ℕ) (history : List (ℕ → Node)) → IsRun players ahead history
         → Fits players ahead history }
@@ -47,6 +50,7 @@ pub fn every_command_was_made()
 /// And no consistency check fails: of the tics up to twelve before a command, its maker had the rows that every
 /// node has which runs a tic with that command, and has not given up the maker; in windows of up to six also
 /// those nodes that have.
+#[tactic(auto, using(crate::proofs::Vanished::Marking::marked))]
 pub fn marks_agree()
     ensures { (players ahead : ℕ) (history : List (ℕ → Node)) → ahead ≤ 12 → IsRun players ahead history
         → Marked players ahead history }
@@ -67,6 +71,7 @@ pub fn decisions_come()
 
 /// A game of three in the window of 1997, as an example: player 0 vanishes, player 2 has none of its commands,
 /// decides with player 1's report that there was one, runs that tic with player 0 and the next without.
+#[tactic(auto, using(crate::proofs::Vanished::Survived::survived))]
 pub fn a_game_goes_on()
     ensures { (history : List (ℕ → Node)) × IsRun 3 5 history × ((now history 2).ends 0 ≡ Some 1)
         × (ran (now history 2) ≡ 2) × (lacks_at (now history 2) 0 0 ≡ false)

@@ -2,24 +2,16 @@
 use Rattle.std.proofs.Common.{◌≡◌, ◌≢◌, ◌<◌, ◌≤◌, ◌+◌, ◌-◌, ℕ, List, [], ◌++◌, length, take, drop, refl, ap, sym, ◌∙◌, subst, arith, inl, inr, append-nil, Option, Some, None}
 use Rattle.std.specs.Prelude.{true, false, max}
 use Rattle.std.specs.Option.{option_map, unwrap_or}
-use Rattle.std.proofs.lemmas.Bool.{both_ways, cases_Bool, cases_eq, cases_lt, eq-eqb, ne_eqb}
-use Rattle.std.proofs.lemmas.List.{drop-drop, drop_all, length-drop, take-append-le}
+use Rattle.std.proofs.lemmas.{Bool.both_ways, Bool.cases_Bool, Bool.cases_eq, Bool.cases_lt, Bool.eq-eqb, Bool.ne_eqb, List.drop-drop, List.drop_all, List.length-drop, List.take-append-le}
 use Rattle.std.proofs.Math.Nat.{max-eq_left, max-eq_right}
 use Rattle.std.proofs.Math.Seq.{take-append_seam, take-length}
 use Rattle.dn_tic.specs.declared.command.TicCmd.{TicCmd}
 use Rattle.dn_machine.specs.Promise.{IsPrefixOf}
-use Rattle.dn_survivor.specs.declared.report.Report.{Report}
-use Rattle.dn_remain.specs.Vanished.Calls.{report_or}
-use Rattle.dn_remain.specs.Vanished.Commands.{Holder, fresh_holder}
-use Rattle.dn_remain.specs.Vanished.Decisions.{caught_up, last_of, on_decision}
-use Rattle.dn_remain.specs.Vanished.Reports.{share}
-use Rattle.dn_remain.proofs.Vanished.Catching.{begins}
-use Rattle.dn_remain.proofs.Vanished.Lists.{pieces}
-use Rattle.dn_survivor.specs.declared.others.Others.{Others}
+use Rattle.dn_survivor.specs.{declared.report.Report.Report, declared.others.Others.Others, OfOthers.Represents.AreTold, OfOthers.Represents.AreWithin, OfOthers.Represents.Represents}
+use Rattle.dn_remain.specs.{Vanished.Calls.report_or, Vanished.Commands.Holder, Vanished.Commands.fresh_holder, Vanished.Decisions.caught_up, Vanished.Decisions.last_of, Vanished.Decisions.on_decision, Vanished.Reports.share}
+use Rattle.dn_remain.proofs.{Vanished.Catching.begins, Vanished.Lists.pieces}
 use Rattle.dn_survivor.specs.OfOthers.Keeping.{commands_of, count_by, first_of, has, last_by, last_in, newest_of, node_of, own_of, teller_of, told_of}
-use Rattle.dn_survivor.specs.OfOthers.Represents.{AreTold, AreWithin, Represents}
-use Rattle.dn_survivor.proofs.OfOthers.Agreeing.{ends}
-use Rattle.dn_survivor.proofs.OfOthers.Largest.{highest_of_two, largest_is}
+use Rattle.dn_survivor.proofs.{OfOthers.Agreeing.ends, OfOthers.Largest.highest_of_two, OfOthers.Largest.largest_is}
 
 -- of two prefixes of one list the shorter is a front of the longer
 front : (xs ys zs : List TicCmd) → IsPrefixOf xs zs → IsPrefixOf ys zs → length xs ≤ length ys
@@ -41,9 +33,7 @@ catches : (places : ℕ) (own told longer made : List TicCmd) → IsPrefixOf own
 catches places own told longer made ho ht hl is near =
     let s : ℕ = length told - places in
     let place : s + (length own - s) ≡ length own = omega (arith, near) in
-    let whole : caught_up places own told ≡ own ++ drop (length own) told =
-    ap (λ (ws : List TicCmd). own ++ ws)
-    (drop-drop (length own - s) s told ∙ ap (λ (n : ℕ). drop n told) place) in
+    let whole : caught_up places own told ≡ own ++ drop (length own) told = grind (arith, drop-drop) in
     whole ∙ elim (cases_lt (length own) (length told)) [
       | inl less ↦
           begins own told made ho ht (omega (arith, less))
@@ -56,10 +46,7 @@ catches places own told longer made ho ht hl is near =
 -- where the last commands of a list begin
 begin_of : (places count first : ℕ) (last told : List TicCmd) → count ≡ length told → last ≡ last_of places told
     → first ≡ count - length last → (first ≡ length told - places) × (first + length last ≡ length told)
-begin_of places count first last told is carried begin =
-    let size : length last ≡ length told - (length told - places) =
-    ap length carried ∙ length-drop (length told - places) told in
-    (omega (arith, is, size, begin), omega (arith, is, size, begin))
+begin_of places count first last told is carried begin = grind (arith, length-drop)
 
 -- the kept commands are enough for this list
 abbrev pub Suffices : ℕ → ℕ → ℕ → Others → List TicCmd → List TicCmd → ℕ → Type 0

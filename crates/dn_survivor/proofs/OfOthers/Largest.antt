@@ -1,5 +1,5 @@
 -- The largest of some numbers, and where it is.
-use Rattle.std.proofs.Common.{◌≡◌, ◌⊎◌, ◌<◌, ◌≤◌, ◌+◌, ℕ, zero, suc, refl, ap, sym, ◌∙◌, arith, inl, inr}
+use Rattle.std.proofs.Common.{◌≡◌, ◌⊎◌, ◌<◌, ◌≤◌, ◌+◌, ℕ, zero, suc, refl, ap, sym, arith, inl, inr}
 use Rattle.std.specs.Prelude.{max}
 use Rattle.std.proofs.lemmas.Bool.{cases_eq, cases_lt, lt-ltb, le-ltb}
 use Rattle.std.proofs.Math.Nat.{max-eq_left, max-eq_right}
@@ -25,28 +25,17 @@ no_largest f = refl
 -- of one number more it is there, if it is larger than all before
 largest_last : (n m : ℕ) (f : ℕ → ℕ) → m ≡ n + 1 → f (largest_at n f) < f n → largest_at m f ≡ n
 unfolding largest_at
-largest_last n m f is more =
-    let e : m ≡ suc n = omega (arith, is) in
-    let on = lt-ltb (f (largest_at n f)) (f n) more in
-    ap (λ (k : ℕ). largest_at k f) e ∙ rw (on) refl
+largest_last n m f is more = grind (arith, lt-ltb)
 
 -- and else where it was
 largest_stays : (n m : ℕ) (f : ℕ → ℕ) → m ≡ n + 1 → f n ≤ f (largest_at n f) → largest_at m f ≡ largest_at n f
 unfolding largest_at
-largest_stays n m f is most =
-    let e : m ≡ suc n = omega (arith, is) in
-    let off = le-ltb (f (largest_at n f)) (f n) most in
-    ap (λ (k : ℕ). largest_at k f) e ∙ rw (off) refl
+largest_stays n m f is most = grind (arith, le-ltb)
 
 -- by the numbers where it was and of the last
 pub largest_of_both : (n m at one last : ℕ) (f : ℕ → ℕ) → m ≡ n + 1 → at ≡ largest_at n f → one ≡ f at → last ≡ f n
     → ((one < last) × (largest_at m f ≡ n)) ⊎ ((last ≤ one) × (largest_at m f ≡ at))
-largest_of_both n m at one last f is there here next =
-    let before : one ≡ f (largest_at n f) = here ∙ ap f there in
-    elim (cases_lt one last) [
-      | inl less ↦ inl (less, largest_last n m f is (omega (arith, less, before, next)))
-      | inr most ↦ inr (most, largest_stays n m f is (omega (arith, most, before, next)) ∙ sym there)
-    ]
+largest_of_both n m at one last f is there here next = grind (arith, largest_last, largest_stays)
 
 -- it is one of them, and none is larger
 pub largest_is : (n : ℕ) (f : ℕ → ℕ) → 0 < n
@@ -55,29 +44,14 @@ largest_is zero f some = absurd (omega (arith, some))
 largest_is (suc zero) f some =
     elim (largest_of_both 0 1 0 (f 0) (f 0) f refl (sym (no_largest f)) refl refl) [
       | inl more ↦ absurd (omega (arith, more.0))
-      | inr most ↦ (
-        omega (arith, most.1),
-        λ i below. let e : i ≡ 0 = omega (arith, below) in omega (arith, ap f e, ap f most.1),
-      )
+      | inr most ↦ grind arith
     ]
 largest_is (suc (suc n)) f some =
     let before = largest_is (suc n) f (omega arith) in
     let at : ℕ = largest_at (suc n) f in
     elim (largest_of_both (suc n) (suc (suc n)) at (f at) (f (suc n)) f (omega arith) refl refl refl) [
-      | inl more ↦ (
-        omega (arith, more.1),
-        λ i below. elim (cases_lt i (suc n)) [
-          | inl less ↦ omega (arith, before.1 i less, more.0, ap f more.1)
-          | inr last ↦ let e : i ≡ suc n = omega (arith, below, last) in omega (arith, ap f e, ap f more.1)
-        ],
-      )
-      | inr most ↦ (
-        omega (arith, most.1, before.0),
-        λ i below. elim (cases_lt i (suc n)) [
-          | inl less ↦ omega (arith, before.1 i less, ap f most.1)
-          | inr last ↦ let e : i ≡ suc n = omega (arith, below, last) in omega (arith, ap f e, ap f most.1, most.0)
-        ],
-      )
+      | inl more ↦ grind arith
+      | inr most ↦ grind arith
     ]
 
 -- numbers that differ at one place alone, where the one has this and the other none
@@ -97,12 +71,6 @@ highest_of_two n me own f g below here none same =
       | inr other ↦ inr (omega (arith, top.2, same top.0 top.1 other, is.1 top.0 top.1))
     ] in
     elim (cases_lt own (g at)) [
-      | inl less ↦ elim reached [
-        | inl most ↦ absurd (omega (arith, less, most, under))
-        | inr most ↦ omega (arith, most, under) ∙ sym (max-eq_right (omega (arith, less)))
-      ]
-      | inr more ↦ elim reached [
-        | inl most ↦ omega (arith, most, over) ∙ sym (max-eq_left more)
-        | inr most ↦ omega (arith, most, more, over) ∙ sym (max-eq_left more)
-      ]
+      | inl less ↦ grind (arith, max-eq_right)
+      | inr more ↦ grind (arith, max-eq_left)
     ]

@@ -2,10 +2,8 @@
 use Rattle.std.proofs.Common.{◌≤◌, ◌+◌, ◌*◌, ℕ, List, [], ◌∷◌, length, All, arith, length-append}
 use Rattle.std.specs.List.{flat_map}
 use Rattle.std.proofs.lemmas.List.Elements.{All-head, All-tail}
-use Rattle.dn_survivor.specs.declared.report.Report.{Report}
-use Rattle.dn_survivor.specs.declared.report.Tail.{Tail}
-use Rattle.dn_survivor.specs.ReportBytes.Text.{report_bytes, tail_bytes, IsReport, IsTail}
-use Rattle.dn_survivor.proofs.ReportBytes.Pieces.{length-tail}
+use Rattle.dn_survivor.specs.{declared.report.Report.Report, declared.report.Tail.Tail, ReportBytes.Text.report_bytes, ReportBytes.Text.tail_bytes, ReportBytes.Text.IsReport, ReportBytes.Text.IsTail}
+use Rattle.dn_survivor.proofs.ReportBytes.Tails.{length-tail}
 
 -- each has at most so many commands
 abbrev Has : ℕ → Tail → Type 0

@@ -1,17 +1,49 @@
 -- Bytes are read as one thing.
-use Rattle.std.proofs.Common.{◌≡◌, ◌<◌, ◌≤◌, ◌+◌, ℕ, suc, List, [], ◌∷◌, ◌++◌, length, drop, All, refl, ap, sym, ◌∙◌, arith, append-nil, subst, Option, Some, None, Result, Ok, Err, inl, inr}
+use Rattle.std.proofs.Common.{◌≡◌, ◌<◌, ◌≤◌, ◌+◌, ◌*◌, ◌/◌, ◌%◌, List, [], ◌∷◌, length, refl, sym, ◌∙◌, arith, ℕ, suc, ◌++◌, drop, All, ap, append-nil, subst, Option, Some, None, Result, Ok, Err, inl, inr}
+use Rattle.std.specs.Prelude.{Bool, true, false}
 use Rattle.std.specs.List.{flat_map}
 use Rattle.std.proofs.lemmas.Bool.{eq-eqb, ne_eqb}
 use Rattle.std.proofs.lemmas.List.{append_assoc}
 use Rattle.std.proofs.lemmas.List.Elements.{All-head, All-tail}
 use Rattle.std.proofs.lemmas.Option.{same_Some, none-some}
-use Rattle.dn_survivor.specs.declared.report.Report.{Report}
-use Rattle.dn_survivor.specs.declared.report.Tail.{Tail}
-use Rattle.dn_survivor.specs.declared.report.ReportFault.{ReportFault}
-use Rattle.dn_survivor.specs.ReportBytes.Text.{first_byte, tail_bytes, report_bytes, AreInOrder, AreTold, IsReport, IsTail}
-use Rattle.dn_survivor.specs.ReportBytes.Read.{fault_at, first_fault, free_bits, next_after, HasFault, IsReadAs}
-use Rattle.dn_survivor.proofs.ReportBytes.Bits.{none_free, same_first}
+use Rattle.dn_survivor.specs.{ReportBytes.Text.bit, ReportBytes.Text.number_of, declared.report.Report.Report, declared.report.Tail.Tail, declared.report.ReportFault.ReportFault, ReportBytes.Text.first_byte}
+use Rattle.dn_survivor.specs.{ReportBytes.Text.tail_bytes, ReportBytes.Text.report_bytes, ReportBytes.Text.AreInOrder, ReportBytes.Text.AreTold, ReportBytes.Text.IsReport, ReportBytes.Text.IsTail}
+use Rattle.dn_survivor.specs.{ReportBytes.Read.fault_at, ReportBytes.Read.first_fault, ReportBytes.Read.next_after, ReportBytes.Read.HasFault, ReportBytes.Read.IsReadAs}
 use Rattle.dn_survivor.proofs.ReportBytes.Tails.{clean, same_tail, stands}
+
+-- Bits are found again in their number.
+
+bit_small : (b : Bool) → bit b ≤ 1
+bit_small true = omega arith
+bit_small false = omega arith
+
+pub bits_small : (bits : List Bool) → length bits ≡ 4 → number_of bits < 16
+bits_small (a ∷ b ∷ c ∷ d ∷ []) four = omega (arith, bit_small a, bit_small b, bit_small c, bit_small d)
+bits_small _ four = absurd (omega arith)
+
+same_bit : (a b : Bool) → bit a ≡ bit b → a ≡ b
+same_bit a b e = grind arith
+
+-- as many bits, of one number
+pub same_bits : (xs ys : List Bool) → length xs ≡ length ys → number_of xs ≡ number_of ys → xs ≡ ys
+same_bits [] [] long e = refl
+same_bits [] (y ∷ ys) long e = absurd (omega (arith, long))
+same_bits (x ∷ xs) [] long e = absurd (omega (arith, long))
+same_bits (x ∷ xs) (y ∷ ys) long e =
+    let sx = bit_small x in
+    let sy = bit_small y in
+    let one = same_bit x y (omega (arith, e, sx, sy)) in
+    let others = same_bits xs ys (omega (arith, long)) (omega (arith, e, sx, sy)) in
+    λ i. one i ∷ others i
+
+-- a first byte is of one set, and of one leaving
+pub same_first : (xs ys : List Bool) (l m : Bool) → length xs ≡ 4 → length ys ≡ 4
+    → number_of xs + 128 * bit l ≡ number_of ys + 128 * bit m → (xs ≡ ys) × (l ≡ m)
+same_first xs ys l m p q e = grind (arith, bits_small, bit_small, same_bits, same_bit)
+
+-- and has no bit that means nothing
+pub none_free : (xs : List Bool) (l : Bool) → length xs ≡ 4 → (number_of xs + 128 * bit l) / 16 % 8 ≡ 0
+none_free xs l p = omega (arith, bits_small xs p, bit_small l)
 
 -- what stands behind these players: this fault, or nothing
 record Ends (before least : ℕ) (rest : List ℕ) (end : Option ReportFault) : Type 0 where
@@ -46,9 +78,7 @@ once : (before least : ℕ) (a b : List Tail) (r s : List ℕ) (o p : Option Rep
     → (n m : ℕ) → n ≡ before + length a → m ≡ before + length b
     → Ends n (next_after least a) r o → Ends m (next_after least b) s p
     → (a ≡ b) × (o ≡ p)
-once before least [] [] r s o p ha hb e n m hn hm x y =
-    let same : n ≡ m = hn ∙ sym hm in
-    (refl, sym x.is ∙ (λ i. fault_at (same i) least (e i)) ∙ y.is)
+once before least [] [] r s o p ha hb e n m hn hm x y = grind arith
 once before least [] (u ∷ b) r s o p ha hb e n m hn hm x y =
     absurd (not_both n least u (flat_map tail_bytes b ++ s) r o (All-head IsTail u b hb.tails)
     (omega (arith, hn, hb.few)) hb.order.0 (e ∙ append_assoc (tail_bytes u) (flat_map tail_bytes b) s) x)
@@ -95,10 +125,7 @@ same_report p q hp hq e =
 
 -- a report's bytes have no fault
 no_first : (p : Report) → IsReport p → first_fault (report_bytes p) ≡ None
-no_first p is =
-    let some = ne_eqb (length (report_bytes p)) 0 (λ e. absurd (omega (arith, e))) in
-    let none = eq-eqb (free_bits (report_bytes p)) 0 (none_free p.gone p.left is.four) in
-    rw (some, none) refl
+no_first p is = grind (arith, ne_eqb, eq-eqb, none_free)
 
 no_fault : (p : Report) (f : ReportFault) → IsReport p → HasFault (flat_map tail_bytes p.told.items) f → ⊥
 no_fault p f is (told, rest, are, e, has) =

@@ -1,25 +1,21 @@
 -- What is told of a player is found again in its bytes.
-use Rattle.std.proofs.Common.{◌≡◌, ◌<◌, ◌≤◌, ◌+◌, ◌*◌, ℕ, zero, suc, List, [], ◌∷◌, ◌++◌, length, take, drop, get_or, All, refl, ap, sym, ◌∙◌, arith, length-append, None}
-use Rattle.std.specs.Prelude.{slice_index}
+use Rattle.std.proofs.Common.{◌≡◌, ◌<◌, ◌+◌, ◌*◌, ℕ, suc, List, [], ◌∷◌, ◌++◌, length, take, get_or, ap, sym, ◌∙◌, arith, append_assoc, append-nil, ◌≤◌, drop, All, refl, length-append, None}
 use Rattle.std.specs.List.{flat_map}
+use Rattle.std.proofs.Math.Seq.{take-suc}
+use Rattle.std.proofs.lemmas.Grind.{flat_map-append}
+use Rattle.std.specs.Prelude.{slice_index}
 use Rattle.std.proofs.lemmas.Bool.{ne_eqb, le-ltb}
 use Rattle.std.proofs.lemmas.List.{take-append-drop, length-take-le, drop-drop}
 use Rattle.std.proofs.lemmas.List.Elements.{All-head, All-tail}
 use Rattle.std.proofs.lemmas.Nat.{from_le_bytes-to_le_bytes_4, le_bytes_4}
-use Rattle.dn_tic.specs.Command.{command_bytes, IsCommand}
-use Rattle.dn_tic.specs.declared.command.TicCmd.{TicCmd}
-use Rattle.dn_tic.proofs.SameBytes.{same_command}
 use Rattle.dn_packet.proofs.Texts.{length-commands}
-use Rattle.dn_survivor.specs.declared.report.Tail.{Tail}
-use Rattle.dn_survivor.specs.ReportBytes.Text.{tail_bytes, IsTail}
-use Rattle.dn_survivor.specs.ReportBytes.Read.{fault_at, told_count, told_number, IsFirst}
+use Rattle.dn_survivor.specs.{declared.report.Tail.Tail, ReportBytes.Text.tail_bytes, ReportBytes.Text.IsTail, ReportBytes.Read.fault_at, ReportBytes.Read.told_count, ReportBytes.Read.told_number}
+use Rattle.dn_survivor.specs.{ReportBytes.Read.IsFirst}
+use Rattle.dn_tic.specs.{Command.command_bytes, Command.IsCommand, declared.command.TicCmd.TicCmd}
+use Rattle.dn_tic.proofs.SameBytes.{same_command}
 
 four_fit : (a b c d : ℕ) → a < 256 → b < 256 → c < 256 → d < 256 → (i : ℕ) → get_or (a ∷ b ∷ c ∷ d ∷ []) i 0 < 256
-four_fit a b c d ha hb hc hd zero = ha
-four_fit a b c d ha hb hc hd (suc zero) = hb
-four_fit a b c d ha hb hc hd (suc (suc zero)) = hc
-four_fit a b c d ha hb hc hd (suc (suc (suc zero))) = hd
-four_fit a b c d ha hb hc hd (suc (suc (suc (suc i)))) = omega arith
+four_fit a b c d ha hb hc hd i = grind arith
 
 -- what was read of a player's bytes has these bytes
 pub assembled : (bytes : List ℕ) (count : ℕ) (commands : List TicCmd) → ((i : ℕ) → get_or bytes i 0 < 256)
@@ -48,32 +44,12 @@ assembled _ count commands fits long whole counted spelled = absurd (omega arith
 -- where a player's bytes stand in front there is no fault
 pub clean : (before least : ℕ) (bytes : List ℕ) → IsFirst before least bytes → fault_at before least bytes ≡ None
 unfolding fault_at
-clean before least bytes f =
-    let a = ne_eqb (length bytes) 0 (λ e. omega (arith, e, f.long)) in
-    let b = ne_eqb before 2 f.another in
-    let c = le-ltb (length bytes) 6 f.long in
-    let d = le-ltb 3 (slice_index bytes 0) f.player in
-    let e = le-ltb (slice_index bytes 0) least f.order in
-    let g = le-ltb 24 (told_number bytes) f.few in
-    let h = le-ltb (told_count bytes) (told_number bytes) f.had in
-    let i = le-ltb (length bytes) (6 + 8 * told_number bytes) f.whole in
-    rw (a, b, c, d, e, g, h, i) refl
+clean before least bytes f = grind (arith, ne_eqb, le-ltb)
 
 -- what is told of a player stands in front of its bytes
 pub stands : (before least : ℕ) (tail : Tail) (rest : List ℕ) → IsTail tail → before < 2 → least ≤ tail.player
     → IsFirst before least (tail_bytes tail ++ rest)
-stands before least tail rest is few order =
-    let count : told_count (tail_bytes tail ++ rest) ≡ tail.count = from_le_bytes-to_le_bytes_4 tail.count is.count in
-    let size = length-commands tail.commands.items in
-    record {
-      another = λ e. omega (arith, e, few);
-      long = omega arith;
-      player = omega (arith, is.player);
-      order = order;
-      few = is.few;
-      had = omega (arith, count, is.had);
-      whole = omega (arith, size, length-append (flat_map command_bytes tail.commands.items) rest);
-    }
+stands before least tail rest is few order = grind (arith, from_le_bytes-to_le_bytes_4, length-commands, length-append)
 
 -- as many commands, whatever follows them
 same_front : (cs ds : List TicCmd) (xs ys : List ℕ) → length cs ≡ length ds → All IsCommand cs → All IsCommand ds
@@ -91,11 +67,33 @@ same_front (c ∷ cs) (d ∷ ds) xs ys long p q e =
 -- each player's bytes are of one tail, whatever follows them
 pub same_tail : (t u : Tail) (xs ys : List ℕ) → IsTail t → IsTail u → tail_bytes t ++ xs ≡ tail_bytes u ++ ys
     → (t ≡ u) × (xs ≡ ys)
-same_tail t u xs ys p q e =
-    let player : t.player ≡ u.player = cc in
-    let count : t.count ≡ u.count =
-    sym (from_le_bytes-to_le_bytes_4 t.count p.count) ∙ ap told_count e ∙ from_le_bytes-to_le_bytes_4 u.count q.count in
-    let number : length t.commands.items ≡ length u.commands.items = cc in
-    let behind : flat_map command_bytes t.commands.items ++ xs ≡ flat_map command_bytes u.commands.items ++ ys = cc in
-    let both = same_front t.commands.items u.commands.items xs ys number p.commands q.commands behind in
-    (λ i. record { player = player i; count = count i; commands = record { items = both.0 i } }, both.1)
+same_tail t u xs ys p q e = grind (arith, from_le_bytes-to_le_bytes_4, same_front)
+
+-- Bytes that are written piece by piece.
+
+-- the pieces of these, and of one more
+grown : {X : Type 0} (f : X → List ℕ) (xs : List X) (x : X) → flat_map f (xs ++ x ∷ []) ≡ flat_map f xs ++ f x
+grown f xs x = grind (arith, flat_map-append, append-nil)
+
+-- the pieces up to one more
+pub one_more : {X : Type 0} (f : X → List ℕ) (start : List ℕ) (xs : List X) (i : ℕ) (d : X) (bytes new : List ℕ)
+    → i < length xs → bytes ≡ start ++ flat_map f (take i xs) → new ≡ bytes ++ f (get_or xs i d)
+    → new ≡ start ++ flat_map f (take (i + 1) xs)
+one_more {X} f start xs i d bytes new below so_far more =
+    let x : X = get_or xs i d in
+    let next : i + 1 ≡ suc i = omega arith in
+    let taken : take (i + 1) xs ≡ take i xs ++ x ∷ [] =
+    ap (λ (n : ℕ). take n xs) next ∙ take-suc xs i d below in
+    more ∙ ap (λ (bs : List ℕ). bs ++ f x) so_far
+    ∙ append_assoc start (flat_map f (take i xs)) (f x)
+    ∙ ap (λ (bs : List ℕ). start ++ bs) (sym (ap (flat_map f) taken ∙ grown f (take i xs) x))
+
+-- one more piece is read from the front of the rest
+pub one_read : {X : Type 0} (f : X → List ℕ) (bytes rest after : List ℕ) (found more : List X) (x : X)
+    → bytes ≡ flat_map f found ++ rest → rest ≡ f x ++ after → more ≡ found ++ x ∷ []
+    → bytes ≡ flat_map f more ++ after
+one_read f bytes rest after found more x so_far front pushed = grind (arith, append_assoc, grown)
+
+-- six bytes, and eight to a command
+pub length-tail : (tail : Tail) → length (tail_bytes tail) ≡ 6 + 8 * length tail.commands.items
+length-tail tail = omega (arith, length-commands tail.commands.items)

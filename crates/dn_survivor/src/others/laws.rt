@@ -14,6 +14,7 @@ ghost use Rattle.dn_survivor.specs.{OfOthers.Keeping.nothing_kept, OfOthers.Keep
 
 /// The calls keep it so: what is kept at first represents what the node knows, and so it does after a player
 /// was given up, and after a report came that is kept.
+#[tactic(auto, using(crate::proofs::OfOthers::Keeping::first, crate::proofs::OfOthers::Keeping::given_up, crate::proofs::OfOthers::Keeping::heard))]
 pub fn calls_represent()
     ensures first { (players places me : ℕ) → players ≤ 4
         → Represents players places me nothing_kept (λ player. false) (λ player. None) }

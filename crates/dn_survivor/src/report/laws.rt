@@ -4,6 +4,7 @@ ghost use Rattle.std.specs.Prelude.{◌≡◌, ◌≤◌, ◌+◌, ◌*◌, ℕ,
 ghost use Rattle.dn_survivor.specs.{declared.report.Report.Report, declared.report.Tail.Tail, ReportBytes.Text.report_bytes, ReportBytes.Text.IsReport};
 
 /// A report has one list of bytes, since `report_bytes` is a function of it, and a list has one report.
+#[tactic(auto, using(crate::proofs::ReportBytes::Once::same_report))]
 pub fn one_report()
     ensures { (p q : Report) → IsReport p → IsReport q → report_bytes p ≡ report_bytes q → p ≡ q }
 {}

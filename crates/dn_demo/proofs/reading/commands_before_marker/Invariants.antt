@@ -1,6 +1,5 @@
 use Rattle.std.proofs.Common.{◌≡◌, length, drop}
-use Rattle.dn_demo.specs.Layout.{layout_of}
-use Rattle.dn_demo.specs.Places.{place, HasNoMarker}
+use Rattle.dn_demo.specs.{Layout.layout_of, Places.place, Places.HasNoMarker}
 use Rattle.dn_demo.proofs.reading.commands_before_marker.Given as goal
 
 abbrev pub invariant-loop-rest : goal.invariant-loop-rest

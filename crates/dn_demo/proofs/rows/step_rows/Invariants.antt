@@ -1,6 +1,5 @@
 use Rattle.std.proofs.Common.{length}
-use Rattle.dn_demo.specs.Layout.{layout_of}
-use Rattle.dn_demo.specs.Feeding.{StepsRows}
+use Rattle.dn_demo.specs.{Layout.layout_of, Feeding.StepsRows}
 use Rattle.dn_demo.proofs.rows.step_rows.Given as goal
 
 abbrev pub invariant-loop-rest : goal.invariant-loop-rest

@@ -1,33 +1,13 @@
-use Rattle.std.proofs.lemmas.Bool.Decides.{nat_tests}
-use Rattle.std.proofs.Common.{◌≡◌, ◌<◌, ◌*◌, ◌∙◌, [], false, true, length, nat_le, Some, sym, ap, arith, rules, take, length-append, ℕ, List, Option}
+use Rattle.std.proofs.lemmas.{Bool.Decides.nat_tests, Bool.le-leb}
+use Rattle.std.proofs.Common.{◌≡◌, ◌<◌, ◌*◌, ◌∙◌, false, true, length, nat_le, Some, sym, ap, arith, rules, take, length-append, List, Option}
 use Rattle.std.proofs.Math.Seq.{take-length}
-use Rattle.std.proofs.lemmas.Bool.{le-leb}
 use Rattle.dn_tic.specs.declared.command.Move.{Move}
-use Rattle.dn_demo.specs.Layout.{layout_of, long_tics, command_size}
-use Rattle.dn_demo.specs.Rows.{player_count}
-use Rattle.dn_demo.specs.Places.{seats_in}
-use Rattle.dn_demo.specs.Text.{demo_text}
-use Rattle.dn_demo.specs.Recorded.{Recorded, recorded_size}
-use Rattle.dn_demo.specs.Upgraded.{upgraded_size}
-use Rattle.dn_demo.proofs.Kept.{row_kept}
-use Rattle.dn_demo.proofs.RecordedAnew.{one_more, length-none, row_fits, row_recordable}
+use Rattle.dn_demo.specs.{Layout.{layout_of, long_tics, command_size}, Rows.player_count, Places.seats_in, Text.demo_text, Recorded.{Recorded, recorded_size}, Upgraded.upgraded_size}
+use Rattle.dn_demo.proofs.{Kept.row_kept, RecordedAnew.{one_more, length-none, row_fits, row_recordable}}
 use Rattle.dn_demo.proofs.upgrading.upgrade.Goals as goal
 
 pub loop-tic-init : goal.loop-tic-init
-loop-tic-init c =
-    let demo = c.args.demo.now in
-    let text : c.head.new.self.bytes ≡ demo_text long_tics demo.start demo.view demo.present [] false =
-    ap (λ (r : Recorded). r.bytes) c.head.ensures.written
-    ∙ (λ i. demo_text long_tics (c.start.ensures i) (c.view.ensures i) (c.present-present.ensures.value i)
-    [] false) in
-    let four : length demo.present ≡ 4 = ap length (sym c.present-present.ensures.value) ∙ search rules in
-    record {
-      limit = ap (λ (r : Recorded). r.limit) c.head.ensures.written ∙ search rules;
-      stage = ap (λ (r : Recorded). r.stage) c.head.ensures.written;
-      text = text;
-      size = ap length text ∙ length-none demo.start demo.view demo.present four ∙ omega arith;
-      seats = c.head.ensures.seats ∙ c.present-present.ensures.value;
-    }
+loop-tic-init c = grind (arith, false, rules, length-none)
 
 pub row-requires : goal.row-requires
 row-requires c =
@@ -45,19 +25,7 @@ add_row-requires-clause-row c =
     c.players-players.ensures.value below c.row.ensures
 
 pub add_row-requires-clause-room : goal.add_row-requires-clause-room
-add_row-requires-clause-room c =
-    let demo = c.args.demo.now in
-    let l = c.loop-tic in
-    let below : l.tic < length demo.rows = omega arith in
-    let players : player_count (seats_in l.recorder.bytes) ≡ player_count demo.present =
-    ap player_count l.invariant.seats in
-    let count : c.players-players.result ≡ player_count demo.present =
-    c.players-players.ensures.value ∙ ap player_count c.present-present.ensures.value in
-    let fits : (n : ℕ) → nat_le (recorded_size (player_count demo.present) n) l.recorder.limit
-    ≡ nat_le n c.capacity.result = λ n. (λ i. nat_le (recorded_size (sym count i) n) (l.invariant.limit i))
-    ∙ c.capacity.ensures.fits n in
-    row_fits l.recorder.limit _ l.tic (length demo.rows) c.capacity.result _ _
-    l.invariant.size (ap (λ n. command_size long_tics * n) players) fits below (omega arith)
+add_row-requires-clause-room c = grind (arith, nat_le, row_fits)
 
 pub loop-tic-preserved : goal.loop-tic-preserved
 loop-tic-preserved c =

@@ -1,8 +1,7 @@
 use Rattle.std.proofs.Common.{ℕ, length, subst}
 use Rattle.std.specs.Prelude.{IfOk}
 use Rattle.dn_tic.specs.declared.input.Input.{Input}
-use Rattle.dn_game.specs.GoingOn.{HasPlayedOn, HasPlayedOnFrom, HasBrokenOff}
-use Rattle.dn_game.specs.Opening.{rules_in}
+use Rattle.dn_game.specs.{GoingOn.{HasPlayedOn, HasPlayedOnFrom, HasBrokenOff}, Opening.rules_in}
 use Rattle.dn_game.proofs.Arriving.{keys_as_inputs}
 use Rattle.dn_game.proofs.going_on.play_on.Goals as goal
 

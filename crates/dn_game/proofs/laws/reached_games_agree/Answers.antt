@@ -1,11 +1,7 @@
 use Rattle.std.proofs.Common.{refl}
-use Rattle.dn_game.proofs.Headlines.{have_agreed}
-use Rattle.dn_game.proofs.Vanilla.{window_of}
+use Rattle.dn_game.proofs.{Headlines.have_agreed, Places.window_of, Agreeing.{promised, reached_promised, agreed}, SteadyAnswers.applied_steady}
 use Rattle.dn_machine.specs.Worlds.{rules_of}
 use Rattle.dn_machine.proofs.Games.{always}
-use Rattle.dn_game.proofs.Promising.{promised, reached_promised}
-use Rattle.dn_game.proofs.SteadyAnswers.{applied_steady}
-use Rattle.dn_game.proofs.Agreeing.{agreed}
 use Rattle.dn_game.proofs.laws.reached_games_agree.Goals as goal
 
 pub returns-clause-headline : goal.returns-clause-headline

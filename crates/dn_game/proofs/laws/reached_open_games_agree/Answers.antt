@@ -1,7 +1,6 @@
 use Rattle.std.proofs.Common.{◌<◌, arith}
 use Rattle.dn_machine.specs.Worlds.{rules_of}
-use Rattle.dn_game.proofs.Agreeing.{few, short}
-use Rattle.dn_game.proofs.OpenStanding.{open_promised}
+use Rattle.dn_game.proofs.{Agreeing.{few, short}, OpenStanding.open_promised}
 use Rattle.dn_game.proofs.laws.reached_open_games_agree.Goals as goal
 
 pub returns : goal.returns

@@ -1,15 +1,8 @@
 use Rattle.std.proofs.Common.{◌<◌, ◌∷◌, ◌++◌, [], length, take, ap, refl, sym, ◌∙◌, arith}
 use Rattle.std.proofs.lemmas.List.{take_all, take_more}
 use Rattle.dn_open.specs.declared.open_event.OpenEvent.{OpenEvent}
-use Rattle.dn_game.specs.Contents.{contents}
-use Rattle.dn_game.specs.Frame.{MovesNoWorldOpen, named_in_open}
-use Rattle.dn_game.specs.Opening.{rules_in}
-use Rattle.dn_game.proofs.Agreeing.{few, short}
-use Rattle.dn_game.proofs.Answering.{as_many, none_played, step_played}
-use Rattle.dn_game.proofs.Giving.{keeps_more, named_stays, same_at}
-use Rattle.dn_game.proofs.Roomy.{none_within, stays}
-use Rattle.dn_game.proofs.OpenStanding.{open_promised}
-use Rattle.dn_game.proofs.Whose.{limits_stay}
+use Rattle.dn_game.specs.{Contents.contents, Frame.{MovesNoWorldOpen, named_in_open}, Opening.rules_in}
+use Rattle.dn_game.proofs.{Agreeing.{few, short}, Answering.{as_many, none_played, step_played}, Giving.{keeps_more, named_stays, same_at}, Roomy.{none_within, stays}, OpenStanding.open_promised, Whose.limits_stay}
 use Rattle.dn_game.proofs.open_playing.play_open.Goals as goal
 
 pub loop-event-init : goal.loop-event-init

@@ -1,12 +1,5 @@
-use Rattle.dn_game.specs.Opening.{rules_in}
 use Rattle.std.proofs.Common.{◌≡◌, ◌+◌, length, take}
-use Rattle.dn_game.specs.Contents.{contents}
-use Rattle.dn_game.specs.Fresh.{AreLimited}
-use Rattle.dn_game.specs.Given.{KeepsGiven}
-use Rattle.dn_game.specs.Observed.{ObservesAll}
-use Rattle.dn_game.specs.Played.{IsPlayed}
-use Rattle.dn_game.specs.Pool.{IsWithinTwice}
-use Rattle.dn_game.specs.Room.{room_of}
+use Rattle.dn_game.specs.{Opening.rules_in, Contents.contents, Fresh.AreLimited, Given.KeepsGiven, Observed.ObservesAll, Played.IsPlayed, Pool.IsWithinTwice, Room.room_of}
 use Rattle.dn_game.proofs.playing.play_observed.Given as goal
 
 abbrev pub invariant-loop-event : goal.invariant-loop-event

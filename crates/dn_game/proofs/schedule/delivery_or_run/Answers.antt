@@ -1,6 +1,6 @@
 use Rattle.std.proofs.Common.{rules, ◌≡◌, None, sym, ◌∙◌, arith}
 use Rattle.dn_machine.specs.Worlds.{rules_of}
-use Rattle.dn_game.proofs.Recent.{runs_refused, delivers}
+use Rattle.dn_game.proofs.GoingRound.{runs_refused, delivers}
 use Rattle.dn_game.proofs.schedule.delivery_or_run.Goals as goal
 
 pub returns-clause-told : goal.returns-clause-told

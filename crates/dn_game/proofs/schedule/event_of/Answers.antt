@@ -1,5 +1,5 @@
 use Rattle.std.proofs.Common.{◌∙◌}
-use Rattle.dn_game.proofs.Recent.{chooses}
+use Rattle.dn_game.proofs.GoingRound.{chooses}
 use Rattle.dn_game.proofs.schedule.event_of.Goals as goal
 
 pub returns-then-kind-lt14-clause-told : goal.returns-then-kind-lt14-clause-told

@@ -2,7 +2,6 @@ use Rattle.std.proofs.Common.{◌≡◌, ℕ, Bool, false, ap, sym, ◌∙◌, a
 use Rattle.std.specs.Prelude.{slice_index_or}
 use Rattle.dn_machine.specs.Node.{lowest}
 use Rattle.dn_lockstep.proofs.Lowest.{lowest_zero}
-use Rattle.dn_game.specs.Schedule.{first_moving}
 use Rattle.dn_game.proofs.GoingRound.{moves, goes_past, moving_found, moving_none, all_stopped}
 use Rattle.dn_game.proofs.schedule.first_moving.Goals as goal
 
@@ -10,23 +9,13 @@ pub loop-step-init : goal.loop-step-init
 loop-step-init g c = lowest_zero _
 
 pub loop-step-preserved : goal.loop-step-preserved
-loop-step-preserved g c =
-    goes_past _ _ (λ (p : ℕ). slice_index_or c.args.game.now.stopped p false) c.loop-step.step
-    c.loop-step.invariant (sym c.stopped.ensures ∙ c.if-not-stopped.false)
+loop-step-preserved g c = grind (arith, goes_past)
 
 pub returns-then-not-stopped-clause-value : goal.returns-then-not-stopped-clause-value
-returns-then-not-stopped-clause-value g c =
-    let stopped : ℕ → Bool = λ p. slice_index_or c.args.game.now.stopped p false in
-    moving_found _ _ stopped c.loop-step.step c.loop-step-test.true c.loop-step.invariant
-    (sym c.stopped.ensures ∙ c.if-not-stopped.true)
-    ∙ ap (λ (k : ℕ). first_moving k stopped c.args.from) c.players-players.ensures.value
+returns-then-not-stopped-clause-value g c = grind (arith, moving_found)
 
 pub returns-clause-value : goal.returns-clause-value
-returns-clause-value g c =
-    let stopped : ℕ → Bool = λ p. slice_index_or c.args.game.now.stopped p false in
-    moving_none _ _ stopped c.loop-step.step
-    (omega (arith, c.loop-step-test.false, c.loop-step.auto.step-end)) c.loop-step.invariant
-    ∙ ap (λ (k : ℕ). first_moving k stopped c.args.from) c.players-players.ensures.value
+returns-clause-value g c = grind (arith, moving_none)
 
 pub returns-clause-none : goal.returns-clause-none
 returns-clause-none g c none =

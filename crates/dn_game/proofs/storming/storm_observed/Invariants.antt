@@ -1,12 +1,5 @@
-use Rattle.dn_game.specs.Opening.{rules_in}
 use Rattle.std.proofs.Common.{◌≡◌, ◌+◌, length}
-use Rattle.dn_game.specs.Contents.{contents}
-use Rattle.dn_game.specs.Fresh.{AreLimited}
-use Rattle.dn_game.specs.Given.{KeepsGiven}
-use Rattle.dn_game.specs.Observed.{ObservesAll}
-use Rattle.dn_game.specs.Pool.{IsWithinTwice}
-use Rattle.dn_game.specs.Room.{room_of}
-use Rattle.dn_game.specs.Stormed.{IsStormed}
+use Rattle.dn_game.specs.{Opening.rules_in, Contents.contents, Fresh.AreLimited, Given.KeepsGiven, Observed.ObservesAll, Pool.IsWithinTwice, Room.room_of, Stormed.IsStormed}
 use Rattle.dn_game.proofs.storming.storm_observed.Given as goal
 
 abbrev pub invariant-loop : goal.invariant-loop

@@ -1,8 +1,5 @@
 use Rattle.std.proofs.Common.{◌≡◌, ℕ, List, refl, ap, ◌∙◌, Option, Some, Ok, false}
-use Rattle.dn_greeting.specs.declared.greeting.Address.{Address}
-use Rattle.dn_greeting.specs.declared.greeting.Call.{Call}
-use Rattle.dn_greeting.specs.Lobby.{Lobby, cookie_for, has_cookie, on_call, on_opened, retried}
-use Rattle.dn_greeting.specs.Rests.{calls}
+use Rattle.dn_greeting.specs.{declared.greeting.Address.Address, declared.greeting.Call.Call, Lobby.{Lobby, cookie_for, has_cookie, on_call, on_opened, retried}, Rests.calls}
 use Rattle.dn_greeting.proofs.Readings.{only}
 use Rattle.dn_greeting.proofs.laws.calls_without_the_cookie_change_nothing.Goals as goal
 

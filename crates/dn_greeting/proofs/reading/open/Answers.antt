@@ -1,7 +1,6 @@
 use Rattle.std.proofs.Common.{◌≡◌, ℕ, List, Option, sym, ◌∙◌, inl}
 use Rattle.dn_seal.specs.declared.seal.Seal.{Seal}
-use Rattle.dn_greeting.specs.declared.greeting.GreetingFault.{GreetingFault}
-use Rattle.dn_greeting.specs.Reading.{first_fault}
+use Rattle.dn_greeting.specs.{declared.greeting.GreetingFault.GreetingFault, Reading.first_fault}
 use Rattle.dn_greeting.proofs.Readings.{only, opened}
 use Rattle.dn_greeting.proofs.reading.open.Goals as goal
 

@@ -1,10 +1,6 @@
-use Rattle.std.proofs.Common.{◌≡◌, ◌-◌, ℕ, List, [], ◌∷◌, length, take, drop, Option, ap, sym, ◌∙◌, length-drop}
-use Rattle.std.proofs.Math.Seq.{take-length}
+use Rattle.std.proofs.{Common.{◌≡◌, ◌-◌, ℕ, List, [], ◌∷◌, length, take, drop, Option, ap, sym, ◌∙◌, length-drop, arith}, Math.Seq.take-length}
 use Rattle.std.specs.Prelude.{slice_index}
-use Rattle.dn_greeting.specs.declared.greeting.Address.{Address}
-use Rattle.dn_greeting.specs.declared.greeting.Answer.{Answer}
-use Rattle.dn_greeting.specs.declared.greeting.Terms.{Terms}
-use Rattle.dn_greeting.specs.Told.{told_address, told_answer, told_number, told_sixteen, told_terms}
+use Rattle.dn_greeting.specs.{declared.greeting.Address.Address, declared.greeting.Answer.Answer, declared.greeting.Terms.Terms, Told.{told_address, told_answer, told_number, told_sixteen, told_terms}}
 use Rattle.dn_greeting.proofs.telling.told_answer.Goals as goal
 
 -- what was read field by field
@@ -20,14 +16,7 @@ gathered : (rest mark game : List ℕ) (number : ℕ) (terms : Terms) (one two t
       game = game;
       seats = one ∷ two ∷ three ∷ [];
     }) (told_answer rest)
-gathered rest mark game number terms one two three m n t g a b c = λ i. record {
-  mark = m i;
-  number = n i;
-  seat = slice_index rest 20;
-  terms = t i;
-  game = g i;
-  seats = a i ∷ b i ∷ c i ∷ [];
-}
+gathered rest mark game number terms one two three m n t g a b c = grind arith
 
 -- all that stands from a place on
 whole : (n : ℕ) (xs : List ℕ) → take (length xs - n) (drop n xs) ≡ drop n xs

@@ -1,6 +1,5 @@
 use Rattle.std.specs.Prelude.{◌≡◌, ◌+◌, ℕ}
-use Rattle.dn_host.specs.Greetings.{GreetsTimes, TakesSome}
-use Rattle.dn_host.specs.Parts.{IsPart}
+use Rattle.dn_host.specs.{Greetings.GreetsTimes, Greetings.TakesSome, Parts.IsPart}
 use Rattle.dn_host.proofs.hearing.hear_all.Given as goal
 
 abbrev pub invariant-loop : goal.invariant-loop

@@ -1,6 +1,5 @@
 use Rattle.std.specs.Prelude.{◌≡◌, false}
-use Rattle.dn_host.specs.Leaving.{has_ended}
-use Rattle.dn_host.specs.Parts.{IsPart}
+use Rattle.dn_host.specs.{Leaving.has_ended, Parts.IsPart}
 use Rattle.dn_host.proofs.turns.run.Given as goal
 
 abbrev pub invariant-loop : goal.invariant-loop

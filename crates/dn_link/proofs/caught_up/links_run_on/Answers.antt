@@ -1,7 +1,500 @@
-use Rattle.std.proofs.Common.{◌≡◌, ◌≤◌, ◌+◌, ◌*◌, ℕ, zero, suc, arith}
-use Rattle.dn_lockstep.specs.Agreed.{AreAgreed}
-use Rattle.dn_link.proofs.Rounding.{at_speed, go_on}
+-- How many tics are run in rounds, over plain numbers.
+use Rattle.std.proofs.Common.{◌≡◌, ◌<◌, ◌≤◌, ◌+◌, ◌-◌, ◌*◌, ℕ, zero, suc, subst, arith, inl, inr, ℤ, ◌≢◌, ◌++◌, [], ◌∷◌, Bool, true, false, List, length, refl, ap, sym, ◌∙◌, Option, Some, None}
+use Rattle.std.specs.Prelude.{min, if◌then◌else◌, ◌==◌, nat_le, not, unwrap_or}
+use Rattle.std.proofs.lemmas.Bool.{cases_lt, and_parts, and_right, cases_eq, cond_both, leb-true}
+use Rattle.std.proofs.Math.Nat.{mul-zero, mul-suc}
+use Rattle.std.specs.Option.{option_or}
+use Rattle.std.proofs.lemmas.List.{length-append}
+use Rattle.std.proofs.lemmas.Option.{none-some, same_Some}
+use Rattle.dn_tic.specs.{declared.command.TicCmd.TicCmd, declared.input.Input.Input}
+use Rattle.dn_setup.specs.Settings.{Settings}
+use Rattle.dn_machine.specs.{declared.answers.Phase.Phase, declared.answers.Phase.TheVariants.Playing, declared.answers.Ran.Ran, Building.on_build, Limits.Limits, Node.is_ended, Node.lowest, Node.put}
+use Rattle.dn_machine.specs.{Running.first_off_but, Running.is_absent, Running.is_awaited, Running.nobody, Running.on_run, Running.on_run_but_in, Running.on_run_playing, Running.full_at, Running.row_held}
+use Rattle.dn_machine.proofs.{Calls.build_cases, Put.put_at, Put.put_off}
+use Rattle.dn_lockstep.specs.{Agreed.AreAgreed, Contents.Contents, Contents.end_in, Marking.Marking, Represents.Represents, Runs.marks_in, Session.Session, Told.got, Told.made}
+use Rattle.dn_lockstep.proofs.Shown.{has}
+use Rattle.dn_seal.specs.declared.seal.Seal.{Seal}
+use Rattle.dn_open.specs.Sealed.{sealing_of}
+use Rattle.dn_link.specs.{declared.bundle.Bundle.Bundle, declared.bundle.Identity.Identity, declared.bundle.Message.TheVariants.Game, declared.received.Received.Received, Bundles.IsGenuineDatagram, Counting.has_ended}
+use Rattle.dn_link.specs.{Linked.Linked, Linked.Receives, LinkedGame.AreLinked, Paced.PaceState, Packets.own_in, Presence.message_of, Reading.IsDatagramOf, CaughtUp.AreCaughtUp, CaughtUp.Brings, CaughtUp.HasGrown}
+use Rattle.dn_link.specs.{CaughtUp.IsInStepTo, CaughtUp.last_end, Rounds.AreRounds, Rounds.Arrives, Rounds.AreFairLines, Rounds.MakesAt, Rounds.Stretch, Rounds.WaitsAt}
+use Rattle.dn_link.proofs.{Bringing.brings, Bringing.brings_on, Lefts.unended}
+use Rattle.dn_machine.specs.Node as machine
+use Rattle.dn_link.proofs.Linking as base
 use Rattle.dn_link.proofs.caught_up.links_run_on.Goals as goal
+
+-- of each round and player: how many commands it has made before its build and after it, how many tics it has run
+-- then, and how many when it waits. In its delay-th round from a round on it has run what all had made in that
+module _ (players count delay ahead base : ℕ) (some : 1 ≤ delay) (room : 1 ≤ ahead)
+    (had made begun ran : ℕ → ℕ → ℕ)
+    (build : (r p : ℕ) → r < count → p < players → min (had r p + 1) (begun r p + ahead) ≤ made r p)
+    (own : (r p : ℕ) → r < count → p < players → begun r p ≤ had r p)
+    (on : (r p : ℕ) → r < count → p < players → begun r p ≤ ran r p)
+    (keeps : (r p : ℕ) → suc r < count → p < players → made r p ≤ had (suc r) p)
+    (waits : (r p : ℕ) → suc r < count → p < players → ran r p ≤ begun (suc r) p)
+    (runs : (s r bound : ℕ) → r < count → s + delay ≡ suc r → ((p : ℕ) → p < players → bound ≤ made s p)
+    → (q : ℕ) → q < players → bound ≤ ran r q) where
+  -- all have run one tic more in as many rounds as the delay
+  goes_on : (s r least : ℕ) → r < count → s + delay ≡ suc r → ((p : ℕ) → p < players → least ≤ begun s p)
+      → (q : ℕ) → q < players → least + 1 ≤ ran r q
+  goes_on s r least below same all q l = runs s r (least + 1) below same (λ p in_game.
+      let inside : s < count = omega (arith, below, same, some) in
+      let one = build s p inside in_game in
+      let low = all p in_game in
+      let less = own s p inside in_game in
+      omega (arith, one, low, less, room)) q l
+
+  -- and so many more in so many times as many
+  goes_further : (more s r least : ℕ) → r < count → s + delay * suc more ≡ suc r
+      → ((p : ℕ) → p < players → least ≤ begun s p) → (q : ℕ) → q < players → least + suc more ≤ ran r q
+  goes_further zero s r least below same all q l =
+      let times = mul-suc delay 0 in
+      let none = mul-zero delay in
+      let one = goes_on s r least below (omega (arith, same, times, none)) all q l in
+      omega (arith, one)
+  goes_further (suc more) s r least below same all q l =
+      let times = mul-suc delay (suc more) in
+      let again = mul-suc delay more in
+      let mid : ℕ = s + delay * suc more - 1 in
+      let is : s + delay * suc more ≡ suc (s + delay * suc more - 1) = omega (arith, again, some) in
+      let inside : suc (s + delay * suc more - 1) < count = omega (arith, times, same, below, again, some) in
+      let low : (p : ℕ) → p < players → least + suc more ≤ begun (suc (s + delay * suc more - 1)) p = (λ p in_game.
+      let before = goes_further more s (s + delay * suc more - 1) least (omega (arith, inside)) is all p in_game in
+      let wait = waits (s + delay * suc more - 1) p inside in_game in omega (arith, before, wait)) in
+      let one = goes_on (suc (s + delay * suc more - 1)) r (least + suc more) below
+      (omega (arith, times, same, again, some)) low q l in
+      omega (arith, one)
+
+  -- where the window is no smaller than the delay
+  module _ (least : (p : ℕ) → 0 < count → p < players → base ≤ begun 0 p) (fits : delay ≤ ahead) where
+    low : (r p : ℕ) → r < count → p < players → base ≤ begun r p
+    low zero p below l = least p below l
+    low (suc r) p below l =
+        let before = low r p (omega (arith, below)) l in
+        let then_on = on r p (omega (arith, below)) l in
+        let wait = waits r p below l in
+        omega (arith, before, then_on, wait)
+
+    -- a command is made in each round up to this one
+    abbrev Made : ℕ → Type 0
+    Made r = (s p : ℕ) → s ≤ r → p < players → base + suc s ≤ made s p
+
+    -- so those that were made as many rounds before as the delay are run
+    ran_so : (r : ℕ) → r < count → Made r → (s : ℕ) → s + delay ≡ suc r → (q : ℕ) → q < players
+        → base + suc s ≤ ran r q
+    ran_so r below all s same q l = runs s r (base + suc s) below same (λ p l. all s p (omega (arith, same, some)) l) q l
+
+    next_made : (r : ℕ) → suc r < count → Made r → (p : ℕ) → p < players → base + suc (suc r) ≤ made (suc r) p
+    next_made r below all p l =
+        let one = build (suc r) p below l in
+        let before = all r p (omega arith) l in
+        let kept = keeps r p below l in
+        let free : base + suc r + 1 ≤ begun (suc r) p + ahead = elim (cases_lt (suc r) delay) [
+          | inl early ↦ let less = low (suc r) p below l in omega (arith, less, early, fits)
+          | inr late ↦
+              let run = ran_so r (omega (arith, below)) all (suc r - delay) (omega (arith, late)) p l in
+              let wait = waits r p below l in
+              omega (arith, run, wait, late, fits)
+        ] in
+        omega (arith, one, before, kept, free)
+
+    made_so : (r : ℕ) → r < count → Made r
+    made_so zero below s p less l =
+        let one = build 0 p below l in
+        let before = least p below l in
+        let mine = own 0 p below l in
+        let now : base + suc 0 ≤ made 0 p = omega (arith, one, before, mine, room) in
+        let same : 0 ≡ s = omega (arith, less) in
+        subst (λ (n : ℕ). base + suc n ≤ made n p) same now
+    made_so (suc r) below s p less l = elim (cases_lt s (suc r)) [
+      | inl before ↦ made_so r (omega (arith, below)) s p (omega (arith, before)) l
+      | inr last ↦
+          let same : suc r ≡ s = omega (arith, last, less) in
+          subst (λ (n : ℕ). base + suc n ≤ made n p) same
+          (next_made r below (made_so r (omega (arith, below))) p l)
+    ]
+
+    -- after r + 1 rounds all but as many tics are run as the delay, less one
+    full_speed : (r q : ℕ) → r < count → q < players → base + suc (suc r) ≤ ran r q + delay
+    full_speed r q below l = elim (cases_lt (suc r) delay) [
+      | inl early ↦
+          let less = low r q below l in
+          let more = on r q below l in
+          omega (arith, early, less, more)
+      | inr late ↦
+          let run = ran_so r below (made_so r below) (suc r - delay) (omega (arith, late)) q l in
+          omega (arith, run, late)
+    ]
+
+-- the lowest that passes is below the bound, and passes
+lowest_some : (bound : ℕ) (test : ℕ → Bool) (least : ℕ) → lowest bound test ≡ Some least
+    → (least < bound) × (test least ≡ true)
+unfolding lowest
+lowest_some zero test least e = absurd (none-some least e)
+lowest_some (suc bound) test least e = go (lowest bound test) refl (λ other is. lowest_some bound test other is) e
+  where
+    last : (passes : Bool) → test bound ≡ passes → (if passes then Some bound else None) ≡ Some least
+        → (least < suc bound) × (test least ≡ true)
+    last true is e =
+        let same : bound ≡ least = same_Some bound least e in
+        (omega (arith, same), ap test (sym same) ∙ is)
+    last false is e = absurd (none-some least e)
+
+    go : (found : Option ℕ) → lowest bound test ≡ found
+        → ((other : ℕ) → lowest bound test ≡ Some other → (other < bound) × (test other ≡ true))
+        → option_or found (if test bound then Some bound else None) ≡ Some least → (least < suc bound) × (test least ≡ true)
+    go None is below e = last (test bound) refl e
+    go (Some other) is below e =
+        let same : other ≡ least = same_Some other least e in
+        let before = below other is in
+        (omega (arith, same, before.0), ap test (sym same) ∙ before.1)
+
+module _ (limits : Limits) (me : ℕ) (m : machine.Node) (plays : m.phase ≡ Playing) where
+  -- a playing node makes a command, or is a window ahead
+  build_makes : (input : Input) → min (length (m.held me) + 1) (machine.ran m + limits.ahead)
+      ≤ length ((on_build limits me m input).0.held me)
+  build_makes input = build_cases limits me m (λ (x : machine.Node). min (length (m.held me) + 1)
+      (machine.ran m + limits.ahead) ≤ length (x.held me)) input (λ full. let less = full plays in omega
+      (arith, less)) (λ playing free. longer m.held me _)
+    where
+      longer : (held : ℕ → List TicCmd) (me : ℕ) (one : TicCmd)
+          → min (length (held me) + 1) (machine.ran m + limits.ahead) ≤ length (put held me (held me ++ one ∷ []) me)
+      longer held me one =
+          let at = ap (length {A = TicCmd}) (put_at held me me (held me ++ one ∷ []) refl)
+          ∙ length-append (held me) (one ∷ []) in
+          omega (arith, at)
+
+  -- it waits for a player of whom it has run all commands
+  run_waits : (marks : ℕ → ℤ) (other : ℕ) → Ran.Waiting other ≡ (on_run limits m marks).1
+      → (other < limits.players) × (length (m.held other) ≤ machine.ran m)
+  unfolding on_run
+  run_waits marks other e =
+      go (lowest limits.players (is_awaited m)) (first_off_but limits nobody m) refl
+      (e ∙ ap (λ (p : Phase). (on_run_but_in limits nobody m marks p).1) plays)
+    where
+      go : (awaited off : Option ℕ) → lowest limits.players (is_awaited m) ≡ awaited
+          → Ran.Waiting other ≡ (on_run_playing limits m marks awaited off).1
+          → (other < limits.players) × (length (m.held other) ≤ machine.ran m)
+      go (Some one) off is e =
+          let same : one ≡ other = waiting_same one other (sym e) in
+          let found = lowest_some limits.players (is_awaited m) one is in
+          let lacks = leb-true (length (m.held one)) (machine.ran m) (and_parts (not (is_absent m one))
+          (nat_le (machine.got m one) (machine.ran m)) found.1).1 in (
+            omega (arith, found.0, same),
+            omega (arith, lacks, ap (λ (k : ℕ). length (m.held k)) same),
+          )
+        where
+          waiting_same : (one other : ℕ) → ◌≡◌ {A = Ran} (Ran.Waiting one) (Ran.Waiting other) → one ≡ other
+          waiting_same one other e = cc
+      go None (Some off) is e = absurd (cc)
+      go None None is e = cond_both (machine.ran m == full_at limits (row_held limits m)) _ _
+          (λ (r : machine.Node × Ran). Ran.Waiting other ≡ r.1 → (other < limits.players)
+          × (length (m.held other) ≤ machine.ran m)) (λ full e. absurd (cc)) (λ free e. absurd (cc)) e
+
+module _ {marking : Marking} {limits : Limits} {settings : Settings} {last : ℕ}
+    (stretch : Stretch marking limits settings last) (agreed : (moment : ℕ) → moment ≤ last
+    → AreAgreed limits settings (stretch.sessions moment).inputs (stretch.sessions moment).locksteps) where
+  abbrev links : ℕ → ℕ → Linked
+  links = stretch.links
+
+  grown_none : (moment : ℕ) → HasGrown limits (links moment) (links moment)
+  grown_none moment = record {
+    got = λ p w l m. omega arith;
+    ran = λ p l. omega arith;
+    sends = λ p w l m n e. omega arith;
+    ended = λ p l e. e;
+  }
+
+  -- from a moment to a later one
+  grown : (to from : ℕ) → from ≤ to → to ≤ last → HasGrown limits (links from) (links to)
+  grown zero from less inside =
+      let same : 0 ≡ from = omega (arith, less) in
+      subst (λ (n : ℕ). HasGrown limits (links n) (links 0)) same (grown_none 0)
+  grown (suc to) from less inside = elim (cases_lt from (suc to)) [
+    | inl before ↦
+        let first = grown to from (omega (arith, before)) (omega (arith, inside)) in
+        let next = stretch.grows to (omega (arith, inside)) in
+        record {
+          got = λ p w l m. let one = first.got p w l m in let two = next.got p w l m in omega (arith, one, two);
+          ran = λ p l. let one = first.ran p l in let two = next.ran p l in omega (arith, one, two);
+          sends = λ p w l m n e.
+              let one = first.sends p w l m n e in
+              let two = next.sends p w l m n (and_right (links to w).node.played (is_ended (links to w).node.phase)
+              (ap is_ended (stretch.plays to w (omega (arith, inside)) m))) in
+              omega (arith, one, two);
+          ended = λ p l e. next.ended p l (first.ended p l e);
+        }
+    | inr at ↦
+        let same : suc to ≡ from = omega (arith, at, less) in
+        subst (λ (n : ℕ). HasGrown limits (links n) (links (suc to))) same (grown_none (suc to))
+  ]
+
+  module _ (moment player : ℕ) (inside : moment < last) (mine : player < limits.players) where
+    linked : AreLinked marking limits settings (stretch.sessions moment) (links moment)
+    linked = stretch.are moment (omega (arith, inside))
+
+    abbrev m : machine.Node
+    m = linked.game.last.nodes player
+
+    shows : Represents limits player (links moment player).node m
+    shows = base.shows marking limits settings (stretch.sessions moment) (links moment) player linked mine
+
+    plays : m.phase ≡ Playing
+    plays = sym shows.stands.phase ∙ stretch.plays moment player (omega (arith, inside)) mine
+
+    makes : MakesAt links moment player
+        → min (got (links moment player).node player + 1) ((links moment player).node.ran + limits.ahead)
+        ≤ got (links (suc moment) player).node player
+    makes (input, answer, step) =
+        let after = (step.step limits player m shows).node in
+        let before = has limits player (links moment player).node m shows player mine in
+        let now = has limits player (links (suc moment) player).node _ after player mine in
+        let more = build_makes limits player m plays input in
+        omega (arith, more, before, now, shows.table.ran)
+
+    waits : WaitsAt links moment player → (other : ℕ) × (other < limits.players)
+        × (got (links moment player).node other ≤ (links moment player).node.ran)
+    waits (marks, other, row, step) =
+        let answer = (step.step limits player m shows).answer.0 in
+        let lacks = run_waits limits player m plays (marks_in marks) other answer in
+        let before = has limits player (links moment player).node m shows other lacks.0 in
+        (other, lacks.0, omega (arith, lacks.1, before, shows.table.ran))
+
+    -- one that plays has not ended
+    unfinished : has_ended (links moment player).node ≡ false
+    unfinished = and_right (links moment player).node.played (is_ended (links moment player).node.phase)
+        (ap is_ended (stretch.plays moment player (omega (arith, inside)) mine))
+
+    -- and has made what it has run
+    owns : (links moment player).node.ran ≤ got (links moment player).node player
+    owns =
+        let n = (stretch.sessions moment).locksteps player in
+        let node = linked.nodes player mine in
+        let all = agreed moment (omega (arith, inside)) in
+        let run = all.run player player mine mine in
+        let none : end_in n player ≡ None =
+        unended n player (all.numbers player mine) (ap has_ended (sym node) ∙ unfinished) in
+        let low : min n.ran (unwrap_or (end_in n player) n.ran) ≡ n.ran =
+        ap (λ (o : Option ℕ). min n.ran (unwrap_or o n.ran)) none ∙ omega arith in
+        omega (arith, run, low, ap (λ (c : Contents). got c player) node, ap (λ (c : Contents). c.ran) node)
+
+-- what a law says of a datagram that arrives
+abbrev Brought : Marking → Limits → Settings → Type 0
+Brought marking limits settings =
+    (session : Session) (links : ℕ → Linked) (player : ℕ) (seal : Seal) (identity : Identity) (pace : PaceState)
+    (bytes : List ℕ) (new : Linked) (answer : Received) (bundle : Bundle) (count : ℕ) → AreLinked marking limits
+    settings session links → AreCaughtUp limits links → player < limits.players → IsGenuineDatagram seal session
+    player bytes → IsInStepTo seal limits links player bytes → Receives seal identity pace bytes (links player)
+    new answer → IsDatagramOf (sealing_of seal player) bytes bundle → bundle.message ≡ Game → new.node.phase
+    ≡ Playing → Brings count links bundle → count ≤ got new.node bundle.from
+
+module _ {marking : Marking} {limits : Limits} {settings : Settings} {last : ℕ}
+    (stretch : Stretch marking limits settings last) (agreed : (moment : ℕ) → moment ≤ last
+    → AreAgreed limits settings (stretch.sessions moment).inputs (stretch.sessions moment).locksteps)
+    (brought : Brought marking limits settings) {count : ℕ} (rounds : AreRounds stretch count) (seal : Seal)
+    (game : 8 ≤ length seal.game) (places : 12 ≤ limits.places) (k d : ℕ) (some : 1 ≤ k)
+    (fair : AreFairLines rounds seal k d) where
+  abbrev at : ℕ → ℕ → Linked
+  at = stretch.links
+
+  abbrev built : ℕ → ℕ → ℕ
+  built = rounds.built
+
+  abbrev waited : ℕ → ℕ → ℕ
+  waited = rounds.waited
+
+  waited_up : (r s p : ℕ) → s ≤ r → r < count → p < limits.players → waited s p ≤ waited r p
+  waited_up zero s p less below l =
+      let same : 0 ≡ s = omega (arith, less) in
+      subst (λ (n : ℕ). waited n p ≤ waited 0 p) same (omega arith)
+  waited_up (suc r) s p less below l = elim (cases_lt s (suc r)) [
+    | inl before ↦
+        let first = waited_up r s p (omega (arith, before)) (omega (arith, below)) l in
+        let next = rounds.later r p below l in
+        let inside = rounds.within (suc r) p below l in
+        omega (arith, first, next, inside.0)
+    | inr here ↦
+        let same : suc r ≡ s = omega (arith, here, less) in
+        subst (λ (n : ℕ). waited n p ≤ waited (suc r) p) same (omega arith)
+  ]
+
+  built_up : (r s p : ℕ) → s ≤ r → r < count → p < limits.players → built s p ≤ built r p
+  built_up zero s p less below l =
+      let same : 0 ≡ s = omega (arith, less) in
+      subst (λ (n : ℕ). built n p ≤ built 0 p) same (omega arith)
+  built_up (suc r) s p less below l = elim (cases_lt s (suc r)) [
+    | inl before ↦
+        let first = built_up r s p (omega (arith, before)) (omega (arith, below)) l in
+        let next = rounds.later r p below l in
+        let inside = rounds.within r p (omega (arith, below)) l in
+        omega (arith, first, next, inside.0)
+    | inr here ↦
+        let same : suc r ≡ s = omega (arith, here, less) in
+        subst (λ (n : ℕ). built n p ≤ built (suc r) p) same (omega arith)
+  ]
+
+  -- what a datagram brings that arrives
+  module _ (first player peer : ℕ) (mine : player < limits.players) (below : peer < limits.players)
+      (apart : peer ≢ player) (it : Arrives rounds seal k d first player peer) (in_time : it.taken < last) where
+    before : it.given < last
+    before = omega (arith, it.comes, in_time)
+
+    abbrev bundle : Bundle
+    bundle = it.gives.gives.bundle
+
+    was : AreLinked marking limits settings (stretch.sessions it.given) (at it.given)
+    was = stretch.are it.given (omega (arith, before))
+
+    own : (at it.given player).node.me ≡ player
+    own = base.own marking limits settings (stretch.sessions it.given) (at it.given) player was mine
+
+    room : 12 ≤ (at it.given player).node.places
+    room = omega (
+      arith,
+      places,
+      (base.shows marking limits settings (stretch.sessions it.given) (at it.given) player was mine).whose.places,
+    )
+
+    brings_then : Brings (made (at it.given player).node) (at it.given) bundle
+    brings_then =
+        let there = brings marking limits settings (stretch.sessions it.given) (at it.given) player was mine
+        (stretch.caught_up it.given (omega (arith, before))) peer below apart seal it.gives.identity it.gives.pace
+        (at (suc it.given) player) it.bytes it.gives.gives
+        (λ goes_on. let soon = it.gives.soon in omega (arith, soon, room)) it.gives.soon
+        (stretch.plays it.given player (omega (arith, before)) mine) it.gives.few it.gives.short in
+        subst (λ (l : Linked). has_ended l.node ≡ false → made (at it.given player).node ≤ last_end
+        (got l.node bundle.from) (own_in bundle)) (ap (put (at it.given) player (at (suc it.given) player))
+        it.gives.gives.goes ∙ put_off (at it.given) player peer (at (suc it.given) player) apart ∙ ap
+        (at it.given) (sym it.gives.gives.goes)) there
+
+    brings_later : Brings (made (at it.given player).node) (at it.taken) bundle
+    brings_later = brings_on limits (at it.given) (at it.taken) bundle (made (at it.given player).node)
+        (grown stretch agreed it.taken it.given (omega (arith, it.comes)) (omega (arith, in_time)))
+        (omega (arith, it.gives.gives.from, own, mine)) (omega (arith, it.gives.gives.goes, below)) brings_then
+
+    is_datagram : IsDatagramOf (sealing_of seal peer) it.bytes bundle
+    is_datagram = record {
+      game = game;
+      fits = it.gives.gives.fits;
+      short = it.gives.size;
+      to = it.gives.gives.goes;
+      is = it.gives.gives.is;
+    }
+
+    all_there : got (at it.given player).node player ≤ got (at (suc it.taken) peer).node player
+    all_there =
+        let has_it = brought (stretch.sessions it.taken) (at it.taken) peer seal it.takes.identity it.takes.pace it.bytes
+        (at (suc it.taken) peer) it.takes.answer bundle (made (at it.given player).node)
+        (stretch.are it.taken (omega (arith, in_time))) (stretch.caught_up it.taken (omega (arith, in_time))) below
+        it.takes.genuine it.takes.in_step it.takes.takes is_datagram
+        (it.gives.gives.message ∙ ap (message_of it.gives.identity)
+        (stretch.plays it.given player (omega (arith, before)) mine))
+        (stretch.plays (suc it.taken) peer (omega (arith, in_time)) below) brings_later in
+        let from : bundle.from ≡ player = it.gives.gives.from ∙ own in
+        omega (
+          arith,
+          has_it,
+          ap (λ (n : ℕ). got (at (suc it.taken) peer).node n) from,
+          ap (λ (n : ℕ). got (at it.given player).node n) own,
+        )
+
+  -- of each other player a player has at its wait what that had made k + d rounds before
+  arrives : (s r player peer : ℕ) → r < count → s + (k + d) ≡ suc r → player < limits.players → peer < limits.players
+      → peer ≢ player
+      → got (at (suc (built s player)) player).node player ≤ got (at (waited r peer) peer).node player
+  arrives s r player peer below same mine theirs apart =
+      let it = fair s player peer (omega (arith, same, below)) mine theirs apart in
+      let wait_up = waited_up r (it.round + d) peer (omega (arith, it.below, same)) below theirs in
+      let ends = (rounds.within r peer below theirs).1 in
+      let in_time : it.taken < last = omega (arith, it.waited, wait_up, ends) in
+      let all = all_there s player peer mine theirs apart it in_time in
+      let round_in : it.round < count = omega (arith, it.below, same, below) in
+      let from = built_up it.round s player it.from round_in mine in
+      let one = (grown stretch agreed it.given (suc (built s player)) (omega (arith, from, it.built))
+      (omega (arith, it.comes, in_time))).got player player mine mine in
+      let two = (grown stretch agreed (waited r peer) (suc it.taken) (omega (arith, it.waited, wait_up))
+      (omega (arith, ends))).got peer player theirs mine in
+      omega (arith, all, one, two)
+
+  -- so it runs what all had made
+  runs : (s r bound : ℕ) → r < count → s + (k + d) ≡ suc r
+      → ((p : ℕ) → p < limits.players → bound ≤ got (at (suc (built s p)) p).node p)
+      → (q : ℕ) → q < limits.players → bound ≤ (at (waited r q) q).node.ran
+  runs s r bound below same all q mine =
+      let ends = rounds.within r q below mine in
+      let wait = waits stretch agreed (waited r q) q ends.1 mine (rounds.waits r q below mine) in
+      let low : bound ≤ got (at (waited r q) q).node wait.0 = elim (cases_eq wait.0 q) [
+        | inl own ↦
+            let made_then = all q mine in
+            let from = built_up r s q (omega (arith, same, some)) below mine in
+            let more = (grown stretch agreed (waited r q) (suc (built s q)) (omega (arith, from, ends.0))
+            (omega (arith, ends.1))).got q q mine mine in
+            omega (arith, made_then, more, ap (λ (n : ℕ). got (at (waited r q) q).node n) own)
+        | inr other ↦
+            let made_then = all wait.0 wait.1 in
+            let has_it = arrives s r wait.0 q below same wait.1 mine (λ e. other (sym e)) in
+            omega (arith, made_then, has_it)
+      ] in
+      omega (arith, low, wait.2)
+
+  -- the numbers of the rounds
+  module _ (ahead : 1 ≤ limits.ahead) where
+    abbrev had : ℕ → ℕ → ℕ
+    had r p = got (at (built r p) p).node p
+
+    abbrev made_by : ℕ → ℕ → ℕ
+    made_by r p = got (at (suc (built r p)) p).node p
+
+    abbrev begun : ℕ → ℕ → ℕ
+    begun r p = (at (built r p) p).node.ran
+
+    abbrev ran_by : ℕ → ℕ → ℕ
+    ran_by r p = (at (waited r p) p).node.ran
+
+    build : (r p : ℕ) → r < count → p < limits.players → min (had r p + 1) (begun r p + limits.ahead) ≤ made_by r p
+    build r p below l =
+        let ends = rounds.within r p below l in
+        makes stretch agreed (built r p) p (omega (arith, ends.0, ends.1)) l (rounds.builds r p below l)
+
+    mine_too : (r p : ℕ) → r < count → p < limits.players → begun r p ≤ had r p
+    mine_too r p below l =
+        let ends = rounds.within r p below l in
+        owns stretch agreed (built r p) p (omega (arith, ends.0, ends.1)) l
+
+    on : (r p : ℕ) → r < count → p < limits.players → begun r p ≤ ran_by r p
+    on r p below l =
+        let ends = rounds.within r p below l in
+        (grown stretch agreed (waited r p) (built r p) (omega (arith, ends.0)) (omega (arith, ends.1))).ran p l
+
+    keeps : (r p : ℕ) → suc r < count → p < limits.players → made_by r p ≤ had (suc r) p
+    keeps r p below l =
+        let ends = rounds.within r p (omega (arith, below)) l in
+        let next = rounds.later r p below l in
+        let more = rounds.within (suc r) p below l in
+        (grown stretch agreed (built (suc r) p) (suc (built r p)) (omega (arith, ends.0, next))
+        (omega (arith, more.0, more.1))).got p p l l
+
+    waits_on : (r p : ℕ) → suc r < count → p < limits.players → ran_by r p ≤ begun (suc r) p
+    waits_on r p below l =
+        let next = rounds.later r p below l in
+        let more = rounds.within (suc r) p below l in
+        (grown stretch agreed (built (suc r) p) (waited r p) (omega (arith, next))
+        (omega (arith, more.0, more.1))).ran p l
+
+    -- it goes on
+    go_on : (first tics r least : ℕ) → r < count → first + (k + d) * suc tics ≡ suc r
+        → ((p : ℕ) → p < limits.players → least ≤ begun first p) → (q : ℕ) → q < limits.players
+        → least + suc tics ≤ ran_by r q
+    go_on first tics r least =
+        goes_further limits.players count (k + d) limits.ahead least (omega (arith, some)) ahead had made_by begun ran_by
+        build mine_too on keeps waits_on runs tics first r least
+
+    -- and at full speed
+    at_speed : (base : ℕ) → ((p : ℕ) → 0 < count → p < limits.players → base ≤ begun 0 p) → k + d ≤ limits.ahead
+        → (r q : ℕ) → r < count → q < limits.players → base + suc (suc r) ≤ ran_by r q + (k + d)
+    at_speed base least fits =
+        full_speed limits.players count (k + d) limits.ahead base (omega (arith, some)) ahead had made_by begun ran_by
+        build mine_too on keeps waits_on runs least fits
 
 pub returns-clause-goes_on : goal.returns-clause-goes_on
 returns-clause-goes_on c = λ marking limits settings last stretch count rounds seal k d first tics round least game places

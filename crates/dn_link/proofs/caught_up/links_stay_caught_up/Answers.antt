@@ -1,20 +1,9 @@
 use Rattle.std.proofs.Common.{◌≡◌, ◌∙◌, ℕ, refl, ap, arith}
-use Rattle.dn_machine.specs.Building.{on_build}
-use Rattle.dn_machine.specs.Running.{on_run, on_quit}
-use Rattle.dn_lockstep.specs.Contents.{Contents}
-use Rattle.dn_lockstep.specs.Runs.{marks_in, with_row}
-use Rattle.dn_lockstep.specs.Session.{after_packet, after_relays, with_lockstep}
-use Rattle.dn_lockstep.specs.Told.{got}
-use Rattle.dn_link.specs.Counting.{has_ended}
-use Rattle.dn_link.specs.Linked.{Linked, PeerState}
-use Rattle.dn_link.specs.Onward.{next_to}
-use Rattle.dn_link.specs.Relays.{flights_of}
-use Rattle.dn_link.proofs.Catching.{build_quiet, ends_on, quit_quiet, run_quiet, shows_still, still}
-use Rattle.dn_link.proofs.CatchingIn.{received}
-use Rattle.dn_link.proofs.CatchingOut.{given_on_time, was_in_step}
-use Rattle.dn_link.proofs.Forgotten.{forgets, forgets_node}
-use Rattle.dn_link.proofs.Holding.{build_holds, run_holds, quit_holds}
-use Rattle.dn_link.proofs.Linking.{much_by, shows}
+use Rattle.dn_machine.specs.{Building.on_build, Running.on_run, Running.on_quit}
+use Rattle.dn_lockstep.specs.{Contents.Contents, Runs.marks_in, Runs.with_row, Session.after_packet, Session.after_relays, Session.with_lockstep, Told.got}
+use Rattle.dn_link.specs.{Counting.has_ended, Linked.Linked, Linked.PeerState, Onward.next_to, Relays.flights_of}
+use Rattle.dn_link.proofs.{Catching.build_quiet, Catching.ends_on, Catching.quit_quiet, Catching.run_quiet, Catching.shows_still, Catching.still, CatchingIn.received, CatchingOut.given_on_time, CatchingOut.was_in_step}
+use Rattle.dn_link.proofs.{Linking.forgets, Linking.forgets_node, Holding.build_holds, Holding.run_holds, Holding.quit_holds, Linking.much_by, Linking.shows}
 use Rattle.dn_link.proofs.caught_up.links_stay_caught_up.Goals as goal
 
 pub returns-clause-built : goal.returns-clause-built
@@ -68,8 +57,7 @@ returns-clause-reported c = λ marking limits settings session links player new 
       sends = λ p l. ap (λ (n : Contents). next_to n p) same;
       wants = λ p l. ap (λ (n : Contents). (n.peers p).want) same;
       ran = omega (arith, ap (λ (n : Contents). n.ran) same);
-    }) (λ other. ap (λ (f : ℕ → PeerState). (f other).kept) peers)
-    (λ was. ap has_ended same ∙ was)
+    }) (λ other. ap (λ (f : ℕ → PeerState). (f other).kept) peers) (λ was. ap has_ended same ∙ was)
 
 pub returns-clause-gave : goal.returns-clause-gave
 returns-clause-gave c = λ marking limits settings session links player to seal identity pace new bytes linked were four

@@ -1,5 +1,4 @@
-use Rattle.dn_link.proofs.Covered.{all_covering, carries, reaches_given}
-use Rattle.dn_link.proofs.Rising.{all_rising, few}
+use Rattle.dn_link.proofs.{Covered.all_covering, Covered.carries, Covered.reaches_given, Rising.all_rising, Rising.few}
 use Rattle.dn_link.proofs.covering.kept_covers.Goals as goal
 
 pub returns : goal.returns

@@ -2,16 +2,9 @@ use Rattle.std.proofs.Common.{◌≡◌, ◌+◌, ◌%◌, ◌^◌, ℕ, List, l
 use Rattle.std.proofs.lemmas.List.{take_rest}
 use Rattle.dn_lockstep.specs.Contents.{contents}
 use Rattle.dn_open.specs.Arrivals.{HearsOpened}
-use Rattle.dn_link.specs.declared.bundle.Carried.{Carried}
-use Rattle.dn_link.specs.Packets.{opened_from, short_packet}
-use Rattle.dn_link.proofs.Hearings.{InRun, run_begins, run_goes_on, run_stops}
+use Rattle.dn_link.specs.{declared.bundle.Carried.Carried, Packets.opened_from, Packets.short_packet}
+use Rattle.dn_link.proofs.Hearings.{InRun, run_goes_on, run_stops}
 use Rattle.dn_link.proofs.hearing.hear_run.Goals as goal
-
-pub commands-init : goal.commands-init
-commands-init c =
-    subst (λ (xs : List ℕ). InRun c.args.from c.args.run.now (contents c.args.lockstep.now) 0 c.args.run.now.start xs
-    (contents c.args.lockstep.now)) (sym c.as_slice-rest.ensures.value)
-    (run_begins c.args.from c.args.run.now (contents c.args.lockstep.now))
 
 pub returns-then-starts : goal.returns-then-starts
 returns-then-starts c =

@@ -1,5 +1,4 @@
-use Rattle.dn_link.proofs.Requests.{received}
-use Rattle.dn_link.proofs.Following.{builds, covers, forgets, gives_another, quits, runs}
+use Rattle.dn_link.proofs.{Requests.received, Following.builds, Following.covers, Following.gives_another, Following.quits, Following.runs}
 use Rattle.dn_link.proofs.onward.given_is_covered.Goals as goal
 
 -- src/onward.rt:34:1
@@ -13,10 +12,6 @@ returns-clause-ran c = λ limits me to old new marks ran row goes step same. run
 -- src/onward.rt:34:1
 pub returns-clause-quit : goal.returns-clause-quit
 returns-clause-quit c = λ limits me to old new quit goes step same. quits limits me to old new goes quit step same
-
--- src/onward.rt:34:1
-pub returns-clause-forgot : goal.returns-clause-forgot
-returns-clause-forgot c = λ limits me to peer old goes. forgets limits me to peer old goes
 
 -- src/onward.rt:34:1
 pub returns-clause-received : goal.returns-clause-received

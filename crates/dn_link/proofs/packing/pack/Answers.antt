@@ -1,7 +1,6 @@
 use Rattle.std.proofs.Common.{rules, ◌≡◌, ◌≤◌, ◌<◌, ◌+◌, ◌∷◌, [], refl, length, arith}
-use Rattle.dn_link.proofs.Packings.{packs_on, packs_all}
+use Rattle.dn_link.proofs.{Packings.packs_on, Packings.packs_all, packing.pack.Goals.in-Some+then-is_full, packing.pack.Goals.in_default}
 use Rattle.dn_link.proofs.packing.pack.Goals as goal
-use Rattle.dn_link.proofs.packing.pack.Goals.{in-Some+then-is_full, in_default}
 
 pub packets-init : goal.packets-init
 packets-init c = record {

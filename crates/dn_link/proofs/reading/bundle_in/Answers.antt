@@ -2,8 +2,7 @@ use Rattle.std.proofs.Common.{◌≡◌, ◌+◌, ℕ, drop, ap, sym, ◌∙◌,
 use Rattle.std.specs.Option.{option_map}
 use Rattle.std.proofs.lemmas.List.{take_rest}
 use Rattle.arrayvec.specs.ArrayVec.{ArrayVec}
-use Rattle.dn_link.specs.declared.bundle.Part.{Part}
-use Rattle.dn_link.specs.Told.{told_counts, told_message, told_parts}
+use Rattle.dn_link.specs.{declared.bundle.Part.Part, Told.told_counts, Told.told_message, Told.told_parts}
 use Rattle.dn_link.proofs.Wholes.{no_message, no_parts, all_told, signed}
 use Rattle.dn_link.proofs.reading.bundle_in.Goals as goal
 
@@ -19,8 +18,7 @@ returns-in_default-parts_in c =
     sym (c.message_in.ensures.told ∙ ap told_message (take_rest body 42)) ∙ c.in-Some.is in
     let behind = take_rest body (42 + c.message_len.result)
     ∙ ap (λ (n : ℕ). drop (42 + n) body) (sym c.message_len.ensures) in
-    no_parts body c.in-Some.message message
-    (sym (c.parts_in.ensures ∙ ap told_parts behind)
+    no_parts body c.in-Some.message message (sym (c.parts_in.ensures ∙ ap told_parts behind)
     ∙ ap (option_map (λ (found : ArrayVec Part). found.items)) c.in_default-parts_in.is)
 
 pub returns : goal.returns
@@ -30,8 +28,7 @@ returns c =
     sym (c.message_in.ensures.told ∙ ap told_message (take_rest body 42)) ∙ c.in-Some.is in
     let behind = take_rest body (42 + c.message_len.result)
     ∙ ap (λ (n : ℕ). drop (42 + n) body) (sym c.message_len.ensures) in
-    all_told body c.in-Some.message _ message
-    (sym (c.parts_in.ensures ∙ ap told_parts behind)
+    all_told body c.in-Some.message _ message (sym (c.parts_in.ensures ∙ ap told_parts behind)
     ∙ ap (option_map (λ (found : ArrayVec Part). found.items)) c.in-Some-parts_in.is)
     refl refl c.tic_at.ensures (signed body _ _ (omega (arith, c.type_inv.body 16)) c.cast_signed.ensures) refl
     (c.counts_in.ensures ∙ ap told_counts (take_rest body 18)) refl

@@ -1,12 +1,263 @@
-use Rattle.dn_link.proofs.RemainingCalls.{built, forgot, gives_up, quits, reported, runs, same_link, told}
-use Rattle.dn_link.proofs.Noticed.{told_sealed}
-use Rattle.dn_link.proofs.RemainingCalls as base
-use Rattle.dn_link.proofs.RemainingGives.{gave}
-use Rattle.dn_link.proofs.RemainingReceives.{received}
-use Rattle.std.proofs.Common.{ap, sym, ◌∙◌}
+-- Packets with the same exact numbers and bytes: where a lockstep sends one, they are those of every node that it
+-- represents.
+use Rattle.std.proofs.Common.{◌≡◌, ℕ, Bool, true, false, List, length, refl, ap, sym, ◌∙◌, Option, Some, None, ◌<◌, [], ◌∷◌, append-nil, arith, subst, inl}
+use Rattle.std.specs.Prelude.{IfSome, if◌then◌else◌, nat_lt}
 use Rattle.std.specs.Option.{option_map}
-use Rattle.dn_link.specs.SealedReports.Text.{sealed_report_bytes}
+use Rattle.std.proofs.lemmas.Bool.{cond_both, and_parts, not-true}
+use Rattle.std.proofs.lemmas.Option.{none-some, same_Some}
+use Rattle.dn_setup.specs.Settings.{Settings}
+use Rattle.dn_packet.specs.declared.packet.Packet.{Packet}
+use Rattle.dn_packet.proofs.Texts.{same_packet}
+use Rattle.dn_machine.specs.{Flight.Play, Flight.Exit, Flight.Flight, Flight.packet_of, Limits.Limits, Sending.commands_flight, Sending.last_sent, Sending.set_up_flight, Node.put}
+use Rattle.dn_machine.proofs.{Calls.send_cases, Put.put_at}
+use Rattle.dn_lockstep.specs.{declared.lockstep.aiming.Aim.Aim, Near.IsFair, Sent.aim_of, Sent.bytes_of, Sent.sent_to, Marking.Marking, Represents.Represents, Steps.Steps, Steps.Tells, Session.given_on, Told.command_told}
+use Rattle.dn_link.specs.{declared.bundle.Carried.Carried, Giving.carried_of, Relays.Handed, Relays.flights_of, declared.bundle.Identity.Identity, Giving.SendsCarried, Hearing.ByTest, Paced.PaceState}
+use Rattle.dn_link.specs.{RemainingLinks.AreRemainingLinks, RemainingLinks.KeepsGiven, RemainingLinks.WasSealedIn, Linked.Gives, Linked.Linked, Linked.holds_back, Linked.is_peer, Linked.remains, Linked.surviving_of}
+use Rattle.dn_link.specs.{SealedReports.Text.sealed_report_bytes}
+use Rattle.dn_lockstep.proofs.OneGame.{GoesBetween}
+use Rattle.dn_survivor.specs.{OneGame.AreRemaining, Session.Session, Session.after_packet, Session.after_relays, Relaying.MayRelay, declared.others.Others.Others, Surviving.Surviving, Surviving.has_given_up}
+use Rattle.dn_link.proofs.{Relays.gives_all, Outgoing.goes_given, Outgoing.stays_kept, Relinking.found_later, Relinking.found_on, RemainingCalls.built, RemainingCalls.forgot, RemainingCalls.gives_up}
+use Rattle.dn_link.proofs.{RemainingCalls.quits, RemainingCalls.reported, RemainingCalls.runs, RemainingCalls.same_link, RemainingCalls.told, Noticed.told_sealed, RemainingReceives.received}
+use Rattle.dn_seal.specs.declared.seal.Seal.{Seal}
+use Rattle.dn_machine.specs.Node as machine
+use Rattle.dn_survivor.proofs.OneGame as one_game
+use Rattle.dn_link.proofs.RemainingCalls as base
 use Rattle.dn_link.proofs.remaining.remaining_links_go_on.Goals as goal
+
+-- the packet has as many commands as the flight
+abbrev IsCounted : Flight → Type 0
+IsCounted flight = length flight.commands ≡ length (packet_of flight).cmds.items
+
+set_up_counted : (me to : ℕ) (settings : Option Settings) → IfSome (set_up_flight me to settings) IsCounted
+set_up_counted me to None = tt
+set_up_counted me to (Some settings) = refl
+
+left_counted : (limits : Limits) (me : ℕ) (m : machine.Node) (to : ℕ) (test : Bool)
+    → IsCounted (commands_flight limits me m to (if test then Play else Exit) None)
+left_counted limits me m to true = refl
+left_counted limits me m to false = refl
+
+-- so has each that is sent
+sent_counted : (limits : Limits) (me : ℕ) (m : machine.Node) (to : ℕ)
+    → IfSome (sent_to to limits me m).1 IsCounted
+sent_counted limits me m to =
+    let P : machine.Node × Option Flight → Type 0 = λ x. IfSome x.1 IsCounted in
+    cond_both (nat_lt to limits.players) _ _ P
+    (λ below. send_cases limits me m P to tt (λ other e. set_up_counted me to m.settings) (λ other e. refl)
+    (λ other e. left_counted limits me m to (nat_lt (last_sent limits me m to) (machine.made me m))))
+    (λ past. tt)
+
+-- two packets that are carried alike have the same exact numbers
+same_aims : (one other : Option Flight) → IfSome one IsFair → IfSome other IsFair → IfSome one IsCounted
+    → IfSome other IsCounted → option_map carried_of one ≡ option_map carried_of other
+    → option_map aim_of one ≡ option_map aim_of other
+same_aims None None fair also counted as_well e = refl
+same_aims None (Some other) fair also counted as_well e = absurd (none-some (carried_of other) e)
+same_aims (Some one) None fair also counted as_well e = absurd (none-some (carried_of one) (sym e))
+same_aims (Some one) (Some other) fair also counted as_well e =
+    let same : carried_of one ≡ carried_of other = same_Some (carried_of one) (carried_of other) e in
+    let packet : packet_of one ≡ packet_of other =
+    same_packet (packet_of one) (packet_of other) fair.packet also.packet
+    (ap (λ (c : Carried). c.datagram.items) same) in
+    let count : length one.commands ≡ length other.commands =
+    counted ∙ ap (λ (p : Packet). length p.cmds.items) packet ∙ sym as_well in
+    (λ i. Some (record {
+      flags = (packet i).flags;
+      ask = (same i).ask;
+      start = (same i).start;
+      count = count i;
+    }))
+
+-- hence two nodes that send packets that are carried alike send them with the same exact numbers
+sent_alike : (limits : Limits) (me : ℕ) (m : machine.Node) (others : Limits) (you : ℕ) (n : machine.Node)
+    (to : ℕ) (given : Option Carried) → IfSome (sent_to to limits me m).1 IsFair
+    → IfSome (sent_to to others you n).1 IsFair → given ≡ option_map carried_of (sent_to to limits me m).1
+    → given ≡ option_map carried_of (sent_to to others you n).1
+    → option_map aim_of (sent_to to limits me m).1 ≡ option_map aim_of (sent_to to others you n).1
+sent_alike limits me m others you n to given fair also is is_too =
+    same_aims (sent_to to limits me m).1 (sent_to to others you n).1 fair also (sent_counted limits me m to)
+    (sent_counted others you n to) (sym is ∙ is_too)
+
+abbrev datagram_in : Carried → List ℕ
+datagram_in carried = carried.datagram.items
+
+datagrams : (flight : Option Flight) → option_map datagram_in (option_map carried_of flight)
+    ≡ option_map bytes_of flight
+datagrams None = refl
+datagrams (Some flight) = refl
+
+-- and a packet with these numbers and bytes is carried so
+carried_by : (given : Option Carried) (sent packet : Option Flight) → given ≡ option_map carried_of sent
+    → option_map aim_of sent ≡ option_map aim_of packet
+    → option_map datagram_in given ≡ option_map bytes_of packet → given ≡ option_map carried_of packet
+carried_by None sent None is aimed told = refl
+carried_by None None (Some packet) is aimed told = absurd (none-some (aim_of packet) aimed)
+carried_by None (Some sent) (Some packet) is aimed told = absurd (none-some (carried_of sent) is)
+carried_by (Some given) None packet is aimed told = absurd (none-some given (sym is))
+carried_by (Some given) (Some sent) None is aimed told = absurd (none-some (aim_of sent) (sym aimed))
+carried_by (Some given) (Some sent) (Some packet) is aimed told =
+    let same : given ≡ carried_of sent = same_Some given (carried_of sent) is in
+    let numbers : aim_of sent ≡ aim_of packet = same_Some (aim_of sent) (aim_of packet) aimed in
+    let bytes : given.datagram.items ≡ bytes_of packet = same_Some (datagram_in given) (bytes_of packet) told in
+    (λ i. Some (record {
+      start = (ap (λ (c : Carried). c.start) same ∙ ap (λ (a : Aim). a.start) numbers) i;
+      ask = (ap (λ (c : Carried). c.ask) same ∙ ap (λ (a : Aim). a.ask) numbers) i;
+      datagram = record { items = bytes i };
+    }))
+
+-- of some one is there
+some_not : (h : Handed) (handed : List Handed) → h ∷ handed ≡ [] → ⊥
+some_not h handed none = cc
+
+module _ (marking : Marking) (limits : Limits) (settings : Settings) (session : Session) (links : ℕ → Linked)
+    (linked : AreRemainingLinks marking limits settings session links) (player : ℕ)
+    (mine : player < limits.players) where
+  abbrev old : Linked
+  old = links player
+
+  survivor : surviving_of old ≡ session.survivors player
+  survivor = base.survivor marking limits settings session links linked player mine
+
+  module _ (seal : Seal) (identity : Identity) (pace : PaceState) (to : ℕ) (new : Linked) (bytes : List ℕ)
+      (gives : Gives seal identity pace to old new bytes) where
+    -- it goes out in a datagram of this game, and the links are those of the game after it
+    abbrev after_all : Option Flight → Session
+    after_all packet =
+        after_relays (after_packet session player packet (surviving_of new)) (flights_of to gives.handed)
+
+    abbrev IsGiven : Option Flight → Type 0
+    IsGiven packet =
+        WasSealedIn seal (after_all packet) bytes × AreRemainingLinks marking limits settings (after_all packet)
+        (put links player new) × KeepsGiven session (after_all packet)
+
+    -- what it has given up, and heard, stays with the packet
+    may_still : MayRelay (surviving_of old) to → MayRelay (surviving_of new) to
+    may_still = subst (λ (o : Others). MayRelay (record { lockstep = old.node; others = o }) to
+        → MayRelay (record { lockstep = new.node; others = new.others }) to) gives.others
+        (λ may. record { stays = may.stays; within = may.within })
+
+    -- commands of third players are handed on with it
+    hands_on : (packet : Option Flight)
+        → AreRemaining marking limits settings (after_packet session player packet (surviving_of new))
+        → AreRemaining marking limits settings (after_all packet)
+    hands_on packet game = go gives.handed refl
+      where
+        go : (handed : List Handed) → gives.handed ≡ handed → AreRemaining marking limits settings (after_all packet)
+        go [] e =
+            subst (λ (hs : List Handed). AreRemaining marking limits settings
+            (after_relays (after_packet session player packet (surviving_of new)) (flights_of to hs))) (sym e)
+            (subst (λ (given : List Flight). AreRemaining marking limits settings
+            (record (after_packet session player packet (surviving_of new)) { packets = given }))
+            (sym (append-nil (given_on session.packets packet))) game)
+        go (h ∷ handed) e =
+            let may = may_still (gives.may (λ none. absurd (some_not h handed (sym e ∙ none)))) in
+            gives_all new.node to (λ given. AreRemaining marking limits settings
+            (record (after_packet session player packet (surviving_of new)) { packets = given }))
+            (λ given who tic command now its there apart told fair.
+            let here : put session.survivors player (surviving_of new) player ≡ surviving_of new =
+            put_at session.survivors player player (surviving_of new) refl in
+            let count : new.node.players ≡ limits.players =
+            ap (λ (s : Surviving). s.lockstep.players) (sym here) ∙ (now.nodes player mine).node.whose.players in
+            one_game.relays marking limits settings now player mine who to tic command (omega (arith, its, count))
+            (omega (arith, there, count)) apart (subst (λ (s : Surviving). MayRelay s to) (sym here) may)
+            (ap (λ (s : Surviving). command_told s.lockstep who tic) here ∙ told) fair)
+            (given_on session.packets packet) gives.handed game gives.handed_on
+
+    gave_by : (packet : Option Flight)
+        → AreRemaining marking limits settings (after_packet session player packet (surviving_of new))
+        → GoesBetween player to packet → gives.given ≡ option_map carried_of packet → IsGiven packet
+    gave_by packet game between answer =
+        let own = base.own marking limits settings session links linked player mine in
+        let all = base.all_kept marking limits settings session links linked player mine in
+        let on = base.relinked marking limits settings session links linked
+        (after_all packet) player new (hands_on packet game) refl
+        (record {
+          packets = λ which one found. found_on (given_on session.packets packet) (flights_of to gives.handed) which one
+              (found_later session.packets packet which one found);
+          reports = λ which given found. found;
+        })
+        (stays_kept session.packets packet player old new own seal identity pace to bytes gives between answer all) in (
+          inl (
+            gives.bundle,
+            gives.fits,
+            gives.is,
+            goes_given session.packets packet player old new own seal identity pace to bytes gives between answer all,
+          ),
+          on.0,
+          on.1,
+        )
+
+    -- what is held back changes no survivor
+    held : (new.node ≡ old.node) × (gives.given ≡ None) → IsGiven None
+    held step =
+        let same : surviving_of new ≡ surviving_of old = (λ i. record {
+          lockstep = step.0 i;
+          others = gives.others i;
+        }) in
+        gave_by None
+        (one_game.keeps marking limits settings linked.game player (surviving_of new) (same ∙ survivor)) tt step.1
+
+    -- what is sent is the survivor's packet
+    module _ (free : has_given_up (surviving_of old) to ≡ false)
+        (fair : Tells old.node (λ limits me m. IfSome (sent_to to limits me m).1 IsFair))
+        (step : SendsCarried to old.node new.node gives.given) where
+      abbrev spelling : Option (List ℕ)
+      spelling = option_map datagram_in gives.given
+
+      abbrev m : machine.Node
+      m = linked.game.last.game.nodes player
+
+      shows : Represents limits player old.node m
+      shows = subst (λ (s : Surviving). Represents limits player s.lockstep m) (sym survivor)
+          (linked.game.nodes player mine).node
+
+      spelled : Steps old.node new.node (λ limits me m. sent_to to limits me m)
+          (λ packet. spelling ≡ option_map bytes_of packet)
+      spelled = record {
+        same = step.same;
+        step = λ limits me m r.
+            let after = step.step limits me m r in
+            record {
+              node = after.node;
+              answer = ap (option_map datagram_in) after.answer ∙ datagrams (sent_to to limits me m).1;
+            };
+      }
+
+      -- with the exact numbers of the packet of any node that the lockstep represents
+      aimed : Tells old.node (λ others you n. option_map aim_of (sent_to to limits player m).1
+          ≡ option_map aim_of (sent_to to others you n).1)
+      aimed others you n r =
+          sent_alike limits player m others you n to gives.given (fair limits player m shows) (fair others you n r)
+          (step.step limits player m shows).answer (step.step others you n r).answer
+
+      sent : (packet : Option Flight) × IsGiven packet
+      sent =
+          let gave = one_game.gave_to marking limits settings linked.game player mine to (surviving_of new)
+          spelling (subst (λ (s : Surviving). has_given_up s to ≡ false) survivor free)
+          (subst (λ (s : Surviving). Tells s.lockstep (λ limits me m. IfSome (sent_to to limits me m).1 IsFair))
+          survivor fair) (subst (λ (s : Surviving). Steps s.lockstep new.node
+          (λ limits me m. sent_to to limits me m) (λ packet. spelling ≡ option_map bytes_of packet)) survivor
+          spelled) (gives.others ∙ ap (λ (s : Surviving). s.others) survivor) in
+          let numbers = gave.1.aim (subst (λ (s : Surviving). has_given_up s to ≡ false) survivor free)
+          (option_map aim_of (sent_to to limits player m).1)
+          (subst (λ (s : Surviving). Tells s.lockstep (λ others you n. option_map aim_of (sent_to to limits player m).1
+          ≡ option_map aim_of (sent_to to others you n).1)) survivor aimed) in (
+            gave.0,
+            gave_by gave.0 gave.2 gave.1.players (carried_by gives.given (sent_to to limits player m).1 gave.0
+                (step.step limits player m shows).answer numbers gave.1.bytes),
+          )
+
+    gave : remains old to ≡ true
+        → (holds_back old ≡ false → Tells old.node (λ limits me m. IfSome (sent_to to limits me m).1 IsFair))
+        → (packet : Option Flight) × IsGiven packet
+    gave stays fair = go (holds_back old) refl gives.step
+      where
+        go : (test : Bool) → holds_back old ≡ test
+            → ByTest test ((new.node ≡ old.node) × (gives.given ≡ None)) (SendsCarried to old.node new.node gives.given)
+            → (packet : Option Flight) × IsGiven packet
+        go true is step = (None, held step)
+        go false is step =
+            sent (not-true (has_given_up (surviving_of old) to) (and_parts (is_peer old.node to) _ stays).1) (fair is) step
 
 pub returns-clause-built : goal.returns-clause-built
 returns-clause-built c = λ marking limits settings session links player new input made linked mine.
@@ -43,9 +294,8 @@ returns-clause-sealed c = λ marking limits settings session links player to sea
     sealed.
     let me = (links player).node.me in
     let on = told marking limits settings session links linked player mine to report is in (
-      told_sealed seal session me player to report bytes
-          (base.own marking limits settings session links linked player mine) proper
-          (sealed ∙ ap (option_map (sealed_report_bytes seal me to)) (sym is)),
+      told_sealed seal session me player to report bytes (base.own marking limits settings session links linked
+          player mine) proper (sealed ∙ ap (option_map (sealed_report_bytes seal me to)) (sym is)),
       on.0,
       on.1,
     )

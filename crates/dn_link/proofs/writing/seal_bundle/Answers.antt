@@ -2,8 +2,7 @@ use Rattle.std.proofs.Common.{◌≡◌, ◌++◌, ◌∷◌, [], List, ℕ, ap,
 use Rattle.std.specs.Prelude.{FitsSigned}
 use Rattle.std.proofs.lemmas.Int.{to_z-of_z}
 use Rattle.std.specs.Int.{cast_unsigned}
-use Rattle.dn_seal.specs.Hmac.{tag_of}
-use Rattle.dn_seal.specs.Sealing.{sealing, front_bytes}
+use Rattle.dn_seal.specs.{Hmac.tag_of, Sealing.sealing, Sealing.front_bytes}
 use Rattle.dn_link.specs.Text.{counts_bytes, message_bytes, parts_bytes, bundle_bytes}
 use Rattle.dn_link.proofs.writing.seal_bundle.Goals as goal
 

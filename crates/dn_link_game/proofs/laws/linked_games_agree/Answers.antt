@@ -1,6 +1,218 @@
-use Rattle.dn_link_game.specs.Playing.{marking_of}
-use Rattle.dn_link_game.proofs.Headlines.{have_agreed}
+-- What a game of links shows is the headline.
+use Rattle.std.proofs.Common.{◌≡◌, ◌<◌, ◌≤◌, ◌+◌, ℕ, zero, suc, pos, Bool, true, false, List, [], ◌∷◌, length, get_or, take, Option, Some, None, refl, sym, ap, ◌∙◌, inl, inr, arith, ◌≢◌, subst}
+use Rattle.std.specs.Prelude.{nat_lt, if◌then◌else◌, slice_get}
+use Rattle.std.specs.Option.{option_map}
+use Rattle.std.proofs.lemmas.Bool.{cases_lt, cond-true, lt-ltb, cases_eq}
+use Rattle.std.proofs.lemmas.Option.{same_Some, none-some, slice_get-get_or, slice_get_cases, slice_get_within}
+use Rattle.std.proofs.lemmas.List.{take_all}
+use Rattle.dn_tic.specs.{Command.used, Inputs.made_by, declared.command.Move.Move, declared.command.TicCmd.TicCmd}
+use Rattle.dn_setup.specs.{Settings.Settings, Starts.start_of}
+use Rattle.dn_machine.specs.{Limits.IsWindow, Limits.Limits, Limits.row_of, Headline.AnyTwo, Headline.Shown, Node.is_ended}
+use Rattle.dn_survivor.specs.{Agreed.AreAgreedInPairs, Session.Session, Agreed.FitInPairs, Agreed.IsPair, Demos.DemosAgreeInPairs, Demos.is_closed, Demos.rows_whole, Surviving.Surviving, Surviving.end_settled}
+use Rattle.dn_survivor.specs.{Surviving.has_given_up}
+use Rattle.dn_world.specs.Physics.{Physics}
+use Rattle.dn_demo.specs.{Layout.long_tics, Text.demo_text}
+use Rattle.dn_lockstep.specs.{Contents.Contents, Demos.recorded, OneGame.world_told, Rows.seats_of, Told.HasStarted, Told.got, Told.made}
+use Rattle.dn_seal.specs.declared.seal.Seal.{Seal}
+use Rattle.dn_link.specs.{Linked.surviving_of, Linking.linked}
+use Rattle.dn_link_game.specs.{Games.IsLinkGame, Headline.HasPlayer, Headline.HaveAgreed, Headline.NobodyGone, Headline.Shows, Headline.Together, Playing.world_by, declared.game.LinkGame.LinkGame}
+use Rattle.dn_link_game.specs.{declared.player.Player.Player, Playing.marking_of}
 use Rattle.dn_link_game.proofs.laws.linked_games_agree.Goals as goal
+
+-- The moves in the rows that survivors told are those of their makers' inputs.
+
+-- the seat of a player in a row
+seat : (players : ℕ) (command : ℕ → Option TicCmd) (p : ℕ) → p < players → players ≤ 4
+    → get_or (row_of players command) p None ≡ option_map used (command p)
+unfolding row_of
+seat players command zero l four = cond-true (nat_lt 0 players) _ _ (lt-ltb 0 players l)
+seat players command (suc zero) l four = cond-true (nat_lt 1 players) _ _ (lt-ltb 1 players l)
+seat players command (suc (suc zero)) l four = cond-true (nat_lt 2 players) _ _ (lt-ltb 2 players l)
+seat players command (suc (suc (suc zero))) l four = cond-true (nat_lt 3 players) _ _ (lt-ltb 3 players l)
+seat players command (suc (suc (suc (suc p)))) l four = absurd (omega (arith, l, four))
+
+-- a move that is there is that of the command
+of_command : (over : Bool) (command : TicCmd) (move : Move)
+    → option_map used (if over then None else Some command) ≡ Some move → move ≡ used command
+of_command true command move e = absurd (none-some move e)
+of_command false command move e = sym (same_Some (used command) move e)
+
+maker : (limits : Limits) (settings : Settings) (session : Session) → AreAgreedInPairs limits settings session
+    → IsWindow limits → (q p tic : ℕ) (move : Move) → q < limits.players → p < limits.players → limits.players ≤ 4
+    → get_or (get_or (session.told q) tic []) p None ≡ Some move
+    → move ≡ used (made_by (take (tic + 1) (session.inputs p)) (pos 0))
+maker limits settings session agreed window q p tic move k l four at = elim (cases_lt tic (length (session.told q))) [
+  | inl there ↦
+      let ran = agreed.ran q k in
+      let row = same_Some _ _ (sym (slice_get-get_or (session.told q) tic [] there)
+      ∙ agreed.rows q tic k (omega (arith, there, ran))) in
+      of_command _ _ move (sym (ap (λ (r : List (Option Move)). get_or r p None) row ∙ seat limits.players _ p l four) ∙ at)
+  | inr past ↦ absurd (none-some move (sym (ap (λ (r : List (Option Move)). get_or r p None) (get_or_past (session.told q) tic past)) ∙ at))
+]
+  where
+    get_or_past : (rows : List (List (Option Move))) (tic : ℕ) → length rows ≤ tic → get_or rows tic [] ≡ []
+    get_or_past [] tic m = refl
+    get_or_past (row ∷ rows) zero m = absurd (omega (arith, m))
+    get_or_past (row ∷ rows) (suc tic) m = get_or_past rows tic (omega (arith, m))
+
+module _ {W S : Type 0} (state : W → S) (physics : Physics S) (limits : Limits) (settings : Settings) (seal : Seal)
+    (session : Session) (g : LinkGame W) (is : IsLinkGame state physics limits settings seal session g)
+    (agreed : AreAgreedInPairs limits settings session) (fit : FitInPairs limits session)
+    (demos : DemosAgreeInPairs limits.players settings session) where
+  abbrev shown_at : ℕ → Shown ℕ
+  shown_at i = record {
+    phase = (session.survivors i).lockstep.phase;
+    rows = session.told i;
+    got = got (session.survivors i).lockstep;
+    demo = recorded (session.survivors i).lockstep;
+  }
+
+  module _ (i : ℕ) (player : Player W) (at : HasPlayer g i player) where
+    below : i < limits.players
+    below = let inside = slice_get_within g.players.items i player at in omega (arith, inside, is.places)
+
+    its : session.survivors i ≡ surviving_of (linked player.link)
+    its = sym (is.game.survivors i below) ∙ ap surviving_of (is.players i player at).link
+
+    node : (session.survivors i).lockstep ≡ (linked player.link).node
+    node = ap (λ (s : Surviving). s.lockstep) its
+
+    shows : Shows state physics limits settings i player (shown_at i)
+    shows = record {
+      phase = ap (λ (n : Contents). n.phase) node;
+      ran = sym (agreed.ran i below) ∙ ap (λ (n : Contents). n.ran) node;
+      got = λ other. ap (λ (n : Contents). got n other) node;
+      places = sym (ap (λ (n : Contents). n.places) node) ∙ (is.game.game.nodes i below).node.whose.places;
+      demo = ap recorded node;
+      world = (is.players i player at).world;
+      rows = subst (λ (n : Contents). HasStarted n → n.demo.bytes ≡ demo_text long_tics (start_of settings) i
+          (seats_of limits.players) (rows_whole limits.players session i) (is_closed limits.players session i n)) node
+          (demos.texts i below);
+    }
+
+  module _ (q r : ℕ) (two : Together g q r) where
+    one_below : q < limits.players
+    one_below = below q two.one two.one_is
+
+    other_below : r < limits.players
+    other_below = below r two.other two.other_is
+
+    pair : q ≢ r → IsPair limits session.survivors q r
+    pair apart = record {
+      one = one_below;
+      other = other_below;
+      apart = apart;
+      here = ap (λ (s : Surviving). has_given_up s r) (its q two.one two.one_is) ∙ two.here;
+      there = ap (λ (s : Surviving). has_given_up s q) (its r two.other two.other_is) ∙ two.there;
+    }
+
+    same : (tic : ℕ) → tic < length (session.told q) → tic < length (session.told r)
+        → slice_get (session.told q) tic ≡ slice_get (session.told r) tic
+    same tic k l = elim (cases_eq q r) [
+      | inl e ↦ ap (λ (p : ℕ). slice_get (session.told p) tic) e
+      | inr apart ↦ agreed.same q r tic (pair apart)
+          (let a = agreed.ran q one_below in omega (arith, a, k)) (let b = agreed.ran r other_below in omega (arith, b, l))
+    ]
+
+    lacked : is_ended (session.survivors q).lockstep.phase ≡ false
+        → got (session.survivors r).lockstep r ≤ got (session.survivors q).lockstep r + (limits.ahead + limits.ahead)
+    lacked goes_on = elim (cases_eq q r) [
+      | inl e ↦
+          let same_node : got (session.survivors q).lockstep r ≡ got (session.survivors r).lockstep r =
+          ap (λ (p : ℕ). got (session.survivors p).lockstep r) e in
+          omega (arith, same_node)
+      | inr apart ↦ fit.unheard q r r (pair apart) other_below goes_on
+    ]
+
+    ends : (p a b : ℕ) → p < limits.players → end_settled (surviving_of (linked two.one.link)) p ≡ Some a
+        → end_settled (surviving_of (linked two.other.link)) p ≡ Some b → a ≡ b
+    ends p a b l here there = elim (cases_eq q r) [
+      | inl e ↦ same_Some a b (sym (ap (λ (s : Surviving). end_settled s p) (its q two.one two.one_is) ∙ here)
+          ∙ ap (λ (x : ℕ). end_settled (session.survivors x) p) e
+          ∙ ap (λ (s : Surviving). end_settled s p) (its r two.other two.other_is) ∙ there)
+      | inr apart ↦ agreed.ends_same q r p a b (pair apart) l
+          (ap (λ (s : Surviving). end_settled s p) (its q two.one two.one_is) ∙ here)
+          (ap (λ (s : Surviving). end_settled s p) (its r two.other two.other_is) ∙ there)
+    ]
+
+    rows_same : length (session.told q) ≡ length (session.told r) → session.told q ≡ session.told r
+    rows_same long = elim (cases_eq q r) [
+      | inl e ↦ ap session.told e
+      | inr apart ↦ sym (take_all (length (session.told q)) (session.told q) (omega arith))
+          ∙ agreed.worlds q r (length (session.told q)) (pair apart)
+          (let a = agreed.ran q one_below in omega (arith, a)) (let b = agreed.ran r other_below in omega (arith, b, long))
+          ∙ take_all (length (session.told q)) (session.told r) (omega (arith, long))
+    ]
+
+    worlds : two.one.began ≡ true → two.other.began ≡ true → length (session.told q) ≡ length (session.told r)
+        → state two.one.world ≡ state two.other.world
+    worlds here there long = (is.players q two.one two.one_is).world here
+        ∙ ap (λ (rows : List (List (Option Move))). world_by physics (world_told limits settings rows)) (rows_same long)
+        ∙ sym ((is.players r two.other two.other_is).world there)
+
+  unread : (q p : ℕ) → q < limits.players → p < limits.players
+      → got (session.survivors q).lockstep p ≤ length (session.told q) + (limits.ahead + limits.ahead)
+  unread q p k l = let a = fit.unread q p k l in let b = agreed.ran q k in omega (arith, a, b)
+
+  ahead : (p : ℕ) → p < limits.players → got (session.survivors p).lockstep p ≤ length (session.told p) + limits.ahead
+  ahead p k =
+      let a = fit.ahead p k in
+      let b = agreed.ran p k in
+      let c : made (session.survivors p).lockstep ≡ got (session.survivors p).lockstep p =
+      ap (got (session.survivors p).lockstep) (agreed.numbers p k) in
+      omega (arith, a, b, c)
+
+  -- who are together where nobody is gone
+  all_together : NobodyGone g → (q r : ℕ) → AnyTwo limits.players q r → Together g q r
+  all_together nobody q r two =
+      let here = slice_get_cases g.players.items q in
+      let there = slice_get_cases g.players.items r in
+      elim here.1 [
+        | inr past ↦ absurd (omega (arith, past.0, two.0, is.places))
+        | inl one ↦ elim there.1 [
+          | inr past ↦ absurd (omega (arith, past.0, two.1, is.places))
+          | inl other ↦ record {
+            one = one.0;
+            other = other.0;
+            one_is = one.2;
+            other_is = other.2;
+            here = nobody q r one.0 one.2;
+            there = nobody r q other.0 other.2;
+          }
+        ]
+      ]
+
+  have_agreed : HaveAgreed state physics limits settings session.inputs session.told g
+  have_agreed = record {
+    places = is.places;
+    shown = shown_at;
+    shows = shows;
+    told_is = λ i. refl;
+    headline = record {
+      same = λ q r tic two. same q r two tic;
+      ring = is.game.game.window.twice;
+      unread = unread;
+      lacked = lacked;
+      ahead = ahead;
+      consistent = λ q player was should k. agreed.consistent q player was should k;
+      demos = demos.commands;
+    };
+    quiet = λ nobody. record {
+      same = λ q r tic two. same q r (all_together nobody q r two) tic;
+      ring = is.game.game.window.twice;
+      unread = unread;
+      lacked = λ q r two. lacked q r (all_together nobody q r two);
+      ahead = ahead;
+      consistent = λ q player was should k. agreed.consistent q player was should k;
+      demos = demos.commands;
+    };
+    makers = λ q p tic move k l at. maker limits settings session agreed is.game.game.window q p tic move k l (is_four k) at;
+    ends = λ q r p a b two. ends q r two p a b;
+    worlds = λ q r two. worlds q r two;
+  }
+    where
+      is_four : {q : ℕ} → q < limits.players → limits.players ≤ 4
+      is_four {q} k = (is.game.game.nodes q k).few
 
 pub returns : goal.returns
 returns g c limits settings seal session game is =

@@ -1,13 +1,10 @@
 use Rattle.dn_tic.specs.declared.command.Move.{Move}
-use Rattle.dn_machine.specs.Worlds.{Inputs, command}
-use Rattle.std.proofs.Common.{Option, length, List, ap, sym, ◌∙◌, subst}
+use Rattle.dn_machine.specs.Worlds.{Inputs}
+use Rattle.std.proofs.Common.{Option, length, List, ap, sym, ◌∙◌, subst, arith}
 use Rattle.dn_machine.proofs.Promises
 use Rattle.dn_machine.proofs.Put.{same_functions}
-use Rattle.dn_lockstep.specs.Agreed.{AreAgreed}
-use Rattle.dn_lockstep.specs.Demos.{rows_to}
-use Rattle.dn_lockstep.specs.OneGame.{beside}
-use Rattle.dn_lockstep.proofs.Agreeing.{agreed, rows_are, told_is}
-use Rattle.dn_lockstep.proofs.OneGame.{kept}
+use Rattle.dn_lockstep.specs.{Agreed.AreAgreed, Demos.rows_to, OneGame.beside}
+use Rattle.dn_lockstep.proofs.{Agreeing.{agreed, rows_are, told_is}, OneGame.kept}
 use Rattle.dn_lockstep.proofs.laws.locksteps_agree.Goals as goal
 
 pub returns-clause-agreed : goal.returns-clause-agreed
@@ -43,7 +40,6 @@ returns-clause-ran c marking limits settings session player game mine =
 
 pub returns-clause-commands : goal.returns-clause-commands
 returns-clause-commands c marking limits settings session here player tic one game mine tells =
-    told_is (beside marking limits) settings game.last (kept marking limits settings game) session.locksteps
-    game.nodes here mine player tic one tells
-    ∙ ap (λ (inputs : Inputs). command (beside marking limits) settings inputs player tic)
-    (same_functions game.inputs)
+    let told = told_is (beside marking limits) settings game.last (kept marking limits settings game)
+    session.locksteps game.nodes here mine player tic one tells in
+    grind (arith, told, same_functions game.inputs)

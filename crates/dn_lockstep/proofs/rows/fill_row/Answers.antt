@@ -1,16 +1,12 @@
-use Rattle.std.proofs.Common.{rules, ◌≡◌, ◌<◌, ℕ, List, length, map, is_some, not, set, Option, Some, None, ap, sym, ◌∙◌, arith}
-use Rattle.std.specs.Prelude.{IfSome}
+use Rattle.std.proofs.Common.{rules, ◌≡◌, ◌<◌, ℕ, List, length, map, is_some, not, set, Option, Some, ap, sym, ◌∙◌, arith}
 use Rattle.std.proofs.lemmas.List.Elements.{All-set, All-replicate}
+use Rattle.std.specs.Prelude.{IfSome}
 use Rattle.dn_tic.specs.declared.command.Move.{Move}
 use Rattle.dn_demo.specs.Rows.{IsMove, IsRecordable}
 use Rattle.dn_machine.specs.Node.{is_whole, lacks}
-use Rattle.dn_lockstep.specs.Peers.{peer_at}
-use Rattle.dn_lockstep.specs.Rings.{ring_at}
-use Rattle.dn_lockstep.specs.Rows.{is_gone, has_gone}
+use Rattle.dn_lockstep.specs.{Peers.peer_at, Rings.ring_at, Rows.is_gone}
 use Rattle.dn_lockstep.proofs.Lowest.{lowest_zero, some_found, some_past}
-use Rattle.dn_lockstep.proofs.Rowing.{seats_below, seat_more, seat_none, seat_free, own_here, own_gone, whole_below, seats_more, seats_set}
-use Rattle.dn_lockstep.proofs.Seats.{whole_gone, here_all}
-use Rattle.dn_lockstep.proofs.Telling.{used_recordable}
+use Rattle.dn_lockstep.proofs.Seats.{seat_more, seat_none, seat_free, own_gone, whole_below, seats_more, seats_set, whole_gone, here_all, used_recordable}
 use Rattle.dn_lockstep.proofs.rows.fill_row.Goals.{then-gone, else-gone}
 use Rattle.dn_lockstep.proofs.rows.fill_row.Goals as goal
 
@@ -21,14 +17,7 @@ at-requires-clause-there c =
     (sym c.gone.ensures ∙ c.if-gone.false)
 
 pub loop-player-init : goal.loop-player-init
-loop-player-init c = record {
-  row = c.requires.empty;
-  seats = λ p l. absurd (omega arith);
-  whole = sym (ap (λ (o : Option ℕ). not (is_some o))
-      (lowest_zero (is_gone (peer_at c.args.peers.now) c.args.tic)));
-  able = rw c.requires.empty (All-replicate (λ step. IfSome step IsRecordable) 4 None tt);
-  ranged = rw c.requires.empty (All-replicate (λ step. IfSome step IsMove) 4 None tt);
-}
+loop-player-init c = grind (arith, lowest_zero, All-replicate)
 
 pub loop-player-preserved : goal.loop-player-preserved
 loop-player-preserved c =
@@ -61,13 +50,9 @@ loop-player-preserved c =
           let able : IsRecordable step =
           rw w.round.ensures (used_recordable w.at.result w.at.ensures.no_stop) in
           let ranged : IsMove step = search rules in
-          let own = own_here rings peers tic player w.at.result step stays w.at.ensures.value
-          w.round.ensures in
           record {
-            row = new ∙ ap (λ (r : List (Option Move)). set r player (Some step)) inv.row
-                ∙ seat_more rings peers tic player (Some step) seat own;
-            seats = rw new (seats_set row (is_gone peers tic) player (Some step) (omega arith) (sym stays)
-                inv.seats);
+            row = grind (arith, seat_more);
+            seats = grind (arith, seats_set);
             whole = w.whole-is ∙ inv.whole ∙ ap not (sym (some_past player (is_gone peers tic) stays));
             able = rw new (All-set (λ step. IfSome step IsRecordable) row player (Some step) able inv.able);
             ranged = rw new (All-set (λ step. IfSome step IsMove) row player (Some step) ranged inv.ranged);
@@ -77,19 +62,13 @@ loop-player-preserved c =
 pub returns-clause-row : goal.returns-clause-row
 returns-clause-row c =
     let all : c.loop-player.player ≡ c.args.players = omega arith in
-    c.loop-player.invariant.row
-    ∙ ap (seats_below (ring_at c.args.rings.now) (peer_at c.args.peers.now) c.args.tic) all
+    grind (arith, c.loop-player.invariant.row)
 
 pub returns-clause-nobody : goal.returns-clause-nobody
-returns-clause-nobody c =
-    let all : c.loop-player.player ≡ c.args.players = omega arith in
-    c.loop-player.invariant.whole ∙ ap (λ (k : ℕ). not (has_gone (peer_at c.args.peers.now) k c.args.tic)) all
+returns-clause-nobody c = grind arith
 
 pub returns-clause-whole : goal.returns-clause-whole
-returns-clause-whole c =
-    returns-clause-nobody c
-    ∙ sym (whole_gone c.loop-player.row c.args.players (is_gone (peer_at c.args.peers.now) c.args.tic)
-    (λ p l. c.loop-player.invariant.seats p (omega arith)))
+returns-clause-whole c = grind (arith, returns-clause-nobody, whole_gone)
 
 pub returns-clause-recordable : goal.returns-clause-recordable
 returns-clause-recordable c whole = record {

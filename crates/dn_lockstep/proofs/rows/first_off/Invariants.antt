@@ -1,9 +1,6 @@
 use Rattle.std.proofs.Common.{◌≡◌, None}
 use Rattle.dn_machine.specs.Node.{lowest}
-use Rattle.dn_lockstep.specs.Rings.{ring_at}
-use Rattle.dn_lockstep.specs.Marks.{slot}
-use Rattle.dn_lockstep.specs.Peers.{peer_at}
-use Rattle.dn_lockstep.specs.Rows.{differs_but, has}
+use Rattle.dn_lockstep.specs.{Rings.ring_at, Marks.slot, Peers.peer_at, Rows.{differs_but, has}}
 use Rattle.dn_lockstep.proofs.rows.first_off.Given as goal
 
 abbrev pub invariant-loop-player : goal.invariant-loop-player

@@ -1,11 +1,8 @@
 -- The key player starts the others in the first round, and each player has the others' next commands within
 -- thirteen more.
 use Rattle.std.proofs.Common.{arith, subst, ◌≡◌, ◌+◌, ℕ}
-use Rattle.dn_machine.specs.Worlds.{rules_of}
-use Rattle.dn_machine.specs.Progress.{HasRoom}
-use Rattle.dn_machine.proofs.Leading.{led_rounds}
-use Rattle.dn_machine.proofs.Progress.{goes_on_with}
-use Rattle.dn_machine.proofs.Vanilla.{vanilla_window, vanilla_swift, vanilla_packet}
+use Rattle.dn_machine.specs.{Worlds.rules_of, Progress.HasRoom}
+use Rattle.dn_machine.proofs.{InOrder.led_rounds, Progress.goes_on_with, Vanilla.{vanilla_window, vanilla_swift, vanilla_packet}}
 use Rattle.dn_machine.proofs.laws.no_deadlock.Goals as goal
 
 pub returns-clause-goes_on : goal.returns-clause-goes_on
@@ -26,5 +23,4 @@ returns-clause-keeps_on g c players extra capacity settings events game run none
 
 pub returns-clause-by_events : goal.returns-clause-by_events
 returns-clause-by_events g c players extra capacity game inputs rounds =
-    let led = led_rounds (rules_of g.W.World.physics players extra capacity) inputs rounds game in
-    (led.0, led.1)
+    let led = led_rounds (rules_of g.W.World.physics players extra capacity) inputs rounds game in grind arith

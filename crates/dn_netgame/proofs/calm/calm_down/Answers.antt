@@ -1,10 +1,6 @@
 use Rattle.std.proofs.Common.{ℕ, List, refl, subst}
-use Rattle.dn_machine.specs.Progress.{good_rounds}
-use Rattle.dn_machine.specs.Worlds.{rules_of}
-use Rattle.dn_game.specs.Contents.{contents}
-use Rattle.dn_game.specs.Represents.{Represents}
-use Rattle.dn_game.specs.RoundEvents.{rounds_events}
-use Rattle.dn_game.specs.Rounds.{pressed_by, IsUnsent, IsCutShort}
+use Rattle.dn_machine.specs.{Progress.good_rounds, Worlds.rules_of}
+use Rattle.dn_game.specs.{Contents.contents, Represents.Represents, RoundEvents.rounds_events, Rounds.{pressed_by, IsUnsent, IsCutShort}}
 use Rattle.dn_world.specs.Plane.{walking}
 use Rattle.dn_netgame.proofs.calm.calm_down.Goals as goal
 

@@ -2,8 +2,7 @@ use Rattle.std.proofs.Common.{rules, ◌≡◌, ◌≤◌, ◌<◌, ◌+◌, ◌
 use Rattle.std.proofs.lemmas.List.{length-take}
 use Rattle.std.proofs.KnownBytes.{Consumes-trans}
 use Rattle.dn_world.specs.Plane.{walking}
-use Rattle.dn_netgame.proofs.Pieces.{fewer_more}
-use Rattle.dn_netgame.proofs.FeedPieces.{fed_more, up_to_more, up_to_full}
+use Rattle.dn_netgame.proofs.{Pieces.fewer_more, FeedPieces.{fed_more, up_to_more, up_to_full}}
 use Rattle.dn_netgame.proofs.feeding.feed_demo.Goals as goal
 
 pub returns-in_err-count-clause-fewer : goal.returns-in_err-count-clause-fewer
@@ -48,7 +47,4 @@ loop-piece-preserved g c =
     )
 
 pub returns-clause-shown : goal.returns-clause-shown
-returns-clause-shown g c =
-    let so_far = c.loop-piece.invariant in
-    let full : length so_far.0 ≡ 33554433 = omega (arith, so_far.1, so_far.3.taken) in
-    (so_far.0, up_to_full _ _ so_far.0 33554433 full so_far.2, so_far.3)
+returns-clause-shown g c = grind (arith, up_to_full)

@@ -1,7 +1,6 @@
 use Rattle.std.proofs.Common.{rules, ◌≡◌, ℕ, length, subst}
 use Rattle.dn_world.specs.Plane.{walking}
-use Rattle.dn_game.specs.Observed.{IsStormedObserved}
-use Rattle.dn_game.specs.Opening.{rules_in}
+use Rattle.dn_game.specs.{Observed.IsStormedObserved, Opening.rules_in}
 use Rattle.dn_netgame.proofs.games.storm_walks.Goals as goal
 
 pub returns-in-Ok : goal.returns-in-Ok

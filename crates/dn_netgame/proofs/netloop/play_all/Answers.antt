@@ -1,10 +1,7 @@
 use Rattle.std.proofs.Common.{◌≡◌, inr, ℕ, List, length, refl, ap, sym, ◌∙◌, subst}
 use Rattle.dn_world.specs.Plane.{Spots, walking}
-use Rattle.dn_netgame.specs.Lines.Udp.{Ports, UdpSends, UdpPolls}
+use Rattle.dn_netgame.specs.{Lines.Udp.{Ports, UdpSends, UdpPolls}, Turning.Rounds.{AreSeated, TakeRounds}, LoopShown.{new_seats, HavePlayed}, PlayShown.failures}
 use Rattle.dn_node.specs.declared.node.Node.{Node}
-use Rattle.dn_netgame.specs.Turning.Rounds.{AreSeated, TakeRounds}
-use Rattle.dn_netgame.specs.LoopShown.{new_seats, HavePlayed}
-use Rattle.dn_netgame.specs.PlayShown.{failures}
 use Rattle.dn_netgame.proofs.Together.{together}
 use Rattle.dn_netgame.proofs.netloop.play_all.Goals as goal
 

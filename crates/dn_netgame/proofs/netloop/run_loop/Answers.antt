@@ -1,7 +1,6 @@
 use Rattle.std.proofs.Common.{inl, refl}
 use Rattle.std.specs.String.{string_bytes}
-use Rattle.dn_netgame.proofs.Printing.{prints_such}
-use Rattle.dn_netgame.proofs.Together.{played}
+use Rattle.dn_netgame.proofs.{Showing.prints_such, Together.played}
 use Rattle.dn_netgame.proofs.netloop.run_loop.Goals as goal
 
 pub returns-in_default : goal.returns-in_default

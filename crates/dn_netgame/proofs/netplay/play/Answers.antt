@@ -1,9 +1,7 @@
 use Rattle.std.proofs.Common.{◌≡◌, ◌<◌, length, slice_index_or, ◌∙◌, subst, arith}
 use Rattle.std.proofs.lemmas.Option.{slice_get-get_or}
 use Rattle.dn_world.specs.Plane.{Spots, walking}
-use Rattle.dn_netgame.specs.Lines.Udp.{Ports, UdpSends, UdpPolls}
-use Rattle.dn_netgame.specs.Turning.Rounds.{Seat}
-use Rattle.dn_netgame.specs.PlayShown.{failures, new_seat, PlaysOut}
+use Rattle.dn_netgame.specs.{Lines.Udp.{Ports, UdpSends, UdpPolls}, Turning.Rounds.Seat, PlayShown.{failures, new_seat, PlaysOut}}
 use Rattle.dn_netgame.proofs.Alone.{alone}
 use Rattle.dn_netgame.proofs.netplay.play.Goals as goal
 

@@ -1,14 +1,9 @@
 use Rattle.std.proofs.Common.{◌≡◌, ◌<◌, ℕ, length, refl, ◌∙◌, subst, arith}
-use Rattle.std.proofs.lemmas.List.{length-set}
-use Rattle.std.proofs.lemmas.Option.{slice_get_read}
-use Rattle.dn_machine.specs.Node.{put}
-use Rattle.dn_machine.specs.Running.{on_quit}
-use Rattle.dn_node.specs.declared.node.Node.{Node}
-use Rattle.dn_node.specs.Contents.{contents}
-use Rattle.dn_node.specs.Represents.{Represents}
-use Rattle.dn_netgame.specs.Turning.Rounds.{Seat, TakeRounds, rules_at}
-use Rattle.dn_netgame.proofs.Turning.Places.{seated_with}
-use Rattle.dn_netgame.specs.PlayShown.{with_quit}
+use Rattle.std.proofs.lemmas.{List.length-set, Option.slice_get_read}
+use Rattle.dn_machine.specs.{Node.put, Running.on_quit}
+use Rattle.dn_node.specs.{declared.node.Node.Node, Contents.contents, Represents.Represents}
+use Rattle.dn_netgame.specs.{Turning.Rounds.{Seat, TakeRounds, rules_at}, PlayShown.with_quit}
+use Rattle.dn_netgame.proofs.Turning.Tics.{seated_with}
 use Rattle.dn_netgame.proofs.netplay.play_out.Goals as goal
 
 pub returns : goal.returns

@@ -1,10 +1,7 @@
 use Rattle.std.proofs.Common.{rules, ◌≡◌, length, take, arith, Err}
-use Rattle.std.specs.String.{string_bytes}
-use Rattle.std.specs.Io.KnownBytes.{Appends}
-use Rattle.dn_netgame.specs.Transfer.{AppendsFront}
-use Rattle.dn_netgame.specs.declared.fault.RunFault.TheVariants.{Write}
-use Rattle.dn_netgame.proofs.FeedPieces.{up_to_full}
-use Rattle.dn_netgame.proofs.RowPieces.{lists_whole, lists_more, lists_all, lists_front}
+use Rattle.std.specs.{String.string_bytes, Io.KnownBytes.Appends}
+use Rattle.dn_netgame.specs.{Transfer.AppendsFront, declared.fault.RunFault.TheVariants.Write}
+use Rattle.dn_netgame.proofs.{FeedPieces.up_to_full, RowPieces.{lists_whole, lists_more, lists_all, lists_front}}
 use Rattle.dn_netgame.proofs.rows.list_rows.Goals as goal
 
 pub returns-in_err-count-clause-fails : goal.returns-in_err-count-clause-fails
@@ -57,7 +54,4 @@ loop-alloc-preserved g c =
     (grind (arith, size, c.min-room.ensures))
 
 pub returns-clause-shown : goal.returns-clause-shown
-returns-clause-shown g c =
-    let so_far = c.loop-alloc.invariant in
-    let full : length so_far.0 ≡ 33554433 = omega (arith, so_far.1.0, c.loop-alloc-test.false, so_far.3.taken) in
-    (so_far.0, up_to_full _ _ so_far.0 33554433 full so_far.2, so_far.3, (so_far.4.0, so_far.4.1, so_far.4.3))
+returns-clause-shown g c = grind (arith, up_to_full)

@@ -1,11 +1,7 @@
 use Rattle.std.proofs.Common.{rules, ◌≡◌, ◌++◌, ℕ, List, [], sym, subst, inr, arith, append-nil, Err}
-use Rattle.std.specs.String.{string_bytes}
-use Rattle.std.specs.Io.KnownBytes.{Appends, Consumes}
+use Rattle.std.specs.{String.string_bytes, Io.KnownBytes.{Appends, Consumes}}
 use Rattle.std.proofs.KnownBytes.{Appends-trans}
-use Rattle.dn_netgame.specs.Texts.RowLines.{lines_of_rows}
-use Rattle.dn_netgame.specs.RowsShown.{ListsWhole}
-use Rattle.dn_netgame.specs.Transfer.{AppendsFront}
-use Rattle.dn_netgame.specs.declared.fault.RunFault.TheVariants.{Write}
+use Rattle.dn_netgame.specs.{Texts.RowLines.lines_of_rows, RowsShown.ListsWhole, Transfer.AppendsFront, declared.fault.RunFault.TheVariants.Write}
 use Rattle.dn_netgame.proofs.RowPieces.{are_rows, rows_shown, front_behind}
 use Rattle.dn_netgame.proofs.rows.run_rows.Goals as goal
 

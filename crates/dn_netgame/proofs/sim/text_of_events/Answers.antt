@@ -2,8 +2,7 @@ use Rattle.std.proofs.Common.{rules, ◌≡◌, ℕ, length, refl, subst}
 use Rattle.std.proofs.lemmas.Result.{IfOk-weaker}
 use Rattle.std.specs.String.{string_bytes}
 use Rattle.dn_world.specs.Plane.{walking}
-use Rattle.dn_game.specs.Observed.{IsPlayedObserved}
-use Rattle.dn_game.specs.Opening.{rules_in}
+use Rattle.dn_game.specs.{Observed.IsPlayedObserved, Opening.rules_in}
 use Rattle.dn_netgame.specs.SimShown.{ArePlayed}
 use Rattle.dn_netgame.proofs.sim.text_of_events.Goals as goal
 

@@ -1,15 +1,11 @@
-use Rattle.std.proofs.Common.{ap}
-use Rattle.dn_machine.specs.Node.{is_ended}
+use Rattle.std.proofs.Common.{arith}
 use Rattle.dn_machine.specs.Worlds.{rules_within}
 use Rattle.dn_lockstep.proofs.Replaying.{read_back}
-use Rattle.dn_node.specs.Contents.{locked}
 use Rattle.dn_node.proofs.Replaying.{world_played, world_recorded}
 use Rattle.dn_node.proofs.laws.ended_demos_replay.Goals as goal
 
 pub returns-clause-read : goal.returns-clause-read
-returns-clause-read g c limits me n m settings cause r played ended known =
-    read_back limits me (locked n) m settings r.lockstep played
-    known (ap is_ended ended)
+returns-clause-read g c limits me n m settings cause r played ended known = grind (arith, read_back)
 
 pub returns-clause-world : goal.returns-clause-world
 returns-clause-world g c limits me n m settings r played known =

@@ -1,5 +1,4 @@
-use Rattle.std.proofs.Common.{rules, ◌≡◌, ◌+◌, ◌%◌, ◌^◌, ◌++◌, ◌∙◌, ℕ, List, length, ap, sym, arith}
-use Rattle.std.proofs.lemmas.List.{length_push}
+use Rattle.std.proofs.{Common.{rules, ◌≡◌, ◌+◌, ◌%◌, ◌^◌, ◌++◌, ◌∙◌, ℕ, List, length, ap, sym, arith}, lemmas.List.length_push}
 use Rattle.dn_tic.specs.declared.command.TicCmd.{TicCmd}
 use Rattle.dn_packet.specs.Text.{words, weighted}
 use Rattle.dn_packet.proofs.Pairs.{sum_goes_on, one_more_read}

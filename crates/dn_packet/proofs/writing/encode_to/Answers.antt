@@ -1,7 +1,5 @@
 use Rattle.std.proofs.Common.{ap, ◌∙◌, subst, append-nil}
-use Rattle.dn_packet.specs.declared.packet.Packet.{Packet}
-use Rattle.dn_packet.specs.Text.{text, packet_with}
-use Rattle.dn_packet.specs.Written.{IsWritten}
+use Rattle.dn_packet.specs.{declared.packet.Packet.Packet, Text.{text, packet_with}, Written.IsWritten}
 use Rattle.dn_packet.proofs.writing.encode_to.Goals as goal
 
 pub returns : goal.returns

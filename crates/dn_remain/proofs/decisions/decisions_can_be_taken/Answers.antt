@@ -1,11 +1,8 @@
 -- The game in which the node has given up the player, or has the report, has a history.
 use Rattle.dn_machine.specs.Worlds.{rules_within}
-use Rattle.dn_remain.specs.Remaining.{wary_of}
-use Rattle.dn_remain.specs.Wary.{with_gone, with_report}
+use Rattle.dn_remain.specs.{Remaining.wary_of, Wary.with_gone, Wary.with_report}
 use Rattle.dn_remain.proofs.Histories
-use Rattle.dn_remain.proofs.News.{gives, here, keeps, noted}
-use Rattle.dn_remain.proofs.Reached.{reached_by}
-use Rattle.dn_remain.proofs.Taken.{taken_of}
+use Rattle.dn_remain.proofs.{News.gives, News.here, News.keeps, News.noted, Reached.reached_by, Taken.taken_of}
 use Rattle.dn_remain.proofs.decisions.decisions_can_be_taken.Goals as goal
 
 pub returns-clause-given_up : goal.returns-clause-given_up

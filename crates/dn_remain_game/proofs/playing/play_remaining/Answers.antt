@@ -2,9 +2,7 @@ use Rattle.std.proofs.Common.{[], ◌∷◌, ◌++◌, take, ap, refl, sym, ◌�
 use Rattle.std.proofs.lemmas.List.{take_all, take_more}
 use Rattle.dn_remain.specs.declared.events.RemainEvent.{RemainEvent}
 use Rattle.dn_remain_game.specs.Contents.{contents}
-use Rattle.dn_remain_game.proofs.Counting.{given_more, has_played, played_more}
-use Rattle.dn_remain_game.proofs.Given.{given_opens}
-use Rattle.dn_remain_game.proofs.Whose.{limits_stay}
+use Rattle.dn_remain_game.proofs.{Counting.given_more, Counting.has_played, Counting.played_more, Counting.given_opens, Rest.limits_stay}
 use Rattle.dn_remain_game.proofs.playing.play_remaining.Goals as goal
 
 pub loop-event-init : goal.loop-event-init

@@ -1,10 +1,6 @@
 use Rattle.std.proofs.Common.{◌≡◌, ◌+◌, length, take}
-use Rattle.dn_remain_game.specs.Contents.{contents}
-use Rattle.dn_remain_game.specs.Frame.{KeepGiven}
-use Rattle.dn_remain_game.specs.Fresh.{AreLimited}
+use Rattle.dn_remain_game.specs.{Contents.contents, Frame.KeepGiven, Fresh.AreLimited, Promised.IsPlayed, Room.IsWithinTwice}
 use Rattle.dn_game.specs.Opening.{rules_in}
-use Rattle.dn_remain_game.specs.Promised.{IsPlayed}
-use Rattle.dn_remain_game.specs.Room.{IsWithinTwice}
 use Rattle.dn_remain_game.proofs.playing.play_remaining.Given as goal
 
 abbrev pub invariant-loop-event : goal.invariant-loop-event

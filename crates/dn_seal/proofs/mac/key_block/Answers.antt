@@ -1,6 +1,4 @@
-use Rattle.std.proofs.Common.{rules, length, arith}
-use Rattle.std.proofs.lemmas.List.{drop-replicate}
-use Rattle.std.proofs.lemmas.Bool.{le-ltb}
+use Rattle.std.proofs.{Common.{rules, length, arith}, lemmas.List.drop-replicate, lemmas.Bool.le-ltb}
 use Rattle.dn_seal.proofs.mac.key_block.Goals as goal
 
 pub returns-else-key-gt-BLOCK : goal.returns-else-key-gt-BLOCK

@@ -1,7 +1,5 @@
-use Rattle.std.proofs.Common.{◌≡◌, ◌++◌, ◌∷◌, [], ℕ, List, slice_index_or, ap, sym, ◌∙◌, arith}
-use Rattle.std.specs.Prelude.{bit_xor, bit_or}
-use Rattle.std.specs.Int.Bits.{xor_self}
-use Rattle.std.proofs.lemmas.List.{take_more}
+use Rattle.std.proofs.{Common.{◌≡◌, ◌++◌, ◌∷◌, [], ℕ, List, slice_index_or, ap, sym, ◌∙◌, arith}, lemmas.List.take_more}
+use Rattle.std.specs.{Prelude.{bit_xor, bit_or}, Int.Bits.xor_self}
 use Rattle.dn_seal.proofs.Turning.{same_bits, none_left, none_right}
 use Rattle.dn_seal.proofs.tag.is_same.Goals as goal
 

@@ -1,4 +1,4 @@
-use Rattle.dn_survivor.proofs.Refusing.{gave_up, own_heard, own_stays, reported}
+use Rattle.dn_survivor.proofs.Refusing.{gave_up, reported}
 use Rattle.dn_survivor.proofs.laws.ends_are_refused_for_reasons.Goals as goal
 
 pub returns-clause-gave_up : goal.returns-clause-gave_up
@@ -8,9 +8,3 @@ returns-clause-gave_up c limits me old new node player other reason mine r own =
 pub returns-clause-reported : goal.returns-clause-reported
 returns-clause-reported c limits me old new node from other report reason mine r own =
     reported old new from report limits me node other reason mine r own
-
-pub returns-clause-own : goal.returns-clause-own
-returns-clause-own c = own_stays
-
-pub returns-clause-own_heard : goal.returns-clause-own_heard
-returns-clause-own_heard c = own_heard

@@ -1,5 +1,4 @@
-use Rattle.std.proofs.Common.{◌∙◌, ◌-ℤ◌}
-use Rattle.dn_tic.specs.Pressed.{amount_if}
+use Rattle.std.proofs.Common.{arith}
 use Rattle.dn_tic.proofs.Pressing.{IsOpposed, is_opposed}
 use Rattle.dn_tic.proofs.moves.opposed.Goals as goal
 
@@ -14,10 +13,4 @@ pub overflow_mul-result : goal.overflow_mul-result
 overflow_mul-result c = (product_is c).product_fits
 
 pub returns : goal.returns
-returns c =
-    let amount = c.args.amount in let is = product_is c in
-    record {
-      value = is.value ∙ (λ i. amount_if (c.is_down.ensures i) amount -ℤ amount_if (c.is_down-2.ensures i) amount);
-      low = is.low;
-      high = is.high;
-    }
+returns c = grind (arith, product_is)

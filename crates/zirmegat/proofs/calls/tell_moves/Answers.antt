@@ -1,7 +1,6 @@
 use Rattle.std.proofs.Common.{◌≡◌, List, [], ◌∷◌, length, map, get_or, Option, None, arith}
 use Rattle.dn_tic.specs.declared.command.Move.{Move}
-use Rattle.zirmegat.specs.declared.answers.MoveAnswer.{MoveAnswer}
-use Rattle.zirmegat.specs.Answers.{move_told}
+use Rattle.zirmegat.specs.{declared.answers.MoveAnswer.MoveAnswer, Answers.move_told}
 use Rattle.zirmegat.proofs.calls.tell_moves.Goals as goal
 
 -- four seats, told one by one

@@ -1,6 +1,5 @@
 use Rattle.std.proofs.Common.{sym, subst}
-use Rattle.dn_link.specs.declared.link.Link.{Link}
-use Rattle.dn_link.specs.Linking.{linked}
+use Rattle.dn_link.specs.{declared.link.Link.Link, Linking.linked}
 use Rattle.zirmegat.specs.Opening.{IsFresh}
 use Rattle.zirmegat.proofs.links.boxed.Goals as goal
 

@@ -1,8 +1,7 @@
 use Rattle.std.proofs.Common.{◌≡◌, sym, ap, ◌∙◌, subst}
 use Rattle.std.specs.Prelude.{Option, Some, None, IfSome}
 use Rattle.std.specs.Option.{option_map}
-use Rattle.dn_lockstep.specs.Contents.{Contents}
-use Rattle.dn_lockstep.specs.declared.config.Config.{Config}
+use Rattle.dn_lockstep.specs.{Contents.Contents, declared.config.Config.Config}
 use Rattle.zirmegat.specs.Links.{IsNew, Joined, joined_of, link_of}
 use Rattle.zirmegat.proofs.Opening.{opens_made, opens_none}
 use Rattle.zirmegat.proofs.links.open.Goals as goal

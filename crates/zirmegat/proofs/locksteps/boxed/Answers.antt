@@ -1,6 +1,5 @@
 use Rattle.std.proofs.Common.{sym, subst}
-use Rattle.dn_lockstep.specs.declared.lockstep.Lockstep.{Lockstep}
-use Rattle.dn_lockstep.specs.Contents.{contents}
+use Rattle.dn_lockstep.specs.{declared.lockstep.Lockstep.Lockstep, Contents.contents}
 use Rattle.zirmegat.specs.Opening.{IsFresh}
 use Rattle.zirmegat.proofs.locksteps.boxed.Goals as goal
 

@@ -1,6 +1,5 @@
 use Rattle.std.proofs.Common.{ℕ, List, ◌∙◌, ap, subst}
-use Rattle.dn_packet.specs.Text.{text}
-use Rattle.dn_packet.specs.Written.{IsWritten}
+use Rattle.dn_packet.specs.{Text.text, Written.IsWritten}
 use Rattle.zirmegat.proofs.packets.zmg_packet_encode.Goals as goal
 
 pub returns-clause-written : goal.returns-clause-written

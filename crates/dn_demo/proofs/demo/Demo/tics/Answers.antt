@@ -1,8 +1,5 @@
 use Rattle.std.proofs.Common.{◌≡◌, ◌/◌, ◌∙◌, sym, ap, rules}
-use Rattle.dn_demo.specs.Layout.{layout_of}
-use Rattle.dn_demo.specs.Rows.{player_count}
-use Rattle.dn_demo.specs.Places.{commands_in, seats_in}
-use Rattle.dn_demo.specs.Reading.{Recording}
+use Rattle.dn_demo.specs.{Layout.layout_of, Rows.player_count, Places.commands_in, Places.seats_in, Reading.Recording}
 use Rattle.dn_demo.proofs.Kept.{length-rows}
 use Rattle.dn_demo.proofs.demo.Demo.tics.Goals as goal
 

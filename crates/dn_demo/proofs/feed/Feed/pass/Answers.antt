@@ -1,5 +1,5 @@
 use Rattle.std.proofs.Common.{rules}
-use Rattle.dn_demo.proofs.FeedSteps.{pass_marked, pass_unread}
+use Rattle.dn_demo.proofs.FeedKept.{pass_marked, pass_unread}
 use Rattle.dn_demo.proofs.feed.Feed.pass.Goals as goal
 
 pub returns-then-self-clause-shown : goal.returns-then-self-clause-shown

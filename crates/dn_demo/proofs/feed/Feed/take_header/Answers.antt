@@ -1,7 +1,6 @@
 use Rattle.std.proofs.Common.{rules, ◌+◌, ◌∙◌, take, set}
-use Rattle.dn_demo.specs.Layout.{Layout}
-use Rattle.dn_demo.specs.Reading.{HasHeader}
-use Rattle.dn_demo.proofs.FeedSteps.{header_taken}
+use Rattle.dn_demo.specs.{Layout.Layout, Reading.HasHeader}
+use Rattle.dn_demo.proofs.FeedKept.{header_taken}
 use Rattle.dn_demo.proofs.feed.Feed.take_header.Goals as goal
 
 pub returns-then-is_some-clause-shown : goal.returns-then-is_some-clause-shown

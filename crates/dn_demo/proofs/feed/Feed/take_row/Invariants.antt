@@ -1,7 +1,5 @@
 use Rattle.std.proofs.Common.{◌≡◌, ◌<◌, ◌⊎◌, false, length}
-use Rattle.dn_demo.specs.Layout.{layout_of}
-use Rattle.dn_demo.specs.Reading.{HasHeader}
-use Rattle.dn_demo.specs.Feeding.{TakesFront}
+use Rattle.dn_demo.specs.{Layout.layout_of, Reading.HasHeader, Feeding.TakesFront}
 use Rattle.dn_demo.proofs.feed.Feed.take_row.Given as goal
 
 abbrev pub invariant-loop-byte : goal.invariant-loop-byte

@@ -1,13 +1,7 @@
-use Rattle.std.proofs.Common.{◌<◌, Ok, [], append-nil, inl, refl, ap, sym, ◌∙◌, subst, arith, length}
-use Rattle.dn_machine.specs.declared.events.Done.{Done}
-use Rattle.dn_machine.specs.Game.{refused}
-use Rattle.dn_machine.specs.Worlds.{rules_of}
-use Rattle.dn_game.specs.Contents.{contents}
-use Rattle.dn_game.specs.Applied.{IsAddressed}
-use Rattle.dn_game.specs.Frame.{named_by}
-use Rattle.dn_game.proofs.Applying.{after_refused, after_event, after_send, stops}
-use Rattle.dn_game.proofs.Framing.{rest_all, rest_as, rest_same, rest_step, run_keeps}
-use Rattle.dn_game.proofs.OpenAnswering.{leads_on, step_leads}
+use Rattle.std.proofs.Common.{◌<◌, append-nil, inl, refl, ap, sym, ◌∙◌, subst, arith, length}
+use Rattle.dn_machine.specs.{declared.events.Done.Done, Game.refused, Worlds.rules_of}
+use Rattle.dn_game.specs.{Contents.contents, Applied.IsAddressed, Frame.named_by}
+use Rattle.dn_game.proofs.{Applying.{after_refused, after_event, after_send, stops}, Framing.{rest_all, rest_as, rest_same, rest_step, run_keeps}, OpenAnswering.{leads_on, step_leads}}
 use Rattle.dn_node.proofs.Whose.{whose_step}
 use Rattle.dn_game.proofs.game.Game.apply.Goals as goal
 
@@ -89,11 +83,7 @@ pub returns-in-Some-clause-rest : goal.returns-in-Some-clause-rest
 returns-in-Some-clause-rest g c = rest_same _ _ _ _ refl
 
 pub returns-in-Send-clause-rest : goal.returns-in-Send-clause-rest
-returns-in-Send-clause-rest g c = rest_as _ _ _ _ _ c.in-Send.is (record {
-  others = c.send.ensures.others;
-  worlds = λ moves. c.send.ensures.worlds;
-  more = c.send.ensures.more;
-})
+returns-in-Send-clause-rest g c = grind (arith, rest_as)
 
 pub returns-in-Build-clause-rest : goal.returns-in-Build-clause-rest
 returns-in-Build-clause-rest g c =
@@ -106,11 +96,7 @@ returns-in-Give-clause-rest g c =
     (λ moves. c.give.ensures.world)
 
 pub returns-in-Deliver-clause-rest : goal.returns-in-Deliver-clause-rest
-returns-in-Deliver-clause-rest g c = rest_as _ _ _ _ (Ok (Done.Heard c.deliver.result)) c.in-Deliver.is (record {
-  others = c.deliver.ensures.others;
-  worlds = c.deliver.ensures.worlds;
-  more = ([], c.deliver.ensures.flights ∙ sym (append-nil _));
-})
+returns-in-Deliver-clause-rest g c = grind (arith, rest_as, append-nil)
 
 pub returns-in-Run-clause-rest : goal.returns-in-Run-clause-rest
 returns-in-Run-clause-rest g c =

@@ -1,7 +1,6 @@
 use Rattle.std.proofs.Common.{◌≡◌, Err, rules}
 use Rattle.dn_machine.specs.Worlds.{rules_of}
-use Rattle.dn_game.proofs.Framing.{arrival_leaves, rest_same, own_rest}
-use Rattle.dn_game.proofs.OpenAnswering.{own_applied, own_refused, arrival_applied, arrival_refused, carries_open}
+use Rattle.dn_game.proofs.{Framing.{arrival_leaves, rest_same, own_rest}, OpenAnswering.{own_applied, own_refused, arrival_applied, arrival_refused, carries_open}}
 use Rattle.dn_game.proofs.game.Game.apply_open.Goals as goal
 
 pub returns-in_ok-apply-in-Own-clause-applied : goal.returns-in_ok-apply-in-Own-clause-applied

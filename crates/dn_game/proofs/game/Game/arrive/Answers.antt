@@ -1,13 +1,8 @@
-use Rattle.std.proofs.Common.{ℕ, List, Ok, refl, ap, sym, ◌∙◌, subst, arith}
-use Rattle.dn_machine.specs.Worlds.{rules_of}
-use Rattle.dn_machine.specs.declared.answers.Heard.{Heard}
-use Rattle.dn_open.specs.declared.arrived.Arrived.{Arrived}
+use Rattle.std.proofs.Common.{ℕ, List, refl, sym, ◌∙◌, subst, arith}
+use Rattle.dn_machine.specs.{Worlds.rules_of}
 use Rattle.dn_packet.specs.Read.{IsReadAs}
 use Rattle.dn_game.specs.Contents.{contents}
-use Rattle.dn_game.proofs.OpenArriving.{only_at, comes_to_nobody, unopened, late, unlike, hears}
-use Rattle.dn_game.proofs.Framing.{others_step, worlds_step, holds_step}
-use Rattle.dn_game.proofs.OpenAnswering.{carries_arrival}
-use Rattle.dn_game.proofs.Standing.{node_at}
+use Rattle.dn_game.proofs.{OpenArriving.{only_at, comes_to_nobody, unopened, late, unlike, hears}, Framing.{others_step, worlds_step, holds_step}, OpenAnswering.carries_arrival, Standing.node_at}
 use Rattle.dn_node.proofs.Whose.{whose_step}
 use Rattle.dn_game.proofs.game.Game.arrive.Goals as goal
 
@@ -57,12 +52,7 @@ pub returns-clause-whose : goal.returns-clause-whose
 returns-clause-whose g c = whose_step _ _ _ _ c.index_mut.ensures.value c.receive-heard.ensures.any.same
 
 pub returns-clause-spared : goal.returns-clause-spared
-returns-clause-spared g c number dropped =
-    record {
-      nodes = holds_step _ _ _ _ c.index_mut.ensures.value (c.receive-heard.ensures.dropped number dropped);
-      stopped = refl;
-      flights = refl;
-    }
+returns-clause-spared g c number dropped = grind (arith, holds_step)
 
 pub returns-in-Some-clause-carried : goal.returns-in-Some-clause-carried
 returns-in-Some-clause-carried g c =
@@ -88,6 +78,4 @@ pub returns-clause-others : goal.returns-clause-others
 returns-clause-others g c i apart = others_step _ _ _ _ refl i apart
 
 pub returns-clause-worlds : goal.returns-clause-worlds
-returns-clause-worlds g c quiet =
-    worlds_step _ _ _ _ c.index_mut.ensures.value
-    (c.receive-heard.ensures.world (λ same. quiet (ap (λ (heard : Heard). Ok (Arrived.Heard heard)) same)))
+returns-clause-worlds g c quiet = grind (arith, worlds_step)

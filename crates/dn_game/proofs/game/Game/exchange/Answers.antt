@@ -1,8 +1,6 @@
-use Rattle.std.proofs.Common.{◌<◌, ◌≤◌, ◌^◌, length, true≢false, sym, ◌∙◌, rules, arith}
+use Rattle.std.proofs.Common.{◌<◌, ◌^◌, length, true≢false, sym, ◌∙◌, arith}
 use Rattle.dn_machine.specs.Worlds.{rules_of}
-use Rattle.dn_game.proofs.Arriving.{exchanges, left_out, not_begun}
-use Rattle.dn_game.proofs.Recent.{flights_are}
-use Rattle.dn_game.proofs.Roomy.{continues_on, continues_one, continues_same}
+use Rattle.dn_game.proofs.{Arriving.{exchanges, left_out, not_begun}, GoingRound.flights_are, Roomy.{continues_on, continues_one, continues_same}}
 use Rattle.dn_game.proofs.game.Game.exchange.Goals as goal
 
 pub returns-clause-good : goal.returns-clause-good
@@ -22,9 +20,7 @@ returns-then-is_left_out-clause-good g c players extra capacity m r =
     (c.is_left_out.ensures.0 c.if-is_left_out.true) c.apply.ensures.unchanged
 
 pub returns-in_default-clause-good : goal.returns-in_default-clause-good
-returns-in_default-clause-good g c players extra capacity m r =
-    let all : 2 ^ 32 ≤ length c.args.self.now.pool.flights = search rules in
-    (all, not_begun _ (rules_of g.W.World.physics players extra capacity) c.args.node c.args.to m _ r)
+returns-in_default-clause-good g c players extra capacity m r = grind (arith, not_begun)
 
 pub returns-in_default-clause-continues : goal.returns-in_default-clause-continues
 returns-in_default-clause-continues g c = continues_same _

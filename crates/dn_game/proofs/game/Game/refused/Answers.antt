@@ -1,9 +1,8 @@
 use Rattle.std.proofs.Common.{◌≡◌, true, ℕ, ap, sym, ◌∙◌}
 use Rattle.std.specs.Prelude.{nat_lt}
 use Rattle.dn_machine.specs.Game.{refused}
-use Rattle.dn_game.proofs.Refusing.{refused_send, refused_own}
+use Rattle.dn_game.proofs.{Refusing.{refused_send, refused_own}, game.Game.refused.Goals.{in-Build, in-Build-2, in-Build-3, in-Build-4, in-Build-5}}
 use Rattle.dn_game.proofs.game.Game.refused.Goals as goal
-use Rattle.dn_game.proofs.game.Game.refused.Goals.{in-Build, in-Build-2, in-Build-3, in-Build-4, in-Build-5}
 
 pub returns-in-Send-2-clause-told : goal.returns-in-Send-2-clause-told
 returns-in-Send-2-clause-told g c players extra capacity m r =

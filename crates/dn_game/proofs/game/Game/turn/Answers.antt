@@ -1,14 +1,7 @@
 use Rattle.std.proofs.Common.{◌∙◌, rules, ◌≡◌, ◌<◌, [], ◌∷◌, Err, refl, arith}
-use Rattle.dn_machine.specs.declared.events.Event.TheVariants.{Run}
-use Rattle.dn_machine.specs.Game.{Game}
-use Rattle.dn_machine.specs.Progress.{after, build_of, in_order, exchange, turn}
-use Rattle.dn_machine.specs.Worlds.{rules_of}
-use Rattle.dn_game.specs.Contents.{contents}
-use Rattle.dn_game.specs.RoundEvents.{events_in_order, exchange_events}
-use Rattle.dn_game.proofs.Rounding.{after_exchange}
-use Rattle.dn_game.proofs.Arriving.{after_other, build_idle, built, goes_on, ends, ended, turn_idle, within}
-use Rattle.dn_game.proofs.Idling.{flights_on, idle_one}
-use Rattle.dn_game.proofs.Roomy.{continues_on, continues_one, continues_same}
+use Rattle.dn_machine.specs.{declared.events.Event.TheVariants.Run, Game.Game, Progress.{after, build_of, in_order, exchange, turn}, Worlds.rules_of}
+use Rattle.dn_game.specs.{Contents.contents, RoundEvents.{events_in_order, exchange_events}}
+use Rattle.dn_game.proofs.{Rounding.{after_exchange, flights_on, idle_one}, Arriving.{after_other, build_idle, built, goes_on, ends, ended, turn_idle, within}, Roomy.{continues_on, continues_one, continues_same}}
 use Rattle.dn_game.proofs.game.Game.turn.Goals as goal
 
 pub loop-to-init : goal.loop-to-init

@@ -1,9 +1,7 @@
 use Rattle.std.proofs.Common.{rules, ◌≡◌, [], ◌∷◌, ◌++◌, length, ap, sym, ◌∙◌, arith, length-append}
 use Rattle.std.specs.Prelude.{◌==◌}
-use Rattle.std.proofs.lemmas.Bool.{cond-true, eq-eqb}
-use Rattle.std.proofs.lemmas.List.Elements.{All-push}
-use Rattle.dn_lockstep.specs.declared.config.Config.{Config}
-use Rattle.dn_lockstep.specs.Contents.{Whose}
+use Rattle.std.proofs.lemmas.{Bool.{cond-true, eq-eqb}, List.Elements.All-push}
+use Rattle.dn_lockstep.specs.{declared.config.Config.Config, Contents.Whose}
 use Rattle.dn_game.specs.Opening.{rules_in}
 use Rattle.dn_game.proofs.Freshening.{each_more, given_more, given_all}
 use Rattle.dn_game.proofs.game.opening.nodes_of.Goals as goal

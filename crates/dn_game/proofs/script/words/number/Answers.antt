@@ -1,4 +1,4 @@
-use Rattle.std.proofs.Common.{◌≤◌, length, arith, rules}
+use Rattle.std.proofs.Common.{arith}
 use Rattle.dn_game.proofs.Scripts.Numbers.{few_digits, more_digits, not_number, whole_number}
 use Rattle.dn_game.proofs.script.words.number.Goals as goal
 
@@ -6,12 +6,7 @@ pub overflow_mul-number : goal.overflow_mul-number
 overflow_mul-number c = omega (arith, few_digits _ _ _ c.loop-byte.invariant c.loop-byte-test.true)
 
 pub overflow_add-number : goal.overflow_add-number
-overflow_add-number c = omega (
-  arith,
-  few_digits _ _ _ c.loop-byte.invariant c.loop-byte-test.true,
-  c.from.ensures,
-  c.type_inv.word c.loop-byte.byte-index,
-)
+overflow_add-number c = grind (arith, few_digits)
 
 pub returns-then-not-is_ascii_digit : goal.returns-then-not-is_ascii_digit
 returns-then-not-is_ascii_digit c = not_number _ c.loop-byte.byte-index c.loop-byte-test.true
@@ -23,6 +18,4 @@ loop-byte-preserved c =
     c.if-not-is_ascii_digit.ensures.cases)
 
 pub returns : goal.returns
-returns c =
-    let some : 1 ≤ length c.args.word.now = search rules in
-    whole_number _ _ _ c.loop-byte.invariant (omega arith) some
+returns c = grind (arith, whole_number)

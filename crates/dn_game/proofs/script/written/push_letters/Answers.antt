@@ -1,34 +1,38 @@
-use Rattle.std.proofs.Common.{◌≡◌, ◌<◌, ◌+◌, ℕ, List, [], ◌∷◌, ◌++◌, get_or, take, append-nil, ap, sym, ◌∙◌, subst, arith}
-use Rattle.std.specs.String.{string_bytes}
-use Rattle.std.specs.declared.alloc.Global.{Global}
-use Rattle.std.specs.declared.string.String.{String}
-use Rattle.std.proofs.lemmas.Bool.{cond-true, cond-false, eq-eqb, ne_eqb}
-use Rattle.dn_game.specs.Scripts.Words.{letters}
-use Rattle.dn_game.specs.Scripts.Written.{letters_down}
-use Rattle.dn_game.proofs.Scripts.Letters.{letter_more, letter_small}
+-- One letter more of the keys.
+use Rattle.std.proofs.Common.{◌≡◌, ◌<◌, ◌+◌, ℕ, Bool, true, eqb, cond, List, [], ◌∷◌, ◌++◌, get_or, take, append_assoc, refl, sym, ap, ◌∙◌, append-nil, arith}
+use Rattle.std.specs.{Prelude.nat_lt, Int.bit_at}
+use Rattle.std.proofs.lemmas.{Bool.{agree_below_at, cond-true, cond-false, eq-eqb, ne_eqb}, List.Elements.filter_more}
+use borrow.Author.Tests.{ltb-true}
+use Rattle.dn_game.specs.{Scripts.Words.{letters, place_in_letters}, Scripts.Written.{is_down_at, letters_down}}
+use Rattle.dn_game.proofs.{Scripts.Keys.letter_found, script.written.push_letters.Goals.{then-bits-place-eq1+in_ok-push, else-bits-place-eq1}}
 use Rattle.dn_game.proofs.script.written.push_letters.Goals as goal
-use Rattle.dn_game.proofs.script.written.push_letters.Goals.{then-bits-place-eq1+in_ok-push, else-bits-place-eq1}
+
+letter_small : (place : ℕ) → place < 18 → get_or letters place 0 < 128
+letter_small place h =
+    ltb-true _ _ (agree_below_at (λ k. nat_lt (get_or letters k 0) 128) (λ k. true) 18 place refl h)
+
+module _ (keys place : ℕ) (within : place < 18) where
+  passes : ℕ → Bool
+  passes letter = is_down_at keys (place_in_letters letter)
+
+  -- the letter at the place, if its bit is set
+  abbrev letter_if : Bool → List ℕ
+  letter_if set = cond set (get_or letters place 0 ∷ []) []
+
+  next : letters_down keys (take (place + 1) letters)
+      ≡ letters_down keys (take place letters) ++ letter_if (eqb (bit_at keys place) 1)
+  unfolding passes
+  next = filter_more passes letters place 0 within
+      ∙ ap (λ b. letters_down keys (take place letters) ++ letter_if b)
+      (ap (is_down_at keys) (letter_found place within))
+
+  letter_more : (old text new : List ℕ) → text ≡ old ++ letters_down keys (take place letters)
+      → new ≡ text ++ letter_if (eqb (bit_at keys place) 1)
+      → new ≡ old ++ letters_down keys (take (place + 1) letters)
+  letter_more old text new so put =
+      put ∙ ap (λ (t : List ℕ). t ++ letter_if (eqb (bit_at keys place) 1)) so
+      ∙ append_assoc old (letters_down keys (take place letters)) (letter_if (eqb (bit_at keys place) 1))
+      ∙ ap (λ (t : List ℕ). old ++ t) (sym next)
 
 pub loop-place-preserved : goal.loop-place-preserved
-loop-place-preserved c =
-    let old = string_bytes c.args.text.now in
-    let text = string_bytes c.loop-place.text in
-    let place = c.loop-place.place in
-    let within : place < 18 = c.loop-place-test.true in
-    let P : String Global → Type 0 = λ t. string_bytes t ≡ old ++ letters_down c.args.bits
-    (take (place + 1) letters) in
-    elim c.if-bits-place-eq1.branch [
-      | then-bits-place-eq1+in_ok-push w ↦
-          let is : w.from.result ≡ get_or letters place 0 = w.from.ensures in
-          let one = w.in_ok-push.ensures.ascii (omega (arith, is, letter_small place within)) in
-          subst P (sym w.text-is)
-          (letter_more c.args.bits place within old text _ c.loop-place.invariant
-          (w.in_ok-push.ensures.bytes
-          ∙ ap (λ (t : List ℕ). text ++ t)
-          (one ∙ ap (λ b. b ∷ []) is ∙ sym (cond-true _ _ _ (eq-eqb _ _ w.if-bits-place-eq1.true)))))
-      | else-bits-place-eq1 w ↦
-          subst P (sym w.text-is)
-          (letter_more c.args.bits place within old text text c.loop-place.invariant
-          (sym (append-nil text)
-          ∙ ap (λ (t : List ℕ). text ++ t) (sym (cond-false _ _ _ (ne_eqb _ _ w.if-bits-place-eq1.false)))))
-    ]
+loop-place-preserved c = grind (arith, letter_small, letter_more, cond-true, eq-eqb, else-bits-place-eq1, append-nil, cond-false, ne_eqb)

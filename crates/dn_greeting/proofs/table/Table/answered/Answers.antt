@@ -1,6 +1,5 @@
 use Rattle.std.proofs.Common.{ap, ◌∙◌}
-use Rattle.dn_greeting.specs.Lobby.{lobby}
-use Rattle.dn_greeting.specs.Text.{answer_rest, greeting_bytes}
+use Rattle.dn_greeting.specs.{Lobby.lobby, Text.{answer_rest, greeting_bytes}}
 use Rattle.dn_greeting.proofs.table.Table.answered.Goals as goal
 
 pub returns-clause-value : goal.returns-clause-value

@@ -1,20 +1,13 @@
-use Rattle.std.proofs.Common.{◌≡◌, ◌≤◌, ◌+◌, ℕ, List, length, arith, ap, sym, ◌∙◌, Some, Err, inl, inr}
-use Rattle.std.proofs.lemmas.Option.{none-some, IfSome_then}
+use Rattle.std.proofs.{Common.{◌≡◌, ◌≤◌, ◌+◌, ℕ, List, length, arith, ap, sym, ◌∙◌, Some, Err, inl, inr}, lemmas.Option.{none-some, IfSome_then}}
 use Rattle.dn_seal.specs.declared.seal.Seal.{Seal}
-use Rattle.dn_greeting.specs.declared.greeting.GreetingFault.{GreetingFault}
-use Rattle.dn_greeting.specs.declared.greeting.Hint.{Hint}
-use Rattle.dn_greeting.specs.Lobby.{hint_for}
-use Rattle.dn_greeting.specs.Reading.{IsCallIn}
-use Rattle.dn_greeting.specs.Text.{call_rest}
+use Rattle.dn_greeting.specs.{declared.greeting.GreetingFault.GreetingFault, declared.greeting.Hint.Hint, Lobby.hint_for, Reading.IsCallIn, Text.call_rest, Rests.length-call}
 use Rattle.dn_greeting.proofs.Readings.{length-text, long_fault}
-use Rattle.dn_greeting.specs.Rests.{length-call}
 use Rattle.dn_greeting.proofs.table.Table.hear.Goals as goal
 
 -- bytes that get a hint are long enough for it
 long : (seal : Seal) (bytes : List ℕ) (f : GreetingFault) (h : Hint) → IsCallIn seal bytes (Err f)
     → hint_for f ≡ Some h → 29 ≤ length bytes
-long seal bytes f h (inl first) some =
-    long_fault seal 1 130 bytes f first (λ e. none-some h (sym (ap hint_for e) ∙ some))
+long seal bytes f h (inl first) some = grind (arith, long_fault, none-some)
 long seal bytes f h (inr (is, none, never)) some = absurd (none-some h (sym (ap hint_for is) ∙ some))
 
 pub hint_to-requires : goal.hint_to-requires

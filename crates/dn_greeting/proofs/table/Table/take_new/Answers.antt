@@ -1,6 +1,5 @@
 use Rattle.std.proofs.Common.{ap, sym, ◌∙◌, ℕ, Result}
-use Rattle.dn_greeting.specs.declared.greeting.Refusal.{Refusal}
-use Rattle.dn_greeting.specs.Lobby.{Lobby, answered, lobby, on_newcomer}
+use Rattle.dn_greeting.specs.{declared.greeting.Refusal.Refusal, Lobby.{Lobby, answered, lobby, on_newcomer}}
 use Rattle.dn_greeting.proofs.table.Table.take_new.Goals as goal
 
 pub returns-in-Ok-clause-reply : goal.returns-in-Ok-clause-reply

@@ -1,9 +1,7 @@
 use Rattle.std.proofs.Common.{rules, ◌≡◌, true, false, refl, ap, arith}
 use Rattle.dn_lockstep.specs.Contents.{Contents}
-use Rattle.dn_link.specs.declared.link.Link.{Link}
-use Rattle.dn_link.specs.Linking.{linked}
-use Rattle.dn_host.proofs.Counted.{counted_none, counted_on, done_counted}
-use Rattle.dn_host.proofs.Playing.{plays_as, plays_to}
+use Rattle.dn_link.specs.{declared.link.Link.Link, Linking.linked}
+use Rattle.dn_host.proofs.{Counted.counted_none, Counted.counted_on, Counted.done_counted, Playing.plays_as, Playing.plays_to}
 use Rattle.dn_host.proofs.game.Game.run.Goals as goal
 
 abbrev node : Link → Contents

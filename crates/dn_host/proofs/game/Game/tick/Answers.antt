@@ -1,10 +1,7 @@
 use Rattle.std.proofs.Common.{ap}
 use Rattle.dn_lockstep.specs.Contents.{Contents}
-use Rattle.dn_link.specs.declared.link.Link.{Link}
-use Rattle.dn_link.specs.Linked.{Linked}
-use Rattle.dn_link.specs.Linking.{linked}
-use Rattle.dn_host.proofs.Counted.{counted_none, counted_on, done_counted}
-use Rattle.dn_host.proofs.Playing.{plays_none, plays_on}
+use Rattle.dn_link.specs.{declared.link.Link.Link, Linked.Linked, Linking.linked}
+use Rattle.dn_host.proofs.{Counted.counted_none, Counted.counted_on, Counted.done_counted, Playing.plays_none, Playing.plays_on}
 use Rattle.dn_host.proofs.game.Game.tick.Goals as goal
 
 abbrev node : Link → Contents

@@ -1,10 +1,7 @@
 use Rattle.std.proofs.Common.{rules, ◌∷◌, ◌∙◌, Some, None, refl, sym, subst}
 use Rattle.std.specs.Prelude.{map}
 use Rattle.dn_greeting.specs.Lobby.{Lobby}
-use Rattle.dn_host.specs.Keepers.{holding}
-use Rattle.dn_host.specs.Made.{IsPartOf}
-use Rattle.dn_host.specs.Peers.{holder_address}
-use Rattle.dn_host.specs.Seals.{game_seal}
+use Rattle.dn_host.specs.{Keepers.holding, Made.IsPartOf, Peers.holder_address, Seals.game_seal}
 use Rattle.dn_host.proofs.Following.{another, goes_on}
 use Rattle.dn_host.proofs.keeper.Keeper.follow_all.Goals as goal
 

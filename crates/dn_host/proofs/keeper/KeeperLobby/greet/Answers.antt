@@ -1,7 +1,6 @@
 use Rattle.std.proofs.Common.{rules, refl}
 use Rattle.dn_host.specs.Keepers.{holding}
-use Rattle.dn_host.proofs.Following.{greets_by}
-use Rattle.dn_host.proofs.Parting.{still_part}
+use Rattle.dn_host.proofs.Following.{greets_by, still_part}
 use Rattle.dn_host.proofs.keeper.KeeperLobby.greet.Goals as goal
 
 pub returns-in-Ok-clause-greets : goal.returns-in-Ok-clause-greets

@@ -1,9 +1,7 @@
 use Rattle.std.proofs.Common.{rules, ◌≡◌, ◌∙◌, Option, Some, refl, sym, subst}
 use Rattle.dn_greeting.specs.Lobby.{lobby, swept}
-use Rattle.dn_host.specs.declared.game.Game.{Game}
-use Rattle.dn_host.specs.Keepers.{KeeperSecond, closed_by, holding, seconds_of}
-use Rattle.dn_host.proofs.Following.{follows_by}
-use Rattle.dn_host.proofs.Parting.{still_part, still_sealed}
+use Rattle.dn_host.specs.{declared.game.Game.Game, Keepers.KeeperSecond, Keepers.closed_by, Keepers.holding, Keepers.seconds_of}
+use Rattle.dn_host.proofs.Following.{follows_by, still_part, still_sealed}
 use Rattle.dn_host.proofs.keeper.KeeperLobby.second.Goals as goal
 
 pub returns-clause-second : goal.returns-clause-second

@@ -1,6 +1,5 @@
 use Rattle.std.proofs.Common.{Bool, sym, subst}
-use Rattle.dn_link.specs.Linking.{linked}
-use Rattle.dn_link.specs.Pacing.{pace_of}
+use Rattle.dn_link.specs.{Linking.linked, Pacing.pace_of}
 use Rattle.dn_host.specs.Played.{Plays, times_of}
 use Rattle.dn_host.proofs.Playing.{plays_owed}
 use Rattle.dn_host.proofs.play.Play.catch_up.Goals as goal

@@ -1,6 +1,5 @@
 use Rattle.std.specs.Prelude.{◌≡◌}
-use Rattle.dn_link.specs.Linking.{linked, seal_of}
-use Rattle.dn_link.specs.Pacing.{pace_of}
+use Rattle.dn_link.specs.{Linking.linked, Linking.seal_of, Pacing.pace_of}
 use Rattle.dn_host.specs.Played.{Plays}
 use Rattle.dn_host.proofs.play.Play.run_all.Given as goal
 

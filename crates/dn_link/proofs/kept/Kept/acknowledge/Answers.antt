@@ -1,10 +1,7 @@
 use Rattle.std.proofs.Common.{rules, ◌≡◌, length, arith, ap, sym, subst}
 use Rattle.std.specs.Prelude.{max}
-use Rattle.dn_link.specs.declared.bundle.Carried.{Carried}
-use Rattle.dn_link.specs.Keeping.{kept}
-use Rattle.dn_link.specs.Kept.{IsCovering, IsKeptRising, Unacknowledged, acknowledged, without}
-use Rattle.dn_link.proofs.Covered.{covers_less}
-use Rattle.dn_link.proofs.Rising.{fewer, rises_past}
+use Rattle.dn_link.specs.{declared.bundle.Carried.Carried, Keeping.kept, Kept.IsCovering, Kept.IsKeptRising, Kept.Unacknowledged, Kept.acknowledged, Kept.without}
+use Rattle.dn_link.proofs.{Covered.covers_less, Rising.fewer, Rising.rises_past}
 use Rattle.dn_link.proofs.kept.Kept.acknowledge.Goals as goal
 
 pub invariant_of-self : goal.invariant_of-self

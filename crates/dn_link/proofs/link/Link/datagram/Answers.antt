@@ -1,21 +1,10 @@
-use Rattle.std.proofs.Common.{rules, ◌≡◌, ◌<◌, ◌+◌, List, ◌%◌, ◌^◌, ℕ, length, get_or, w8, to_z, of_z, refl, ap, sym, ◌∙◌, subst, arith}
-use Rattle.dn_machine.specs.Node.{put}
+use Rattle.std.proofs.Common.{rules, ◌≡◌, ◌<◌, ◌+◌, List, ◌%◌, ◌^◌, ℕ, length, get_or, w8, to_z, of_z, refl, ap, ◌∙◌, subst, arith}
 use Rattle.std.specs.Prelude.{Bool, None, ◌&&◌, ◌||◌, is_some}
+use Rattle.dn_machine.specs.Node.{put}
 use Rattle.dn_lockstep.specs.Contents.{Contents, contents}
-use Rattle.dn_lockstep.specs.Represents.{Represents}
-use Rattle.dn_link.specs.Counting.{counts_of}
-use Rattle.dn_link.specs.Giving.{SendsCarried}
-use Rattle.dn_link.specs.Hearing.{ByTest}
-use Rattle.dn_link.specs.Line.{LineState, missing}
-use Rattle.dn_link.specs.Presence.{message_of}
-use Rattle.dn_link.specs.Kept.{going, kept_after, taken_by}
-use Rattle.dn_link.specs.Linked.{PeerState, holds_back, is_gathering}
-use Rattle.dn_link.specs.Linking.{identity_of, linked, peers_of, state_of}
-use Rattle.dn_link.proofs.Handing.{may_before}
-use Rattle.dn_link.proofs.Reported.{same_reported}
-use Rattle.dn_link.specs.Relays.{AreLacked}
-use Rattle.dn_link.specs.Packing.{ArePacked}
-use Rattle.dn_link.proofs.Linked.{peer_at, peers_put}
+use Rattle.dn_link.specs.{Counting.counts_of, Giving.SendsCarried, Hearing.ByTest, Line.LineState, Line.missing, Presence.message_of, Kept.going, Kept.kept_after, Kept.taken_by, Linked.PeerState, Linked.holds_back}
+use Rattle.dn_link.specs.{Linked.is_gathering, Linking.identity_of, Linking.linked, Linking.peers_of, Linking.state_of, Relays.AreLacked, Packing.ArePacked}
+use Rattle.dn_link.proofs.{Handing.may_before, Linking.same_reported, Places.peer_at, Places.peers_put}
 use Rattle.dn_link.proofs.link.Link.datagram.Goals as goal
 
 pub returns-clause-gives : goal.returns-clause-gives
@@ -90,8 +79,3 @@ returns-clause-gives c =
       others = refl;
       peers = new_peers;
     }
-
-pub returns-clause-fair : goal.returns-clause-fair
-returns-clause-fair c = λ ready limits me m shows.
-    c.next_unless-packet.ensures.fair (c.holds_back-held.ensures ∙ ready) limits me m
-    (subst (λ (n : Contents). Represents limits me n m) (sym c.lockstep_mut.ensures.value) shows)

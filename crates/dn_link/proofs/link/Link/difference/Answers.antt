@@ -1,9 +1,6 @@
 use Rattle.std.proofs.Common.{rules, ◌≡◌, ◌-ℤ◌, true, w8, w32, to_z, of_z, ap, ◌∙◌}
 use Rattle.dn_lockstep.specs.Contents.{Contents}
-use Rattle.dn_link.specs.Line.{LineState, lead_over}
-use Rattle.dn_link.specs.Linking.{linked}
-use Rattle.dn_link.specs.Pace.{is_paced}
-use Rattle.dn_link.specs.Pacing.{pace_of}
+use Rattle.dn_link.specs.{Line.LineState, Line.lead_over, Linking.linked, Pace.is_paced, Pacing.pace_of}
 use Rattle.dn_link.proofs.link.Link.difference.Goals as goal
 
 pub returns-clause-value : goal.returns-clause-value

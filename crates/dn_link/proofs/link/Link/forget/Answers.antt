@@ -1,10 +1,8 @@
 use Rattle.std.proofs.Common.{rules, ◌≡◌, ◌<◌, ℕ, length, true, refl, ap, sym, ◌∙◌, arith}
 use Rattle.dn_machine.specs.Node.{put}
 use Rattle.dn_lockstep.specs.Contents.{Contents}
-use Rattle.dn_link.specs.Presence.{when_forgotten}
-use Rattle.dn_link.specs.Linked.{PeerState, is_peer}
-use Rattle.dn_link.specs.Linking.{linked, peers_of}
-use Rattle.dn_link.proofs.Linked.{peer_at, peers_put}
+use Rattle.dn_link.specs.{Presence.when_forgotten, Linked.PeerState, Linked.is_peer, Linking.linked, Linking.peers_of}
+use Rattle.dn_link.proofs.Places.{peer_at, peers_put}
 use Rattle.dn_link.proofs.link.Link.forget.Goals as goal
 
 pub returns-then-is_peer-clause-link : goal.returns-then-is_peer-clause-link

@@ -1,10 +1,7 @@
 use Rattle.std.proofs.Common.{ap, sym, ◌∙◌, subst}
 use Rattle.dn_lockstep.specs.Contents.{Contents, contents}
-use Rattle.dn_survivor.specs.declared.others.Others.{Others}
-use Rattle.dn_survivor.specs.OfOthers.Keeping.{has}
-use Rattle.dn_link.specs.Counting.{held_of}
-use Rattle.dn_link.specs.Hearing.{HearsAll}
-use Rattle.dn_link.specs.Packets.{heard_in, takes_relay}
+use Rattle.dn_survivor.specs.{declared.others.Others.Others, OfOthers.Keeping.has}
+use Rattle.dn_link.specs.{Counting.held_of, Hearing.HearsAll, Packets.heard_in, Packets.takes_relay}
 use Rattle.dn_link.proofs.Hearings.{all_same}
 use Rattle.dn_link.proofs.link.Link.hear_packets.Goals as goal
 

@@ -1,10 +1,8 @@
 use Rattle.std.proofs.Common.{rules, ◌≡◌, ◌<◌, ℕ, length, ap, ◌∙◌, arith}
-use Rattle.dn_machine.specs.Node.{put}
 use Rattle.std.specs.Prelude.{slice_index}
-use Rattle.dn_link.specs.Kept.{acknowledged}
-use Rattle.dn_link.specs.Linked.{PeerState, done_with, larger}
-use Rattle.dn_link.specs.Linking.{linked, peers_of}
-use Rattle.dn_link.proofs.Linked.{peer_at, peers_put}
+use Rattle.dn_machine.specs.Node.{put}
+use Rattle.dn_link.specs.{Kept.acknowledged, Linked.PeerState, Linked.done_with, Linked.larger, Linking.linked, Linking.peers_of}
+use Rattle.dn_link.proofs.Places.{peer_at, peers_put}
 use Rattle.dn_link.proofs.link.Link.meet.Goals as goal
 
 pub returns-then-differs-clause-link : goal.returns-then-differs-clause-link

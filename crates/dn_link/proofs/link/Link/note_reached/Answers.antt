@@ -1,11 +1,8 @@
 use Rattle.std.proofs.Common.{rules, ◌≡◌, ◌<◌, ℕ, length, ap, ◌∙◌, arith}
 use Rattle.dn_machine.specs.Node.{put}
 use Rattle.dn_lockstep.specs.Contents.{Contents}
-use Rattle.dn_link.specs.Counting.{reached}
-use Rattle.dn_link.specs.Kept.{acknowledged}
-use Rattle.dn_link.specs.Linked.{PeerState}
-use Rattle.dn_link.specs.Linking.{linked, peers_of}
-use Rattle.dn_link.proofs.Linked.{peer_at, peers_put}
+use Rattle.dn_link.specs.{Counting.reached, Kept.acknowledged, Linked.PeerState, Linking.linked, Linking.peers_of}
+use Rattle.dn_link.proofs.Places.{peer_at, peers_put}
 use Rattle.dn_link.proofs.link.Link.note_reached.Goals as goal
 
 pub returns-clause-link : goal.returns-clause-link

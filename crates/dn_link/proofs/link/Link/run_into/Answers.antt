@@ -1,7 +1,6 @@
 use Rattle.std.proofs.Common.{ap, sym}
 use Rattle.dn_lockstep.specs.Runs.{with_row}
-use Rattle.dn_lockstep.proofs.After.{after, steps}
-use Rattle.dn_lockstep.proofs.Running.{run_all}
+use Rattle.dn_lockstep.proofs.{After.after, After.steps, Running.run_all}
 use Rattle.dn_link.proofs.link.Link.run_into.Goals as goal
 
 -- where nobody is given up, the marks of all are compared

@@ -1,12 +1,7 @@
 use Rattle.std.proofs.Common.{◌≡◌, false, ap, sym, ◌∙◌, subst}
 use Rattle.std.specs.Prelude.{Bool, not, ◌&&◌}
-use Rattle.dn_link.specs.Hearing.{ByTest, HearsAll}
+use Rattle.dn_link.specs.{Hearing.ByTest, Hearing.HearsAll, Linking.identity_of, Linking.linked, Pace.after_datagram, Pacing.pace_of, Packets.heard_in, Presence.Becomes, Presence.is_fresh, Presence.may_come}
 use Rattle.dn_link.specs.Linked.{Linked, PeerState, TakesIn, hears, takes, with_reached}
-use Rattle.dn_link.specs.Linking.{identity_of, linked}
-use Rattle.dn_link.specs.Pace.{after_datagram}
-use Rattle.dn_link.specs.Pacing.{pace_of}
-use Rattle.dn_link.specs.Packets.{heard_in}
-use Rattle.dn_link.specs.Presence.{Becomes, is_fresh, may_come}
 use Rattle.dn_link.proofs.link.Link.take_in.Goals as goal
 
 pub returns-clause-heard : goal.returns-clause-heard
@@ -46,6 +41,3 @@ returns-clause-pace c =
     let may = c.may_come-may_come.ensures ∙ ap (λ (t : PeerState). may_come t.gave t.presence) c.peer-peer.ensures in
     c.note_all_reached.ensures.pace ∙ c.hear-started.ensures.pace ∙ c.hear.ensures
     ∙ (λ i. after_datagram b (may i) (c.meet.ensures.pace i))
-
-pub returns-clause-others : goal.returns-clause-others
-returns-clause-others c = ap (λ (l : Linked). l.others) c.note_all_reached.ensures.link ∙ c.hear-started.ensures.others ∙ ap (λ (l : Linked). l.others) c.meet.ensures.link

@@ -24,5 +24,4 @@ returns-clause-behind c =
     )
 
 pub returns-then-not-is_first-clause-behind : goal.returns-then-not-is_first-clause-behind
-returns-then-not-is_first-clause-behind c =
-    nothing_behind (linked c.args.self.now) c.args.to c.args.own.items
+returns-then-not-is_first-clause-behind c = nothing_behind (linked c.args.self.now) c.args.to c.args.own.items

@@ -1,18 +1,12 @@
 use Rattle.std.proofs.Common.{refl, sym, ◌∙◌, Ok, Err}
-use Rattle.dn_link.specs.declared.notice.fault.ReportDatagramFault.TheVariants.{Receiver}
-use Rattle.dn_link.specs.SealedReports.Text.{sealed_report_bytes}
-use Rattle.dn_link.proofs.SealedReports.Openings.{one_opening}
-use Rattle.dn_link.proofs.SealedReports.Sealed.{its_to, of_game}
+use Rattle.dn_link.specs.{declared.notice.fault.ReportDatagramFault.TheVariants.Receiver, SealedReports.Text.sealed_report_bytes}
+use Rattle.dn_link.proofs.{SealedReports.Openings.one_opening, SealedReports.Sealed.its_to, SealedReports.Sealed.of_game}
 use Rattle.dn_link.proofs.notice.laws.reports_are_read_back.Goals as goal
 
 pub returns-clause-back : goal.returns-clause-back
 returns-clause-back c = λ sealing from report game player other fits read is.
     one_opening sealing (sealed_report_bytes sealing.seal from sealing.me report) read (Ok (from, report)) is
     (record { game = game; player = player; other = other; fits = fits; is = refl })
-
-pub returns-clause-opens : goal.returns-clause-opens
-returns-clause-opens c = λ sealing from report game player other fits.
-    record { game = game; player = player; other = other; fits = fits; is = refl }
 
 pub returns-clause-other : goal.returns-clause-other
 returns-clause-other c = λ sealing from to report game other fits read is.

@@ -1,10 +1,7 @@
 use Rattle.std.proofs.Common.{rules, ◌≢◌, Ok, Err}
 use Rattle.std.specs.Prelude.{slice_index}
-use Rattle.dn_seal.specs.Hmac.{tag_of}
-use Rattle.dn_seal.specs.Opening.{IsFor, told_body, told_tag}
-use Rattle.dn_seal.specs.Sealing.{sealing}
-use Rattle.dn_link.specs.declared.notice.fault.ReportDatagramFault.TheVariants.{Tag, Form}
-use Rattle.dn_link.specs.SealedReports.Opening.{sealed_reports, IsOfPlayer}
+use Rattle.dn_seal.specs.{Hmac.tag_of, Opening.IsFor, Opening.told_body, Opening.told_tag, Sealing.sealing}
+use Rattle.dn_link.specs.{declared.notice.fault.ReportDatagramFault.TheVariants.Tag, declared.notice.fault.ReportDatagramFault.TheVariants.Form, SealedReports.Opening.sealed_reports, SealedReports.Opening.IsOfPlayer}
 use Rattle.dn_link.proofs.SealedReports.Openings.{one_opening, report_is}
 use Rattle.dn_link.proofs.notice.reading.open_report.Goals as goal
 

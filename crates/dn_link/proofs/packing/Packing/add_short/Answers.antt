@@ -1,9 +1,7 @@
-use Rattle.std.proofs.Common.{◌++◌, ◌∷◌, [], refl, ap, ◌∙◌, List, ℕ, length, arith}
-use Rattle.std.proofs.lemmas.List.{length-append}
+use Rattle.std.proofs.Common.{◌++◌, ◌∷◌, [], refl, ap, ◌∙◌, List}
 use Rattle.dn_seal.specs.declared.opened.Opened.{Opened}
 use Rattle.dn_link.specs.Packets.{opened_from, short_packet}
-use Rattle.dn_link.proofs.Packings.{run_goes_on}
-use Rattle.dn_link.proofs.Tight.{run_tight}
+use Rattle.dn_link.proofs.{Packings.run_goes_on}
 use Rattle.dn_link.proofs.packing.Packing.add_short.Goals as goal
 
 pub returns-clause-more : goal.returns-clause-more
@@ -13,24 +11,6 @@ returns-clause-more c = λ from.
       parts = was.parts;
       bytes = was.bytes;
       run = record { start = was.run.start; commands = c.append.new.bytes };
-    }) from c.args.start c.args.command.now c.make_way.ensures.fits c.told-command
-    c.make_way.ensures.few c.make_way.ensures.follows refl refl c.append.ensures
-    ∙ ap (λ (ps : List Opened). ps ++ opened_from from (short_packet from c.args.start c.args.command.now) ∷ [])
-    (c.make_way.ensures.same from)
-
-pub returns-clause-tight : goal.returns-clause-tight
-returns-clause-tight c =
-    let was = c.make_way.new.self in
-    let grown = ap (length {A = ℕ}) c.append.ensures in
-    let both = length-append was.run.commands.items c.args.command.now in
-    λ from tight. run_tight from was (record {
-      parts = was.parts;
-      bytes = was.bytes;
-      run = record { start = was.run.start; commands = c.append.new.bytes };
-    }) (c.make_way.ensures.tight from tight) refl refl (omega (arith, grown, both, c.told-command))
-
-pub returns-clause-last : goal.returns-clause-last
-returns-clause-last c =
-    let grown = ap (length {A = ℕ}) c.append.ensures in
-    let both = length-append c.make_way.new.self.run.commands.items c.args.command.now in
-    λ none. absurd (omega (arith, none, grown, both, c.told-command))
+    }) from c.args.start c.args.command.now c.make_way.ensures.fits c.told-command c.make_way.ensures.few
+    c.make_way.ensures.follows refl refl c.append.ensures ∙ ap (λ (ps : List Opened). ps ++ opened_from from
+    (short_packet from c.args.start c.args.command.now) ∷ []) (c.make_way.ensures.same from)

@@ -1,7 +1,6 @@
 use Rattle.std.proofs.Common.{◌≡◌, ◌+◌, ◌/◌, ◌%◌, ◌^◌, length, arith}
-use Rattle.dn_link.proofs.Tight.{ended_for}
+use Rattle.dn_link.proofs.{Tight.ended_for, packing.Packing.make_way.Goals.then-count-eq24-via-then-count-eq24, packing.Packing.make_way.Goals.then-count-eq24-via-else-count-eq24+then-self-count}
 use Rattle.dn_link.proofs.packing.Packing.make_way.Goals as goal
-use Rattle.dn_link.proofs.packing.Packing.make_way.Goals.{then-count-eq24-via-then-count-eq24, then-count-eq24-via-else-count-eq24+then-self-count}
 
 pub returns-then-count-eq24-clause-tight : goal.returns-then-count-eq24-clause-tight
 returns-then-count-eq24-clause-tight c =

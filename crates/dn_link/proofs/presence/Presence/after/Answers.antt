@@ -1,6 +1,5 @@
 use Rattle.std.proofs.Common.{◌≡◌, true, sym, ◌∙◌, subst}
-use Rattle.dn_link.specs.declared.bundle.Message.{Message}
-use Rattle.dn_link.specs.Presence.{Becomes, may_come}
+use Rattle.dn_link.specs.{declared.bundle.Message.Message, Presence.Becomes, Presence.may_come}
 use Rattle.dn_link.proofs.presence.Presence.after.Goals as goal
 
 pub returns-then-may_come : goal.returns-then-may_come

@@ -1,8 +1,7 @@
 use Rattle.std.proofs.Common.{refl, ap, length}
 use Rattle.std.proofs.lemmas.Option.{slice_get_read}
 use Rattle.dn_survivor.specs.Session.{Session}
-use Rattle.dn_link_game.proofs.Genuine.{given}
-use Rattle.dn_link_game.proofs.Going.{goes}
+use Rattle.dn_link_game.proofs.Going.{given, goes}
 use Rattle.dn_link_game.proofs.game.LinkGame.deliver.Goals as goal
 
 pub returns : goal.returns

@@ -1,20 +1,13 @@
-use Rattle.std.proofs.Common.{refl, ap, length}
+use Rattle.std.proofs.Common.{refl, length}
 use Rattle.std.proofs.lemmas.Option.{slice_get_read}
-use Rattle.dn_survivor.specs.Session.{Session}
-use Rattle.dn_link_game.proofs.Going.{goes}
+use Rattle.dn_link_game.proofs.Going.{goes_to}
 use Rattle.dn_link_game.proofs.game.LinkGame.forget.Goals as goal
 
 pub returns : goal.returns
-returns g c = record {
-  goes = λ limits settings seal session is any.
-      let players = c.args.self.now.players.items in
-      let on = goes g.W.World.state g.W.World.physics c.args.self.now _ c.args.player c.index_mut.result.now c.forget.new.self
-      (slice_get_read players (length players) c.args.player c.index_mut.result.now refl c.requires c.index_mut.ensures.value)
-      refl c.forget.ensures.seal c.remaining_bytes_are_genuine.ensures.stay _ _ c.forget.ensures.goes_on
-      limits settings seal session is any (λ later next all. all) in (
-        on.0,
-        (ap (λ (s : Session). s.inputs) on.1, ap (λ (s : Session). s.told) on.1),
-        on.2,
-        on.3,
-      );
-}
+returns g c =
+    let players = c.args.self.now.players.items in
+    record {
+      goes = goes_to g.W.World.state g.W.World.physics c.args.self.now _ c.args.player c.index_mut.result.now c.forget.new.self
+          (slice_get_read players (length players) c.args.player c.index_mut.result.now refl c.requires c.index_mut.ensures.value)
+          refl c.forget.ensures.seal c.remaining_bytes_are_genuine.ensures.stay _ c.forget.ensures.goes_on refl;
+    }

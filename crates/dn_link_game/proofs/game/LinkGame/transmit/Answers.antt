@@ -1,22 +1,10 @@
 use Rattle.std.proofs.Common.{ℕ, refl, length, sym, subst}
 use Rattle.std.specs.Prelude.{All, IfSome, Option}
-use Rattle.dn_link.specs.Linking.{seal_of}
 use Rattle.std.proofs.lemmas.Option.{slice_get_read}
+use Rattle.dn_link.specs.{Linking.seal_of, RemainingLinks.WasSealedIn}
 use Rattle.arrayvec.specs.ArrayVec.{ArrayVec}
-use Rattle.dn_link.specs.RemainingLinks.{WasSealedIn}
-use Rattle.dn_link_game.proofs.Genuine.{joins, keeps_all, stands}
-use Rattle.dn_link_game.proofs.Going.{goes}
+use Rattle.dn_link_game.proofs.Going.{joins, keeps_all, stands, goes}
 use Rattle.dn_link_game.proofs.game.LinkGame.transmit.Goals as goal
-
-pub returns-in_err-grow : goal.returns-in_err-grow
-returns-in_err-grow g c = record {
-  goes = λ limits settings seal session is any. (
-    session,
-    (refl, refl),
-    keeps_all session,
-    stands g.W.World.state g.W.World.physics limits settings seal session c.args.self.now _ is refl c.in_err-grow.ensures.items,
-  );
-}
 
 pub returns-in_default : goal.returns-in_default
 returns-in_default g c = record {

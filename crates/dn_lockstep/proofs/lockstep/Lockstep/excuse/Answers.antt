@@ -1,7 +1,6 @@
 use Rattle.std.proofs.Common.{refl, sym, ◌∙◌}
 use Rattle.dn_lockstep.specs.Contents.{contents}
-use Rattle.dn_lockstep.proofs.After.{steps}
-use Rattle.dn_lockstep.proofs.Excusing.{stranger_excused, other_excused, gathering_excused}
+use Rattle.dn_lockstep.proofs.{After.steps, Gathering.{stranger_excused, other_excused, gathering_excused}}
 use Rattle.dn_lockstep.proofs.lockstep.Lockstep.excuse.Goals as goal
 
 pub returns-then-is_no_peer-clause-step : goal.returns-then-is_no_peer-clause-step

@@ -1,29 +1,15 @@
-use Rattle.std.proofs.Common.{refl, sym, ◌∙◌}
-use Rattle.dn_lockstep.proofs.After.{after}
-use Rattle.dn_lockstep.proofs.Flags.{read_set_up, read_strange, read_killed, read_player}
+use Rattle.std.proofs.Common.{sym, ◌∙◌, arith}
+use Rattle.dn_lockstep.proofs.{After.after, Receiving.{read_strange, read_killed, read_player}}
 use Rattle.dn_lockstep.proofs.lockstep.Lockstep.hear.Goals as goal
 
 pub returns-then-has_flag-clause-step : goal.returns-then-has_flag-clause-step
-returns-then-has_flag-clause-step c told is limits me m r =
-    let step = read_set_up limits me m c.args.from told
-    c.args.packet.now (sym c.has_flag.ensures ∙ c.if-has_flag.true) in
-    let heard = c.hear_set_up.ensures.step told is limits me m r in
-    after _ _ step heard.node heard.answer
+returns-then-has_flag-clause-step c told is limits me m r = grind arith
 
 pub returns-then-packet-from-clause-step : goal.returns-then-packet-from-clause-step
-returns-then-packet-from-clause-step c told is limits me m r =
-    let step = read_strange limits me m c.args.from told
-    c.args.packet.now (sym c.has_flag.ensures ∙ c.if-has_flag.false)
-    (λ e. c.in_default.not-Listening (r.stands.phase ∙ e)) c.if-packet-from.true in
-    after m _ step r refl
+returns-then-packet-from-clause-step c told is limits me m r = grind (arith, read_strange, after)
 
 pub returns-then-has_flag-2-clause-step : goal.returns-then-has_flag-2-clause-step
-returns-then-has_flag-2-clause-step c told is limits me m r =
-    let step = read_killed limits me m c.args.from told
-    c.args.packet.now (sym c.has_flag.ensures ∙ c.if-has_flag.false)
-    (λ e. c.in_default.not-Listening (r.stands.phase ∙ e)) c.if-packet-from.false
-    (sym c.has_flag-2.ensures ∙ c.if-has_flag-2.true) in
-    after m _ step r refl
+returns-then-has_flag-2-clause-step c told is limits me m r = grind (arith, read_killed, after)
 
 pub returns-clause-step : goal.returns-clause-step
 returns-clause-step c told is limits me m r =

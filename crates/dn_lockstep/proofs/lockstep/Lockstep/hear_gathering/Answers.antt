@@ -1,7 +1,6 @@
 use Rattle.std.proofs.Common.{refl, sym, ◌∙◌}
 use Rattle.dn_lockstep.specs.Contents.{contents}
-use Rattle.dn_lockstep.proofs.After.{steps}
-use Rattle.dn_lockstep.proofs.Gathering.{shows_noted, noted_shows, started_shows}
+use Rattle.dn_lockstep.proofs.{After.steps, Gathering.{shows_noted, noted_shows, started_shows}}
 use Rattle.dn_lockstep.proofs.lockstep.Lockstep.hear_gathering.Goals as goal
 
 pub returns-then-not-hear-clause-step : goal.returns-then-not-hear-clause-step

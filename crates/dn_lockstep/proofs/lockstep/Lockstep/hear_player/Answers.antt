@@ -1,13 +1,10 @@
-use Rattle.std.proofs.Common.{refl}
+use Rattle.std.proofs.Common.{arith}
 use Rattle.dn_lockstep.specs.Received.{on_player}
-use Rattle.dn_lockstep.proofs.After.{after, by_phase, steps}
-use Rattle.dn_lockstep.proofs.Flags.{player_unheard, player_gathers}
+use Rattle.dn_lockstep.proofs.{After.{after, by_phase, steps}, Receiving.player_gathers}
 use Rattle.dn_lockstep.proofs.lockstep.Lockstep.hear_player.Goals as goal
 
 pub returns-in-Listening-clause-step : goal.returns-in-Listening-clause-step
-returns-in-Listening-clause-step c = steps refl (λ limits me m r.
-    by_phase r c.in-Listening.is (on_player limits me m c.args.from c.args.packet.now)
-    (after _ _ (player_unheard limits me m c.args.from c.args.packet.now) r refl))
+returns-in-Listening-clause-step c = grind arith
 
 pub returns-in-Gathering-clause-step : goal.returns-in-Gathering-clause-step
 returns-in-Gathering-clause-step c = steps c.hear_gathering.ensures.step.same (λ limits me m r.

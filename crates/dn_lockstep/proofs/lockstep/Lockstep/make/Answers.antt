@@ -1,17 +1,12 @@
 use Rattle.std.proofs.Common.{refl, sym, ◌∙◌, ap, arith, rules, inl, inr, Option, None, ℕ, ◌≡◌}
-use Rattle.dn_machine.specs.Node as machine
-use Rattle.dn_machine.specs.Running.{is_over}
-use Rattle.dn_lockstep.specs.Peers.{peer_at}
-use Rattle.dn_machine.specs.declared.peer.Peer.{Peer}
-use Rattle.std.specs.Int.{w16}
 use Rattle.std.proofs.lemmas.Int.{ints, to_z-of_z}
+use Rattle.dn_machine.specs.Node as machine
+use Rattle.dn_machine.specs.{Running.is_over, declared.peer.Peer.Peer}
+use Rattle.dn_lockstep.specs.{Peers.peer_at, Rings.ring_at}
+use Rattle.std.specs.Int.{w16}
 use Rattle.dn_ring.specs.Ring.{Ring}
-use Rattle.dn_machine.specs.declared.answers.Made.{Made}
-use Rattle.dn_lockstep.specs.Rings.{ring_at}
-use Rattle.dn_lockstep.proofs.After.{after, steps}
-use Rattle.dn_lockstep.proofs.Counting.{mine, made_is, changed}
-use Rattle.dn_lockstep.proofs.Building.{build_not, build_full, build_makes, own_ring}
-use Rattle.dn_lockstep.proofs.Holding.{shows_commands}
+use Rattle.dn_lockstep.proofs.{After.{after, steps}, Counting.{mine, made_is, changed}}
+use Rattle.dn_lockstep.proofs.Changing.{build_not, build_full, build_makes, own_ring, shows_commands}
 use Rattle.dn_lockstep.proofs.lockstep.Lockstep.make.Goals as goal
 
 pub returns-in_default-clause-step : goal.returns-in_default-clause-step
@@ -19,12 +14,7 @@ returns-in_default-clause-step c = steps refl (λ limits me m r.
     after _ _ (build_not limits me m _ (λ e. c.in_default.not-Playing (r.stands.phase ∙ e))) r refl)
 
 pub returns-then-tic-self-clause-step : goal.returns-then-tic-self-clause-step
-returns-then-tic-self-clause-step c = steps refl (λ limits me m r.
-    let n = c.args.self.now in
-    let made = c.made-tic.ensures ∙ made_is _ me _ m r n.me_below in
-    let ahead = n.reached n.me n.me_below (ap (λ (o : Option ℕ). is_over o n.ran) n.endless) in
-    after _ _ (build_full limits me m _ (sym r.stands.phase ∙ c.in-Playing.is)
-    (omega (arith, made, ahead, c.made-tic.ensures, r.table.ran, r.whose.ahead, c.if-tic-self.true))) r refl)
+returns-then-tic-self-clause-step c = grind (arith, steps, made_is, after, build_full)
 
 pub put-requires-clause-no_stop : goal.put-requires-clause-no_stop
 put-requires-clause-no_stop c = λ e. omega (arith, ints, c.make-command.ensures.least, e)
@@ -38,9 +28,7 @@ invariant_of-self-clause-reached c p below present =
     let before = n.reached p below present in
     elim (changed (ring_at n.rings) (ring_at c.put.new.self) n.me _
     (ap (λ (k : Ring). k.count) c.put.ensures.put) c.put.ensures.others p) [
-      | inl (same, now) ↦ let own =
-          n.reached n.me n.me_below (ap (λ (o : Option ℕ). is_over o n.ran) n.endless) in
-          omega (arith, now, own)
+      | inl (same, now) ↦ grind arith
       | inr now ↦ omega (arith, now, before)
     ]
 
@@ -74,8 +62,4 @@ returns-clause-step c = steps refl (λ limits me m r.
     (omega (arith, c.made-tic.ensures, r.table.ran, ahead))
     (omega (arith, c.made-tic.ensures, r.table.ran, n.near, n.twice, n.inside)) endless (marked ∙ c.get-mark.ensures)
     (c.make-command.ensures.command m.inputs r.commands.hold) c.put.ensures.put in
-    after _ _ (build_makes limits me m _ (sym r.stands.phase ∙ c.in-Playing.is)
-    (omega (arith, made, r.table.ran, r.whose.ahead, c.if-tic-self.false)))
-    (shows_commands r me _ _ _ _ (c.make-command.ensures.hold m.inputs r.commands.hold)
-    (ap (ring_at c.put.new.self) (sym r.whose.number) ∙ ring)
-    (λ p apart. c.put.ensures.others p (λ e. apart (e ∙ r.whose.number)))) (ap Made.Made made))
+    grind (arith, after, build_makes, shows_commands))

@@ -1,34 +1,22 @@
-use Rattle.std.proofs.Common.{◌≡◌, ◌+◌, ◌-◌, ℕ, Option, refl, ap, sym, ◌∙◌, inl, inr, arith}
+use Rattle.std.proofs.Common.{◌≡◌, ◌-◌, ℕ, Option, refl, ap, sym, ◌∙◌, arith}
 use Rattle.dn_setup.specs.Starts.{bit}
 use Rattle.dn_machine.specs.Node as machine
-use Rattle.dn_machine.specs.Limits.{Limits}
-use Rattle.dn_machine.specs.declared.answers.Cause.{Cause}
-use Rattle.dn_machine.specs.declared.answers.Phase.{Phase}
+use Rattle.dn_machine.specs.{Limits.Limits, declared.answers.Cause.Cause, declared.answers.Phase.Phase}
 use Rattle.dn_machine.specs.declared.answers.Phase.TheVariants.{Playing, Ended}
-use Rattle.std.specs.Prelude.{◌⊎◌}
-use Rattle.dn_machine.specs.Sending.{lag, last_sent, after_sent}
-use Rattle.dn_machine.specs.declared.peer.Peer.{Peer}
-use Rattle.dn_lockstep.specs.Sent.{after_giving, aim_of}
-use Rattle.dn_lockstep.specs.Rings.{ring_at}
-use Rattle.dn_machine.specs.Flight.{Flight}
-use Rattle.std.specs.Option.{option_map}
-use Rattle.dn_lockstep.proofs.Aiming.{own_aim, last_is}
-use Rattle.dn_lockstep.proofs.Sending.{sends_in}
-use Rattle.dn_lockstep.proofs.After.{along, becomes}
+use Rattle.dn_machine.specs.{Sending.{lag, last_sent, after_sent}, declared.peer.Peer.Peer, Flight.Flight}
+use Rattle.std.specs.{Prelude.◌⊎◌, Option.option_map}
+use Rattle.dn_lockstep.specs.{Sent.{after_giving, aim_of}, Rings.ring_at, Peers.peer_at}
+use Rattle.dn_lockstep.proofs.{Sending.{own_aim, last_is, sends_in}, After.{along, becomes}}
 use Rattle.dn_lockstep.proofs.Counting.{made_is, below}
 use Rattle.dn_lockstep.proofs.Kept.{AreKept, same_end, gone_still, stays_gone, resends_low}
-use Rattle.dn_lockstep.proofs.Peering.{shows_peer}
-use Rattle.dn_machine.specs.Running.{is_over}
-use Rattle.dn_lockstep.specs.Peers.{peer_at}
-use Rattle.dn_lockstep.proofs.lockstep.Lockstep.note_sent.Goals.{After-resend_from}
+use Rattle.dn_lockstep.proofs.{Changing.shows_peer, lockstep.Lockstep.note_sent.Goals.After-resend_from}
 use Rattle.dn_lockstep.proofs.lockstep.Lockstep.note_sent.Goals as goal
 
 -- a node that plays or has ended keeps from where on it sends next
 gives : (limits : Limits) (me : ℕ) (m : machine.Node) (to : ℕ) (phase : Phase)
     → (phase ≡ Playing) ⊎ ((cause : Cause) × (phase ≡ Ended cause))
     → after_giving limits me m to phase ≡ after_sent limits me m to
-gives limits me m to phase (inl is) = ap (after_giving limits me m to) is
-gives limits me m to phase (inr is) = ap (after_giving limits me m to) is.1
+gives limits me m to phase stage = grind arith
 
 pub returns-in-Playing-clause-step : goal.returns-in-Playing-clause-step
 returns-in-Playing-clause-step c = becomes refl (λ limits me m r.
@@ -41,9 +29,7 @@ returns-in-Playing-clause-step c = becomes refl (λ limits me m r.
     (sends_in limits me _ m c.args.to n.phase r c.requires.peer.below c.requires.peer.other refl)) in
     let end = last_is limits me m c.args.to c.args.aim.now own.0 own.1 (omega arith) own.2 in
     let lags : c.lag.result ≡ lag limits = c.lag.ensures ∙ ap bit r.whose.extra in
-    let tic : c.saturating_sub-resend.result ≡ last_sent limits me m c.args.to - lag limits =
-    c.saturating_sub-resend.ensures ∙ ap (λ (k : ℕ). c.args.aim.now.start + k - c.lag.result) c.from.ensures
-    ∙ (λ i. end i - lags i) in
+    let tic : c.saturating_sub-resend.result ≡ last_sent limits me m c.args.to - lag limits = grind arith in
     let peer = c.resend_from.ensures.put ∙ ap (λ (x : Peer). record x {
       resend =
           c.saturating_sub-resend.result;
@@ -58,20 +44,10 @@ returns-in-Playing-clause-step c = becomes refl (λ limits me m r.
 kept : (c : After-resend_from)
     → AreKept (peer_at c.args.self.now.peers) (peer_at c.resend_from.new.self) c.args.to
     (ring_at c.args.self.now.rings c.args.self.now.me).count
-kept c =
-    let reached = c.requires.reach.low in
-    let at = ap (λ (q : Peer). q.resend) c.resend_from.ensures.put in
-    let less = c.saturating_sub-resend.ensures in
-    record {
-      later = λ tic h. ap (λ (q : Peer). is_over q.end tic) (sym c.resend_from.ensures.put) ∙ h;
-      low = omega arith;
-      others = c.resend_from.ensures.others;
-    }
+kept c = grind (arith, c.requires.reach.low, c.resend_from.ensures.put, c.saturating_sub-resend.ensures)
 
 pub invariant_of-self-clause-endless : goal.invariant_of-self-clause-endless
-invariant_of-self-clause-endless c =
-    same_end (kept (goal.at.invariant_of-self-clause-endless c).After-resend_from) c.args.self.now.me
-    (λ e. c.requires.peer.other (sym e)) ∙ c.args.self.now.endless
+invariant_of-self-clause-endless c = grind (arith, same_end, c.args.self.now.endless)
 
 pub invariant_of-self-clause-gone : goal.invariant_of-self-clause-gone
 invariant_of-self-clause-gone c plays closed =

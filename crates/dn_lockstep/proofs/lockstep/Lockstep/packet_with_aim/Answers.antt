@@ -1,13 +1,10 @@
-use Rattle.std.proofs.Common.{Some, None, refl, ap, sym, ◌∙◌, subst}
+use Rattle.std.proofs.Common.{Some, refl, ap, sym, ◌∙◌, subst, None, arith}
 use Rattle.std.specs.Option.{option_map}
 use Rattle.dn_packet.specs.Text.{text}
-use Rattle.dn_lockstep.specs.Contents.{Contents, contents}
-use Rattle.dn_lockstep.specs.Giving.{Reaches, packet_of_aim}
-use Rattle.dn_lockstep.specs.Sent.{sent_to, after_giving, aim_of, bytes_of}
-use Rattle.dn_lockstep.specs.Steps.{Tells}
+use Rattle.dn_lockstep.specs.{Contents.{Contents, contents}, Giving.{Reaches, packet_of_aim}}
+use Rattle.dn_lockstep.specs.{Sent.{sent_to, after_giving, aim_of}, Steps.Tells}
 use Rattle.dn_lockstep.proofs.After.{along, steps}
-use Rattle.dn_lockstep.proofs.Giving.{none_sent, no_flight, given_shows, spelled}
-use Rattle.dn_lockstep.proofs.Spelling.{IsGivenAs, own_given, set_up_given}
+use Rattle.dn_lockstep.proofs.Giving.{none_sent, no_flight, given_shows, spelled, IsGivenAs, own_given, set_up_given}
 use Rattle.dn_lockstep.proofs.lockstep.Lockstep.packet_with_aim.Goals.{After-write_own, After-to_packet}
 use Rattle.dn_lockstep.proofs.lockstep.Lockstep.packet_with_aim.Goals as goal
 
@@ -23,10 +20,7 @@ returns-in_default-clause-sent c = (
   (refl, refl),
   steps refl (λ limits me m r.
       let none = no_flight aim_of _ (sym c.in_default.is ∙ c.aim.ensures.told limits me m r) in
-      record {
-        node = along (none_sent limits me m c.args.to none) r;
-        answer = sym (ap (option_map bytes_of) none);
-      }),
+      grind (arith, along, none_sent)),
 )
 
 -- the own commands that are written are those of the flight that is sent

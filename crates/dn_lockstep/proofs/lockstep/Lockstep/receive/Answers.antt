@@ -1,29 +1,21 @@
-use Rattle.std.proofs.Common.{refl, inl, inr, sym, ◌∙◌}
+use Rattle.std.proofs.Common.{refl, sym, ◌∙◌, arith}
 use Rattle.dn_lockstep.specs.Contents.{contents}
-use Rattle.dn_lockstep.proofs.Nearby.{near_from_any}
-use Rattle.dn_lockstep.proofs.Receiving.{any_ended, any_strange, any_read, any_fault}
+use Rattle.dn_lockstep.proofs.{Nearby.near_from_any, Receiving.{any_ended, any_strange, any_read, any_fault}}
 use Rattle.dn_lockstep.proofs.lockstep.Lockstep.receive.Goals as goal
-use Rattle.dn_lockstep.proofs.lockstep.Lockstep.receive.Goals.{then-from-self-via-then-from-self, then-from-self-via-else-from-self+then-from-self-2}
 
 pub returns-then-hears_none-clause-any : goal.returns-then-hears_none-clause-any
-returns-then-hears_none-clause-any c =
-    any_ended (contents c.args.self.now) c.args.from c.args.bytes.now
-    (sym c.hears_none.ensures ∙ c.if-hears_none.true)
+returns-then-hears_none-clause-any c = grind (arith, any_ended)
 
 pub returns-then-hears_none-clause-near : goal.returns-then-hears_none-clause-near
 returns-then-hears_none-clause-near c =
     near_from_any (contents c.args.self.now) (contents c.args.self.now) c.args.from c.args.bytes.now _
-    (any_ended (contents c.args.self.now) c.args.from c.args.bytes.now
-    (sym c.hears_none.ensures ∙ c.if-hears_none.true)) c.args.self.now.me_below
+    (grind (arith, any_ended)) c.args.self.now.me_below
 
 pub returns-then-from-self-clause-any : goal.returns-then-from-self-clause-any
 returns-then-from-self-clause-any c =
     any_strange (contents c.args.self.now) c.args.from c.args.bytes.now
     (sym c.hears_none.ensures ∙ c.if-hears_none.false)
-    (elim c.then-from-self.branch [
-      | then-from-self-via-then-from-self w ↦ inl w.if-from-self.true
-      | then-from-self-via-else-from-self+then-from-self-2 w ↦ inr w.if-from-self-2.true
-    ])
+    (grind arith)
 
 pub returns-in-Ok : goal.returns-in-Ok
 returns-in-Ok c =

@@ -1,17 +1,12 @@
-use Rattle.std.proofs.Common.{ap, refl, sym, ℕ, zero, suc}
+use Rattle.std.proofs.Common.{ap, sym, ℕ, arith}
 use Rattle.std.specs.Prelude.{◌≡◌, get_or, false, ◌∷◌, []}
 use Rattle.dn_lockstep.specs.Runs.{with_row}
-use Rattle.dn_lockstep.proofs.After.{after, steps}
-use Rattle.dn_lockstep.proofs.Running.{run_all}
+use Rattle.dn_lockstep.proofs.{After.{after, steps}, Running.run_all}
 use Rattle.dn_lockstep.proofs.lockstep.Lockstep.run_into.Goals as goal
 
 -- nobody is in this set
 nobody : (player : ℕ) → get_or (false ∷ false ∷ false ∷ false ∷ []) player false ≡ false
-nobody zero = refl
-nobody (suc zero) = refl
-nobody (suc (suc zero)) = refl
-nobody (suc (suc (suc zero))) = refl
-nobody (suc (suc (suc (suc player)))) = refl
+nobody player = grind arith
 
 pub returns-clause-step : goal.returns-clause-step
 returns-clause-step c = steps c.run_without.ensures.step.same (λ limits me m r.

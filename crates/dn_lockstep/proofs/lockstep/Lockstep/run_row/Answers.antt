@@ -1,69 +1,35 @@
-use Rattle.std.proofs.Common.{◌≡◌, ◌≢◌, ◌<◌, ◌+◌, ℕ, Bool, true, false, true≢false, not, List, length, Option, Some, refl, ap, sym, ◌∙◌, subst, arith, inl, inr}
+use Rattle.std.proofs.Common.{◌≡◌, ◌<◌, ◌+◌, ℕ, Bool, true, false, true≢false, not, List, Option, Some, refl, ap, sym, ◌∙◌, subst, arith}
 use Rattle.std.specs.Prelude.{if◌then◌else◌, All, IfSome}
-use Rattle.std.proofs.lemmas.Bool.{cases_Bool}
 use Rattle.dn_tic.specs.declared.command.Move.{Move}
-use Rattle.dn_demo.specs.Places.{seats_in}
-use Rattle.dn_demo.specs.Recorded.{AddsRow}
-use Rattle.dn_demo.specs.Rows.{IsMove, IsRow}
-use Rattle.dn_demo.specs.declared.recorder.Stage.{Stage}
-use Rattle.dn_demo.specs.declared.recorder.Stage.TheVariants.{Blank, Open, Closed}
-use Rattle.dn_machine.specs.declared.answers.Ran.{Ran}
-use Rattle.dn_machine.specs.Node.{is_whole, lacks}
-use Rattle.dn_machine.specs.Running.{row_held, marks_kept, tic_limit}
-use Rattle.dn_lockstep.specs.Contents.{contents, whose}
-use Rattle.dn_lockstep.specs.Peers.{peer_at}
-use Rattle.dn_lockstep.specs.Rings.{ring_at}
-use Rattle.dn_lockstep.specs.Rows.{has_gone, seats_of}
-use Rattle.dn_lockstep.proofs.After.{after, steps}
-use Rattle.dn_lockstep.proofs.Finding.{row_is, seat_held, seat_empty, full_is}
-use Rattle.dn_lockstep.proofs.Gone.{over_later, gone_later}
-use Rattle.dn_lockstep.proofs.Moving.{IsWritten, shows_moved}
-use Rattle.dn_lockstep.proofs.Room.{row_length, size_more, row_fits}
-use Rattle.dn_lockstep.proofs.Running.{row_full, row_moves, kept_here}
-use Rattle.dn_lockstep.specs.Runs.{marks_in, with_row}
-use Rattle.dn_lockstep.proofs.Seats.{here_all}
-use Rattle.dn_lockstep.proofs.Windowed.{fits}
-use Rattle.dn_lockstep.proofs.lockstep.Lockstep.run_row.Goals.{After-stamp}
+use Rattle.dn_demo.specs.{Recorded.AddsRow, Rows.{IsMove, IsRow}, declared.recorder.Stage.Stage}
+use Rattle.dn_demo.specs.declared.recorder.Stage.TheVariants.{Open, Closed}
+use Rattle.dn_machine.specs.{declared.answers.Ran.Ran, Node.{is_whole, lacks}, Running.{row_held, marks_kept}}
+use Rattle.dn_lockstep.specs.{Contents.{contents, whose}, Peers.peer_at, Rings.ring_at}
+use Rattle.dn_lockstep.specs.{Rows.{has_gone, seats_of}, Runs.{marks_in, with_row}}
+use Rattle.dn_lockstep.proofs.{After.{after, steps}, Finding.{row_is, seat_held, seat_empty, full_is, fits}}
+use Rattle.dn_lockstep.proofs.{Kept.{over_later, gone_later}, Moving.{IsWritten, shows_moved}}
+use Rattle.dn_lockstep.proofs.{DemoTexts.{size_more, row_fits}, Running.{row_full, row_moves, kept_here}}
+use Rattle.dn_lockstep.proofs.{Seats.here_all, lockstep.Lockstep.run_row.Goals.After-stamp}
 use Rattle.dn_lockstep.proofs.lockstep.Lockstep.run_row.Goals as goal
 
--- where the row is whole, nobody is gone, and so the demo is open
-open_where : (stage : Stage) (has : Bool) → stage ≢ Blank → (stage ≡ Closed → has ≡ true) → not has ≡ true
-    → stage ≡ Open
-open_where Blank has begun gone e = absurd (begun refl)
-open_where Open has begun gone e = refl
-open_where Closed true begun gone e = absurd (true≢false (sym e))
-open_where Closed false begun gone e = absurd (true≢false (sym (gone refl)))
-
 opened : (c : After-stamp) → c.fill_row-whole.result ≡ true → c.args.self.now.demo.stage ≡ Open
-opened c e =
-    let n = c.args.self.now in
-    open_where n.demo.stage (has_gone (peer_at n.peers) n.players n.ran) (n.begun c.requires.plays)
-    (n.gone c.requires.plays)
-    (sym c.fill_row-whole.ensures.nobody ∙ e)
+opened c e = grind arith
 
 -- a row of these players is one of the game's
 row_of_game : {players all : ℕ} {row held : List (Option Move)} → players ≡ all → row ≡ held
     → IsRow (seats_of players) row → IsRow (seats_of all) held
-row_of_game {players} {all} {row} {held} same is fits =
-    subst (IsRow (seats_of all)) is (subst (λ (k : ℕ). IsRow (seats_of k) row) same fits)
+row_of_game {players} {all} {row} {held} same is fits = grind (arith, fits)
 
 -- and there is room for it
 below : (c : After-stamp) → c.fill_row-whole.result ≡ true → c.args.self.now.ran < c.args.self.now.capacity
-below c e =
-    let n = c.args.self.now in
-    let at : c.full_at.result ≡ n.capacity = c.full_at.ensures
-    ∙ ap (λ (b : Bool). if b then n.capacity else tic_limit) e in
-    let room = n.fits c.requires.plays (opened c e) in
-    let other = c.if-tic-full_at.false in
-    omega arith
+below c e = grind (arith, fits, opened)
 
 pub returns-then-tic-full_at-clause-step : goal.returns-then-tic-full_at-clause-step
 returns-then-tic-full_at-clause-step c = steps c.finish.ensures.same (λ limits me m r.
     let n = c.args.self.now in
     let row = c.fill_row-whole.ensures.row ∙ row_is r (fits n) c.requires.there in
     let full = full_is r (fits n) c.requires.there c.full_at.ensures c.fill_row-whole.ensures.whole row in
-    after _ _ (ap (with_row limits m) (row_full limits m _ (sym r.table.ran ∙ c.if-tic-full_at.true ∙ full)))
-    (c.finish.ensures.step limits me m r).node (refl, refl))
+    grind (arith, after, row_full))
 
 pub returns-then-tic-full_at-clause-full : goal.returns-then-tic-full_at-clause-full
 returns-then-tic-full_at-clause-full c e limits me m r =
@@ -71,44 +37,22 @@ returns-then-tic-full_at-clause-full c e limits me m r =
 
 pub write-requires-clause-room : goal.write-requires-clause-room
 write-requires-clause-room c e =
-    let n = c.args.self.now in
     let at = goal.at.write-requires-clause-room c in
-    let on = c.requires.plays in
     let is_open = opened at.After-stamp e in
-    row_fits n.demo.limit n.players n.capacity n.ran (length n.demo.bytes) _ n.room (below at.After-stamp e)
-    (n.size on is_open)
-    (row_length (seats_in n.demo.bytes) n.players (n.seats on is_open) n.few)
+    grind (arith, row_fits)
 
 -- the demo after the tic is open where the row is whole
 stage_whole : (b : Bool) (stage : Stage) → stage ≡ (if b then Open else Closed) → stage ≡ Open → b ≡ true
-stage_whole true stage e o = refl
-stage_whole false stage e o = absurd (let both : Closed ≡ Open = sym e ∙ o in cc)
+stage_whole b stage e o = grind arith
 
 stage_lacks : (b : Bool) (stage : Stage) → stage ≡ (if b then Open else Closed) → stage ≡ Closed → b ≡ false
-stage_lacks false stage e o = refl
-stage_lacks true stage e o = absurd (let both : Open ≡ Closed = sym e ∙ o in cc)
-
-not_begun : (b : Bool) → (if b then Open else Closed) ≢ Blank
-not_begun true e = absurd (cc)
-not_begun false e = absurd (cc)
+stage_lacks b stage e o = grind arith
 
 pub invariant_of-self-2-clause-ran_fits : goal.invariant_of-self-2-clause-ran_fits
-invariant_of-self-2-clause-ran_fits c =
-    let n = c.args.self.now in
-    let old = n.ran_fits in
-    let short = n.short in
-    elim (cases_Bool c.fill_row-whole.result) [
-      | inl whole ↦ let fits = below (goal.at.invariant_of-self-2-clause-ran_fits c).After-stamp whole in
-          omega arith
-      | inr lacks ↦
-          let at : c.full_at.result ≡ tic_limit = c.full_at.ensures
-          ∙ ap (λ (b : Bool). if b then n.capacity else tic_limit) lacks in
-          let other = c.if-tic-full_at.false in
-          omega arith
-    ]
+invariant_of-self-2-clause-ran_fits c = grind (arith, fits, below)
 
 pub invariant_of-self-2-clause-begun : goal.invariant_of-self-2-clause-begun
-invariant_of-self-2-clause-begun c on e = not_begun c.fill_row-whole.result (sym c.write.ensures.stage ∙ e)
+invariant_of-self-2-clause-begun c on e = grind arith
 
 pub invariant_of-self-2-clause-gone : goal.invariant_of-self-2-clause-gone
 invariant_of-self-2-clause-gone c on closed =
@@ -123,25 +67,16 @@ invariant_of-self-2-clause-gone c on closed =
     not-false-true false e = absurd (true≢false e)
 
 pub invariant_of-self-2-clause-fits : goal.invariant_of-self-2-clause-fits
-invariant_of-self-2-clause-fits c on is_open =
-    let fits = below (goal.at.invariant_of-self-2-clause-fits c).After-stamp
-    (stage_whole c.fill_row-whole.result _ c.write.ensures.stage is_open) in
-    omega arith
+invariant_of-self-2-clause-fits c on is_open = grind (arith, below)
 
 pub invariant_of-self-2-clause-seats : goal.invariant_of-self-2-clause-seats
-invariant_of-self-2-clause-seats c on is_open =
-    let whole = stage_whole c.fill_row-whole.result _ c.write.ensures.stage is_open in
-    c.write.ensures.seats whole ∙ c.args.self.now.seats c.requires.plays
-    (opened (goal.at.invariant_of-self-2-clause-seats c).After-stamp whole)
+invariant_of-self-2-clause-seats c on is_open = grind (arith, stage_whole, opened)
 
 pub invariant_of-self-2-clause-size : goal.invariant_of-self-2-clause-size
 invariant_of-self-2-clause-size c on is_open =
-    let n = c.args.self.now in
     let whole = stage_whole c.fill_row-whole.result _ c.write.ensures.stage is_open in
     let before = opened (goal.at.invariant_of-self-2-clause-size c).After-stamp whole in
-    size_more (length n.demo.bytes) _ _ n.players n.ran (c.write.ensures.size whole)
-    (row_length (seats_in n.demo.bytes) n.players (n.seats c.requires.plays before) n.few)
-    (n.size c.requires.plays before)
+    grind (arith, size_more)
 
 pub invariant_of-self-2-clause-reached : goal.invariant_of-self-2-clause-reached
 invariant_of-self-2-clause-reached c p inside stays =

@@ -1,11 +1,9 @@
-use Rattle.std.proofs.Common.{◌∙◌, ap, refl, sym, rules}
+use Rattle.std.proofs.{Common.{◌∙◌, ap, refl, sym, rules}, lemmas.Int.to_z-of_z}
 use Rattle.std.specs.Int.{w16}
-use Rattle.std.proofs.lemmas.Int.{to_z-of_z}
 use Rattle.dn_lockstep.specs.Runs.{with_row}
 use Rattle.dn_lockstep.proofs.After.{after, steps}
-use Rattle.dn_lockstep.proofs.Finding.{finds_awaited, finds_off, off_present, mark_is, should_is}
+use Rattle.dn_lockstep.proofs.Finding.{finds_awaited, finds_off, off_present, mark_is, should_is, fits}
 use Rattle.dn_lockstep.proofs.Running.{run_not, run_waits, run_off, run_on}
-use Rattle.dn_lockstep.proofs.Windowed.{fits}
 use Rattle.dn_lockstep.proofs.lockstep.Lockstep.run_without.Goals as goal
 
 pub returns-in_default-clause-step : goal.returns-in_default-clause-step
@@ -40,9 +38,3 @@ returns-clause-step c = steps c.run_row.ensures.step.same (λ limits me m r.
     (finds_off r (fits n) _ _ c.in_default-first_off.ensures.lowest) in
     let ran = c.run_row.ensures.step.step limits me m r in
     after _ _ (ap (with_row limits m) on) ran.node ran.answer)
-
-pub first_off-requires-clause-there : goal.first_off-requires-clause-there
-first_off-requires-clause-there c = search rules
-
-pub run_row-requires-clause-there : goal.run_row-requires-clause-there
-run_row-requires-clause-there c = search rules

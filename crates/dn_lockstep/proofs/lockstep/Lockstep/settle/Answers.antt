@@ -1,38 +1,35 @@
-use Rattle.std.proofs.Common.{◌≡◌, ◌<◌, ◌≤◌, ◌-◌, ◌++◌, false, List, length, refl, sym, ap, ◌∙◌, arith, inl, inr}
-use Rattle.std.specs.List.{list_any}
+use Rattle.std.proofs.Common.{◌≡◌, ◌<◌, ◌≤◌, ◌-◌, ◌++◌, false, List, length, ℕ, None, subst, refl, sym, ap, ◌∙◌, arith, inl, inr}
+use Rattle.std.proofs.lemmas.Bool.{le-ltb}
 use Rattle.dn_tic.specs.declared.command.TicCmd.{TicCmd}
 use Rattle.dn_ring.specs.Ring.{Ring}
-use Rattle.dn_machine.specs.declared.peer.Peer.{Peer}
-use Rattle.dn_machine.specs.Running.{is_over}
-use Rattle.dn_lockstep.specs.Peers.{peer_at}
-use Rattle.dn_lockstep.specs.Rings.{ring_at, ring_of, is_stop}
-use Rattle.dn_lockstep.specs.Settling.{has_gap, is_no_peer, is_other_end}
-use Rattle.dn_lockstep.proofs.After.{steps}
-use Rattle.dn_lockstep.proofs.Counting.{changed, still_counted}
+use Rattle.dn_machine.specs.{declared.peer.Peer.Peer, Running.is_over}
+use Rattle.dn_lockstep.specs.{Contents.contents, declared.lockstep.settling.Settled.TheVariants.Taken}
+use Rattle.dn_lockstep.specs.{Peers.peer_at, Rings.{ring_at, ring_of}}
+use Rattle.dn_lockstep.specs.Settling.{is_no_peer, is_other_end, missing}
+use Rattle.dn_lockstep.proofs.{After.steps, Counting.{changed, still_counted}}
 use Rattle.dn_lockstep.proofs.Kept.{AreKept, same_end, gone_still, stays_gone, resends_low}
-use Rattle.dn_lockstep.proofs.Excusing.{peer_below, peer_apart}
-use Rattle.dn_lockstep.proofs.Settling.{missing_length, kept_settled, stranger_shows, out_shows, gap_shows, behind_shows, overrun_shows, stop_shows, other_shows, taken_shows}
+use Rattle.dn_lockstep.proofs.Gathering.{peer_below, peer_apart}
+use Rattle.dn_lockstep.proofs.Wholes.{missing_length, kept_settled, past_gap, refused_by, refuses, taken_shows}
 use Rattle.dn_lockstep.proofs.lockstep.Lockstep.settle.Goals.{After-want}
 use Rattle.dn_lockstep.proofs.lockstep.Lockstep.settle.Goals as goal
 
--- what the tests have told, in their order
 peer : (c : After-want) → is_no_peer c.args.self.now.players c.args.self.now.me c.args.player ≡ false
 peer c = sym c.is_no_peer.ensures ∙ c.if-is_no_peer.false
 
-near : (c : After-want) → has_gap c.count-got.result c.args.end c.args.first c.args.commands.now ≡ false
-near c = c.in-Some.ensures.gap
-
 same : (c : After-want)
     → is_other_end c.args.self.now.ran (peer_at c.args.self.now.peers c.args.player).end c.args.end ≡ false
-same c =
-    ap (λ (p : Peer). is_other_end c.args.self.now.ran p.end c.args.end) (sym c.get.ensures)
-    ∙ sym c.is_other_end.ensures ∙ c.if-is_other_end.false
+same c = grind arith
+
+-- nothing refuses the end
+fine : (c : After-want)
+    → refused_by (contents c.args.self.now) c.args.player c.args.end c.args.first c.args.commands.now ≡ None
+fine c =
+    past_gap (contents c.args.self.now) c.args.player c.args.end c.args.first c.args.commands.now _ (peer c) (sym c.is_out.ensures ∙ c.if-is_out.false) c.count-got.ensures c.in-Some.ensures.gap
+    c.if-end-got.false (grind arith)
 
 -- it has as many commands more as are missing
 many : (c : After-want) → length c.in-Some.new.now ≡ c.args.end - c.count-got.result
-many c =
-    ap (length {A = TicCmd}) c.in-Some.ensures.found
-    ∙ missing_length c.count-got.result c.args.end c.args.first c.args.commands.now (near c)
+many c = grind (arith, missing_length)
 
 mine : (c : After-want) → c.args.player < c.args.self.now.players
 mine c = peer_below c.args.self.now.players c.args.self.now.me c.args.player (peer c)
@@ -41,9 +38,7 @@ mine c = peer_below c.args.self.now.players c.args.self.now.me c.args.player (pe
 ahead : (c : After-want)
     → is_over (peer_at c.args.self.now.peers c.args.player).end c.args.self.now.ran ≡ false
     → c.args.self.now.ran ≤ c.count-got.result
-ahead c present =
-    let come = c.args.self.now.reached c.args.player (mine c) present in
-    omega (arith, come, c.count-got.ensures)
+ahead c present = grind (arith, mine)
 
 -- so all peers are kept
 kept : (c : After-want)
@@ -57,60 +52,40 @@ kept c =
 -- each refusal
 
 pub returns-then-is_no_peer-clause-step : goal.returns-then-is_no_peer-clause-step
-returns-then-is_no_peer-clause-step c = steps refl (λ limits me m r.
-    stranger_shows r _ _ _ _ (sym c.is_no_peer.ensures ∙ c.if-is_no_peer.true))
+returns-then-is_no_peer-clause-step c = refuses _ _ _ _ _ _ (grind arith)
 
 pub returns-then-is_out-clause-step : goal.returns-then-is_out-clause-step
-returns-then-is_out-clause-step c = steps refl (λ limits me m r.
-    out_shows r _ _ _ _ (sym c.is_no_peer.ensures ∙ c.if-is_no_peer.false)
-    (sym c.is_out.ensures ∙ c.if-is_out.true))
+returns-then-is_out-clause-step c = refuses _ _ _ _ _ _ (grind arith)
 
 pub returns-in_default-clause-step : goal.returns-in_default-clause-step
-returns-in_default-clause-step c = steps refl (λ limits me m r.
-    gap_shows r _ _ _ _ (sym c.is_no_peer.ensures ∙ c.if-is_no_peer.false)
-    (sym c.is_out.ensures ∙ c.if-is_out.false)
-    c.count-got.ensures c.in_default.ensures.gap)
+returns-in_default-clause-step c = refuses _ _ _ _ _ _ (grind arith)
 
 pub returns-then-end-got-clause-step : goal.returns-then-end-got-clause-step
-returns-then-end-got-clause-step c = steps refl (λ limits me m r.
-    behind_shows r _ _ _ _ (sym c.is_no_peer.ensures ∙ c.if-is_no_peer.false)
-    (sym c.is_out.ensures ∙ c.if-is_out.false)
-    c.count-got.ensures c.in-Some.ensures.gap c.if-end-got.true)
+returns-then-end-got-clause-step c = refuses _ _ _ _ _ _
+    (rw (
+      sym c.is_no_peer.ensures ∙ c.if-is_no_peer.false,
+      sym c.is_out.ensures ∙ c.if-is_out.false,
+      rw c.count-got.ensures at c.in-Some.ensures.gap,
+    ) (grind arith))
 
 pub returns-then-end-self-clause-step : goal.returns-then-end-self-clause-step
-returns-then-end-self-clause-step c = steps refl (λ limits me m r.
-    overrun_shows r _ _ _ _ (sym c.is_no_peer.ensures ∙ c.if-is_no_peer.false)
-    (sym c.is_out.ensures ∙ c.if-is_out.false)
-    c.count-got.ensures c.in-Some.ensures.gap c.if-end-got.false c.if-end-self.true)
+returns-then-end-self-clause-step c = refuses _ _ _ _ _ _
+    (past_gap (contents c.args.self.now) c.args.player c.args.end c.args.first c.args.commands.now _ (sym c.is_no_peer.ensures ∙ c.if-is_no_peer.false) (sym c.is_out.ensures ∙ c.if-is_out.false)
+    c.count-got.ensures c.in-Some.ensures.gap c.if-end-got.false (grind arith))
 
 pub returns-then-has_stop-clause-step : goal.returns-then-has_stop-clause-step
-returns-then-has_stop-clause-step c = steps refl (λ limits me m r.
-    stop_shows r _ _ _ _ (sym c.is_no_peer.ensures ∙ c.if-is_no_peer.false)
-    (sym c.is_out.ensures ∙ c.if-is_out.false)
-    c.count-got.ensures c.in-Some.ensures.gap c.if-end-got.false c.if-end-self.false
-    (ap (list_any is_stop) (sym c.in-Some.ensures.found) ∙ sym c.has_stop.ensures ∙ c.if-has_stop.true))
+returns-then-has_stop-clause-step c = refuses _ _ _ _ _ _
+    (past_gap (contents c.args.self.now) c.args.player c.args.end c.args.first c.args.commands.now _ (sym c.is_no_peer.ensures ∙ c.if-is_no_peer.false) (sym c.is_out.ensures ∙ c.if-is_out.false)
+    c.count-got.ensures c.in-Some.ensures.gap c.if-end-got.false (grind arith))
 
 pub returns-then-is_other_end-clause-step : goal.returns-then-is_other_end-clause-step
-returns-then-is_other_end-clause-step c = steps refl (λ limits me m r.
-    other_shows r _ _ _ _ (sym c.is_no_peer.ensures ∙ c.if-is_no_peer.false)
-    (sym c.is_out.ensures ∙ c.if-is_out.false)
-    c.count-got.ensures c.in-Some.ensures.gap c.if-end-got.false c.if-end-self.false
-    (ap (list_any is_stop) (sym c.in-Some.ensures.found) ∙ sym c.has_stop.ensures ∙ c.if-has_stop.false)
-    (ap (λ (p : Peer). is_other_end c.args.self.now.ran p.end c.args.end) (sym c.get.ensures)
-    ∙ sym c.is_other_end.ensures ∙ c.if-is_other_end.true))
+returns-then-is_other_end-clause-step c = refuses _ _ _ _ _ _
+    (grind (arith, past_gap, le-ltb))
 
 -- the end and the commands are taken
 
-pub put_all-requires-clause-no_stop : goal.put_all-requires-clause-no_stop
-put_all-requires-clause-no_stop c =
-    sym c.has_stop.ensures ∙ c.if-has_stop.false
-
 pub invariant_of-self-clause-endless : goal.invariant_of-self-clause-endless
-invariant_of-self-clause-endless c =
-    let w = (goal.at.invariant_of-self-clause-endless c).After-want in
-    same_end (kept w) c.args.self.now.me
-    (λ e. peer_apart c.args.self.now.players c.args.self.now.me c.args.player (peer w) (sym e))
-    ∙ c.args.self.now.endless
+invariant_of-self-clause-endless c = grind (arith, same_end, kept, peer_apart, peer)
 
 pub invariant_of-self-clause-gone : goal.invariant_of-self-clause-gone
 invariant_of-self-clause-gone c plays closed =
@@ -146,15 +121,16 @@ invariant_of-self-clause-resends c p below =
 pub returns-clause-step : goal.returns-clause-step
 returns-clause-step c = steps refl (λ limits me m r.
     let w = (goal.at.returns-clause-step c).After-want in
-    taken_shows r _ _ _ _ (peer w) (sym c.is_out.ensures ∙ c.if-is_out.false)
-    c.count-got.ensures (near w) c.if-end-got.false c.if-end-self.false
-    (ap (list_any is_stop) (sym c.in-Some.ensures.found) ∙ sym c.has_stop.ensures ∙ c.if-has_stop.false) (same w) (ahead w) (peer_at c.want.new.self)
-    (ring_at c.put_all.new.self)
-    (c.want.ensures.put ∙ ap (λ (x : Peer). record x { want = false }) c.tell.ensures.put)
+    let got = c.count-got.ensures in
+    let taken = taken_shows r c.args.player c.args.end c.args.first c.args.commands.now (fine w)
+    (λ e. subst (λ (k : ℕ). c.args.self.now.ran ≤ k) got (ahead w e)) (peer_at c.want.new.self)
+    (ring_at c.put_all.new.self) (c.want.ensures.put ∙ ap (λ (x : Peer). record x { want = false }) c.tell.ensures.put)
     (kept w).others
     (λ held e. c.put_all.ensures.kept held e
-    ∙ ap (λ (xs : List TicCmd). ring_of (held ++ xs)) c.in-Some.ensures.found)
-    c.put_all.ensures.others)
+    ∙ ap (λ (xs : List TicCmd). ring_of (held ++ xs)) (c.in-Some.ensures.found
+    ∙ ap (λ (k : ℕ). missing k c.args.end c.args.first c.args.commands.now) got))
+    c.put_all.ensures.others in
+    record { node = taken.node; answer = ap (λ (k : ℕ). Taken (c.args.end - k)) got ∙ taken.answer })
 
 pub returns-clause-refused : goal.returns-clause-refused
 returns-clause-refused c h = absurd (h _ refl)

@@ -1,31 +1,17 @@
-use Rattle.std.proofs.Common.{◌≡◌, ◌≤◌, refl, ℕ, ◌+◌, ◌-◌, false, length, sym, ap, ◌∙◌, arith, inl, inr, rules}
-use Rattle.std.specs.List.{list_any}
+use Rattle.std.proofs.Common.{◌≡◌, ◌≤◌, refl, ◌+◌, false, length, sym, ap, ◌∙◌, arith}
 use Rattle.dn_ring.specs.Ring.{Ring}
-use Rattle.dn_machine.specs.declared.peer.Peer.{Peer}
-use Rattle.dn_machine.specs.Hearing.{after_request, after_exit, is_strange_end}
-use Rattle.dn_machine.specs.Running.{is_over}
-use Rattle.dn_lockstep.specs.Contents.{contents}
-use Rattle.dn_lockstep.specs.Peers.{peer_at}
-use Rattle.dn_lockstep.specs.Reading.{request_in}
-use Rattle.dn_lockstep.specs.Rings.{ring_at, is_stop}
-use Rattle.dn_lockstep.proofs.After.{steps}
-use Rattle.dn_lockstep.proofs.Counting.{changed, still_counted}
+use Rattle.dn_machine.specs.{Hearing.{after_request, after_exit, is_strange_end}, Running.is_over}
+use Rattle.dn_lockstep.specs.{Contents.contents, Peers.peer_at, Reading.request_in, Rings.ring_at}
+use Rattle.dn_lockstep.proofs.{After.steps, Counting.{changed, still_counted}}
 use Rattle.dn_lockstep.proofs.Kept.{AreKept, kept_asked, kept_told, kept_wanted, same_end, gone_still, stays_gone, resends_low}
-use Rattle.dn_lockstep.proofs.Rests.{rest_length, none_behind}
-use Rattle.dn_lockstep.proofs.Taking.{IsRead, over_shows, odd_shows, stale_shows, gap_shows, taken_shows}
+use Rattle.dn_lockstep.proofs.Taking.{rest_length, none_behind, IsRead, over_shows, odd_shows, stale_shows, gap_shows, taken_shows}
 use Rattle.dn_lockstep.proofs.lockstep.Lockstep.take.Goals.{After-as_slice-commands, After-tell}
 use Rattle.dn_lockstep.proofs.lockstep.Lockstep.take.Goals as goal
 
 -- what was read of the packet, after the first two tests
 read : (c : After-as_slice-commands) → IsRead (contents c.args.self.now) c.args.from c.args.packet.now
     c.made-made.result c.in-Ok.start
-read c =
-    record {
-      own = c.args.self.now.me_below;
-      peer = c.requires.peer;
-      count = c.made-made.ensures;
-      told = sym c.start.ensures.value ∙ c.in-Ok.is;
-    }
+read c = grind arith
 
 -- what is kept of the peer, once it has asked and told its end
 asked : (c : After-tell)
@@ -33,40 +19,28 @@ asked : (c : After-tell)
     ≡ after_exit (after_request c.args.self.now.places c.made-made.result (peer_at c.args.self.now.peers c.args.from)
     (request_in c.made-made.result c.args.packet.now)) c.has_flag-exit.result
     (c.in-Ok.start + length c.as_slice-commands.result.now)
-asked c =
-    let end : ℕ = c.in-Ok.start + length c.as_slice-commands.result.now in
-    c.tell.ensures.put ∙ ap (λ (x : Peer). after_exit x c.has_flag-exit.result end)
-    (c.ask.ensures.put
-    ∙ ap (after_request c.args.self.now.places c.made-made.result (peer_at c.args.self.now.peers c.args.from)) c.request.ensures)
+asked c = grind arith
 
 -- its end is not strange
 usual : (c : After-tell)
     → is_strange_end c.has_flag-exit.result c.count-got.result (peer_at c.args.self.now.peers c.args.from).end
     (c.in-Ok.start + length c.as_slice-commands.result.now) ≡ false
-usual c =
-    ap (λ (q : Peer). is_strange_end c.has_flag-exit.result c.count-got.result q.end
-    (c.in-Ok.start + length c.as_slice-commands.result.now)) (sym c.get.ensures)
-    ∙ sym c.is_strange_end.ensures ∙ c.if-is_strange_end.false
+usual c = grind arith
 
 -- and what came of it reaches up to the tics that were run, unless it is gone
 ahead : (c : After-tell)
     → is_over (peer_at c.args.self.now.peers c.args.from).end c.args.self.now.ran ≡ false
     → c.args.self.now.ran ≤ c.count-got.result
-ahead c present =
-    let come = c.args.self.now.reached c.args.from c.requires.peer present in
-    omega (arith, come, c.count-got.ensures)
+ahead c present = grind arith
 
 -- so all peers are kept
 kept : (c : After-tell)
     → AreKept (peer_at c.args.self.now.peers) (peer_at c.tell.new.self) c.args.from c.made-made.result
 kept c =
-    let made = c.made-made.ensures in
-    let low = c.args.self.now.resends c.args.from c.requires.peer in
     let first : AreKept (peer_at c.args.self.now.peers) (peer_at c.ask.new.self) c.args.from
     c.made-made.result =
     kept_asked _ c.request.result (omega arith) c.ask.ensures.put c.ask.ensures.others in
-    kept_told c.has_flag-exit.result c.count-got.result _ first (usual c) c.tell.ensures.put
-    c.tell.ensures.others
+    grind (arith, kept_told)
 
 pub returns-then-end-self-clause-step : goal.returns-then-end-self-clause-step
 returns-then-end-self-clause-step c = steps refl (λ limits me m r.
@@ -77,16 +51,12 @@ pub returns-then-is_strange_end-clause-step : goal.returns-then-is_strange_end-c
 returns-then-is_strange_end-clause-step c = steps refl (λ limits me m r.
     odd_shows r (read (goal.at.returns-then-is_strange_end-clause-step c).After-as_slice-commands)
     c.as_slice-commands.ensures.value c.if-end-self.false c.has_flag-exit.ensures c.count-got.ensures
-    (ap (λ (q : Peer). is_strange_end c.has_flag-exit.result c.count-got.result q.end
-    (c.in-Ok.start + length c.as_slice-commands.result.now)) (sym c.get.ensures)
-    ∙ sym c.is_strange_end.ensures ∙ c.if-is_strange_end.true))
+    (grind arith))
 
 -- old commands
 
 pub invariant_of-self-clause-endless : goal.invariant_of-self-clause-endless
-invariant_of-self-clause-endless c =
-    let now = kept (goal.at.invariant_of-self-clause-endless c).After-tell in
-    same_end now c.args.self.now.me (λ e. c.requires.other (sym e)) ∙ c.args.self.now.endless
+invariant_of-self-clause-endless c = grind (arith, kept, same_end)
 
 pub invariant_of-self-clause-gone : goal.invariant_of-self-clause-gone
 invariant_of-self-clause-gone c plays closed =
@@ -115,10 +85,7 @@ returns-then-end-got-clause-step c = steps refl (λ limits me m r.
 -- a gap
 
 pub invariant_of-self-then-start-got-clause-endless : goal.invariant_of-self-then-start-got-clause-endless
-invariant_of-self-then-start-got-clause-endless c =
-    let before = kept (goal.at.invariant_of-self-then-start-got-clause-endless c).After-tell in
-    same_end (kept_wanted before _ c.want.ensures.put c.want.ensures.others) c.args.self.now.me
-    (λ e. c.requires.other (sym e)) ∙ c.args.self.now.endless
+invariant_of-self-then-start-got-clause-endless c = grind (arith, kept, same_end, c.args.self.now.endless)
 
 pub invariant_of-self-then-start-got-clause-gone : goal.invariant_of-self-then-start-got-clause-gone
 invariant_of-self-then-start-got-clause-gone c plays closed =
@@ -150,15 +117,10 @@ returns-then-start-got-clause-step c = steps refl (λ limits me m r.
 -- new commands
 
 pub put_all-requires-clause-no_stop : goal.put_all-requires-clause-no_stop
-put_all-requires-clause-no_stop c =
-    none_behind is_stop c.as_slice-commands.result.now (c.count-got.result - c.in-Ok.start)
-    (ap (list_any is_stop) c.as_slice-commands.ensures.value ∙ c.in-Ok.ensures.no_stop)
+put_all-requires-clause-no_stop c = grind (arith, none_behind)
 
 pub invariant_of-self-2-clause-endless : goal.invariant_of-self-2-clause-endless
-invariant_of-self-2-clause-endless c =
-    let before = kept (goal.at.invariant_of-self-2-clause-endless c).After-tell in
-    same_end (kept_wanted before _ c.want-2.ensures.put c.want-2.ensures.others) c.args.self.now.me
-    (λ e. c.requires.other (sym e)) ∙ c.args.self.now.endless
+invariant_of-self-2-clause-endless c = grind (arith, kept, same_end, c.args.self.now.endless)
 
 pub invariant_of-self-2-clause-gone : goal.invariant_of-self-2-clause-gone
 invariant_of-self-2-clause-gone c plays closed =
@@ -170,27 +132,11 @@ pub invariant_of-self-2-clause-reached : goal.invariant_of-self-2-clause-reached
 invariant_of-self-2-clause-reached c p below h =
     let before = kept (goal.at.invariant_of-self-2-clause-reached c).After-tell in
     still_counted (ring_at c.args.self.now.rings) (ring_at c.put_all.new.self) c.args.from _ _
-    c.put_all.ensures.count c.put_all.ensures.others p (c.args.self.now.reached p below
-    (stays_gone (kept_wanted before _ c.want-2.ensures.put c.want-2.ensures.others) _ p h))
+    c.put_all.ensures.count c.put_all.ensures.others p (grind (arith, c.args.self.now.reached))
 
 pub invariant_of-self-2-clause-window : goal.invariant_of-self-2-clause-window
 invariant_of-self-2-clause-window c p h =
-    let old = c.args.self.now.window p h in
-    elim (changed (ring_at c.args.self.now.rings) (ring_at c.put_all.new.self) c.args.from _
-    c.put_all.ensures.count c.put_all.ensures.others p) [
-      | inl more ↦
-          let rest = rest_length c.as_slice-commands.result.now (c.count-got.result - c.in-Ok.start) in
-          omega (
-            arith,
-            more.1,
-            rest,
-            c.count-got.ensures,
-            c.if-end-self.false,
-            c.if-end-got.false,
-            c.if-start-got.false,
-          )
-      | inr kept ↦ omega (arith, old, kept)
-    ]
+    let old = c.args.self.now.window p h in grind (arith, changed, rest_length, kept)
 
 pub invariant_of-self-2-clause-resends : goal.invariant_of-self-2-clause-resends
 invariant_of-self-2-clause-resends c p below =
@@ -211,11 +157,3 @@ returns-clause-step c = steps refl (λ limits me m r.
     c.if-end-got.false c.if-start-got.false c.want-2.ensures.put c.put_all.ensures.kept
     c.put_all.ensures.others in
     record { node = taken.node; answer = c.left_or-2.ensures ∙ taken.answer })
-
--- a packet that is dropped changes nothing
-
-pub returns-then-end-self-clause-dropped : goal.returns-then-end-self-clause-dropped
-returns-then-end-self-clause-dropped c = search rules
-
-pub returns-then-is_strange_end-clause-dropped : goal.returns-then-is_strange_end-clause-dropped
-returns-then-is_strange_end-clause-dropped c = search rules

@@ -1,14 +1,6 @@
-use Rattle.std.proofs.Common.{◌≡◌, ◌<◌, ◌-◌, ℕ, List, ◌++◌, [], ◌∷◌, length, map, take, drop, min, sym, ap, ◌∙◌, subst, arith}
-use Rattle.std.proofs.lemmas.Bool.Decides.{nat_tests}
-use Rattle.std.proofs.lemmas.List.{nil_from_length}
-use Rattle.dn_measure.specs.declared.told.Told.TheVariants.{Ran}
-use Rattle.dn_measure.specs.Told.{Keys, keys_of}
-use Rattle.dn_measure.specs.Felt.{bin_of}
-use Rattle.dn_measure.specs.Histogram.{AreCountsOf}
-use Rattle.dn_measure.specs.Measure.{samples_of}
-use Rattle.dn_measure.specs.Runs.{AreRunsOf, running}
-use Rattle.dn_measure.proofs.Telling.{runs_ran, ran_one, ran_none, sample_more, first_of}
-use Rattle.dn_measure.proofs.Bins.{bin_kept}
+use Rattle.std.proofs.{Common.{◌≡◌, ◌<◌, ◌-◌, ℕ, List, ◌++◌, [], ◌∷◌, length, take, drop, min, sym, ap, ◌∙◌, subst, arith}, lemmas.Bool.Decides.nat_tests, lemmas.List.nil_from_length}
+use Rattle.dn_measure.specs.{declared.told.Told.TheVariants.Ran, Told.{Keys, keys_of}, Felt.bin_of, Histogram.AreCountsOf, Measure.samples_of, Runs.{AreRunsOf, running}}
+use Rattle.dn_measure.proofs.{Telling.{runs_ran, ran_one, ran_none, sample_more, first_of}, Counting.bin_kept}
 use Rattle.dn_measure.proofs.measure.Measure.run.Goals as goal
 
 pub returns-then-not-is_empty : goal.returns-then-not-is_empty
@@ -36,13 +28,4 @@ returns-then-not-is_empty c = λ start told h.
     }
 
 pub returns-else-not-is_empty : goal.returns-else-not-is_empty
-returns-else-not-is_empty c = λ start told h.
-    let none = nil_from_length c.args.self.now.waiting.items (grind (arith, nat_tests)) in
-    let keys = ran_none told c.args.now (sym h.waiting ∙ none) in
-    record {
-      start_at = h.start_at;
-      runs = subst (λ (rs : List ℕ). AreRunsOf rs (running c.add.new.self)) (sym (runs_ran told c.args.now))
-          (c.add.ensures _ h.runs);
-      waiting = none ∙ sym (ap (λ (k : Keys). k.waiting) keys);
-      keys = subst (λ (k : Keys). AreCountsOf 1002 (map bin_of k.times) c.args.self.now.keys) (sym keys) h.keys;
-    }
+returns-else-not-is_empty c = grind (arith, nil_from_length, nat_tests, ran_none, runs_ran)

@@ -1,8 +1,6 @@
 use Rattle.std.proofs.Common.{◌-◌, ℕ, List, ap, ◌∙◌, subst, refl}
-use Rattle.dn_measure.specs.Felt.{IsFelt}
-use Rattle.dn_measure.specs.Measure.{samples_of}
-use Rattle.dn_measure.specs.Told.{runs_of}
-use Rattle.dn_measure.proofs.Bins.{one_table, felt_is}
+use Rattle.dn_measure.specs.{Felt.IsFelt, Measure.samples_of, Told.runs_of}
+use Rattle.dn_measure.proofs.Counting.{one_table, felt_is}
 use Rattle.dn_measure.proofs.measure.Measure.summary.Goals as goal
 
 pub returns : goal.returns

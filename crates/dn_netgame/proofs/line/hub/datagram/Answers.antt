@@ -1,12 +1,19 @@
-use Rattle.std.proofs.Common.{ℕ, List, ap}
-use Rattle.dn_netgame.proofs.Lines.Queues.{front_kept}
-use Rattle.dn_netgame.specs.declared.line.Datagram.{Datagram}
+-- Queues in memory.
+use Rattle.std.proofs.Common.{◌≡◌, ℕ, ◌≤◌, ◌+◌, ◌↔◌, List, [], ◌++◌, length, take, min, Result, Ok, Err, arith, rules}
+use Rattle.std.specs.Prelude.{IsOk, OnOk}
+use Rattle.std.proofs.lemmas.List.{take_min, length-take}
 use Rattle.dn_netgame.proofs.line.hub.datagram.Goals as goal
 
+-- what holds of an answer that is Ok
+at_ok : {A F P : Type 0} (r : Result A F) → IsOk r → OnOk r P → P
+at_ok (Ok done) ok p = p
+at_ok (Err fault) ok p = absurd (search (rules, ok))
+
+front_kept : {F : Type 0} (count : ℕ) (bytes start items : List ℕ) (r : Result (Unit {0}) F)
+    → count ≡ min 105 (length bytes) → start ≡ []
+    → IsOk r ↔ (length start + length (take count bytes) ≤ 105) → OnOk r (items ≡ start ++ take count bytes)
+    → items ≡ take 105 bytes
+front_kept count bytes start items r least empty fits kept = grind (arith, length-take, at_ok, take_min)
+
 pub returns : goal.returns
-returns c =
-    let M : List ℕ → Datagram = λ xs. record { from = c.args.from; bytes = record { items = xs } } in
-    ap M (front_kept c.min-count.result c.args.bytes.now c.new-kept.result.items
-    c.try_extend_from_slice.new.self.items c.try_extend_from_slice.result
-    c.min-count.ensures c.new-kept.ensures c.try_extend_from_slice.ensures.variant
-    c.try_extend_from_slice.ensures.ok)
+returns c = grind (arith, front_kept)

@@ -1,19 +1,14 @@
 use Rattle.std.proofs.Common.{arith, rules, ◌≡◌, ◌++◌, false, Some, None}
-use Rattle.std.specs.Prelude.{slice_get, slice_index_or}
-use Rattle.std.specs.String.{string_bytes}
+use Rattle.std.specs.{Prelude.{slice_get, slice_index_or}, String.string_bytes}
 use Rattle.std.proofs.lemmas.Option.{slice_get_within}
-use Rattle.dn_node.specs.Contents as node
 use Rattle.dn_game.specs.Contents.{contents}
 use Rattle.dn_netgame.specs.Texts.NodeLines.{node_line}
 use Rattle.dn_netgame.proofs.Texts.Listing.{lines_more, lines_done}
+use Rattle.dn_node.specs.Contents as node
 use Rattle.dn_netgame.proofs.text.game.push_nodes.Goals as goal
 
 pub loop-node-smaller : goal.loop-node-smaller
-loop-node-smaller g c =
-    let there : slice_get (contents c.args.game.now).nodes c.loop-node.number ≡ Some c.in-Some.node.now =
-    search rules in
-    let below = slice_get_within (contents c.args.game.now).nodes c.loop-node.number c.in-Some.node.now there in
-    omega (arith, below)
+loop-node-smaller g c = grind (arith, slice_get_within)
 
 pub loop-node-preserved : goal.loop-node-preserved
 loop-node-preserved g c =

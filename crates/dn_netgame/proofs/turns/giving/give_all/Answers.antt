@@ -1,12 +1,8 @@
 use Rattle.std.proofs.Common.{◌≡◌, ◌<◌, ◌+◌, ℕ, List, Some, None, Result, option_map, ap, sym, ◌∙◌, subst, arith}
-use Rattle.dn_netgame.specs.Lines.Counts.{Done}
-use Rattle.dn_netgame.specs.declared.line.LineFault.{LineFault}
+use Rattle.dn_netgame.specs.{Lines.Counts.Done, declared.line.LineFault.LineFault, declared.turns.giving.Given.Given}
 use Rattle.dn_machine.specs.Worlds.{rules_within}
-use Rattle.dn_netgame.specs.Turning.Giving.{Gives}
-use Rattle.dn_netgame.specs.declared.turns.giving.Given.{Given}
-use Rattle.dn_netgame.proofs.Turning.Packets.{silent, spoken, IsCounted, giving, given_more, counted_once, count_more}
+use Rattle.dn_netgame.proofs.{Turning.Packets.{silent, spoken, IsCounted, giving, given_more, counted_once, count_more}, turns.giving.give_all.Goals.{in-Ok, in-Err}}
 use Rattle.dn_netgame.proofs.turns.giving.give_all.Goals as goal
-use Rattle.dn_netgame.proofs.turns.giving.give_all.Goals.{in-Ok, in-Err}
 
 pub loop-to-preserved-in_default : goal.loop-to-preserved-in_default
 loop-to-preserved-in_default g c =
@@ -80,20 +76,7 @@ loop-to-preserved g c =
     )
 
 pub returns-clause-given : goal.returns-clause-given
-returns-clause-given g c limits me m r =
-    let so_far = c.loop-to.invariant.3 limits me m r in
-    let all : c.loop-to.to ≡ limits.players =
-    omega (
-      arith,
-      c.loop-to-test.false,
-      c.loop-to.auto.to-end,
-      c.players-to-end.ensures,
-      r.lockstep.whose.players,
-    ) in
-    let P : ℕ → Type 0 = λ k. Gives g.L.Line.sends (rules_within g.W.World.physics limits) me k
-    (giving m c.args.line.now (record { sent = 0; failed = 0 }))
-    (giving so_far.after c.loop-to.line c.loop-to.given) in
-    record { after = so_far.after; node = so_far.node; leads = subst P all so_far.leads }
+returns-clause-given g c limits me m r = grind (arith, giving)
 
 pub returns-clause-whose : goal.returns-clause-whose
 returns-clause-whose g c = c.loop-to.invariant.4

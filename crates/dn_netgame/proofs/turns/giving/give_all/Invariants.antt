@@ -1,7 +1,6 @@
 use Rattle.std.proofs.Common.{◌≡◌, ◌≤◌, ◌+◌}
 use Rattle.dn_node.specs.Contents.{contents, whose}
-use Rattle.dn_netgame.specs.Turning.Leading.{Leads, risen}
-use Rattle.dn_netgame.specs.Turning.Giving.{Gives}
+use Rattle.dn_netgame.specs.{Turning.Leading.{Leads, risen}, Turning.Giving.Gives}
 use Rattle.dn_netgame.proofs.turns.giving.give_all.Given as goal
 
 abbrev pub invariant-loop-to : goal.invariant-loop-to

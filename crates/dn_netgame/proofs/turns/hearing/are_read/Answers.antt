@@ -1,6 +1,6 @@
 use Rattle.std.proofs.Common.{◌<◌, arith}
 use Rattle.std.proofs.lemmas.List.Elements.{All-from_get_or}
-use Rattle.dn_netgame.proofs.Turning.Datagrams.{read_and_told}
+use Rattle.dn_netgame.proofs.Turning.Packets.{read_and_told}
 use Rattle.dn_netgame.proofs.turns.hearing.are_read.Goals as goal
 
 pub returns : goal.returns

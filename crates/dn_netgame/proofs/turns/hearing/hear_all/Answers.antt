@@ -1,10 +1,7 @@
 use Rattle.std.proofs.Common.{◌≡◌, ◌<◌, ◌*◌, ℕ, Option, Some, None, Result, Ok, Err, refl, ap, ◌∙◌, subst, arith}
-use Rattle.dn_netgame.specs.Lines.Counts.{count_after}
-use Rattle.dn_netgame.specs.declared.line.Datagram.{Datagram}
-use Rattle.dn_netgame.specs.declared.line.LineFault.{LineFault}
+use Rattle.dn_netgame.specs.{Lines.Counts.count_after, declared.line.Datagram.Datagram, declared.line.LineFault.LineFault, Turning.Hearing.{IsHeard, most_polls}}
 use Rattle.dn_machine.specs.Worlds.{rules_within}
-use Rattle.dn_netgame.specs.Turning.Hearing.{IsHeard, most_polls}
-use Rattle.dn_netgame.proofs.Turning.Datagrams.{all_heard, heard_more, polled_as}
+use Rattle.dn_netgame.proofs.Turning.Packets.{all_heard, heard_more, polled_as}
 use Rattle.dn_netgame.proofs.turns.hearing.hear_all.Goals as goal
 
 pub returns-in-Ok-None-clause-heard : goal.returns-in-Ok-None-clause-heard

@@ -1,7 +1,6 @@
 use Rattle.std.proofs.Common.{◌≡◌}
 use Rattle.dn_node.specs.Contents.{contents, whose}
-use Rattle.dn_netgame.specs.Turning.Leading.{Leads}
-use Rattle.dn_netgame.specs.Turning.Hearing.{Hears, most_polls}
+use Rattle.dn_netgame.specs.{Turning.Leading.Leads, Turning.Hearing.{Hears, most_polls}}
 use Rattle.dn_netgame.proofs.turns.hearing.hear_all.Given as goal
 
 abbrev pub invariant-loop-heard : goal.invariant-loop-heard

@@ -1,7 +1,6 @@
 use Rattle.std.proofs.Common.{◌≡◌, length}
-use Rattle.dn_netgame.specs.Turning.Rounds.{LeadAll, TakeRounds}
+use Rattle.dn_netgame.specs.{Turning.Rounds.{LeadAll, TakeRounds}, Turning.Streams.AreAt}
 use Rattle.dn_node.specs.Contents.{whose_of}
-use Rattle.dn_netgame.specs.Turning.Streams.{AreAt}
 use Rattle.dn_netgame.proofs.turns.rounding.rounds.Given as goal
 
 abbrev pub invariant-loop : goal.invariant-loop

@@ -1,16 +1,11 @@
 use Rattle.std.proofs.Common.{◌≡◌, ◌<◌, ◌+◌, ℕ, suc, length, get_or, refl, sym, ap, ◌∙◌, subst, arith}
-use Rattle.std.proofs.lemmas.List.{length-set}
-use Rattle.std.proofs.lemmas.Option.{slice_get_read}
-use Rattle.dn_tic.specs.declared.input.Input.{Input}
-use Rattle.dn_tic.specs.Inputs.{input_of}
+use Rattle.std.proofs.lemmas.{List.length-set, Option.slice_get_read}
+use Rattle.dn_tic.specs.{declared.input.Input.Input, Inputs.input_of}
 use Rattle.dn_machine.specs.Node.{put}
-use Rattle.dn_node.specs.declared.node.Node.{Node}
-use Rattle.dn_node.specs.Contents.{contents}
-use Rattle.dn_node.specs.Represents.{Represents}
+use Rattle.dn_node.specs.{declared.node.Node.Node, Contents.contents, Represents.Represents}
 use Rattle.dn_node.proofs.Whose.{whose_set}
-use Rattle.dn_netgame.specs.Turning.Rounds.{Seat, rules_at, TakeTurns}
-use Rattle.dn_netgame.specs.Turning.Turns.{IsTurn}
-use Rattle.dn_netgame.proofs.Turning.Places.{seated_with, one_of_four}
+use Rattle.dn_netgame.specs.{Turning.Rounds.{Seat, rules_at, TakeTurns}, Turning.Turns.IsTurn}
+use Rattle.dn_netgame.proofs.Turning.Tics.{seated_with, one_of_four}
 use Rattle.dn_netgame.proofs.turns.rounding.take_turns.Goals as goal
 
 pub loop-place-preserved : goal.loop-place-preserved

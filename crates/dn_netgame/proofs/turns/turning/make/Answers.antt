@@ -1,9 +1,7 @@
 use Rattle.std.proofs.Common.{◌≡◌, sym, subst}
 use Rattle.dn_tic.specs.declared.input.Input.{Input}
-use Rattle.dn_machine.specs.declared.answers.Made.{Made}
-use Rattle.dn_machine.specs.Building.{on_build}
-use Rattle.dn_node.specs.Contents.{contents}
-use Rattle.dn_node.specs.Steps.{Steps}
+use Rattle.dn_machine.specs.{declared.answers.Made.Made, Building.on_build}
+use Rattle.dn_node.specs.{Contents.contents, Steps.Steps}
 use Rattle.dn_netgame.proofs.turns.turning.make.Goals as goal
 
 pub returns-in-Pressed : goal.returns-in-Pressed

@@ -2,7 +2,7 @@ use Rattle.std.proofs.Common.{refl}
 use Rattle.dn_tic.specs.declared.input.Input.TheVariants.{Given}
 use Rattle.dn_lockstep.specs.Contents as lockstep
 use Rattle.dn_node.specs.Contents.{contents, with_world}
-use Rattle.dn_node.proofs.Building.{builds}
+use Rattle.dn_node.proofs.Stepping.{builds}
 use Rattle.dn_node.proofs.node.Node.give.Goals as goal
 
 pub returns-clause-step : goal.returns-clause-step

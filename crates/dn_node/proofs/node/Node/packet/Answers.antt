@@ -1,12 +1,9 @@
-use Rattle.std.proofs.Common.{◌≡◌, refl, rules}
+use Rattle.std.proofs.Common.{◌≡◌, refl, arith}
 use Rattle.std.specs.Option.{option_map}
 use Rattle.dn_lockstep.specs.Contents as lockstep
 use Rattle.dn_lockstep.specs.Sent.{sent_to, bytes_of}
 use Rattle.dn_node.specs.Contents.{contents, with_world}
-use Rattle.std.specs.Prelude.{IfSome}
-use Rattle.dn_lockstep.specs.Near.{IsFair}
-use Rattle.dn_node.proofs.Beside.{send_beside}
-use Rattle.dn_node.proofs.Stepping.{steps_beside, tells}
+use Rattle.dn_node.proofs.{Beside.send_beside, Stepping.{steps_beside, tells}}
 use Rattle.dn_node.proofs.node.Node.packet.Goals as goal
 
 pub returns-clause-step : goal.returns-clause-step
@@ -18,8 +15,4 @@ returns-clause-step g c =
     c.packet.ensures.step refl (λ limits me m. send_beside limits me m c.args.to)
 
 pub returns-clause-fair : goal.returns-clause-fair
-returns-clause-fair g c = tells g.W.World.state g.W.World.physics (contents c.args.self.now)
-    (λ limits me m. IfSome (sent_to c.args.to limits me m).1 IsFair) c.packet.ensures.fair
-
-pub returns-clause-idle : goal.returns-clause-idle
-returns-clause-idle g c = search rules
+returns-clause-fair g c = grind (arith, tells)

@@ -1,13 +1,9 @@
-use Rattle.std.proofs.Common.{◌≡◌, refl, rules}
-use Rattle.std.specs.Prelude.{IfSome}
+use Rattle.std.proofs.Common.{◌≡◌, refl, arith}
 use Rattle.std.specs.Option.{option_map}
 use Rattle.dn_lockstep.specs.Contents as lockstep
-use Rattle.dn_lockstep.specs.Giving.{aim_in}
-use Rattle.dn_lockstep.specs.Near.{IsFair}
-use Rattle.dn_lockstep.specs.Sent.{sent_to, aim_of, bytes_of}
+use Rattle.dn_lockstep.specs.Sent.{sent_to, bytes_of}
 use Rattle.dn_node.specs.Contents.{contents, with_world}
-use Rattle.dn_node.proofs.Beside.{send_beside}
-use Rattle.dn_node.proofs.Stepping.{steps_beside, tells}
+use Rattle.dn_node.proofs.{Beside.send_beside, Stepping.{steps_beside, tells}}
 use Rattle.dn_node.proofs.node.Node.packet_with_aim.Goals as goal
 
 pub returns-clause-sent : goal.returns-clause-sent
@@ -23,13 +19,7 @@ returns-clause-sent g c =
     )
 
 pub returns-clause-aimed : goal.returns-clause-aimed
-returns-clause-aimed g c = tells g.W.World.state g.W.World.physics (contents c.args.self.now)
-    (λ limits me m. aim_in c.packet_with_aim.result ≡ option_map aim_of (sent_to c.args.to limits me m).1)
-    c.packet_with_aim.ensures.aimed
+returns-clause-aimed g c = grind (arith, tells)
 
 pub returns-clause-fair : goal.returns-clause-fair
-returns-clause-fair g c = tells g.W.World.state g.W.World.physics (contents c.args.self.now)
-    (λ limits me m. IfSome (sent_to c.args.to limits me m).1 IsFair) c.packet_with_aim.ensures.fair
-
-pub returns-clause-silent : goal.returns-clause-silent
-returns-clause-silent g c = search rules
+returns-clause-fair g c = grind (arith, tells)

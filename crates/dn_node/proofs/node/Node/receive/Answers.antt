@@ -1,11 +1,8 @@
-use Rattle.std.proofs.Common.{◌≢◌, ℕ, refl, ap, sym, ◌∙◌}
-use Rattle.dn_setup.specs.Starts.{start_of}
+use Rattle.std.proofs.Common.{◌≢◌, arith}
 use Rattle.dn_machine.specs.declared.answers.Heard.{Heard}
 use Rattle.dn_lockstep.specs.Contents as lockstep
-use Rattle.dn_lockstep.specs.Rows.{seats_of}
 use Rattle.dn_node.specs.Contents.{contents, with_world}
-use Rattle.dn_node.proofs.Hearing.{HasHeard, heard_any, heard_near}
-use Rattle.dn_node.proofs.node.Node.receive.Given.{Over}
+use Rattle.dn_node.proofs.{Hearing.{HasHeard, heard_any, heard_near}, node.Node.receive.Given.Over}
 use Rattle.dn_node.proofs.node.Node.receive.Goals.{After-begin, After-receive-heard}
 use Rattle.dn_node.proofs.node.Node.receive.Goals as goal
 
@@ -13,18 +10,7 @@ use Rattle.dn_node.proofs.node.Node.receive.Goals as goal
 started : (g : Over) (c : After-begin g)
     → HasHeard g.W.World.state g.W.World.physics (contents c.args.self.now) (contents c.begin.new.self)
     (lockstep.contents c.receive-heard.new.self) c.receive-heard.result
-started g c =
-    let old = c.args.self.now.lockstep in
-    record {
-      rest = c.begin.ensures.rest;
-      unrun = λ waits. old.unrun (old.waits waits);
-      known = c.begin.new.self.lockstep.known;
-      kept = λ other. absurd (other c.in-Started.is);
-      begun = λ starts settings is. c.begin.ensures.begun settings
-          (sym (ap (λ (x : lockstep.Contents). x.settings) c.begin.ensures.rest) ∙ is)
-          ∙ ap (λ (k : ℕ). g.W.World.physics.begin (start_of settings) (seats_of k))
-          (sym (ap (λ (x : lockstep.Contents). x.players) c.begin.ensures.rest));
-    }
+started g c = grind arith
 
 pub returns-in-Started-clause-any : goal.returns-in-Started-clause-any
 returns-in-Started-clause-any g c =
@@ -39,15 +25,7 @@ went_on : (g : Over) (c : After-receive-heard g) → c.receive-heard.result ≢ 
     → HasHeard g.W.World.state g.W.World.physics (contents c.args.self.now)
     (with_world (lockstep.contents c.receive-heard.new.self) c.args.self.now.world)
     (lockstep.contents c.receive-heard.new.self) c.receive-heard.result
-went_on g c other =
-    let old = c.args.self.now.lockstep in
-    record {
-      rest = refl;
-      unrun = λ waits. old.unrun (old.waits waits);
-      known = c.receive-heard.new.self.known;
-      kept = λ other. refl;
-      begun = λ starts. absurd (other starts);
-    }
+went_on g c other = grind arith
 
 pub returns-in_default-clause-any : goal.returns-in_default-clause-any
 returns-in_default-clause-any g c =
@@ -58,6 +36,4 @@ returns-in_default-clause-near g c =
     heard_near (went_on g (goal.at.returns-in_default-clause-near g c).After-receive-heard c.in_default.not-Started) c.receive-heard.ensures.near
 
 pub returns-in_default-clause-dropped : goal.returns-in_default-clause-dropped
-returns-in_default-clause-dropped g c number e =
-    ap (λ (x : lockstep.Contents). with_world x c.args.self.now.world)
-    (c.receive-heard.ensures.dropped number e)
+returns-in_default-clause-dropped g c number e = grind arith

@@ -1,4 +1,4 @@
-use Rattle.std.proofs.Common.{◌≡◌, Some, refl, ap, sym, ◌∙◌}
+use Rattle.std.proofs.Common.{◌≡◌, Some, refl, ap, sym, ◌∙◌, arith}
 use Rattle.dn_lockstep.specs.Contents as lockstep
 use Rattle.dn_node.specs.Contents.{contents, with_world}
 use Rattle.dn_node.proofs.Running.{runs}
@@ -16,8 +16,7 @@ returns-in-Some-clause-step g c =
     (λ none. absurd (let same = sym none ∙ c.in-Some.is in cc)) c.run-ran.ensures.step
 
 pub returns-in-Some-clause-waits : goal.returns-in-Some-clause-waits
-returns-in-Some-clause-waits g c player e =
-    absurd (let same = sym (c.run-ran.ensures.waits player e).1 ∙ c.in-Some.is in cc)
+returns-in-Some-clause-waits g c player e = grind arith
 
 pub returns-in-Some-clause-idle : goal.returns-in-Some-clause-idle
 returns-in-Some-clause-idle g c e = absurd (let same = sym (c.run-ran.ensures.idle e).1 ∙ c.in-Some.is in cc)
@@ -35,9 +34,7 @@ returns-in_default-clause-step g c =
     (λ none. refl) c.run-ran.ensures.step
 
 pub returns-in_default-clause-waits : goal.returns-in_default-clause-waits
-returns-in_default-clause-waits g c player e =
-    ap (λ (x : lockstep.Contents). with_world x c.args.self.now.world) (c.run-ran.ensures.waits player e).0
+returns-in_default-clause-waits g c player e = grind arith
 
 pub returns-in_default-clause-idle : goal.returns-in_default-clause-idle
-returns-in_default-clause-idle g c e = ap (λ (x : lockstep.Contents). with_world x c.args.self.now.world)
-    (c.run-ran.ensures.idle e).0
+returns-in_default-clause-idle g c e = grind arith

@@ -1,8 +1,6 @@
 use Rattle.std.proofs.Common.{sym, subst}
 use Rattle.dn_machine.specs.Game.{fresh}
-use Rattle.dn_lockstep.specs.Contents.{Contents}
-use Rattle.dn_lockstep.specs.Opening.{limits_in}
-use Rattle.dn_lockstep.specs.Represents.{Represents}
+use Rattle.dn_lockstep.specs.{Contents.Contents, Opening.limits_in, Represents.Represents}
 use Rattle.dn_open.proofs.sealed.SealedLockstep.new.Goals as goal
 
 pub returns-clause-opened : goal.returns-clause-opened

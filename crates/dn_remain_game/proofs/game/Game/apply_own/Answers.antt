@@ -1,11 +1,7 @@
 use Rattle.std.proofs.Common.{refl, ap, sym, ◌∙◌}
-use Rattle.dn_machine.specs.Game.{refused}
-use Rattle.dn_machine.specs.Runs.{is_send}
+use Rattle.dn_machine.specs.{Game.refused, Runs.is_send}
 use Rattle.dn_remain.specs.declared.events.RemainEvent.TheVariants.{Own}
-use Rattle.dn_remain_game.proofs.Applying.{also, own_applied, own_barred, own_sent}
-use Rattle.dn_remain_game.proofs.Framing.{others_by}
-use Rattle.dn_remain_game.proofs.Rest.{rest_of}
-use Rattle.dn_remain_game.proofs.Roomy.{taken_by}
+use Rattle.dn_remain_game.proofs.{Applying.also, Applying.own_applied, Applying.own_barred, Applying.own_sent, Rest.others_by, Rest.rest_of, Rest.taken_by}
 use Rattle.dn_remain_game.specs.Contents.{contents}
 use Rattle.dn_remain_game.proofs.game.Game.apply_own.Goals as goal
 

@@ -1,10 +1,7 @@
 use Rattle.std.proofs.Common.{refl, arith}
 use Rattle.dn_game.specs.declared.flight.Flight.{Flight}
 use Rattle.dn_remain_game.specs.Contents.{contents}
-use Rattle.dn_remain_game.proofs.Framing.{receiver_of}
-use Rattle.dn_remain_game.proofs.Rest.{rest_by}
-use Rattle.dn_remain_game.proofs.Sending.{delivers}
-use Rattle.dn_remain_game.proofs.Standing.{receiver_below}
+use Rattle.dn_remain_game.proofs.{Rest.receiver_of, Rest.rest_by, Sending.delivers, Standing.receiver_below}
 use Rattle.dn_remain_game.proofs.game.Game.deliver.Goals as goal
 
 pub index_mut-requires : goal.index_mut-requires

@@ -1,13 +1,6 @@
 use Rattle.std.proofs.Common.{refl, arith}
-use Rattle.dn_remain_game.specs.declared.under_way.Telling.{Telling}
-use Rattle.dn_remain_game.specs.Contents.{contents}
-use Rattle.dn_remain_game.specs.Living.{living}
-use Rattle.dn_remain_game.proofs.Framing.{receiver_of}
-use Rattle.dn_remain_game.proofs.Rest.{rest_by}
-use Rattle.dn_remain_game.proofs.Reporting.{hears_report}
-use Rattle.dn_remain_game.proofs.Standing.{receiver_below}
-use Rattle.dn_remain_game.proofs.Surviving.{hears_at}
-use Rattle.dn_remain_game.proofs.Whose.{whose_heard}
+use Rattle.dn_remain_game.specs.{declared.under_way.Telling.Telling, Contents.contents, Living.living}
+use Rattle.dn_remain_game.proofs.{Rest.receiver_of, Rest.rest_by, Reporting.hears_report, Standing.receiver_below, Surviving.hears_at, Rest.whose_heard}
 use Rattle.dn_remain_game.proofs.game.Game.hear.Goals as goal
 
 pub index_mut-requires : goal.index_mut-requires

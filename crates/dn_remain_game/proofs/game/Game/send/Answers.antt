@@ -1,11 +1,7 @@
 use Rattle.std.proofs.Common.{inl, refl, arith}
-use Rattle.dn_machine.specs.declared.events.Done.{Done}
-use Rattle.dn_machine.specs.Worlds.{rules_within}
+use Rattle.dn_machine.specs.{declared.events.Done.Done, Worlds.rules_within}
 use Rattle.dn_remain_game.specs.Contents.{contents}
-use Rattle.dn_remain_game.proofs.Framing.{others_step}
-use Rattle.dn_remain_game.proofs.Sending.{sends_none, sends_some}
-use Rattle.dn_remain_game.proofs.Standing.{joins}
-use Rattle.dn_remain_game.proofs.Whose.{whose_step}
+use Rattle.dn_remain_game.proofs.{Rest.others_step, Sending.sends_none, Sending.sends_some, Standing.joins, Rest.whose_step}
 use Rattle.dn_remain_game.proofs.game.Game.send.Goals as goal
 
 pub returns-in_default-packet-clause-sent : goal.returns-in_default-packet-clause-sent

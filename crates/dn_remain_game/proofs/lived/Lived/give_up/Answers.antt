@@ -1,11 +1,10 @@
 use Rattle.std.proofs.Common.{ℕ, refl, ap, sym, ◌∙◌, subst}
 use Rattle.dn_setup.specs.Starts.{start_of}
 use Rattle.dn_lockstep.specs.Rows.{seats_of}
-use Rattle.dn_survivor.specs.Calls as survivor
 use Rattle.dn_survivor.specs.Surviving.{Surviving, surviving}
 use Rattle.dn_remain_game.specs.Living.{living}
-use Rattle.dn_remain_game.proofs.Giving.{given_up}
-use Rattle.dn_remain_game.proofs.lived.Lived.give_up.Goals.{else-gathered-via-then-gathered+else-is_playing, else-gathered-via-else-gathered}
+use Rattle.dn_remain_game.proofs.{Giving.given_up, lived.Lived.give_up.Goals.else-gathered-via-then-gathered+else-is_playing, lived.Lived.give_up.Goals.else-gathered-via-else-gathered}
+use Rattle.dn_survivor.specs.Calls as survivor
 use Rattle.dn_remain_game.proofs.lived.Lived.give_up.Goals as goal
 
 -- who has started has begun its world

@@ -1,7 +1,6 @@
 use Rattle.std.proofs.Common.{rules, ◌≡◌, ◌<◌, ◌^◌, Some, length, arith, sym, ap, ◌∙◌}
 use Rattle.std.specs.Prelude.{slice_index}
-use Rattle.dn_seal.specs.Sealing.{sealing}
-use Rattle.dn_seal.specs.Opening.{IsTagged, ask_in, envelopes, told_tic}
+use Rattle.dn_seal.specs.{Sealing.sealing, Opening.{IsTagged, ask_in, envelopes, told_tic}}
 use Rattle.dn_seal.proofs.Openings.{only_short, only_long, only_tag, only_opened, assembled, asked-small, datagram-short}
 use Rattle.dn_seal.proofs.sealer.Sealer.open.Goals as goal
 

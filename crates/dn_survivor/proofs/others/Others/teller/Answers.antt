@@ -1,8 +1,7 @@
 use Rattle.std.proofs.Common.{◌≡◌, ℕ, sym, ◌∙◌, refl, arith, inl, inr}
 use Rattle.dn_survivor.specs.OfOthers.Keeping.{count_by}
-use Rattle.dn_survivor.proofs.OfOthers.Largest.{largest_of_both, no_largest}
+use Rattle.dn_survivor.proofs.{OfOthers.Largest.largest_of_both, OfOthers.Largest.no_largest, others.Others.teller.Goals.then-share, others.Others.teller.Goals.else-share}
 use Rattle.dn_survivor.proofs.others.Others.teller.Goals as goal
-use Rattle.dn_survivor.proofs.others.Others.teller.Goals.{then-share, else-share}
 
 pub loop-teller-init : goal.loop-teller-init
 loop-teller-init c = record { best = sym (no_largest _); four = omega arith }

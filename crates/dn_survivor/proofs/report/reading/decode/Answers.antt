@@ -1,9 +1,34 @@
-use Rattle.std.proofs.Common.{◌≤◌, ℕ, List, length, sym, ◌∙◌, arith, subst}
+-- What the parts of bytes are read as, they are read as together.
+use Rattle.std.proofs.Common.{◌≡◌, ◌≢◌, ◌<◌, ◌≤◌, ◌/◌, ◌%◌, ℕ, List, length, drop, get_or, sym, arith, Ok, Err, ◌∙◌, subst}
+use Rattle.std.specs.Prelude.{Bool, ◌==◌}
+use Rattle.std.specs.List.{flat_map}
+use Rattle.std.proofs.lemmas.Bool.{eq-eqb, ne_eqb}
 use Rattle.std.proofs.lemmas.List.{take_rest}
-use Rattle.dn_survivor.specs.ReportBytes.Read.{HasFault}
+use Rattle.dn_survivor.specs.{declared.report.ReportFault.ReportFault, declared.report.ReportFault.TheVariants.Bits, declared.report.Tail.Tail, ReportBytes.Text.bit, ReportBytes.Text.number_of}
+use Rattle.dn_survivor.specs.{ReportBytes.Text.tail_bytes, ReportBytes.Text.AreTold, ReportBytes.Read.free_bits, ReportBytes.Read.HasFault, ReportBytes.Read.IsReadAs}
 use Rattle.dn_survivor.proofs.ReportBytes.Once.{one_reading}
-use Rattle.dn_survivor.proofs.ReportBytes.Readings.{bits_read, fault_read, report_read}
 use Rattle.dn_survivor.proofs.report.reading.decode.Goals as goal
+
+fault_read : (bytes : List ℕ) (f : ReportFault) → 1 ≤ length bytes → free_bits bytes ≡ 0
+    → HasFault (drop 1 bytes) f → IsReadAs bytes (Err f)
+fault_read bytes f some none has = grind (arith, ne_eqb, eq-eqb)
+
+bits_read : (bytes : List ℕ) → 1 ≤ length bytes → free_bits bytes ≢ 0 → IsReadAs bytes (Err Bits)
+bits_read bytes some free = grind (arith, ne_eqb)
+
+-- the highest bit of a byte
+highest : (x : ℕ) → x < 256 → bit (x / 128 == 1) ≡ x / 128
+highest x small = grind (arith, eq-eqb, ne_eqb)
+
+report_read : (bytes : List ℕ) (gone : List Bool) (told : List Tail) → get_or bytes 0 0 < 256
+    → 1 ≤ length bytes → free_bits bytes ≡ 0 → length gone ≡ 4 → number_of gone ≡ get_or bytes 0 0 % 16
+    → AreTold told → drop 1 bytes ≡ flat_map tail_bytes told
+    → IsReadAs bytes (Ok (record {
+      gone = gone;
+      left = get_or bytes 0 0 / 128 == 1;
+      told = record { items = told };
+    }))
+report_read bytes gone told small some free four is are spelled = grind (arith, highest)
 
 pub returns-then-first-ne0-clause-only : goal.returns-then-first-ne0-clause-only
 returns-then-first-ne0-clause-only c =

@@ -2,13 +2,10 @@ use Rattle.std.proofs.Common.{◌≡◌, ◌∙◌, sym, subst}
 use Rattle.std.specs.Prelude.{true}
 use Rattle.std.proofs.lemmas.Bool.{cond-true}
 use Rattle.dn_machine.specs.Node as machine
-use Rattle.dn_lockstep.specs.Contents.{contents}
-use Rattle.dn_lockstep.specs.Steps.{IsAfter}
+use Rattle.dn_lockstep.specs.{Contents.contents, Steps.IsAfter}
 use Rattle.dn_lockstep.proofs.After.{steps}
 use Rattle.dn_remain.specs.Vanished.Calls.{can_decide}
-use Rattle.dn_survivor.specs.OfOthers.Keeping.{nodes_of, own_of}
-use Rattle.dn_survivor.specs.Ending.{decided_by, settled_below}
-use Rattle.dn_survivor.specs.declared.answers.Ends.{Ends}
+use Rattle.dn_survivor.specs.{OfOthers.Keeping.nodes_of, OfOthers.Keeping.own_of, Ending.decided_by, Ending.settled_below, declared.answers.Ends.Ends}
 use Rattle.dn_survivor.proofs.survivor.Survivor.decide.Goals as goal
 
 pub returns-then-can_decide-clause-step : goal.returns-then-can_decide-clause-step

@@ -12,7 +12,3 @@ returns-then-has_given_up c =
     (lowest_none c.loop-player.player test c.loop-player.invariant)
     (sym c.has_given_up.ensures ∙ c.if-has_given_up.true) in
     sym (ap is_some found)
-
-pub returns : goal.returns
-returns c = sym (ap is_some (lowest_none c.args.self.now.lockstep.players (has_given_up (surviving c.args.self.now))
-    (λ p low. c.loop-player.invariant p (omega (arith, low)))))

@@ -1,18 +1,12 @@
 use Rattle.std.proofs.Common.{◌≡◌, ◌∙◌, Option, None, ap, sym, subst, refl}
 use Rattle.std.specs.Prelude.{true, false}
 use Rattle.std.proofs.lemmas.Option.{none-some}
-use Rattle.dn_lockstep.specs.Settling.{is_no_peer}
-use Rattle.dn_lockstep.specs.Steps.{Steps}
+use Rattle.dn_lockstep.specs.{Settling.is_no_peer, Steps.Steps}
 use Rattle.dn_lockstep.proofs.After.{steps}
-use Rattle.dn_survivor.specs.declared.others.Others.{Others}
-use Rattle.dn_survivor.specs.declared.others.hearing.Reported as noted
-use Rattle.dn_survivor.specs.OfOthers.Hearing.{reported_as}
-use Rattle.dn_survivor.specs.OfOthers.Keeping.{has}
+use Rattle.dn_survivor.specs.{declared.others.Others.Others, OfOthers.Hearing.reported_as, Calls.HearsReportUnless, Calls.reported_by, Calls.refused_report, Calls.unkept, Ending.decided_by}
+use Rattle.dn_survivor.specs.{Surviving.surviving, declared.answers.Reported.Reported}
 use Rattle.dn_remain.specs.Wary.{is_in_game}
-use Rattle.dn_survivor.specs.Calls.{HearsReportUnless, reported_by, refused_report, unkept}
-use Rattle.dn_survivor.specs.Ending.{decided_by}
-use Rattle.dn_survivor.specs.Surviving.{Surviving, surviving}
-use Rattle.dn_survivor.specs.declared.answers.Reported.{Reported}
+use Rattle.dn_survivor.specs.declared.others.hearing.Reported as noted
 use Rattle.dn_survivor.proofs.survivor.Survivor.hear.Goals as goal
 
 -- what is kept is so by what is kept of the others
@@ -22,14 +16,6 @@ kept_is noted.Reported.GivenUp e = absurd (none-some _ (sym e))
 kept_is noted.Reported.Excluded e = absurd (none-some _ (sym e))
 kept_is noted.Reported.Improper e = absurd (none-some _ (sym e))
 kept_is noted.Reported.Stale e = absurd (none-some _ (sym e))
-
--- where nobody is given up nobody is, with the report
-pub returns-clause-quiet : goal.returns-clause-quiet
-returns-clause-quiet c none =
-    let unrefused : unkept c.hear.result ≡ None = sym c.unkept.ensures ∙ c.in_default.is in
-    let put = c.hear.ensures.kept (kept_is c.hear.result unrefused) in
-    ap (λ (s : Surviving). s.lockstep)
-    (c.decide.ensures.quiet (λ player. ap (λ (o : Others). has o.gone player) put ∙ none player))
 
 pub returns-clause-hears : goal.returns-clause-hears
 returns-clause-hears c =

@@ -2,8 +2,7 @@ use Rattle.std.proofs.Common.{◌≡◌, ◌-◌, ◌≤◌}
 use Rattle.std.specs.Prelude.{All}
 use Rattle.dn_tic.specs.Command.{IsCommand}
 use Rattle.std.specs.List.{filter_map, range_with_len}
-use Rattle.dn_lockstep.specs.Contents.{contents}
-use Rattle.dn_lockstep.specs.Told.{command_told}
+use Rattle.dn_lockstep.specs.{Contents.contents, Told.command_told}
 use Rattle.dn_survivor.proofs.survivor.Survivor.last_commands.Given as goal
 
 abbrev pub invariant-loop-tic : goal.invariant-loop-tic

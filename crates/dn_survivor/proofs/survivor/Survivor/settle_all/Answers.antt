@@ -1,13 +1,9 @@
 use Rattle.std.proofs.Common.{◌≡◌, ◌∙◌, ℕ, sym, ap, subst, refl, arith}
-use Rattle.dn_machine.specs.Node as machine
-use Rattle.dn_lockstep.specs.Contents.{Whose, contents}
-use Rattle.dn_lockstep.specs.Steps.{IsAfter, Steps}
+use Rattle.dn_lockstep.specs.{Contents.Whose, Contents.contents, Steps.IsAfter, Steps.Steps}
 use Rattle.dn_lockstep.proofs.After.{after, steps}
-use Rattle.dn_survivor.specs.declared.others.Others.{Others}
-use Rattle.dn_survivor.specs.Ending.{settled_below, settled_with}
-use Rattle.dn_survivor.specs.Surviving.{Surviving, has_given_up}
-use Rattle.dn_survivor.specs.declared.answers.Ends.{Ends}
-use Rattle.dn_survivor.proofs.Chains.{below_next, below_zero, chain}
+use Rattle.dn_survivor.specs.{declared.others.Others.Others, Ending.settled_below, Ending.settled_with, Surviving.Surviving, Surviving.has_given_up, declared.answers.Ends.Ends}
+use Rattle.dn_survivor.proofs.Ends.{below_next, below_zero, chain}
+use Rattle.dn_machine.specs.Node as machine
 use Rattle.dn_survivor.proofs.survivor.Survivor.settle_all.Goals as goal
 
 pub loop-player-init : goal.loop-player-init
@@ -19,9 +15,7 @@ loop-player-init c = record {
 }
 
 pub settle_next-ends-requires : goal.settle_next-ends-requires
-settle_next-ends-requires c =
-    let same = ap (λ (w : Whose). w.limits.players) c.loop-player.invariant.step.same in
-    omega (arith, same, c.loop-player-test.true, c.players-player-end.ensures)
+settle_next-ends-requires c = grind arith
 
 pub loop-player-preserved : goal.loop-player-preserved
 loop-player-preserved c = record {

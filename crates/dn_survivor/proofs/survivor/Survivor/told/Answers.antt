@@ -3,16 +3,10 @@ use Rattle.std.specs.Prelude.{Option}
 use Rattle.std.specs.List.{filter_map, range_with_len}
 use Rattle.std.specs.Option.{option_to_list}
 use Rattle.std.proofs.lemmas.List.{length-append}
-use Rattle.dn_survivor.specs.declared.report.Tail.{Tail}
-use Rattle.dn_survivor.specs.ReportBytes.Text.{IsTail}
+use Rattle.dn_survivor.specs.{declared.report.Tail.Tail, ReportBytes.Text.IsTail, Telling.told_in}
 use Rattle.dn_lockstep.specs.Contents.{contents}
-use Rattle.dn_survivor.specs.Telling.{told_in}
-use Rattle.dn_survivor.proofs.Lists.{all_more, none_of, picks_more}
-use Rattle.dn_survivor.proofs.Reports.{are_told, few_tails}
+use Rattle.dn_survivor.proofs.{Lists.all_more, Lists.picks_more, Reports.are_told, Reports.few_tails}
 use Rattle.dn_survivor.proofs.survivor.Survivor.told.Goals as goal
-
-pub loop-player-init : goal.loop-player-init
-loop-player-init c = record { told = c.new-told.ensures; proper = none_of IsTail _ c.new-told.ensures }
 
 pub push_some-requires : goal.push_some-requires
 push_some-requires c =
@@ -38,14 +32,6 @@ loop-player-preserved c =
           ∙ sym (picks_more (told_in n c.args.to) 0 player (player + 1) player refl (omega arith));
       proper = all_more IsTail _ _ _ c.loop-player.invariant.proper c.tail.ensures.proper c.push_some.ensures;
     }
-
-pub returns-clause-told : goal.returns-clause-told
-returns-clause-told c =
-    let n = contents c.args.self.now.lockstep in
-    let most = c.loop-player.auto.player-end in
-    let done : c.loop-player.player ≡ n.players =
-    omega (arith, most, c.loop-player-test.false, c.players-player-end.ensures) in
-    c.loop-player.invariant.told ∙ ap (λ (k : ℕ). filter_map (told_in n c.args.to) (range_with_len 0 k)) done
 
 pub returns-clause-proper : goal.returns-clause-proper
 returns-clause-proper c =

@@ -15,7 +15,3 @@ returns-then-is_unsettled c =
     sym (lowest_found c.args.self.now.lockstep.players c.loop-player.player test (omega arith)
     (lowest_none c.loop-player.player test c.loop-player.invariant)
     (sym c.is_unsettled.ensures ∙ c.if-is_unsettled.true))
-
-pub returns : goal.returns
-returns c = sym (lowest_none c.args.self.now.lockstep.players (is_unsettled (surviving c.args.self.now))
-    (λ p low. c.loop-player.invariant p (omega (arith, low))))

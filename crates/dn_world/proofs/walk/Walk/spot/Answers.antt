@@ -1,17 +1,10 @@
-use Rattle.std.proofs.Common.{rules, ◌≡◌, ◌∙◌, length, arith}
+use Rattle.std.proofs.Common.{◌∙◌, arith}
 use Rattle.dn_world.specs.Plane.{spot_at}
-use Rattle.dn_world.proofs.Seated.{there, absent, beyond}
-use Rattle.dn_world.proofs.walk.Walk.spot.Goals.{else-player-lt4-via-then-player-lt4+else-self-player, else-player-lt4-via-else-player-lt4}
+use Rattle.dn_world.proofs.{Seated.{there, absent, beyond}, walk.Walk.spot.Goals.{else-player-lt4-via-then-player-lt4+else-self-player, else-player-lt4-via-else-player-lt4}}
 use Rattle.dn_world.proofs.walk.Walk.spot.Goals as goal
 
 pub returns-then-self-player-clause-value : goal.returns-then-self-player-clause-value
-returns-then-self-player-clause-value c =
-    let ps = c.self.inside.present in
-    let ss = c.self.inside.spots in
-    let four : length ss ≡ 4 = search rules in
-    there ps ss c.from-player.result _ (omega (arith, c.self.told, c.if-player-lt4.true))
-    (omega (arith, four, c.self.told)) c.if-self-player.true
-    ∙ (λ i. spot_at (c.self.view_is i) (c.from-player.ensures i))
+returns-then-self-player-clause-value c = grind (arith, there)
 
 pub returns-else-player-lt4-clause-value : goal.returns-else-player-lt4-clause-value
 returns-else-player-lt4-clause-value c =

@@ -1,8 +1,6 @@
 -- `none` owns nothing.
+use Rattle.zirmegat.proofs.{Handles.demo_handle, HandleFunctions.makes_none, demo_handle.DemoHandle.none.Statement.statement}
 use Rattle.zirmegat.specs.contracts.demo_handle.DemoHandle.none as f
-use Rattle.zirmegat.proofs.HandleKinds.{demo_handle}
-use Rattle.zirmegat.proofs.HandleFunctions.{makes_none}
-use Rattle.zirmegat.proofs.demo_handle.DemoHandle.none.Statement.{statement}
 use Rattle.zirmegat.proofs.demo_handle.DemoHandle.none.Code as code
 
 pub none_spec : {M : Type 1} → statement M

@@ -1,8 +1,6 @@
 -- `of_loose` keeps the pointer with what it owns.
+use Rattle.zirmegat.proofs.{Handles.demo_handle, HandleFunctions.makes_of_loose, demo_handle.DemoHandle.of_loose.Statement.statement}
 use Rattle.zirmegat.specs.contracts.demo_handle.DemoHandle.of_loose as f
-use Rattle.zirmegat.proofs.HandleKinds.{demo_handle}
-use Rattle.zirmegat.proofs.HandleFunctions.{makes_of_loose}
-use Rattle.zirmegat.proofs.demo_handle.DemoHandle.of_loose.Statement.{statement}
 use Rattle.zirmegat.proofs.demo_handle.DemoHandle.of_loose.Code as code
 
 pub of_loose_spec : {M : Type 1} → statement M

@@ -1,8 +1,6 @@
 -- `into_loose` hands over what a live handle owns.
+use Rattle.zirmegat.proofs.{Handles.node_handle, HandleFunctions.makes_into_loose, handle.LockstepHandle.into_loose.Statement.statement}
 use Rattle.zirmegat.specs.contracts.handle.LockstepHandle.into_loose as f
-use Rattle.zirmegat.proofs.HandleKinds.{node_handle}
-use Rattle.zirmegat.proofs.HandleFunctions.{makes_into_loose}
-use Rattle.zirmegat.proofs.handle.LockstepHandle.into_loose.Statement.{statement}
 use Rattle.zirmegat.proofs.handle.LockstepHandle.into_loose.Code as code
 
 pub into_loose_spec : {M : Type 1} → statement M

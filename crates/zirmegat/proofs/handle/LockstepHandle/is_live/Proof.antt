@@ -1,8 +1,6 @@
 -- `is_live` reads the flag and puts the handle back.
+use Rattle.zirmegat.proofs.{Handles.node_handle, HandleFunctions.tells_live, handle.LockstepHandle.is_live.Statement.statement}
 use Rattle.zirmegat.specs.contracts.handle.LockstepHandle.is_live as f
-use Rattle.zirmegat.proofs.HandleKinds.{node_handle}
-use Rattle.zirmegat.proofs.HandleFunctions.{tells_live}
-use Rattle.zirmegat.proofs.handle.LockstepHandle.is_live.Statement.{statement}
 use Rattle.zirmegat.proofs.handle.LockstepHandle.is_live.Code as code
 
 pub is_live_spec : {M : Type 1} → statement M

@@ -1,9 +1,7 @@
 -- `lend` lends the node that lies behind the pointer, and the handle follows it.
+use Rattle.zirmegat.proofs.{Handles.node_handle, HandleLends.lends, handle.LockstepHandle.lend.Statement.statement}
 use Rattle.dn_lockstep.specs.contracts.lockstep.Lockstep as lockstep
 use Rattle.zirmegat.specs.contracts.handle.LockstepHandle.lend as f
-use Rattle.zirmegat.proofs.HandleKinds.{node_handle}
-use Rattle.zirmegat.proofs.HandleLends.{lends}
-use Rattle.zirmegat.proofs.handle.LockstepHandle.lend.Statement.{statement}
 use Rattle.zirmegat.proofs.handle.LockstepHandle.lend.Code as code
 
 pub lend_spec : {M : Type 1} → statement M

@@ -1,8 +1,6 @@
 -- `none` owns nothing.
+use Rattle.zirmegat.proofs.{Handles.node_handle, HandleFunctions.makes_none, handle.LockstepHandle.none.Statement.statement}
 use Rattle.zirmegat.specs.contracts.handle.LockstepHandle.none as f
-use Rattle.zirmegat.proofs.HandleKinds.{node_handle}
-use Rattle.zirmegat.proofs.HandleFunctions.{makes_none}
-use Rattle.zirmegat.proofs.handle.LockstepHandle.none.Statement.{statement}
 use Rattle.zirmegat.proofs.handle.LockstepHandle.none.Code as code
 
 pub none_spec : {M : Type 1} → statement M

@@ -1,8 +1,6 @@
 -- `of_loose` keeps the pointer with what it owns.
+use Rattle.zirmegat.proofs.{Handles.node_handle, HandleFunctions.makes_of_loose, handle.LockstepHandle.of_loose.Statement.statement}
 use Rattle.zirmegat.specs.contracts.handle.LockstepHandle.of_loose as f
-use Rattle.zirmegat.proofs.HandleKinds.{node_handle}
-use Rattle.zirmegat.proofs.HandleFunctions.{makes_of_loose}
-use Rattle.zirmegat.proofs.handle.LockstepHandle.of_loose.Statement.{statement}
 use Rattle.zirmegat.proofs.handle.LockstepHandle.of_loose.Code as code
 
 pub of_loose_spec : {M : Type 1} → statement M

@@ -1,9 +1,7 @@
 -- `lend` lends the link that lies behind the pointer, and the handle follows it.
+use Rattle.zirmegat.proofs.{Handles.link_handle, HandleLends.lends, link_handle.LinkHandle.lend.Statement.statement}
 use Rattle.dn_link.specs.contracts.link.Link as link
 use Rattle.zirmegat.specs.contracts.link_handle.LinkHandle.lend as f
-use Rattle.zirmegat.proofs.HandleKinds.{link_handle}
-use Rattle.zirmegat.proofs.HandleLends.{lends}
-use Rattle.zirmegat.proofs.link_handle.LinkHandle.lend.Statement.{statement}
 use Rattle.zirmegat.proofs.link_handle.LinkHandle.lend.Code as code
 
 pub lend_spec : {M : Type 1} → statement M

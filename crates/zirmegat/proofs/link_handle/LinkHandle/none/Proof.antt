@@ -1,8 +1,6 @@
 -- `none` owns nothing.
+use Rattle.zirmegat.proofs.{Handles.link_handle, HandleFunctions.makes_none, link_handle.LinkHandle.none.Statement.statement}
 use Rattle.zirmegat.specs.contracts.link_handle.LinkHandle.none as f
-use Rattle.zirmegat.proofs.HandleKinds.{link_handle}
-use Rattle.zirmegat.proofs.HandleFunctions.{makes_none}
-use Rattle.zirmegat.proofs.link_handle.LinkHandle.none.Statement.{statement}
 use Rattle.zirmegat.proofs.link_handle.LinkHandle.none.Code as code
 
 pub none_spec : {M : Type 1} → statement M

@@ -1,8 +1,6 @@
 -- `of_loose` keeps the pointer with what it owns.
+use Rattle.zirmegat.proofs.{Handles.link_handle, HandleFunctions.makes_of_loose, link_handle.LinkHandle.of_loose.Statement.statement}
 use Rattle.zirmegat.specs.contracts.link_handle.LinkHandle.of_loose as f
-use Rattle.zirmegat.proofs.HandleKinds.{link_handle}
-use Rattle.zirmegat.proofs.HandleFunctions.{makes_of_loose}
-use Rattle.zirmegat.proofs.link_handle.LinkHandle.of_loose.Statement.{statement}
 use Rattle.zirmegat.proofs.link_handle.LinkHandle.of_loose.Code as code
 
 pub of_loose_spec : {M : Type 1} → statement M

@@ -1,5 +1,10 @@
 -- `into_box` makes the box again.
 use Rattle.std.proofs.Common.{◌≡◌, List, [], ◌∷◌, ◌++◌, refl, sym, ap, subst}
+use Rattle.std.proofs.alloc.Calls.{Goes-blank}
+use Rattle.std.proofs.VecSteps.Shapes.{after}
+use Rattle.std.proofs.BoxSteps.Steps.{box_out, box_in}
+use Rattle.std.proofs.raw_atomic.Walks.{proved_at, leaves}
+use Rattle.std.proofs.boxed.Box.from_raw.Met.{met}
 use mir.Syntax.{a_type, dcons, dnil}
 use mir.Val.{Val, vptr}
 use mir.MapTy.{inst_fn}
@@ -24,18 +29,11 @@ use denote.Triple.Clauses.{Lasts, lasts}
 use denote.Triple.Spec.{triple_of}
 use denote.Triple.Call.{calls_at_last}
 use denote.Triple.Walked.{Stays, stay_dropped, walk_of}
-use Rattle.std.proofs.alloc.Calls.{Goes-blank}
-use Rattle.std.proofs.VecSteps.Shapes.{after}
 use denote.Triple.Table.{framed}
+use Rattle.zirmegat.proofs.{Values.runs_at, Values.Good, Values.both, Values.Loose, Values.loose_good, Values.loose_out, loose.Loose.into_box.Statement.statement}
+use Rattle.zirmegat.specs.{contracts.loose.Loose.into_box.ended, contracts.loose.Loose.into_box.clauses, contracts.loose.Loose.into_box.Key.name as #self}
 use Rattle.std.proofs.BoxSteps.Form as box
-use Rattle.std.proofs.BoxSteps.Steps.{box_out, box_in}
-use Rattle.std.proofs.raw_atomic.Walks.{proved_at, leaves}
-use Rattle.zirmegat.proofs.Values.{runs_at, Good, both, Loose, loose_good, loose_out}
 use Rattle.std.specs.contracts.boxed.Box.from_raw as callee
-use Rattle.std.proofs.boxed.Box.from_raw.Met.{met}
-use Rattle.zirmegat.specs.contracts.loose.Loose.into_box.{ended, clauses}
-use Rattle.zirmegat.specs.contracts.loose.Loose.into_box.Key.{name as #self}
-use Rattle.zirmegat.proofs.loose.Loose.into_box.Statement.{statement}
 use Rattle.zirmegat.proofs.loose.Loose.into_box.Code as code
 
 pub into_box_spec : {M : Type 1} → statement M

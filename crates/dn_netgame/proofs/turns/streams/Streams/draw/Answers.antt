@@ -3,7 +3,7 @@ use Rattle.rand_pcg.specs.Lcg.{Lcg, next}
 use Rattle.rand_pcg.specs.Pcg.{multiplier_64, pcg32}
 use Rattle.dn_tic.specs.declared.input.Input.TheVariants.{Pressed}
 use Rattle.dn_netgame.specs.Turning.Rounds.{drawn_in}
-use Rattle.dn_netgame.proofs.Turning.Words.{one_more, of_four}
+use Rattle.dn_netgame.proofs.Turning.Tics.{one_more, of_four}
 use Rattle.dn_netgame.proofs.turns.streams.Streams.draw.Goals as goal
 
 pub returns-clause-keys : goal.returns-clause-keys

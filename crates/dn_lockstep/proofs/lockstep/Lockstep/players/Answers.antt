@@ -1,5 +1,0 @@
-use Rattle.std.proofs.Common.{rules}
-use Rattle.dn_lockstep.proofs.lockstep.Lockstep.players.Goals as goal
-
-pub returns : goal.returns
-returns c = search rules

@@ -1,5 +1,0 @@
-use Rattle.std.proofs.Common.{rules}
-use Rattle.dn_node.proofs.node.Node.ran.Goals as goal
-
-pub returns : goal.returns
-returns g c = search rules

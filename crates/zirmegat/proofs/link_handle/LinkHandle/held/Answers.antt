@@ -1,5 +1,0 @@
-use Rattle.std.proofs.Common.{rules}
-use Rattle.zirmegat.proofs.link_handle.LinkHandle.held.Goals as goal
-
-pub returns-then-is_live : goal.returns-then-is_live
-returns-then-is_live c = search rules
