@@ -5,8 +5,6 @@ ghost use Rattle.std.specs.Prelude.{◌≡◌, ◌<◌, Some};
 
 mod demo;
 mod game;
-mod line;
-mod lockstep;
 mod node;
 mod remaining;
 mod ring;

@@ -1,11 +1,13 @@
--- What a feed has kept, as bytes come.
-use Rattle.std.proofs.Common.{◌≡◌, ◌<◌, ◌≤◌, ℕ, ◌+◌, Bool, true, false, List, [], ◌∷◌, ◌++◌, length, take, set, refl, sym, ap, ◌∙◌, subst, arith, length-append, ◌-◌, ◌*◌, ◌/◌, ◌%◌, Ok, Err, append_assoc}
-use Rattle.std.proofs.lemmas.{List.{take_all, take_more_set, length-set, length-take-le, length-drop}, Nat.{div-mul-add, mod-mul-add}, Option.slice_get_within}
+-- What a feed has kept, as bytes come, and how it ends.
+use Rattle.std.proofs.Common.{◌≡◌, ◌<◌, ◌≤◌, ℕ, ◌+◌, Bool, true, false, List, [], ◌∷◌, ◌++◌, length, take, set, refl, sym, ap, ◌∙◌, subst, arith, length-append, ◌-◌, ◌*◌, ◌/◌, ◌%◌, Ok, Err, append_assoc, drop, min, get_or}
+use Rattle.std.proofs.lemmas.{List.{take_all, take_more_set, length-set, length-take-le, length-drop, get_or-take, length-take}, Nat.{div-mul-add, mod-mul-add}, Option.slice_get_within}
 use Rattle.std.proofs.Math.Nat.{mul-div_cancel_left, lt_of_mul-lt-mul_left}
+use Rattle.std.proofs.lemmas.List.FromFn.{length-map-range_with_len}
 use Rattle.dn_world.specs.Physics.{Physics}
-use Rattle.dn_demo.specs.{Layout.{Layout, command_size}, Places.{start_in, seats_in, place}, Reading.{HasHeader, recording, IsReadAs}, Feeding.{Feeding, feeding_of, IsKept, Takes, IsUpToMarker, Shows, ShowsRows, TakesFront}, Rows.player_count, Text.marker}
+use Rattle.dn_demo.specs.{Layout.{Layout, command_size}, Places.{start_in, seats_in, place, row_in}, Reading.{HasHeader, recording, IsReadAs}, Feeding.{Feeding, feeding_of, IsKept, Takes, IsUpToMarker, Shows, ShowsRows, TakesFront, state_by, IsFedAs, EndsAs}, Text.{player_count, marker}}
 use Rattle.dn_demo.specs.{declared.demo.DemoFault.TheVariants.NoMarker}
-use Rattle.dn_demo.proofs.{Fronts.{header_kept, header_of_kept, kept_longer}, RowsKept.{of_unmarked, begun, unmarked}, RowsMarked.passed, OneReading.same_layout, Layouts.place_order}
+use Rattle.dn_demo.specs.declared.fed.Fed.{Fed}
+use Rattle.dn_demo.proofs.{Fronts.{header_kept, header_of_kept, kept_longer, start_in-take, seats_kept}, RowsKept.{of_unmarked, begun, unmarked, passed}, OneReading.same_layout, Text.place_order}
 
 -- behind a whole header that stays, bytes are shown where their rows are
 pub shown_more : {S W : Type 0} (state : W → S) (physics : Physics S) (bytes more : List ℕ) (f g : Feeding W)
@@ -158,3 +160,82 @@ module _ {S W : Type 0} (state : W → S) (physics : Physics S) {taken tics afte
             (omega (arith, count, below, h.whole)) h.somebody
             (begins layout there ∙ (λ i. physics.begin (start_in (same i)) (seats_in (same i)))));
       })
+
+-- How a feed ends.
+
+-- one byte of a piece
+pub front_byte : {S W : Type 0} (state : W → S) (physics : Physics S) (f g : Feeding W) (piece rest : List ℕ)
+    (byte : ℕ) → piece ≡ byte ∷ rest
+    → g.taken ≡ f.taken + 1 → Takes state physics f (byte ∷ []) g → TakesFront state physics f piece rest g
+front_byte state physics f g piece rest byte split count shown =
+    record { front = byte ∷ []; split = split; count = count; shown = shown }
+
+pub first_byte : (piece : List ℕ) → 0 < length piece → piece ≡ get_or piece 0 0 ∷ drop 1 piece
+first_byte [] some = absurd (omega (arith, some))
+first_byte (x ∷ piece) some = refl
+
+-- at the marker: with what the bytes are read as
+ended : {S W : Type 0} (state : W → S) (physics : Physics S) (layout : Layout) (bytes : List ℕ)
+    (f : Feeding W) (fed : Fed W)
+    → HasHeader layout f.header → f.marked ≡ true → fed.version ≡ get_or f.header 0 0
+    → fed.start ≡ start_in f.header → fed.view ≡ get_or f.header 8 0
+    → fed.present ≡ seats_in f.header → fed.tics ≡ f.tics → fed.cut ≡ length f.row / command_size layout
+    → fed.after ≡ f.after
+    → state fed.world ≡ state f.world → Shows state physics bytes f → IsFedAs state physics bytes (Ok fed)
+ended state physics layout bytes f fed h marked version start view present tics cut after world shown =
+    let here = header_of_kept layout bytes f.header shown.header h in
+    let rows = shown.rows layout here in
+    let is = fed_as state physics layout bytes f here marked rows in (
+      recording layout bytes is.0 f.after,
+      is.1,
+      record {
+        version = version ∙ ap (λ (t : List ℕ). get_or t 0 0) shown.header
+            ∙ get_or-take 13 bytes 0 0 (omega arith);
+        start = start ∙ ap start_in shown.header ∙ start_in-take 13 bytes (omega arith);
+        view = view ∙ ap (λ (t : List ℕ). get_or t 8 0) shown.header
+            ∙ get_or-take 13 bytes 8 0 (omega arith);
+        present = present ∙ seats_kept bytes f.header shown.header;
+        tics = tics ∙ sym is.2 ∙ sym (length-map-range_with_len (row_in layout bytes) 0 _);
+        cut = cut ∙ is.3;
+        after = after;
+        world = world ∙ rows.world ∙ ap (state_by physics layout bytes) (sym is.2);
+      },
+    )
+
+-- by the fields of the feed, of whose header `n` bytes were read
+module _ {S W : Type 0} (state : W → S) (physics : Physics S) {taken tics after : ℕ} {marked : Bool}
+    {world : W} {f : Feeding W} (header : List ℕ) (kept : ℕ) (row : List ℕ)
+    (view : feeding_of taken header tics kept row marked after world ≡ f) (size : length header ≡ 13)
+    (layout : Layout) (n : ℕ) (is : n ≡ min 13 taken) (has : HasHeader layout (take n header)) where
+  abbrev ended_feed : Feeding W
+  ended_feed = feeding_of taken header tics kept row marked after world
+
+  long : 13 ≤ n
+  long = omega (arith, has.whole, length-take n header, size)
+
+  whole : take taken header ≡ header
+  whole = take_all taken header (omega (arith, size, is, long))
+
+  has_header : HasHeader layout (take taken header)
+  has_header = subst (λ (t : List ℕ). HasHeader layout t)
+      (take_all n header (omega (arith, size, long)) ∙ sym whole) has
+
+  pub ends_unmarked : marked ≡ false → (bytes : List ℕ) → Shows state physics bytes f
+      → IsReadAs bytes (Err NoMarker)
+  ends_unmarked free =
+      subst (λ (h : Feeding W). (bytes : List ℕ) → Shows state physics bytes h
+      → IsReadAs bytes (Err NoMarker)) view (λ bytes shown.
+      let here = header_of_kept layout bytes ended_feed.header shown.header has_header in
+      no_marker state physics layout bytes ended_feed here free (shown.rows layout here))
+
+  pub ends_marked : (fed : Fed W) → marked ≡ true → kept ≤ length row → fed.version ≡ get_or header 0 0
+      → fed.start ≡ start_in header → fed.view ≡ get_or header 8 0 → fed.present ≡ seats_in header
+      → fed.tics ≡ tics → fed.cut ≡ kept / command_size layout → fed.after ≡ after
+      → state fed.world ≡ state world
+      → EndsAs state physics f (Ok fed)
+  ends_marked fed was fits version start seen present count cut behind world_is =
+      subst (λ (h : Feeding W). EndsAs state physics h (Ok fed)) view (λ bytes shown.
+      ended state physics layout bytes ended_feed fed has_header was
+      (version ∙ ap (λ (t : List ℕ). get_or t 0 0) (sym whole)) (start ∙ ap start_in (sym whole))
+      (seen ∙ ap (λ (t : List ℕ). get_or t 8 0) (sym whole)) (present ∙ ap seats_in (sym whole)) count
+      (cut ∙ ap (λ m. m / command_size layout) (sym (length-take-le kept row fits))) behind world_is shown)

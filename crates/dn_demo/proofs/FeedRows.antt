@@ -4,9 +4,9 @@ use Rattle.std.proofs.Math.Nat.{mul-div_cancel_left}
 use Rattle.std.proofs.lemmas.{Bool.cases_lt, List.{take_all, take_more_set, take-append-drop, length-take, length-take-le, length-drop}}
 use Rattle.dn_tic.specs.declared.command.Move.{Move}
 use Rattle.dn_world.specs.Physics.{Physics}
-use Rattle.dn_demo.specs.{Layout.{Layout, layout_of, command_size}, Rows.player_count, Text.marker, Places.{seats_in, place, moves_from}, Reading.HasHeader, Feeding.{Feeding, feeding_of, IsKept, Shows, ShowsRows, StepsRows, Takes, TakesFront, row_size}}
-use Rattle.dn_demo.specs.{Listed.EndsRow, declared.layout.Layout.TheVariants.{Vanilla, LongTics}}
-use Rattle.dn_demo.proofs.{OneReading.same_layout, Fronts.{header_of_kept, seats_kept}, RowsKept.{Unmarked, of_unmarked, byte_kept, row_done, rows_done}, RowsMarked.marker_came, FeedKept.{shown_in, take_past}}
+use Rattle.dn_demo.specs.{Layout.{Layout, layout_of, command_size}, Text.{player_count, marker}, Places.{seats_in, place, moves_from}, Reading.HasHeader, Feeding.{Feeding, feeding_of, IsKept, Shows, ShowsRows, StepsRows, Takes, TakesFront, row_size, EndsRow}}
+use Rattle.dn_demo.specs.declared.layout.Layout.TheVariants.{Vanilla, LongTics}
+use Rattle.dn_demo.proofs.{OneReading.same_layout, Fronts.{header_of_kept, seats_kept}, RowsKept.{Unmarked, of_unmarked, byte_kept, row_done, rows_done, marker_came}, FeedKept.{shown_in, take_past}}
 use Rattle.dn_demo.specs.declared.layout.Layout as declared
 use Rattle.dn_demo.proofs.RowsKept as rows
 

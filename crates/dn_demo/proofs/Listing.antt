@@ -2,9 +2,8 @@
 use Rattle.std.proofs.Common.{◌≡◌, ◌<◌, ◌≤◌, ℕ, ◌+◌, ◌-◌, ◌*◌, ◌/◌, ◌%◌, Bool, true, false, List, length, refl, ap, ◌∙◌, arith, inl, inr, [], ◌∷◌, ◌++◌, Option, Some, None, sym, subst, append_assoc, append-nil, length-append}
 use Rattle.std.proofs.Math.Nat.{div-add-mod, mod-lt, lt_of_mul-lt-mul_left}
 use Rattle.std.proofs.lemmas.{Nat.div-mul-add, List.{length-take-le, length-drop}, Option.slice_get_within, List.FromFn.map-range_with_len_more}
-use Rattle.dn_demo.specs.{Layout.{Layout, command_size}, Text.marker, Places.{place, HasCommands, seats_in, row_in, rows_in}, Feeding.{IsUpToMarker, Feeding, Shows, ShowsRows, Takes}, Rows.player_count, Reading.{HasHeader, HasRows}}
-use Rattle.dn_demo.specs.{Listed.{told, EndsRow, AreListed, Lists, TellsFront}}
-use Rattle.dn_demo.proofs.{Layouts.place_order, FeedKept.takes_more, Fronts.{header_kept, header_of_kept, kept_longer}, OneReading.same_layout, RowsMarked.front_within, Stepping.rows_in-append}
+use Rattle.dn_demo.specs.{Layout.{Layout, command_size}, Text.{marker, player_count}, Places.{place, HasCommands, seats_in, row_in, rows_in}, Feeding.{IsUpToMarker, Feeding, Shows, ShowsRows, Takes, told, EndsRow, AreListed, Lists, TellsFront}, Reading.{HasHeader, HasRows}}
+use Rattle.dn_demo.proofs.{Text.place_order, FeedKept.takes_more, Fronts.{header_kept, header_of_kept, kept_longer}, OneReading.same_layout, RowsKept.front_within, Stepping.rows_in-append}
 use Rattle.dn_tic.specs.declared.command.Move.{Move}
 use Rattle.dn_world.specs.Physics.{Physics}
 

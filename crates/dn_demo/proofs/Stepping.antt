@@ -5,7 +5,7 @@ use Rattle.std.proofs.Math.Nat.{mul-le-mul_left}
 use Rattle.std.proofs.lemmas.{Bool.cases_lt, List.{take-append-le, take-append-drop, length-take-le, length-drop, drop-drop}, List.FromFn.map-range_with_len_more, List.Sums.fold-append}
 use Rattle.dn_tic.specs.declared.command.Move.{Move}
 use Rattle.dn_world.specs.Physics.{Physics}
-use Rattle.dn_demo.specs.{Layout.{Layout, command_size}, Rows.player_count, Text.marker, Places.{start_in, seats_in, place, moves_from, row_in, rows_in}, Feeding.{row_size, state_by, StepsRows}}
+use Rattle.dn_demo.specs.{Layout.{Layout, command_size}, Text.{player_count, marker}, Places.{start_in, seats_in, place, moves_from, row_in, rows_in}, Feeding.{row_size, state_by, StepsRows}}
 use Rattle.dn_demo.proofs.Fronts.{start_in-take, seats_in-take, moves_from-take, map-agree}
 
 -- What stands at an index of joined bytes, or of a rest.

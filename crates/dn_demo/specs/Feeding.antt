@@ -1,11 +1,17 @@
--- A demo that is fed in pieces: what is kept of the bytes so far.
-use Rattle.std.specs.Prelude.{◌≡◌, ◌≢◌, ◌<◌, ◌≤◌, ℕ, ◌+◌, ◌-◌, ◌*◌, Bool, true, false, List, [], ◌∷◌, ◌++◌, length, take, drop, slice_get, Some}
+-- A demo that is fed in pieces: what is kept of the bytes so far, what a feed ends as, and the rows that it
+-- tells as it takes bytes.
+use Rattle.std.specs.Prelude.{◌≡◌, ◌≢◌, ◌<◌, ◌≤◌, ℕ, ◌+◌, ◌-◌, ◌*◌, Bool, true, false, List, [], ◌∷◌, ◌++◌, length, take, drop, slice_get, Some, Result, Ok, Err, Option, None}
+use Rattle.dn_tic.specs.declared.command.Move.{Move}
 use Rattle.dn_world.specs.Physics.{Physics}
 use Rattle.dn_demo.specs.Layout.{Layout, command_size}
-use Rattle.dn_demo.specs.Rows.{player_count}
-use Rattle.dn_demo.specs.Text.{marker, header_size}
-use Rattle.dn_demo.specs.Places.{start_in, seats_in, place, rows_in, EndsBehind, IsUnmarked}
-use Rattle.dn_demo.specs.Reading.{HasHeader, state_through}
+use Rattle.dn_demo.specs.Text.{player_count, marker, header_size}
+use Rattle.dn_demo.specs.Places.{start_in, seats_in, place, rows_in, EndsBehind, IsUnmarked, row_in}
+use Rattle.dn_demo.specs.Reading.{HasHeader, state_through, Recording, IsReadAs, state_after}
+use Rattle.dn_demo.specs.declared.demo.DemoFault.{DemoFault}
+use Rattle.dn_demo.specs.declared.demo.DemoFault.TheVariants as read
+use Rattle.dn_demo.specs.declared.fed.Fed.{Fed}
+use Rattle.dn_demo.specs.declared.fed.FeedFault.{FeedFault}
+use Rattle.dn_demo.specs.declared.fed.FeedFault.TheVariants as feed
 
 -- what is kept: how many bytes came, the front of them that is the header, how many whole tics came before
 -- the marker, the bytes behind these tics and before the marker, whether the marker came, how many bytes came
@@ -111,3 +117,83 @@ pub record StepsRows {S W : Type 0} (state : W → S) (physics : Physics S) (lay
       → length bytes ≡ place layout (player_count present * before)
       → state old ≡ state_by physics layout bytes before
       → state new ≡ state_by physics layout (bytes ++ piece) (before + tics)
+
+-- the fault of a reading
+abbrev pub fault_of : FeedFault → DemoFault
+fault_of feed.Short = read.Short
+fault_of feed.Version = read.Version
+fault_of feed.NoPlayers = read.NoPlayers
+fault_of feed.NoMarker = read.NoMarker
+
+-- what is told of a demo that was fed, with a world in which it was played
+pub record Summarizes {S W : Type 0} (state : W → S) (physics : Physics S) (demo : Recording)
+    (fed : Fed W) : Type 0 where
+  pub version : fed.version ≡ demo.version
+  pub start : fed.start ≡ demo.start
+  pub view : fed.view ≡ demo.view
+  pub present : fed.present ≡ demo.present
+  pub tics : fed.tics ≡ length demo.rows
+  pub cut : fed.cut ≡ demo.cut
+  pub after : fed.after ≡ demo.after
+  pub world : state fed.world ≡ state_after physics demo
+
+-- what a feed of these bytes ends as: the demo that they are read as, or the fault of their reading
+abbrev pub IsFedAs : {S W : Type 0} → (W → S) → Physics S → List ℕ → Result (Fed W) FeedFault → Type 0
+IsFedAs state physics bytes (Ok fed) = (demo : Recording) × IsReadAs bytes (Ok demo)
+    × Summarizes state physics demo fed
+IsFedAs state physics bytes (Err fault) = IsReadAs bytes (Err (fault_of fault))
+
+-- whatever bytes a feed shows, it ends as what they are read as
+abbrev pub EndsAs : {S W : Type 0} → (W → S) → Physics S → Feeding W → Result (Fed W) FeedFault → Type 0
+EndsAs state physics f result = (bytes : List ℕ) → Shows state physics bytes f
+    → IsFedAs state physics bytes result
+
+-- pieces end as this: a feed that shows no bytes takes them one after the other, and then ends
+abbrev pub PiecesEndAs : {S W : Type 0} → (W → S) → Physics S → List (List ℕ) → Result (Fed W) FeedFault
+    → Type 0
+PiecesEndAs {W = W} state physics pieces result =
+    (old : Feeding W) × (new : Feeding W) × Shows state physics [] old × TakesAll state physics old pieces new
+    × EndsAs state physics new result
+
+-- two ends are the same: the same fault, or what is told of one demo
+abbrev pub IsSameEnd : {S W : Type 0} → (W → S) → Physics S → Result (Fed W) FeedFault
+    → Result (Fed W) FeedFault → Type 0
+IsSameEnd state physics (Ok one) (Ok other) = (demo : Recording) × Summarizes state physics demo one
+    × Summarizes state physics demo other
+IsSameEnd state physics (Err one) (Err other) = one ≡ other
+IsSameEnd state physics one other = ⊥
+
+-- the row that was told, if one was
+abbrev pub told : Option (List (Option Move)) → List (List (Option Move))
+told None = []
+told (Some row) = row ∷ []
+
+-- a tic was ended and its row is told, or none was
+abbrev pub EndsRow : Layout → List ℕ → (old new : ℕ) → Option (List (Option Move)) → Type 0
+EndsRow layout bytes old new None = new ≡ old
+EndsRow layout bytes old new (Some row) = (new ≡ old + 1) × (row ≡ row_in layout bytes old)
+
+-- these are the rows of `tics` tics; without a whole header in which somebody plays there are none
+pub record AreListed (bytes : List ℕ) (tics : ℕ) (rows : List (List (Option Move))) : Type 0 where
+  pub some : (layout : Layout) → HasHeader layout bytes → rows ≡ rows_in layout bytes tics
+  pub none : ((layout : Layout) → ¬ HasHeader layout bytes) → rows ≡ []
+
+-- appended to the rows told so far, these are the rows of the bytes with the piece behind them
+pub record Lists {S W : Type 0} (state : W → S) (physics : Physics S) (old : Feeding W) (piece : List ℕ)
+    (new : Feeding W) (rows : List (List (Option Move))) : Type 0 where
+  pub tics : new.tics ≡ old.tics + length rows
+  pub each : (bytes : List ℕ) (before : List (List (Option Move))) → Shows state physics bytes old
+      → AreListed bytes old.tics before → AreListed (bytes ++ piece) new.tics (before ++ rows)
+
+-- the bytes so far end with a tic: no byte of another row came, and no marker
+abbrev pub IsBehindTic : {W : Type 0} → Feeding W → Type 0
+IsBehindTic f = (f.row ≡ []) × (f.marked ≡ false)
+
+-- a front of a piece is taken, and the rows that end in it are told
+pub record TellsFront {S W : Type 0} (state : W → S) (physics : Physics S) (old : Feeding W)
+    (piece rest : List ℕ) (new : Feeding W) (rows : List (List (Option Move))) : Type 0 where
+  pub front : List ℕ
+  pub split : piece ≡ front ++ rest
+  pub count : new.taken ≡ old.taken + length front
+  pub shown : Takes state physics old front new
+  pub listed : Lists state physics old front new rows

@@ -1,10 +1,6 @@
 pub mod Layout
-pub mod Rows
 pub mod Text
 pub mod Places
 pub mod Recorded
 pub mod Reading
-pub mod Upgraded
 pub mod Feeding
-pub mod Fed
-pub mod Listed

@@ -2,10 +2,9 @@
 use Rattle.std.specs.Prelude.{◌≡◌, ◌≢◌, ◌<◌, ◌⊎◌, ℕ, ◌+◌, ◌-◌, ◌*◌, ◌/◌, Bool, true, false, not, ◌==◌, List, [], ◌∷◌, length, map, take, drop, slice_get, slice_index, Option, Some, None}
 use Rattle.std.specs.List.{range_with_len}
 use Rattle.dn_tic.specs.declared.command.Move.{Move}
-use Rattle.dn_setup.specs.declared.start.Start.{Start}
+use Rattle.dn_setup.specs.declared.settings.Start.{Start}
 use Rattle.dn_demo.specs.Layout.{Layout, layout_of_version, command_size, tell}
-use Rattle.dn_demo.specs.Rows.{player_count}
-use Rattle.dn_demo.specs.Text.{marker, header_size}
+use Rattle.dn_demo.specs.Text.{player_count, marker, header_size}
 
 -- the layout by the first byte, if demos of its version are read
 abbrev pub layout_in : List ℕ → Option Layout

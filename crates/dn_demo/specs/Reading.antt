@@ -1,11 +1,10 @@
 -- What the bytes of a demo are read as.
 use Rattle.std.specs.Prelude.{◌≡◌, ◌<◌, ◌≤◌, ◌⊎◌, ℕ, ◌+◌, ◌-◌, ◌/◌, ◌%◌, Bool, true, List, [], length, fold, slice_index, Option, Some, None, is_some, Result, Ok, Err}
 use Rattle.dn_tic.specs.declared.command.Move.{Move}
-use Rattle.dn_setup.specs.declared.start.Start.{Start}
+use Rattle.dn_setup.specs.declared.settings.Start.{Start}
 use Rattle.dn_world.specs.Physics.{Physics}
 use Rattle.dn_demo.specs.Layout.{Layout}
-use Rattle.dn_demo.specs.Rows.{player_count}
-use Rattle.dn_demo.specs.Text.{header_size}
+use Rattle.dn_demo.specs.Text.{player_count, header_size}
 use Rattle.dn_demo.specs.Places.{layout_in, start_in, seats_in, place, rows_in, EndsBehind, IsUnmarked, HasCommands}
 use Rattle.dn_demo.specs.declared.demo.DemoFault.{DemoFault}
 use Rattle.dn_demo.specs.declared.demo.DemoFault.TheVariants.{Short, Version, NoPlayers, NoMarker, Memory}

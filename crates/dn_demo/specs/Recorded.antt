@@ -1,13 +1,16 @@
--- What a recorder has written.
-use Rattle.std.specs.Prelude.{◌≡◌, ◌≤◌, ℕ, ◌+◌, ◌-◌, ◌*◌, ◌/◌, Bool, true, false, List, [], ◌∷◌, ◌++◌, Option, Result, Ok, Err}
+-- What a recorder has written, and what a demo that was read is upgraded to.
+use Rattle.std.specs.Prelude.{◌≡◌, ◌≤◌, ℕ, ◌+◌, ◌-◌, ◌*◌, ◌/◌, Bool, true, false, List, [], ◌∷◌, ◌++◌, Option, Result, Ok, Err, ◌<◌, length}
 use Rattle.dn_tic.specs.declared.command.Move.{Move}
-use Rattle.dn_setup.specs.declared.start.Start.{Start}
+use Rattle.dn_setup.specs.declared.settings.Start.{Start}
 use Rattle.dn_demo.specs.Layout.{long_tics, command_size}
-use Rattle.dn_demo.specs.Text.{header_size, demo_text}
+use Rattle.dn_demo.specs.Text.{header_size, demo_text, player_count}
 use Rattle.dn_demo.specs.declared.recorder.Stage.{Stage}
 use Rattle.dn_demo.specs.declared.recorder.Stage.TheVariants.{Blank, Open, Closed}
 use Rattle.dn_demo.specs.declared.recorder.RecorderFault.{RecorderFault}
 use Rattle.dn_demo.specs.declared.recorder.RecorderFault.TheVariants.{Limit, Memory}
+use Rattle.dn_demo.specs.Reading.{Recording}
+use Rattle.dn_demo.specs.declared.upgrading.UpgradeFault.{UpgradeFault}
+use Rattle.dn_demo.specs.declared.upgrading.UpgradeFault.TheVariants.{Limit as Upgrade_limit, Full, Memory as Upgrade_memory}
 
 -- a recorder: how many bytes a demo may have, how far it has come, and its bytes
 pub record Recorded : Type 0 where
@@ -58,3 +61,21 @@ Closes old new =
     (start : Start) (view : ℕ) (present : List Bool) (rows : List (List (Option Move)))
     → old ≡ demo_text long_tics start view present rows false
     → new ≡ demo_text long_tics start view present rows true
+
+-- how many bytes a demo has once it is upgraded
+abbrev pub upgraded_size : Recording → ℕ
+upgraded_size demo = recorded_size (player_count demo.present) (length demo.rows)
+
+-- what a demo is upgraded to within a limit: the closed text of its rows, with its start, view and players;
+-- or the first refusal
+abbrev pub IsUpgraded : Recording → ℕ → Result Recorded UpgradeFault → Type 0
+IsUpgraded demo limit (Ok recorder) =
+    IsLimit limit × (upgraded_size demo ≤ limit)
+    × (recorder ≡ record {
+      limit = limit;
+      stage = Closed;
+      bytes = demo_text long_tics demo.start demo.view demo.present demo.rows true;
+    })
+IsUpgraded demo limit (Err Upgrade_limit) = ¬ IsLimit limit
+IsUpgraded demo limit (Err Full) = IsLimit limit × (limit < upgraded_size demo)
+IsUpgraded demo limit (Err Upgrade_memory) = IsLimit limit × (upgraded_size demo ≤ limit)

@@ -1,13 +1,15 @@
-//! A demo that was read.
+//! A demo that was read, and playing it in a world.
 
 ghost use Rattle.std.specs.Prelude.{◌≡◌, ◌≢◌, ◌<◌, length, slice_get, Result, Err, IfOk, IfErr};
-ghost use Rattle.dn_demo.specs.{Layout.layout_of, Rows.player_count, Places.EndsBehind, Reading.Recording, Reading.HasHeader, Reading.IsReadAs, Reading.IsSameButMemory};
+ghost use Rattle.dn_demo.specs.{Layout.layout_of, Text.player_count, Places.EndsBehind, Reading.Recording, Reading.HasHeader, Reading.IsReadAs, Reading.IsSameButMemory};
 ghost use Rattle.dn_demo.specs.{declared.demo.DemoFault.DemoFault, declared.demo.DemoFault.TheVariants.NoMarker, declared.demo.DemoFault.TheVariants.Memory};
+ghost use Rattle.dn_demo.specs.Reading.{state_after};
 
 use crate::layout::{HEADER, Layout};
 use crate::reading;
 use dn_setup::Start;
 use dn_tic::Move;
+use dn_world::World;
 use std::alloc::Global;
 use std::marker::Model;
 use thiserror::Error;
@@ -189,4 +191,21 @@ impl Demo {
     {
         self.after
     }
+}
+
+/// Begins the world as the demo does, and steps it by each row. The answer is how many tics that is.
+pub fn play<W: World>(demo: &Demo, world: &mut W) -> usize
+    ensures tics { result ≡ length demo.now.rows }
+    ensures played { W.state world.new ≡ state_after W.physics demo.now }
+{
+    let present = demo.present();
+    world.begin(&demo.start(), present);
+    let layout = demo.layout;
+    let bytes = demo.bytes.as_slice();
+    let players = reading::players(present);
+    let tics = demo.tics();
+    for tic in 0..tics {
+        world.step(&reading::row(bytes, layout, present, players * tic));
+    }
+    tics
 }

@@ -2,8 +2,8 @@
 
 ghost use Rattle.std.specs.Prelude.{◌≡◌, ◌≢◌, ◌<◌, ◌≤◌, ℕ, ◌+◌, ◌%◌, true, false, List, [], ◌∷◌, ◌++◌, length, Some, None, IfSome, IfNone};
 ghost use Rattle.dn_demo.specs.Layout as specs;
-ghost use Rattle.dn_demo.specs.{Layout.layout_of, Layout.command_size, Text.header_size, Text.marker, Reading.HasHeader, Feeding.Feeding, Feeding.Shows, Feeding.Takes, Feeding.TakesFront, Fed.EndsAs};
-ghost use Rattle.dn_demo.specs.{Listed.told, Listed.EndsRow, Listed.Lists, Listed.IsBehindTic, Listed.TellsFront};
+ghost use Rattle.dn_demo.specs.{Layout.layout_of, Layout.command_size, Text.header_size, Text.marker, Reading.HasHeader, Feeding.Feeding, Feeding.Shows, Feeding.Takes, Feeding.TakesFront, Feeding.EndsAs};
+ghost use Rattle.dn_demo.specs.Feeding.{told, EndsRow, Lists, IsBehindTic, TellsFront};
 
 use crate::demo::{self, DemoFault};
 use crate::fed::{Fed, FeedFault};

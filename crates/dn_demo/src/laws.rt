@@ -2,10 +2,10 @@
 
 ghost use Rattle.std.specs.{Prelude.◌≡◌, Prelude.◌<◌, Prelude.ℕ, Prelude.Bool, Prelude.true, Prelude.List, Prelude.All, Prelude.Option, Prelude.Result, Prelude.Ok, List.concat};
 ghost use Rattle.dn_tic.specs.declared.command.Move.{Move};
-ghost use Rattle.dn_setup.specs.declared.start.Start.{Start};
-ghost use Rattle.dn_demo.specs.{Layout.vanilla, Layout.long_tics, Layout.spell, Layout.tell, Rows.AreWritable, Rows.AllMoves, Rows.IsMove, Rows.IsWhole, Text.demo_text, Reading.Recording};
-ghost use Rattle.dn_demo.specs.{Reading.IsReadAs, Reading.HasRows, Reading.written_demo, Reading.state_after, Recorded.Recorded, Upgraded.IsUpgraded, Feeding.Feeding, Feeding.Shows, Listed.AreListed};
-ghost use Rattle.dn_demo.specs.{Fed.IsFedAs, Fed.PiecesEndAs, Fed.IsSameEnd, declared.fed.Fed.Fed, declared.fed.FeedFault.FeedFault};
+ghost use Rattle.dn_setup.specs.declared.settings.Start.{Start};
+ghost use Rattle.dn_demo.specs.{Layout.vanilla, Layout.long_tics, Layout.spell, Layout.tell, Text.AreWritable, Text.AllMoves, Text.IsMove, Text.IsWhole, Text.demo_text, Reading.Recording};
+ghost use Rattle.dn_demo.specs.{Reading.IsReadAs, Reading.HasRows, Reading.written_demo, Reading.state_after, Recorded.Recorded, Recorded.IsUpgraded, Feeding.Feeding, Feeding.Shows, Feeding.AreListed};
+ghost use Rattle.dn_demo.specs.{Feeding.IsFedAs, Feeding.PiecesEndAs, Feeding.IsSameEnd, declared.fed.Fed.Fed, declared.fed.FeedFault.FeedFault};
 
 use dn_world::World;
 

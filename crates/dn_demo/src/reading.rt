@@ -1,7 +1,7 @@
 //! Where things stand in the bytes of a demo.
 
 ghost use Rattle.std.specs.Prelude.{◌≡◌, ◌≤◌, ℕ, ◌+◌, ◌*◌, Bool, List, length, Some, [], ◌∷◌, ◌++◌, IfSome, IfNone};
-ghost use Rattle.dn_demo.specs.{Layout.layout_of, Layout.command_size, Rows.player_count, Text.header_size, Places.start_in, Places.seats_in, Places.place, Places.commands_in, Places.move_at};
+ghost use Rattle.dn_demo.specs.{Layout.layout_of, Layout.command_size, Text.player_count, Text.header_size, Places.start_in, Places.seats_in, Places.place, Places.commands_in, Places.move_at};
 ghost use Rattle.dn_demo.specs.{Places.moves_from, Places.EndsBehind, Places.IsUnmarked};
 
 use crate::layout::{HEADER, Layout, MARKER};

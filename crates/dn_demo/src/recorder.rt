@@ -1,18 +1,37 @@
-//! A demo that is written tic by tic.
+//! A demo that is written tic by tic, how many bytes it may have, and how many tics these hold.
 
-ghost use Rattle.std.specs.{Prelude.◌≡◌, Prelude.◌<◌, Prelude.◌≤◌, Prelude.◌+◌, Prelude.◌*◌, Prelude.true, Prelude.false, Prelude.[], Prelude.◌∷◌, Prelude.◌++◌, Prelude.length, Prelude.nat_le};
+ghost use Rattle.std.specs.Prelude.{◌≡◌, ◌<◌, ◌≤◌, ℕ, true, nat_le, ◌+◌, ◌*◌, false, [], ◌∷◌, ◌++◌, length};
+ghost use Rattle.dn_demo.specs.Recorded.{IsLimit, recorded_size, capacity, most_tics};
 ghost use Rattle.std.specs.{Prelude.vec_len, Vec.vec_capacity};
-ghost use Rattle.dn_demo.specs.{Rows.IsRow, Rows.player_count, Layout.long_tics, Layout.command_size, Text.move_bytes, Text.row_bytes, Text.demo_text, Text.marker};
+ghost use Rattle.dn_demo.specs.{Text.IsRow, Text.player_count, Text.move_bytes, Text.row_bytes, Text.demo_text, Text.marker, Layout.long_tics, Layout.command_size};
 ghost use Rattle.dn_demo.specs.{declared.recorder.Stage.TheVariants.Blank, declared.recorder.Stage.TheVariants.Open, declared.recorder.Stage.TheVariants.Closed};
 
-use crate::layout::MARKER;
-use crate::limits::is_limit;
+use crate::layout::{COMMAND, HEADER, MARKER};
 use crate::writing::{command_bytes, header_bytes, row_size};
 use dn_setup::Start;
 use dn_tic::Move;
 use std::alloc::Global;
 use std::marker::Model;
 use thiserror::Error;
+
+/// Whether this number of bytes may limit a demo: 1,024 to 16,777,216.
+pub fn is_limit(bytes: u32) -> bool
+    ensures yes { result ≡ true → IsLimit bytes }
+    ensures no { IsLimit bytes → result ≡ true }
+{
+    (1024..=16_777_216).contains(&bytes)
+}
+
+/// How many tics of `players` players fit into a demo of `limit` bytes, beside its header and marker.
+pub fn capacity(limit: u32, players: u8) -> u32
+    requires limit { IsLimit limit }
+    requires somebody { 0 < players }
+    ensures value { result ≡ capacity limit players }
+    ensures fits { (tics : ℕ) → nat_le (recorded_size players tics) limit ≡ nat_le tics result }
+    ensures most { 2 ≤ players → result ≤ most_tics }
+{
+    (limit - HEADER as u32 - 1) / (COMMAND as u32 * u32::from(players))
+}
 
 /// Why there is no recorder: the first of these that is so.
 #[derive(Clone, Copy, Debug, PartialEq, Eq, Error)]

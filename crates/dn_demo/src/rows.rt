@@ -1,7 +1,7 @@
 //! Stepping a world straight from the bytes of rows.
 
 ghost use Rattle.std.specs.Prelude.{◌≡◌, ◌≢◌, ◌<◌, ◌≤◌, ℕ, ◌*◌, true, false, [], ◌∷◌, length, slice_get, Some};
-ghost use Rattle.dn_demo.specs.{Layout.layout_of, Layout.layout_by, Layout.command_size, Rows.player_count, Text.marker, Feeding.StepsRows};
+ghost use Rattle.dn_demo.specs.{Layout.layout_of, Layout.layout_by, Layout.command_size, Text.player_count, Text.marker, Feeding.StepsRows};
 
 use crate::layout::{Layout, MARKER};
 use crate::reading;

@@ -1,11 +1,10 @@
 //! Upgrading a demo: recording its tics anew as version 111.
 
-ghost use Rattle.dn_demo.specs.Upgraded.{IsUpgraded};
+ghost use Rattle.dn_demo.specs.Recorded.{IsUpgraded};
 
 use crate::demo::Demo;
-use crate::limits::{capacity, is_limit};
 use crate::reading;
-use crate::recorder::Recorder;
+use crate::recorder::{Recorder, capacity, is_limit};
 use std::alloc::Global;
 use thiserror::Error;
 

@@ -11,8 +11,8 @@ use Rattle.dn_machine.specs.Flight.{Flight}
 use Rattle.dn_machine.specs.Node.{put}
 use Rattle.dn_machine.proofs.Put.{put_at, put_off, same_functions}
 use Rattle.dn_lockstep.specs.declared.lockstep.aiming.Aim.{Aim}
-use Rattle.dn_lockstep.specs.Session.{given_on}
-use Rattle.dn_engine_tests.specs.declared.parcel.Parcel.{Parcel}
+use Rattle.dn_lockstep.specs.OneGame.{given_on}
+use Rattle.dn_engine_tests.specs.declared.calls.Parcel.{Parcel}
 use Rattle.dn_engine_tests.specs.Calls.{AreFor, parcel_of}
 use Rattle.dn_lockstep.specs.Contents.{Contents}
 use Rattle.dn_lockstep.specs.Sent.{aim_of, bytes_of}

@@ -6,7 +6,7 @@ use Rattle.dn_machine.specs.Node.{put}
 use Rattle.dn_machine.proofs.Put.{put_at, put_off}
 use Rattle.dn_lockstep.specs.declared.lockstep.Lockstep.{Lockstep}
 use Rattle.dn_lockstep.specs.Contents.{Contents, contents}
-use Rattle.dn_lockstep.specs.Session.{Session}
+use Rattle.dn_lockstep.specs.OneGame.{Session}
 use Rattle.dn_engine_tests.specs.Calls.{LeadsTo, AreFor}
 use Rattle.dn_engine_tests.specs.Pairs.{IsOneGame}
 use Rattle.dn_engine_tests.specs.declared.pairs.Pair.{Pair}

@@ -9,7 +9,7 @@ use Rattle.dn_setup.specs.Settings.{Settings}
 use Rattle.dn_machine.specs.declared.answers.Heard.{Heard}
 use Rattle.dn_machine.specs.declared.answers.Made.{Made}
 use Rattle.dn_machine.specs.declared.answers.Ran.{Ran}
-use Rattle.dn_machine.specs.Building.{on_build}
+use Rattle.dn_machine.specs.Sending.{on_build}
 use Rattle.dn_machine.specs.Flight.{Flight, is_close, is_request_close}
 use Rattle.dn_machine.specs.Limits.{Limits}
 use Rattle.dn_machine.specs.Node.{put}
@@ -20,12 +20,12 @@ use Rattle.dn_lockstep.specs.Giving.{Gives, gives}
 use Rattle.dn_lockstep.specs.Hearing.{HearsAny, HearsNear, Spares}
 use Rattle.dn_lockstep.specs.Marking.{Marking}
 use Rattle.dn_lockstep.specs.OneGame.{AreOneGame}
-use Rattle.dn_lockstep.specs.Runs.{RunsBy}
+use Rattle.dn_lockstep.specs.Steps.{RunsBy}
 use Rattle.dn_lockstep.specs.Sent.{sent_to, aim_of, bytes_of}
-use Rattle.dn_lockstep.specs.Session.{Session}
+use Rattle.dn_lockstep.specs.OneGame.{Session}
 use Rattle.dn_lockstep.specs.Steps.{Steps}
 use Rattle.dn_lockstep.specs.Told.{made}
-use Rattle.dn_engine_tests.specs.declared.parcel.Parcel.{Parcel}
+use Rattle.dn_engine_tests.specs.declared.calls.Parcel.{Parcel}
 
 -- the callers' worlds count their rows, and each player's mark is what the count leaves by 128
 abbrev pub counting : Marking

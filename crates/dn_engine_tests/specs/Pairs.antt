@@ -11,11 +11,11 @@ use Rattle.dn_machine.specs.Limits.{Limits}
 use Rattle.dn_machine.specs.Promise.{IsPrefixOf}
 use Rattle.dn_lockstep.specs.declared.config.Config.{Config}
 use Rattle.dn_lockstep.specs.Contents.{Contents, contents, whose}
-use Rattle.dn_lockstep.specs.Demos.{recorded}
+use Rattle.dn_lockstep.specs.Agreed.{recorded}
 use Rattle.dn_lockstep.specs.OneGame.{AreOneGame}
 use Rattle.dn_lockstep.specs.Opening.{limits_within, whose_within}
 use Rattle.dn_lockstep.specs.Represents.{Represents}
-use Rattle.dn_lockstep.specs.Session.{Session}
+use Rattle.dn_lockstep.specs.OneGame.{Session}
 use Rattle.dn_lockstep.specs.Told.{command_told}
 use Rattle.dn_engine_tests.specs.Calls.{counting, AreFor, Takes, RunsOn, Leaves, Passes}
 use Rattle.dn_engine_tests.specs.declared.pairs.Pair.{Pair}

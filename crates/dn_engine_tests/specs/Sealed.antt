@@ -8,7 +8,7 @@ use Rattle.dn_machine.specs.Limits.{Limits}
 use Rattle.dn_lockstep.specs.Contents.{Contents}
 use Rattle.dn_lockstep.specs.Marking.{Marking}
 use Rattle.dn_lockstep.specs.OneGame.{AreOneGame}
-use Rattle.dn_lockstep.specs.Session.{Session, with_lockstep, given_on, after_packet}
+use Rattle.dn_lockstep.specs.OneGame.{Session, with_lockstep, given_on, after_packet}
 use Rattle.dn_seal.specs.declared.seal.Seal.{Seal}
 use Rattle.dn_open.specs.OpenGames.{IsGenuine}
 use Rattle.dn_open.specs.Sealed.{IsSealedAs, WasSealed}

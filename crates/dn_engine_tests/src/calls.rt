@@ -1,18 +1,29 @@
-//! One call on a lockstep of a game.
+//! One call on a lockstep of a game, and a packet as the engine that was given it has it.
 
 ghost use Rattle.std.specs.Prelude.{◌≡◌, ◌<◌, Option};
 ghost use Rattle.dn_setup.specs.Settings.{Settings};
 ghost use Rattle.dn_tic.specs.declared.input.Input.TheVariants.{Given};
 ghost use Rattle.dn_machine.specs.{Flight.Flight, Limits.Limits};
-ghost use Rattle.dn_lockstep.specs.{Contents.contents, OneGame.AreOneGame, Session.Session, Session.given_on, Session.after_build, Session.after_packet, Session.after_run, Session.with_lockstep};
+ghost use Rattle.dn_lockstep.specs.Contents.{contents};
+ghost use Rattle.dn_lockstep.specs.OneGame.{AreOneGame, Session, given_on, after_build, after_packet, after_run, with_lockstep};
 ghost use Rattle.dn_engine_tests.specs.Calls.{counting, marks_at, LeadsTo, AreFor, Takes, RunsOn, Leaves, Sends, Hands};
 
-use crate::parcel::Parcel;
 use arrayvec::ArrayVec;
-use dn_lockstep::{Lockstep, locksteps_agree, one_game_goes_on};
+use dn_lockstep::{Aim, Lockstep, locksteps_agree, one_game_goes_on};
 use dn_machine::{Made, Ran};
 use dn_packet::MAX_DATAGRAM;
 use dn_tic::{Command, Move};
+
+/// A packet, with its exact numbers. It may be handed in at any time, and more than once.
+#[derive(Debug, Drop)]
+pub struct Parcel {
+    /// The number of the sender.
+    pub from: u8,
+    /// Its exact numbers.
+    pub aim: Aim,
+    /// Its datagram.
+    pub bytes: ArrayVec<u8, 104>,
+}
 
 /// Takes a player's command.
 pub fn give(lockstep: &mut Lockstep, command: Command) -> Made

@@ -4,14 +4,10 @@
 
 mod calls;
 mod pairs;
-mod parcel;
-mod passing;
 mod sealed;
 #[cfg(test)]
 mod tests;
 
-pub use calls::{give, hand, quit, run, take};
-pub use pairs::{Pair, open, play};
-pub use parcel::Parcel;
-pub use passing::pass;
+pub use calls::{Parcel, give, hand, quit, run, take};
+pub use pairs::{Pair, open, pass, play};
 pub use sealed::{open_bytes, seal_packet};

@@ -1,17 +1,36 @@
-//! A whole game of two.
+//! A whole game of two, with packets from one lockstep to another, out of order and more than once.
 
+ghost use Rattle.dn_lockstep.specs.Contents.{contents};
+ghost use Rattle.dn_engine_tests.specs.Calls.{PassesOn, Passes};
 ghost use Rattle.std.specs.Prelude.{IfOk};
-ghost use Rattle.dn_lockstep.specs.{Contents.contents, Opening.IsAdmittedWithin};
-ghost use Rattle.dn_engine_tests.specs.{Pairs.host, Pairs.IsOneGame, Pairs.IsOpened, Pairs.IsPlayed, Pairs.Stays, Pairs.HaveAgreed, Pairs.TakeBoth, Pairs.Exchange, Pairs.RunBoth, Pairs.Round};
-ghost use Rattle.dn_engine_tests.specs.{Pairs.SecondLeaves};
+ghost use Rattle.dn_lockstep.specs.Opening.{IsAdmittedWithin};
+ghost use Rattle.dn_engine_tests.specs.{Pairs.host, Pairs.IsOneGame, Pairs.IsOpened, Pairs.IsPlayed, Pairs.Stays, Pairs.HaveAgreed, Pairs.TakeBoth, Pairs.Exchange, Pairs.RunBoth, Pairs.Round, Pairs.SecondLeaves};
 
-use crate::calls::{give, quit, run};
-use crate::parcel::Parcel;
-use crate::passing::pass;
+use crate::calls::{Parcel, give, hand, quit, run, take};
 use dn_lockstep::{Config, Lockstep, NodeFault, locksteps_agree, one_game_opens, windows_hold};
 use dn_setup::Settings;
 use dn_tic::Command;
 use std::alloc::Global;
+
+/// Hands the next packet to a peer, then the one before, and then the next one again.
+pub fn pass(
+    from: u8,
+    sender: &mut Lockstep,
+    to: u8,
+    receiver: &mut Lockstep,
+    late: &mut Option<Parcel>,
+)
+    ensures one_game { PassesOn from to (contents sender.old) (contents sender.new) (contents receiver.old)
+        (contents receiver.new) late.old late.new }
+    ensures step { Passes from to (contents sender.old) (contents sender.new) (contents receiver.old)
+        (contents receiver.new) late.old late.new }
+{
+    let parcel = take(sender, from, to);
+    hand(receiver, to, &parcel);
+    hand(receiver, to, late);
+    hand(receiver, to, &parcel);
+    *late = parcel;
+}
 
 /// Two locksteps, and the last packet of each, which comes late once more.
 #[derive(Drop)]

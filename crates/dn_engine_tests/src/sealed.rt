@@ -1,7 +1,8 @@
 //! Calls on a lockstep on an open network.
 
 ghost use Rattle.std.specs.Prelude.{◌≡◌, None};
-ghost use Rattle.dn_open.specs.{Arrivals.HearsSealed, Arrivals.SendsSealed, Arrivals.SparesSealed, Locked.locked, Locked.seal_of};
+ghost use Rattle.dn_open.specs.Arrivals.{HearsSealed, SendsSealed, SparesSealed};
+ghost use Rattle.dn_open.specs.Sealed.{locked, seal_of};
 ghost use Rattle.dn_engine_tests.specs.Sealed.{SealsOn, OpensOn};
 
 use arrayvec::ArrayVec;

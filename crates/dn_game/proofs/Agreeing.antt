@@ -1,25 +1,178 @@
 -- The nodes of a game agree, since the machine's nodes that they represent do.
-use Rattle.std.proofs.Common.{List, Result, ◌≡◌, ◌<◌, ◌≤◌, ℕ, true, length, Option, Some, ap, sym, ◌∙◌, subst, inl, inr, arith}
-use Rattle.std.specs.{Prelude.fold, Option.option_map}
-use Rattle.std.proofs.lemmas.{Bool.cases_lt, Option.{same_Some, slice_get_within}}
-use Rattle.dn_game.proofs.{Places.{window_of, there_is}, Answering.{plays_leads, leads_plays}, SteadyAnswers.steady_answers, InputsMade.inputs_played}
+use Rattle.std.specs.Prelude.{All, slice_get, fold}
+use Rattle.std.specs.Option.{option_map}
+use Rattle.std.proofs.Common.{◌≡◌, ℕ, List, [], ◌∷◌, ◌++◌, Result, ap, sym, ◌∙◌, append-nil, arith, ◌≢◌, ℤ, Bool, true, false, true≢false, not, cond, Option, Some, None, Ok, Err, ltb, refl, inl, inr, ◌<◌, ◌≤◌, length, subst}
+use Rattle.std.proofs.lemmas.List.{append_assoc}
+use Rattle.std.proofs.lemmas.{List.Elements.{All-cons, All-nil}, Bool.{ltb-true, cases_lt}}
+use Rattle.std.proofs.lemmas.Option.{same_Some, slice_get_within}
 use Rattle.dn_setup.specs.Settings.{Settings}
-use Rattle.dn_machine.specs.{declared.events.Done.Done, declared.events.Event.Event, declared.events.Refusal.Refusal, Game.{Game, opening_game}, Worlds.{Rules, opening, world, world_after}, Node.demo_rows, Promise.inputs_of, Running.tic_limit}
-use Rattle.dn_machine.proofs.{Games.always, Invariant.IsKept}
-use Rattle.dn_game.specs.{Contents.Contents, Played.Plays, Promised.{IsReached, IsPromised}, Represents.Represents, Agreed.AreAgreed, InputsMade.inputs_made, Told.{HasNode, lockstep_in, lockstep_at}}
+use Rattle.dn_machine.specs.{declared.events.Done.Done, declared.events.Event.Event, declared.events.Refusal.Refusal, Worlds.{Rules, opening, world, world_after}, Flight.Flight, Node.{Node, ran, demo_rows}, Sending.{on_build, on_send}, Hearing.on_packet, Running.{on_run, on_quit, tic_limit}}
+use Rattle.dn_machine.specs.{Game.{Game, opening_game, applied, on_own_run, posted, delivered, refused_flight, refused, on_event, applied_if}, Promise.inputs_of}
+use Rattle.dn_machine.specs.{Limits.IsWindow, declared.answers.Phase.TheVariants.Ended, declared.answers.Ran.Ran, declared.events.Event.TheVariants.{Build, Give, Send, Deliver, Run, Quit, Stop}}
+use Rattle.dn_machine.specs.declared.answers.Cause.TheVariants as Cause
+use Rattle.dn_machine.specs.Game as machine
+use Rattle.dn_game.specs.{Promised.{inputs_by, inputs_made, IsSteady, IsReached, IsPromised}, Played.{Answers, Plays}}
+use Rattle.dn_game.specs.{Contents.{Contents, Represents}, Agreed.{AreAgreed, HasNode, lockstep_in, lockstep_at}}
+use Rattle.dn_tic.specs.declared.input.Input.{Input}
 use Rattle.dn_tic.specs.declared.command.Move.{Move}
 use Rattle.dn_demo.specs.Reading.{state_after}
-use Rattle.dn_lockstep.specs.{Demos.{rows_made, demo_made}, Told.HasStarted}
-use Rattle.dn_lockstep.proofs.Shown.{started}
-use Rattle.dn_node.specs.{declared.node.Node.Node, Contents.locked}
-use Rattle.dn_node.proofs.Replaying.{world_recorded}
+use Rattle.dn_machine.proofs.{Invariant.IsKept, Games.{opens, happens_keeps, applied_keeps, always}, Put.put_at}
 use Rattle.dn_machine.proofs.Promises
-use Rattle.dn_machine.specs.Game as machine
+use Rattle.dn_lockstep.specs.{Agreed.{rows_made, demo_made}, Told.HasStarted}
 use Rattle.dn_lockstep.specs.Contents as lockstep
 use Rattle.dn_lockstep.specs.Represents as lockstep_to
+use Rattle.dn_lockstep.proofs.Shown.{started}
 use Rattle.dn_lockstep.proofs.Agreeing as locksteps
+use Rattle.dn_node.specs.{declared.node.Node.Node as NodeOf, Contents.locked}
 use Rattle.dn_node.specs.Contents as node
-use Rattle.dn_node.specs.Represents as node_to
+use Rattle.dn_node.proofs.Running.{world_recorded}
+use Rattle.dn_game.proofs.{Standing.{window_of, there_is}, Answering.{plays_leads, leads_plays}}
+
+-- The inputs that the machine's nodes took are those of the builds that made a command.
+
+-- no call but a build takes inputs
+sent_keeps : {S : Type 0} (rules : Rules S) (me : ℕ) (node : Node) (to : ℕ)
+    → (on_send rules.limits me node to).0.inputs ≡ node.inputs
+unfolding on_send
+sent_keeps rules me node to = grind arith
+
+heard_keeps : {S : Type 0} (rules : Rules S) (me : ℕ) (node : Node) (flight : Flight)
+    → (on_packet rules.limits me node flight).0.inputs ≡ node.inputs
+unfolding on_packet
+heard_keeps rules me node flight = grind arith
+
+ran_keeps : {S : Type 0} (rules : Rules S) (node : Node) → (on_own_run rules node).0.inputs ≡ node.inputs
+unfolding on_run
+ran_keeps rules node = grind arith
+
+quit_keeps : (node : Node) → (on_quit node).0.inputs ≡ node.inputs
+unfolding on_quit
+quit_keeps node = grind arith
+
+-- one player's inputs, by one event
+answered : {S : Type 0} (rules : Rules S) (game next : Game) (player : ℕ) (event : Event)
+    (answer : Result Done Refusal)
+    → Answers rules game event answer next
+    → (next.nodes player).inputs ≡ (game.nodes player).inputs ++ inputs_by event answer player
+unfolding applied on_build
+answered rules game next player event answer is =
+    grind (arith, append-nil {A = Input}, sent_keeps, heard_keeps, ran_keeps, quit_keeps)
+
+-- and by a list of events
+inputs_after : {S : Type 0} (rules : Rules S) (player : ℕ) (events : List Event)
+    (answers : List (Result Done Refusal)) (game last : Game)
+    → Plays rules game events answers last → (last.nodes player).inputs
+    ≡ (game.nodes player).inputs ++ inputs_made events answers player
+inputs_after rules player [] [] game last same = ap (λ (g : Game). (g.nodes player).inputs) same
+    ∙ sym (append-nil (game.nodes player).inputs)
+inputs_after rules player [] (a ∷ answers) game last way = absurd way
+inputs_after rules player (e ∷ events) [] game last way = absurd way
+inputs_after rules player (e ∷ events) (a ∷ answers) game last (next, one, rest) =
+    inputs_after rules player events answers next last rest
+    ∙ ap (λ (ks : List Input). ks ++ inputs_made events answers player) (answered rules game next player e a one)
+    ∙ append_assoc (game.nodes player).inputs (inputs_by e a player) (inputs_made events answers player)
+
+pub inputs_played : {S : Type 0} (rules : Rules S) (settings : Settings) (events : List Event)
+    (answers : List (Result Done Refusal)) (last : Game)
+    → Plays rules (opening_game settings) events answers last → inputs_of last ≡ inputs_made events answers
+unfolding opening_game
+inputs_played rules settings events answers last way =
+    λ i player. inputs_after rules player events answers (opening_game settings) last way i
+
+-- No event of a game that a list of events may leave is answered by a failed check.
+
+-- a run that is answered by a mark that is off ends the node for it
+off_ends : {S : Type 0} (rules : Rules S) (node : Node) (player : ℕ) (was should : ℤ)
+    → (on_own_run rules node).1 ≡ Ran.Inconsistent player was should
+    → (on_own_run rules node).0.phase ≡ Ended (Cause.Inconsistent player was should)
+unfolding on_run
+off_ends rules node player was should e = grind arith
+
+-- an answer that is of no run and of no delivery
+abbrev is_other : Result Done Refusal → Bool
+is_other (Ok (Done.Ran ran)) = false
+is_other (Ok (Done.Heard heard)) = false
+is_other _ = true
+
+apart : (answer is : Result Done Refusal) → is_other answer ≡ true → is_other is ≡ false → answer ≢ is
+apart answer is other unlike e = true≢false (sym other ∙ ap is_other e ∙ unlike)
+
+other_steady : (answer : Result Done Refusal) → is_other answer ≡ true → IsSteady answer
+other_steady answer other = grind (arith, apart)
+
+-- an event of a number that is not refused is one of a player
+passes : (b : Bool) (x : Refusal) (rest : Option Refusal) → cond (not b) (Some x) rest ≡ None → b ≡ true
+passes b x rest free = grind arith
+
+module _ {S : Type 0} (rules : Rules S) (settings : Settings) (game : Game)
+    (kept : IsKept rules settings game) where
+  sends : (game : Game) (flight : Option Flight) → IsSteady (Ok (posted game flight).1)
+  sends game None = other_steady _ refl
+  sends game (Some flight) = other_steady _ refl
+
+  delivers : (which : ℕ) (flight : Option Flight) → slice_get game.flights which ≡ flight
+      → refused_flight game flight ≡ None
+      → IsSteady (Ok (delivered rules game flight).1)
+  delivers which None there free = absurd (cc)
+  delivers which (Some flight) there free =
+      record {
+        consistent = λ player was should e. absurd (cc);
+        kept = λ number e. (Promises.steady rules settings game kept).kept which flight number there free
+            (cc);
+      }
+
+  runs : (node : ℕ) → refused rules.players game (Run node) ≡ None
+      → IsSteady (Ok (on_event rules game (Run node)).1)
+  runs node free =
+      let next = happens_keeps rules settings game kept (Run node) free in
+      let below = ltb-true node rules.players (passes (ltb node rules.players) _ _ free) in
+      record {
+        consistent = λ player was should e.
+            let ends = off_ends rules (game.nodes node) player was should (cc) in
+            (Promises.steady rules settings _ next).consistent node player was should below
+            (ap (λ (n : Node). n.phase) (put_at game.nodes node node _ refl) ∙ ends);
+        kept = λ number e. absurd (cc);
+      }
+
+  happens : (event : Event) → refused rules.players game event ≡ None
+      → IsSteady (Ok (on_event rules game event).1)
+  happens (Build node keys) free = other_steady _ refl
+  happens (Give node command) free = other_steady _ refl
+  happens (Send node to) free = sends _ _
+  happens (Deliver which) free = delivers which (slice_get game.flights which) refl free
+  happens (Run node) free = runs node free
+  happens (Quit node) free = other_steady _ refl
+  happens (Stop node) free = other_steady _ refl
+
+  pub applied_steady : (event : Event) → IsSteady (applied rules game event).1
+  unfolding applied
+  applied_steady event = go (refused rules.players game event) refl
+    where
+      go : (o : Option Refusal) → refused rules.players game event ≡ o
+          → IsSteady (applied_if rules game event o).1
+      go (Some refusal) e = other_steady (Err refusal) refl
+      go None e = happens event e
+
+-- nor is one of a list
+steady_from : {S : Type 0} (rules : Rules S) (settings : Settings) (events : List Event)
+    (answers : List (Result Done Refusal)) (game last : Game)
+    → IsKept rules settings game → Plays rules game events answers last → All IsSteady answers
+steady_from rules settings [] [] game last kept way = All-nil IsSteady
+steady_from rules settings [] (a ∷ answers) game last kept way = absurd way
+steady_from rules settings (e ∷ events) [] game last kept way = absurd way
+steady_from rules settings (e ∷ events) (a ∷ answers) game last kept (next, inl (same, answered), rest) = grind (arith, applied_steady, steady_from rules settings events answers next last (rw same (applied_keeps rules settings game kept e)) rest, applied_keeps)
+steady_from rules settings (e ∷ events) (a ∷ answers) game last kept
+    (next, inr (free, send, same, answered), rest) =
+    All-cons IsSteady a answers (rw answered (other_steady (Err Refusal.Memory) refl))
+    (steady_from rules settings events answers next last (rw same kept) rest)
+
+pub steady_answers : {S : Type 0} (rules : Rules S) (window : IsWindow rules.limits) (settings : Settings) (events : List Event)
+    (answers : List (Result Done Refusal)) (last : Game)
+    → Plays rules (opening_game settings) events answers last → All IsSteady answers
+steady_answers rules window settings events answers last way =
+    steady_from rules settings events answers (opening_game settings) last (opens rules settings window) way
+
+-- The nodes agree.
 
 -- a game that represents one of the machine
 module _ {W S : Type 0} (state : W → S) (rules : Rules S) (g : Contents W) (m : machine.Game)
@@ -52,11 +205,11 @@ module _ {W S : Type 0} (state : W → S) (rules : Rules S) (g : Contents W) (m 
     pub inside : i < rules.players
     inside = omega (arith, slice_get_within g.nodes i at.0 at.1, r.players)
 
-    pub shown : node_to.Represents state rules i n (m.nodes i)
+    pub shown : node.Represents state rules i n (m.nodes i)
     shown = rw at.2 (r.nodes i at.0 at.1)
 
     ran_there : (lockstep_at g i).ran ≡ n.ran
-    ran_there = ap (λ (o : Option (Node W)). (lockstep_in o).ran) at.1 ∙ ap (λ (c : node.Contents W). c.ran) (sym at.2)
+    ran_there = ap (λ (o : Option (NodeOf W)). (lockstep_in o).ran) at.1 ∙ ap (λ (c : node.Contents W). c.ran) (sym at.2)
 
     module _ (settings : Settings) (kept : IsKept rules settings m) (begun : HasStarted (locked n)) where
       played : (m.nodes i).played ≡ true

@@ -4,7 +4,7 @@ use Rattle.std.specs.Prelude.{IsTrue, count_by, is_ok, is_err}
 use Rattle.std.proofs.lemmas.List.Sums.{sum_by-append}
 use Rattle.dn_setup.specs.Settings.{Settings}
 use Rattle.dn_machine.specs.{declared.events.Done.Done, declared.events.Event.Event, declared.events.Refusal.Refusal, Game.{Game, applied, opening_game, refused}, Runs.{Leads, Next, is_send}, Worlds.Rules}
-use Rattle.dn_game.specs.{Applied.IsApplied, Contents.{Contents, contents}, Played.{Answers, Plays, PlaysBy, IsPlayed, IsPlayedBy}, Represents.Represents, declared.played.Played.Played}
+use Rattle.dn_game.specs.{Applied.IsApplied, Contents.{Contents, contents, Represents}, Played.{Answers, Plays, PlaysBy, IsPlayed, IsPlayedBy}, declared.played.Played.Played}
 
 -- what is counted by a test, with one more
 pub counts_more : {A : Type 0} (p : A → Bool) (xs : List A) (x : A) (old new : ℕ) → old ≡ count_by p xs

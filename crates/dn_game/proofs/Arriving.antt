@@ -2,10 +2,9 @@
 use Rattle.std.proofs.Common.{◌≡◌, ◌≢◌, ℕ, zero, suc, List, [], ◌∷◌, map, ◌<◌, ◌+◌, append_assoc, true, false, true≢false, ◌∙◌, ◌++◌, ◌^◌, length, Result, Ok, Err, refl, ap, sym, subst, inl, inr, arith}
 use Rattle.std.specs.Prelude.{OnErr}
 use Rattle.dn_tic.specs.{declared.input.Input.Input, declared.input.Input.TheVariants.{Pressed, Given}, Inputs.input_of}
-use Rattle.dn_machine.specs.{declared.events.Done.Done, declared.events.Event.Event, declared.events.Event.TheVariants.{Send, Deliver, Run}, declared.events.Refusal.Refusal, Game.Game, Progress.{after, build_of, in_order, exchange, turn}, Runs.is_send}
+use Rattle.dn_machine.specs.{declared.events.Done.Done, declared.events.Event.Event, declared.events.Event.TheVariants.{Send, Deliver, Run}, declared.events.Refusal.Refusal, Game.Game, Runs.is_send, Progress.{after, build_of, in_order, exchange, turn}}
 use Rattle.dn_machine.specs.{Worlds.Rules}
-use Rattle.dn_game.specs.{declared.rounds.RoundFault.RoundFault, Applied.IsApplied, Contents.Contents, Represents.Represents, Frame.{KeepsFlights, KeepsRest}, Rounds.{pressed_by, IsUnsent, IsCutShort, IsCarriedOut, KeepsIdleWorlds}}
-use Rattle.dn_game.specs.{RoundEvents.{events_in_order, exchange_events, turn_events, after_all}}
+use Rattle.dn_game.specs.{declared.rounds.RoundFault.RoundFault, Applied.IsApplied, Contents.{Contents, Represents}, Frame.{KeepsFlights, KeepsRest}, Rounds.{pressed_by, IsUnsent, IsCutShort, IsCarriedOut, KeepsIdleWorlds, events_in_order, exchange_events, turn_events, after_all}}
 use Rattle.dn_game.proofs.Rounding.{idle_more, idle_one, all_after, after_exchange, after_in_order, events_split}
 
 -- one step more

@@ -1,18 +1,17 @@
 -- A game goes on as the machine's game that it represents.
 use Rattle.std.proofs.Common.{◌<◌, ◌≤◌, ◌+◌, ◌≡◌, ℕ, List, Result, Err, refl, ap, sym, ◌∙◌, inl, inr, arith, subst}
-use Rattle.dn_game.proofs.{Places.{window_of, swift_of, packet_of, there_is}, Agreeing.{inside, shown, promised}, Answering.{plays_leads, plays_on}, Rounding.plays_rounds}
+use Rattle.dn_game.proofs.{Standing.{window_of, swift_of, packet_of, there_is}, Agreeing.{inside, shown, promised}, Answering.{plays_leads, plays_on}, Rounding.plays_rounds}
 use Rattle.dn_setup.specs.Settings.{Settings}
 use Rattle.dn_machine.specs.{declared.events.Done.Done, Limits.Limits, declared.events.Event.Event, declared.events.Refusal.Refusal, Game.{Game, opening_game}, Node.is_ended, Progress.good_rounds, Running.tic_limit, Worlds.Rules}
 use Rattle.dn_machine.proofs.{Invariant.IsKept, Progress.goes_on_with, Games.always}
 use Rattle.dn_node.specs.declared.node.Node.{Node}
-use Rattle.dn_game.specs.{declared.going_on.PlayOnFault.PlayOnFault, declared.going_on.PlayOnFault.TheVariants.Round, declared.rounds.RoundFault.RoundFault, declared.played.Played.Played, Contents.{Contents, contents}}
-use Rattle.dn_game.specs.{GoingOn.{NoneLost, AllRan, HasRoom, GoesOn, HasGoneOn, HasPlayedOn}, Played.{Answers, IsReachedWith}, Promised.{IsReached, HasPlayed}, Represents.Represents, Told.HasNode}
+use Rattle.dn_game.specs.{declared.going_on.PlayOnFault.PlayOnFault, declared.going_on.PlayOnFault.TheVariants.Round, declared.rounds.RoundFault.RoundFault, declared.played.Played.Played, Contents.{Contents, contents, Represents}}
+use Rattle.dn_game.specs.{GoingOn.{NoneLost, AllRan, HasRoom, GoesOn, HasGoneOn, HasPlayedOn}, Played.{Answers, IsReachedWith}, Promised.{IsReached, HasPlayed}, Agreed.HasNode}
 use Rattle.dn_lockstep.proofs.Shown.{started, end_is}
 use Rattle.dn_tic.specs.declared.input.Input.{Input}
 use Rattle.dn_machine.specs.Progress as machine
 use Rattle.dn_machine.proofs.Promises
 use Rattle.dn_node.specs.Contents as node
-use Rattle.dn_node.specs.Represents as node_to
 
 -- one answer tells of one fault
 pub same_round : {A : Type 0} (one other : RoundFault) (answer : Result A PlayOnFault) → answer ≡ Err (Round one)
@@ -24,7 +23,7 @@ module _ {W S : Type 0} (state : W → S) (rules : Rules S) (settings : Settings
     -- the node of a player
     node_of : (i : ℕ) → i < rules.players
         → (n : Node W) × HasNode g i (node.contents n)
-        × node_to.Represents state rules i (node.contents n) (m.nodes i)
+        × node.Represents state rules i (node.contents n) (m.nodes i)
     node_of i below =
         let found = there_is g.nodes i (omega (arith, below, r.players)) in
         (found.0, (found.0, found.1, refl), r.nodes i found.0 found.1)

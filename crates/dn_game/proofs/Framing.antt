@@ -1,13 +1,19 @@
--- What the step of one node leaves as it is.
+-- What the step of one node leaves as it is, and the limits of demos with it.
 use Rattle.std.proofs.Common.{◌≡◌, ◌≢◌, ◌++◌, ℕ, zero, suc, List, [], ◌∷◌, Option, Some, Result, Ok, append-nil, map, set, ap, sym, ◌∙◌, refl, subst}
 use Rattle.std.specs.{Borrow.Bor, Prelude.{slice_get, slice_index_or}}
+use Rattle.std.specs.List.{All}
 use Rattle.std.proofs.Math.Seq.{map-set_same}
+use Rattle.std.proofs.lemmas.List.Elements.{All-nil, All-cons, All-head, All-tail, All-map}
 use Rattle.dn_machine.specs.{declared.answers.Heard.Heard, declared.answers.Ran.Ran, declared.events.Done.Done, declared.events.Event.Event, declared.events.Refusal.Refusal}
-use Rattle.dn_open.specs.{declared.arrived.Arrived.Arrived, declared.open_event.OpenEvent.OpenEvent, declared.open_event.OpenEvent.TheVariants.{Own, Arrive}}
+use Rattle.dn_lockstep.specs.Contents.{Whose}
+use Rattle.dn_open.specs.declared.hearing.Arrived.{Arrived}
+use Rattle.dn_open.specs.declared.open_event.OpenEvent.{OpenEvent}
+use Rattle.dn_open.specs.declared.open_event.OpenEvent.TheVariants.{Own, Arrive}
 use Rattle.dn_node.specs.declared.node.Node.{Node}
-use Rattle.dn_game.specs.{declared.flight.Flight.Flight, declared.open_done.OpenDone.OpenDone, Contents.Contents, Frame.{KeepsOthers, KeepsWorlds, KeepsRest, KeepsRestOpen, Keeping, MovesNoWorld, MovesNoWorldOpen}, OpenPlayed.arrival_answer}
-use Rattle.dn_game.specs.{Fresh.worlds_of}
+use Rattle.dn_game.specs.{declared.flight.Flight.Flight, declared.open_playing.OpenDone.OpenDone, Contents.Contents, Frame.{KeepsOthers, KeepsWorlds, KeepsRest, KeepsRestOpen, Keeping, MovesNoWorld, MovesNoWorldOpen}, OpenPlayed.arrival_answer}
+use Rattle.dn_game.specs.Opening.{worlds_of, AreLimited}
 use Rattle.dn_node.specs.Contents as node
+use Rattle.dn_node.specs.Contents.{contents, whose, whose_of}
 
 -- what stands elsewhere stays
 pub slice_get-set_other : {X : Type 0} (xs : List X) (i j : ℕ) (y : X) → j ≢ i
@@ -99,3 +105,24 @@ sent_after old kept new more joined same = (more, joined ∙ ap (λ (fs : List F
 -- a run that moves no world
 pub run_keeps : (ran : Ran) → MovesNoWorld (Ok (Done.Ran ran)) → (tic : ℕ) → ran ≢ Ran.Ran tic
 run_keeps ran moves tic is = subst (λ (r : Ran). MovesNoWorld (Ok (Done.Ran r))) is moves
+
+-- A node that stays whose it was keeps the limit of its demo.
+
+module _ {N : Type 0} (own : N → Whose) (limit : ℕ) where
+  limited_as : (nodes : List N) → All (λ (w : Whose). w.limit ≡ limit) (map own nodes)
+      → All (λ (n : N). (own n).limit ≡ limit) nodes
+  limited_as [] all = All-nil (λ (n : N). (own n).limit ≡ limit)
+  limited_as (node ∷ nodes) all =
+      let P = λ (w : Whose). w.limit ≡ limit in
+      All-cons (λ (n : N). (own n).limit ≡ limit) node nodes (All-head P (own node) (map own nodes) all)
+      (limited_as nodes (All-tail P (own node) (map own nodes) all))
+
+  -- so each demo has the limit that it had
+  pub keep_limits : (old new : List N) → map own new ≡ map own old → All (λ (n : N). (own n).limit ≡ limit) old
+      → All (λ (n : N). (own n).limit ≡ limit) new
+  keep_limits old new kept before =
+      limited_as new (rw kept (All-map (λ (w : Whose). w.limit ≡ limit) own old before))
+
+pub limits_stay : {W : Type 0} (limit : ℕ) (old new : List (Node W)) → whose_of new ≡ whose_of old
+    → AreLimited limit old → AreLimited limit new
+limits_stay {W} = keep_limits (λ (n : Node W). whose (contents n))

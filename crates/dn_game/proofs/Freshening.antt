@@ -5,8 +5,8 @@ use Rattle.std.proofs.lemmas.{List.{append_assoc, map_push, nil_from_length}, Op
 use Rattle.dn_setup.specs.Settings.{Settings}
 use Rattle.dn_machine.specs.{Game.opening_game, Worlds.Rules}
 use Rattle.dn_node.specs.declared.node.Node.{Node}
-use Rattle.dn_game.specs.{Fresh.{AreFresh, EachIs}, declared.flight.Flight.Flight}
-use Rattle.dn_game.specs.Represents as represents
+use Rattle.dn_game.specs.{Opening.{AreFresh, EachIs}, declared.flight.Flight.Flight}
+use Rattle.dn_game.specs.Contents as represents
 
 -- what stands in a list with one more: it stood there before, or it is the last
 slice_get-more : {A : Type 0} (xs : List A) (y : A) (k : ℕ) (x : A) → slice_get (xs ++ y ∷ []) k ≡ Some x

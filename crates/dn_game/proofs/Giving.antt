@@ -6,7 +6,7 @@ use Rattle.dn_world.specs.Physics.{Physics}
 use Rattle.dn_machine.specs.{declared.events.Done.Done, declared.events.Event.Event, declared.events.Event.TheVariants.{Build, Give, Send, Deliver, Run, Quit, Stop}, declared.events.Refusal.Refusal}
 use Rattle.dn_node.specs.declared.node.Node.{Node}
 use Rattle.dn_open.specs.{declared.open_event.OpenEvent.OpenEvent, declared.open_event.OpenEvent.TheVariants.{Own, Arrive}}
-use Rattle.dn_game.specs.{declared.flight.Flight.Flight, declared.played.Played.Played, Contents.{Contents, contents}, Frame.{KeepsOthers, KeepsWorlds, MovesNoWorld, named_in, named_in_open}, Fresh.worlds_of, Given.{KeepsGiven, NeverMoves}}
+use Rattle.dn_game.specs.{declared.flight.Flight.Flight, declared.played.Played.Played, Contents.{Contents, contents}, Frame.{KeepsOthers, KeepsWorlds, MovesNoWorld, named_in, named_in_open, KeepsGiven, NeverMoves}, Opening.worlds_of}
 use Rattle.dn_game.specs.{Played.AppliesOne}
 use Rattle.dn_node.specs.Contents as node
 

@@ -4,8 +4,8 @@ use Rattle.std.specs.{Prelude.{slice_get, is_none, min, slice_index_or}}
 use Rattle.std.proofs.lemmas.{List.length-map, Bool.{cases_lt, not-false}}
 use Rattle.std.proofs.Math.Nat.{mod-eq_of_lt, add-mod_right}
 use Rattle.dn_machine.specs.{declared.events.Event.TheVariants.{Deliver, Run}, declared.events.Refusal.Refusal, Game.{Game, refused_flight}, Worlds.Rules, Node.lowest}
-use Rattle.dn_game.specs.{Contents.Contents, Represents.{Represents, flight_of}, Schedule.{delivery_or_run, event_of, first_moving}}
-use Rattle.dn_machine.proofs.Marks.{lowest_none_each}
+use Rattle.dn_game.specs.{Contents.{Contents, Represents, flight_of}, Schedule.{delivery_or_run, event_of, first_moving}}
+use Rattle.dn_machine.proofs.Truth.{lowest_none_each}
 use Rattle.dn_lockstep.proofs.Lowest.{lowest_past, lowest_found, lowest_same}
 
 module _ (players from : ℕ) (stopped : ℕ → Bool) where

@@ -2,16 +2,15 @@
 use Rattle.std.proofs.Common.{◌≡◌, ◌<◌, ◌≤◌, ◌+◌, ℕ, true, false, List, length, Some, ap, sym, ◌∙◌, arith}
 use Rattle.std.specs.{Prelude.{fold, nat_lt, ◌||◌}}
 use Rattle.std.proofs.lemmas.{List.take_all, Option.same_Some}
-use Rattle.dn_setup.specs.{Settings.Settings, Starts.start_of}
+use Rattle.dn_setup.specs.Settings.{Settings, start_of}
 use Rattle.dn_demo.specs.{Layout.long_tics, Text.demo_text}
 use Rattle.dn_machine.specs.{declared.answers.Phase.Phase, Node.is_ended, Headline.{Shown, whole_rows}, Promise.Agree, Worlds.{Inputs, Rules, opening, world_after}}
-use Rattle.dn_lockstep.specs.{Demos.recorded, Rows.seats_of, Told.{HasStarted, got, made}}
+use Rattle.dn_lockstep.specs.{Agreed.recorded, Rows.seats_of, Told.{HasStarted, got, made}}
 use Rattle.dn_lockstep.proofs.Shown.{started}
 use Rattle.dn_node.specs.Contents.{locked}
-use Rattle.dn_game.specs.{Agreed.AreAgreed, Contents.Contents, Headline.{HaveAgreed, Shows}, Represents.Represents, Told.{HasNode, lockstep_in, lockstep_at}}
+use Rattle.dn_game.specs.{Agreed.{AreAgreed, HasNode, lockstep_in, lockstep_at}, Contents.{Contents, Represents}, Headline.{HaveAgreed, Shows}}
 use Rattle.dn_machine.specs.Game as machine
 use Rattle.dn_node.specs.Contents as node
-use Rattle.dn_node.specs.Represents as node_to
 use Rattle.dn_game.proofs.Agreeing as agreeing
 
 module _ {W S : Type 0} (state : W → S) (rules : Rules S) (settings : Settings) (g : Contents W)
@@ -28,7 +27,7 @@ module _ {W S : Type 0} (state : W → S) (rules : Rules S) (settings : Settings
     its : lockstep_at g i ≡ locked n
     its = ap lockstep_in at.1 ∙ ap (λ (c : node.Contents W). locked c) (sym at.2)
 
-    shown : node_to.Represents state rules i n (m.nodes i)
+    shown : node.Represents state rules i n (m.nodes i)
     shown = agreeing.shown state rules g m r i n at
 
     below : i < rules.players

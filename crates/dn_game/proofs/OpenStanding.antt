@@ -4,16 +4,19 @@ use Rattle.std.specs.Prelude.{slice_get, All}
 use Rattle.std.proofs.lemmas.{List.{length-append, append-nil, append_assoc}, List.Elements.{All-take, All-nil, All-cons, All-head, All-tail}}
 use Rattle.std.proofs.Math.Seq.{take-append_seam}
 use Rattle.dn_machine.specs.{declared.events.Done.Done, declared.events.Event.Event, declared.events.Event.TheVariants.{Build, Give, Send, Deliver, Run, Quit, Stop}, declared.events.Refusal.Refusal}
-use Rattle.dn_machine.specs.{Game.{Game, applied, applied_if, delivered, on_event, posted, refused, refused_at, with_node, opening_game}, Sending.on_send, Worlds.Rules, Limits.IsWindow, Running.tic_limit, Runs.Runs}
+use Rattle.dn_machine.specs.{Game.{Game, applied, applied_if, delivered, on_event, posted, refused, refused_at, with_node, opening_game}, Runs.Runs, Sending.on_send, Worlds.Rules, Limits.IsWindow, Running.tic_limit}
 use Rattle.dn_seal.specs.declared.seal.Seal.{Seal}
-use Rattle.dn_open.specs.{OpenGames.arrived_if, declared.arrived.Arrived.Arrived, declared.open_event.OpenEvent.OpenEvent, declared.open_event.OpenEvent.TheVariants.{Own, Arrive}}
-use Rattle.dn_game.specs.{declared.open_done.OpenDone.OpenDone, OpenPlayed.{AnswersOpen, ArrivesSo, PlaysOpen}, OpenPromised.{sent_by, AreGenuine, IsPromisedOpen, IsSteadyOpen, StandFor, open_inputs_made, plain_answer, plain_answers}}
-use Rattle.dn_game.specs.{Played.{Answers, Plays}, declared.flight.Flight.Flight, Contents.Contents, InputsMade.{inputs_by, inputs_made}, Promised.IsSteady, Represents.{Represents, IsCarried, flight_of}, Sealed.IsGenuine}
+use Rattle.dn_open.specs.OpenGames.{arrived_if}
+use Rattle.dn_open.specs.declared.hearing.Arrived.{Arrived}
+use Rattle.dn_open.specs.declared.open_event.OpenEvent.{OpenEvent}
+use Rattle.dn_open.specs.declared.open_event.OpenEvent.TheVariants.{Own, Arrive}
+use Rattle.dn_game.specs.{declared.open_playing.OpenDone.OpenDone, OpenPlayed.{AnswersOpen, ArrivesSo, PlaysOpen}, OpenPromised.{sent_by, AreGenuine, IsPromisedOpen, IsSteadyOpen, StandFor, open_inputs_made, plain_answer, plain_answers}}
+use Rattle.dn_game.specs.{Played.{Answers, Plays}, declared.flight.Flight.Flight, Contents.{Contents, Represents, IsCarried, flight_of}, Promised.{inputs_by, inputs_made, IsSteady}, Arrived.IsGenuine}
 use Rattle.dn_tic.specs.declared.input.Input.{Input}
 use Rattle.dn_setup.specs.Settings.{Settings}
 use Rattle.dn_machine.proofs.Games.{always, goes_on}
 use Rattle.dn_open.proofs.{Deliveries.{AreFound, AreSealable, arrives}, Fairness.fair_sealable}
-use Rattle.dn_game.proofs.{Answering.{answers_next, plays_on}, OpenSteps.{StandsAs, first_sent, genuine_so, own_stands, refused_stands, came_stands}, Places.{all_at, window_of}, Agreeing.promised}
+use Rattle.dn_game.proofs.{Answering.{answers_next, plays_on}, OpenSteps.{StandsAs, first_sent, genuine_so, own_stands, refused_stands, came_stands}, Standing.{all_at, window_of}, Agreeing.promised}
 use Rattle.dn_machine.specs.Flight as exact
 
 -- How many packets were sent after open events, and that those stay.

@@ -6,10 +6,13 @@ use Rattle.std.proofs.lemmas.{List.{length-map, map-append, append-nil}, Option.
 use Rattle.dn_machine.specs.{declared.answers.Heard.Heard, declared.events.Done.Done, declared.events.Event.Event, declared.events.Event.TheVariants.{Build, Give, Send, Deliver, Run, Quit, Stop}, declared.events.Refusal.Refusal, Game.{Game, refused_at}}
 use Rattle.dn_machine.specs.{Worlds.Rules}
 use Rattle.dn_seal.specs.declared.seal.Seal.{Seal}
-use Rattle.dn_open.specs.{OpenGames.{answer_if, arrived_if}, declared.arrived.Arrived.Arrived, declared.open_event.OpenEvent.OpenEvent, declared.open_event.OpenEvent.TheVariants.{Own, Arrive}}
+use Rattle.dn_open.specs.OpenGames.{answer_if, arrived_if}
+use Rattle.dn_open.specs.declared.hearing.Arrived.{Arrived}
+use Rattle.dn_open.specs.declared.open_event.OpenEvent.{OpenEvent}
+use Rattle.dn_open.specs.declared.open_event.OpenEvent.TheVariants.{Own, Arrive}
 use Rattle.dn_open.proofs.Deliveries.{Happens}
-use Rattle.dn_game.specs.{declared.flight.Flight.Flight, declared.open_done.OpenDone.OpenDone, InputsMade.{inputs_by, inputs_made}, OpenPlayed.{AnswersOpen, ArrivesSo}, OpenPromised.{StandsFor, open_inputs_by, plain_answer}, Played.Plays}
-use Rattle.dn_game.specs.{Represents.flight_of, Sealed.{IsEnvelope, IsGenuine, sealed}}
+use Rattle.dn_game.specs.{declared.flight.Flight.Flight, declared.open_playing.OpenDone.OpenDone, Promised.{inputs_by, inputs_made}, OpenPlayed.{AnswersOpen, ArrivesSo}, OpenPromised.{StandsFor, open_inputs_by, plain_answer}, Played.Plays}
+use Rattle.dn_game.specs.{Contents.flight_of, Arrived.{IsEnvelope, IsGenuine, sealed}}
 use Rattle.dn_machine.specs.Flight as exact
 use Rattle.dn_open.specs.OpenGames as network
 

@@ -6,7 +6,7 @@ use Rattle.std.proofs.lemmas.{Grind.flat_map-append, List.{drop-append-le, take-
 use Rattle.arrayvec.specs.ArrayVec.{ArrayVec}
 use Rattle.dn_lockstep.specs.declared.lockstep.aiming.Aim.{Aim}
 use Rattle.dn_game.specs.{declared.flight.Flight.Flight, declared.pool.Record.Record, Pool.{joined, flight_in, flights_in, IsPiece, ArePacked, IsRecordOf}}
-use Rattle.dn_game.proofs.Places.{there_is, all_at}
+use Rattle.dn_game.proofs.Standing.{there_is, all_at}
 
 module _ (bytes more : List ℕ) where
   -- a piece is the same where bytes are appended

@@ -9,8 +9,7 @@ use Rattle.dn_machine.specs.Game as machine
 use Rattle.dn_machine.specs.Game.{applied, refused}
 use Rattle.dn_machine.specs.Runs.{is_send}
 use Rattle.dn_machine.specs.Worlds.{Rules, rules_of}
-use Rattle.dn_game.specs.Contents.{Contents}
-use Rattle.dn_game.specs.Represents.{Represents}
+use Rattle.dn_game.specs.Contents.{Contents, Represents}
 
 -- whatever game of the machine a game represents, this holds of it
 abbrev pub Tells : {W S : Type 0} → (W → S) → Physics S → Contents W → (Rules S → machine.Game → Type 0)

@@ -1,25 +1,51 @@
--- Bytes come to a node of a game.
-use Rattle.std.specs.Prelude.{◌≡◌, ℕ, List, Result, Ok, Err}
+-- Bytes come to a node of a game, and the envelopes of the game's packets.
+use Rattle.std.specs.Prelude.{◌≡◌, ℕ, List, Some, slice_get, Ok, Result, Err}
 use Rattle.dn_packet.specs.declared.packet.Packet.{Packet}
 use Rattle.dn_packet.specs.declared.packet.PacketFault.{PacketFault}
 use Rattle.dn_setup.specs.Settings.{Settings}
 use Rattle.dn_setup.specs.declared.setup.SetupFault.{SetupFault}
+use Rattle.dn_seal.specs.declared.opened.Opened.{Opened}
+use Rattle.dn_seal.specs.declared.seal.Seal.{Seal}
+use Rattle.dn_seal.specs.Envelope.{envelope}
+use Rattle.dn_seal.specs.Opening.{IsOpenedAs}
+use Rattle.dn_seal.specs.declared.opened.SealFault.{SealFault}
 use Rattle.dn_machine.specs.declared.answers.Heard.{Heard}
 use Rattle.dn_machine.specs.declared.events.Refusal.{Refusal}
 use Rattle.dn_machine.specs.Game as machine
 use Rattle.dn_machine.specs.Game.{refused_at}
 use Rattle.dn_machine.specs.Worlds.{Rules}
-use Rattle.dn_seal.specs.declared.opened.Opened.{Opened}
-use Rattle.dn_seal.specs.declared.opened.SealFault.{SealFault}
-use Rattle.dn_seal.specs.declared.seal.Seal.{Seal}
-use Rattle.dn_seal.specs.Opening.{IsOpenedAs}
+use Rattle.dn_open.specs.Sealed.{sealing_of}
 use Rattle.dn_open.specs.Arrivals.{IsRead}
 use Rattle.dn_open.specs.OpenGames.{answer_if, arrived_if}
-use Rattle.dn_open.specs.Sealed.{sealing_of}
-use Rattle.dn_open.specs.declared.arrived.Arrived.{Arrived}
+use Rattle.dn_open.specs.declared.hearing.Arrived.{Arrived}
+use Rattle.dn_game.specs.declared.flight.Flight.{Flight}
 use Rattle.dn_game.specs.Applied.{IsAfter}
 use Rattle.dn_game.specs.Contents.{Contents}
 use Rattle.dn_game.specs.Frame.{HoldsTheSame}
+
+-- the envelope of a packet in the game with this seal: its datagram, with its exact numbers in front
+abbrev pub sealed : Seal → Flight → List ℕ
+sealed seal packet =
+    envelope seal.key (record {
+      suite = seal.suite;
+      game = seal.game;
+      from = packet.from;
+      to = packet.to;
+      start = packet.aim.start;
+      ask = packet.aim.ask;
+      datagram = packet.bytes.items;
+    })
+
+-- if the node opens the bytes, they are the envelope of one of these packets: no tag was forged
+abbrev pub IsGenuine : Seal → List Flight → ℕ → List ℕ → Type 0
+IsGenuine seal packets node bytes =
+    (opened : Opened) → IsOpenedAs (sealing_of seal node) bytes (Ok opened)
+    → (which : ℕ) × (packet : Flight) × (slice_get packets which ≡ Some packet) × (bytes ≡ sealed seal packet)
+
+-- the packet of this number is one of these, goes to the node, and the bytes are its envelope
+abbrev pub IsEnvelope : Seal → List Flight → ℕ → List ℕ → ℕ → Type 0
+IsEnvelope seal packets node bytes which =
+    (packet : Flight) × (slice_get packets which ≡ Some packet) × (packet.to ≡ node) × (bytes ≡ sealed seal packet)
 
 -- the game after bytes that are opened and read so came to a node, and the answer
 abbrev pub after_arrival : {S : Type 0} → Rules S → machine.Game → ℕ → Result Opened SealFault

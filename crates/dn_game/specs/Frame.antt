@@ -1,4 +1,4 @@
--- What an event leaves as it is.
+-- What an event leaves as it is, and what events leave of the worlds that were given for a game's nodes.
 use Rattle.std.specs.Prelude.{◌≡◌, ◌≢◌, ◌++◌, ℕ, List, Option, Some, Result, Ok, map, slice_get}
 use Rattle.std.specs.Option.{option_map}
 use Rattle.dn_machine.specs.declared.answers.Heard.{Heard}
@@ -7,14 +7,14 @@ use Rattle.dn_machine.specs.declared.events.Done.{Done}
 use Rattle.dn_machine.specs.declared.events.Event.{Event}
 use Rattle.dn_machine.specs.declared.events.Event.TheVariants.{Build, Give, Send, Deliver, Run, Quit, Stop}
 use Rattle.dn_machine.specs.declared.events.Refusal.{Refusal}
-use Rattle.dn_open.specs.declared.arrived.Arrived.{Arrived}
+use Rattle.dn_open.specs.declared.hearing.Arrived.{Arrived}
 use Rattle.dn_open.specs.declared.open_event.OpenEvent.{OpenEvent}
 use Rattle.dn_open.specs.declared.open_event.OpenEvent.TheVariants.{Own, Arrive}
 use Rattle.dn_node.specs.Contents as node
 use Rattle.dn_game.specs.declared.flight.Flight.{Flight}
-use Rattle.dn_game.specs.declared.open_done.OpenDone.{OpenDone}
+use Rattle.dn_game.specs.declared.open_playing.OpenDone.{OpenDone}
 use Rattle.dn_game.specs.Contents.{Contents}
-use Rattle.dn_game.specs.Fresh.{worlds_of}
+use Rattle.dn_game.specs.Opening.{worlds_of}
 
 -- the node that an event names; a delivery names the receiver of its packet
 abbrev pub named_in : List Flight → Event → Option ℕ
@@ -77,3 +77,22 @@ pub record HoldsTheSame {W : Type 0} (old new : Contents W) : Type 0 where
   pub nodes : map node.contents new.nodes ≡ map node.contents old.nodes
   pub stopped : new.stopped ≡ old.stopped
   pub flights : new.flights ≡ old.flights
+
+-- no answer to an event that names this node tells that it started or ran
+abbrev pub NeverMoves : {E A : Type 0} → (E → Option ℕ) → (A → Type 0) → ℕ → List E → List A → Type 0
+NeverMoves {E} {A} named MovesNone i events answers =
+    (k : ℕ) (event : E) (answer : A) → slice_get events k ≡ Some event → slice_get answers k ≡ Some answer
+    → named event ≡ Some i → MovesNone answer
+
+-- after events with these answers a node that neither started nor ran has the world that was given for it
+abbrev pub KeepsGiven : {W : Type 0} → List W → List Event → List (Result Done Refusal) → Contents W → Type 0
+KeepsGiven worlds events answers g =
+    (i : ℕ) → NeverMoves (named_in g.flights) MovesNoWorld i events answers
+    → slice_get (worlds_of g.nodes) i ≡ slice_get worlds i
+
+-- and so after open events
+abbrev pub KeepsGivenOpen : {W : Type 0} → List W → List OpenEvent → List (Result OpenDone Refusal) → Contents W
+    → Type 0
+KeepsGivenOpen worlds events answers g =
+    (i : ℕ) → NeverMoves (named_in_open g.flights) MovesNoWorldOpen i events answers
+    → slice_get (worlds_of g.nodes) i ≡ slice_get worlds i

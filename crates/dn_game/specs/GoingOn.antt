@@ -14,13 +14,11 @@ use Rattle.dn_node.specs.Contents as node
 use Rattle.dn_node.specs.Contents.{locked, end_in}
 use Rattle.dn_game.specs.declared.played.Played.{Played}
 use Rattle.dn_game.specs.declared.rounds.RoundFault.{RoundFault}
-use Rattle.dn_game.specs.Contents.{Contents, contents}
-use Rattle.dn_game.specs.Given.{KeepsGiven}
+use Rattle.dn_game.specs.Contents.{Contents, contents, Represents}
+use Rattle.dn_game.specs.Frame.{KeepsGiven}
 use Rattle.dn_game.specs.Promised.{IsPromised, HasPlayed}
-use Rattle.dn_game.specs.Represents.{Represents}
-use Rattle.dn_game.specs.RoundEvents.{rounds_events, answers_to}
-use Rattle.dn_game.specs.Rounds.{IsUnsent, IsCutShort}
-use Rattle.dn_game.specs.Told.{HasNode}
+use Rattle.dn_game.specs.Rounds.{rounds_events, answers_to, IsUnsent, IsCutShort}
+use Rattle.dn_game.specs.Agreed.{HasNode}
 use Rattle.dn_tic.specs.declared.input.Input.{Input}
 
 -- no node is lost: none has stopped, and whoever has ended had started

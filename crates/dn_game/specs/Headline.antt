@@ -1,20 +1,19 @@
 -- The headline of a game that was played, by what the readers of its nodes return. It speaks of no packet, no event
 -- and no answer: what these do is said in `Promised`.
 use Rattle.std.specs.Prelude.{◌≡◌, ◌<◌, ℕ, ◌||◌, fold, length, nat_lt}
-use Rattle.dn_setup.specs.Settings.{Settings}
-use Rattle.dn_setup.specs.Starts.{start_of}
+use Rattle.dn_setup.specs.Settings.{Settings, start_of}
 use Rattle.dn_world.specs.Physics.{Physics}
 use Rattle.dn_demo.specs.Layout.{long_tics}
 use Rattle.dn_demo.specs.Text.{demo_text}
 use Rattle.dn_machine.specs.Headline.{Headline, Shown, ran_by, whole_rows}
 use Rattle.dn_machine.specs.Node.{is_ended}
-use Rattle.dn_lockstep.specs.Demos.{recorded}
+use Rattle.dn_lockstep.specs.Agreed.{recorded}
 use Rattle.dn_lockstep.specs.Rows.{seats_of}
 use Rattle.dn_lockstep.specs.Told.{HasStarted, got}
 use Rattle.dn_node.specs.Contents as node
 use Rattle.dn_node.specs.Contents.{locked}
 use Rattle.dn_game.specs.Contents.{Contents}
-use Rattle.dn_game.specs.Told.{HasNode}
+use Rattle.dn_game.specs.Agreed.{HasNode}
 
 -- A node of a game of these settings shows this: its readers return it, and the rows are those by which its world
 -- was stepped and its demo was written.

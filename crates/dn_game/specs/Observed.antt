@@ -8,7 +8,7 @@ use Rattle.dn_machine.specs.Worlds.{Rules}
 use Rattle.dn_world.specs.Physics.{Physics}
 use Rattle.dn_game.specs.declared.played.Played.{Played}
 use Rattle.dn_game.specs.Contents.{contents}
-use Rattle.dn_game.specs.Given.{KeepsGiven}
+use Rattle.dn_game.specs.Frame.{KeepsGiven}
 use Rattle.dn_game.specs.Played.{AppliesOne}
 use Rattle.dn_game.specs.Promised.{HasPlayed}
 use Rattle.dn_game.specs.Stormed.{HasStormed}

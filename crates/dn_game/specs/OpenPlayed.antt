@@ -10,18 +10,17 @@ use Rattle.dn_machine.specs.Game.{opening_game}
 use Rattle.dn_machine.specs.Runs.{is_send}
 use Rattle.dn_machine.specs.Worlds.{Rules, rules_of}
 use Rattle.dn_seal.specs.declared.seal.Seal.{Seal}
-use Rattle.dn_open.specs.declared.arrived.Arrived.{Arrived}
+use Rattle.dn_open.specs.declared.hearing.Arrived.{Arrived}
 use Rattle.dn_open.specs.declared.open_event.OpenEvent.{OpenEvent}
 use Rattle.dn_open.specs.declared.open_event.OpenEvent.TheVariants.{Own, Arrive}
-use Rattle.dn_game.specs.declared.open_done.OpenDone.{OpenDone}
+use Rattle.dn_game.specs.declared.open_playing.OpenDone.{OpenDone}
 use Rattle.dn_game.specs.declared.played.Played.{Played}
 use Rattle.dn_game.specs.Applied.{IsApplied, Tells}
 use Rattle.dn_game.specs.Arrived.{Opening, SparesArrived, after_arrival}
-use Rattle.dn_game.specs.Contents.{Contents, contents}
+use Rattle.dn_game.specs.Contents.{Contents, contents, Represents}
 use Rattle.dn_game.specs.Frame.{KeepsRestOpen}
 use Rattle.dn_game.specs.Played.{Answers, IsPlayedBy, PlaysBy}
 use Rattle.dn_game.specs.Promised.{IsCarriedOn}
-use Rattle.dn_game.specs.Represents.{Represents}
 
 -- bytes that come to a node lead from a game to the next with this answer
 pub record ArrivesSo {S : Type 0} (rules : Rules S) (seal : Seal) (game : machine.Game) (node : ℕ)

@@ -8,17 +8,16 @@ use Rattle.dn_machine.specs.declared.events.Refusal.{Refusal}
 use Rattle.dn_machine.specs.Game as machine
 use Rattle.dn_machine.specs.Worlds.{Rules, Inputs}
 use Rattle.dn_seal.specs.declared.seal.Seal.{Seal}
-use Rattle.dn_open.specs.declared.arrived.Arrived.{Arrived}
+use Rattle.dn_open.specs.declared.hearing.Arrived.{Arrived}
 use Rattle.dn_open.specs.declared.open_event.OpenEvent.{OpenEvent}
 use Rattle.dn_open.specs.declared.open_event.OpenEvent.TheVariants.{Own, Arrive}
 use Rattle.dn_game.specs.declared.flight.Flight.{Flight}
-use Rattle.dn_game.specs.declared.open_done.OpenDone.{OpenDone}
+use Rattle.dn_game.specs.declared.open_playing.OpenDone.{OpenDone}
 use Rattle.dn_game.specs.declared.played.Played.{Played}
 use Rattle.dn_game.specs.Contents.{Contents, contents}
-use Rattle.dn_game.specs.InputsMade.{inputs_by, inputs_made, inputs_of_all}
+use Rattle.dn_game.specs.Promised.{inputs_by, inputs_made, inputs_of_all, IsPromised, IsSteady}
 use Rattle.dn_game.specs.OpenPlayed.{IsPlayedOpen}
-use Rattle.dn_game.specs.Promised.{IsPromised, IsSteady}
-use Rattle.dn_game.specs.Sealed.{IsEnvelope, IsGenuine}
+use Rattle.dn_game.specs.Arrived.{IsEnvelope, IsGenuine}
 
 -- how many packets an answer tells to have been sent
 abbrev pub sent_by : Result OpenDone Refusal → ℕ

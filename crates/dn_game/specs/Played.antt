@@ -11,9 +11,8 @@ use Rattle.dn_machine.specs.Runs.{is_send}
 use Rattle.dn_machine.specs.Worlds.{Rules}
 use Rattle.dn_game.specs.declared.played.Played.{Played}
 use Rattle.dn_game.specs.Applied.{Tells, IsApplied}
-use Rattle.dn_game.specs.Contents.{Contents, contents}
+use Rattle.dn_game.specs.Contents.{Contents, contents, Represents}
 use Rattle.dn_game.specs.Frame.{KeepsRest}
-use Rattle.dn_game.specs.Represents.{Represents}
 
 -- an event leads from a game to the next with this answer; a send that nothing else refuses may be left out,
 -- where memory is refused

@@ -1,24 +1,44 @@
--- What is promised of a game after a list of events, by the game of the machine that it represents.
-use Rattle.std.specs.Prelude.{◌≡◌, ◌≢◌, ◌⊎◌, ◌++◌, ◌∷◌, [], ℕ, ℤ, Bool, All, List, Result, Ok}
+-- What is promised of a game after a list of events, by the game of the machine that it represents, and the
+-- inputs that count.
+use Rattle.std.specs.Prelude.{◌==◌, List, [], ◌∷◌, ◌++◌, if◌then◌else◌, Result, Ok, ◌≡◌, ◌≢◌, ◌⊎◌, ℕ, ℤ, Bool, All}
+use Rattle.dn_machine.specs.Worlds.{Inputs, Rules, rules_of}
+use Rattle.dn_tic.specs.declared.input.Input.TheVariants.{Pressed, Given}
 use Rattle.dn_setup.specs.Settings.{Settings}
 use Rattle.dn_world.specs.Physics.{Physics}
-use Rattle.dn_machine.specs.declared.answers.Heard.{Heard}
-use Rattle.dn_machine.specs.declared.answers.Ran.{Ran}
+use Rattle.dn_machine.specs.declared.answers.Made.{Made}
 use Rattle.dn_machine.specs.declared.events.Done.{Done}
 use Rattle.dn_machine.specs.declared.events.Event.{Event}
+use Rattle.dn_machine.specs.declared.events.Event.TheVariants.{Build, Give}
 use Rattle.dn_machine.specs.declared.events.Refusal.{Refusal}
+use Rattle.dn_machine.specs.declared.answers.Heard.{Heard}
+use Rattle.dn_machine.specs.declared.answers.Ran.{Ran}
 use Rattle.dn_machine.specs.Drops as drops
 use Rattle.dn_machine.specs.Game as machine
 use Rattle.dn_machine.specs.Game.{opening_game}
-use Rattle.dn_machine.specs.Promise.{Agree, Fits, Steady}
 use Rattle.dn_machine.specs.Runs.{Runs}
-use Rattle.dn_machine.specs.Worlds.{Rules, rules_of}
+use Rattle.dn_machine.specs.Promise.{Agree, Fits, Steady}
 use Rattle.dn_game.specs.declared.played.Played.{Played}
 use Rattle.dn_game.specs.Agreed.{AreAgreed}
-use Rattle.dn_game.specs.Contents.{Contents, contents}
-use Rattle.dn_game.specs.InputsMade.{inputs_made}
+use Rattle.dn_game.specs.Contents.{Contents, contents, Represents}
 use Rattle.dn_game.specs.Played.{Plays, IsPlayed, IsReachedWith}
-use Rattle.dn_game.specs.Represents.{Represents}
+
+-- the input of a player's build, if that is the event and it made a command
+abbrev pub inputs_by : Event → Result Done Refusal → Inputs
+inputs_by (Build node keys) (Ok (Done.Built (Made.Made tic))) player =
+    if player == node then Pressed keys ∷ [] else []
+inputs_by (Give node command) (Ok (Done.Built (Made.Made tic))) player =
+    if player == node then Given command ∷ [] else []
+inputs_by _ _ player = []
+
+-- the inputs of events and their answers, in order, by those of one
+abbrev pub inputs_of_all : {E A : Type 0} → (E → A → Inputs) → List E → List A → Inputs
+inputs_of_all by (event ∷ events) (answer ∷ answers) player =
+    by event answer player ++ inputs_of_all by events answers player
+inputs_of_all by _ _ player = []
+
+-- the inputs of each player's builds that made a command, in order
+abbrev pub inputs_made : List Event → List (Result Done Refusal) → Inputs
+inputs_made = inputs_of_all inputs_by
 
 -- it represents a game that the events may lead to
 pub record IsReached {W S : Type 0} (state : W → S) (rules : Rules S) (settings : Settings)

@@ -1,5 +1,5 @@
--- The event that a schedule gives next, by three words of its generator.
-use Rattle.std.specs.Prelude.{ℕ, ◌+◌, ◌-◌, ◌%◌, ◌^◌, min, Bool, not, ◌&&◌, nat_lt, length, slice_get, if◌then◌else◌, Option, is_none}
+-- The event that a schedule gives next, by three words of its generator and by who has stopped.
+use Rattle.std.specs.Prelude.{◌≡◌, ◌<◌, ℕ, true, false, length, slice_index_or, ◌+◌, ◌-◌, ◌%◌, ◌^◌, min, Bool, not, ◌&&◌, nat_lt, slice_get, if◌then◌else◌, Option, is_none}
 use Rattle.std.specs.Option.{option_map}
 use Rattle.rand_pcg.specs.Lcg.{Lcg, started, increment_of}
 use Rattle.rand_pcg.specs.Pcg.{multiplier_64, pcg32}
@@ -7,6 +7,16 @@ use Rattle.dn_machine.specs.declared.events.Event.{Event}
 use Rattle.dn_machine.specs.declared.events.Event.TheVariants.{Build, Send, Deliver, Run}
 use Rattle.dn_machine.specs.Game.{Game, refused_flight}
 use Rattle.dn_machine.specs.Node.{lowest}
+use Rattle.dn_game.specs.Contents.{Contents}
+
+-- a player who has not stopped
+pub record IsMoving {W : Type 0} (g : Contents W) (node : ℕ) : Type 0 where
+  pub below : node < length g.nodes
+  pub moves : slice_index_or g.stopped node false ≡ false
+
+-- all players have stopped
+abbrev pub AllStopped : {W : Type 0} → Contents W → Type 0
+AllStopped g = (node : ℕ) → node < length g.nodes → slice_index_or g.stopped node false ≡ true
 
 -- the generator of a seed: the PCG of 64 bits and stream 54
 abbrev pub generator_of : ℕ → Lcg

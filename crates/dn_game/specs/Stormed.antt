@@ -9,11 +9,10 @@ use Rattle.dn_machine.specs.Game as machine
 use Rattle.dn_machine.specs.Game.{opening_game}
 use Rattle.dn_machine.specs.Worlds.{Rules}
 use Rattle.dn_game.specs.declared.played.Played.{Played}
-use Rattle.dn_game.specs.Contents.{contents}
-use Rattle.dn_game.specs.Given.{KeepsGiven}
+use Rattle.dn_game.specs.Contents.{contents, Represents}
+use Rattle.dn_game.specs.Frame.{KeepsGiven}
 use Rattle.dn_game.specs.Played.{Answers}
 use Rattle.dn_game.specs.Promised.{IsPromised}
-use Rattle.dn_game.specs.Represents.{Represents}
 use Rattle.dn_game.specs.Schedule.{generator_of, behind_three, scheduled}
 
 -- events that lead from a game to another, each with its answer, and each the one that the generator gives

@@ -34,7 +34,7 @@ pub trait GameNode<W: World>: Drop {
 
 impl<W: World> GameNode<W> for Node<W> {
     ghost use Rattle.dn_machine.specs.{Game.fresh, Worlds.rules_within};
-    ghost use Rattle.dn_node.specs.{Contents.contents, Contents.whose as whose_node, Represents.Represents};
+    ghost use Rattle.dn_node.specs.Contents.{contents, whose as whose_node, Represents};
 
     ghost is_fresh = { λ limits settings i node. Represents W.state (rules_within W.physics limits) i
         (contents node) (fresh settings i) };

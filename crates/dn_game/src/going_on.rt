@@ -4,9 +4,9 @@ ghost use Rattle.std.specs.Prelude.{◌≡◌, ◌≤◌, ◌+◌, ℕ, Bool, Li
 ghost use Rattle.dn_tic.specs.{declared.input.Input.Input, Inputs.input_of};
 ghost use Rattle.dn_setup.specs.Settings.{Settings};
 ghost use Rattle.dn_machine.specs.{declared.events.Done.Done, declared.events.Event.Event, declared.events.Refusal.Refusal, Progress.good_rounds, Worlds.rules_of};
-ghost use Rattle.dn_game.specs.{Contents.Contents, Contents.contents, Fresh.AreLimited, GoingOn.NoneLost, GoingOn.AllRan, GoingOn.HasRoom, GoingOn.GoesOn, GoingOn.HasGoneOn, GoingOn.HasPlayedOn};
+ghost use Rattle.dn_game.specs.{Contents.Contents, Contents.contents, Opening.AreLimited, GoingOn.NoneLost, GoingOn.AllRan, GoingOn.HasRoom, GoingOn.GoesOn, GoingOn.HasGoneOn, GoingOn.HasPlayedOn};
 ghost use Rattle.dn_game.specs.{GoingOn.HasPlayedOnFrom, GoingOn.HasBrokenOff, Opening.IsAdmittedOn, Opening.rules_in, Played.IsReachedWith, Pool.IsWithinTwice, Promised.IsReached};
-ghost use Rattle.dn_game.specs.{Represents.Represents, Room.room_of, Rounds.pressed_by, declared.going_on.PlayOnFault.TheVariants.Round, declared.rounds.RoundFault.RoundFault};
+ghost use Rattle.dn_game.specs.{Contents.Represents, Room.room_of, Rounds.pressed_by, declared.going_on.PlayOnFault.TheVariants.Round, declared.rounds.RoundFault.RoundFault};
 
 use crate::config::{GameConfig, GameFault};
 use crate::played::Played;

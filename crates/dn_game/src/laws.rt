@@ -6,7 +6,7 @@ ghost use Rattle.dn_machine.specs.{declared.events.Done.Done, declared.events.Ev
 ghost use Rattle.dn_lockstep.specs.Opening.{IsGame};
 ghost use Rattle.dn_seal.specs.declared.seal.Seal.{Seal};
 ghost use Rattle.dn_open.specs.declared.open_event.OpenEvent.{OpenEvent};
-ghost use Rattle.dn_game.specs.{Agreed.AreAgreed, Contents.Contents, declared.open_done.OpenDone.OpenDone, OpenPlayed.IsReachedOpen, OpenPromised.AreGenuine, OpenPromised.IsPromisedOpen};
+ghost use Rattle.dn_game.specs.{Agreed.AreAgreed, Contents.Contents, declared.open_playing.OpenDone.OpenDone, OpenPlayed.IsReachedOpen, OpenPromised.AreGenuine, OpenPromised.IsPromisedOpen};
 ghost use Rattle.dn_game.specs.{Headline.HaveAgreed, Played.IsReachedWith, Promised.IsReached, Promised.IsPromised, Promised.IsSteady};
 
 use dn_setup::settings_found_again;

@@ -1,16 +1,26 @@
-//! Playing a list of open events: what is promised on an open network.
+//! Playing a list of open events: what each did, and what is promised on an open network.
 
 ghost use Rattle.std.specs.Prelude.{length, IfOk};
-ghost use Rattle.dn_game.specs.{Fresh.AreLimited, Opening.IsAdmitted, Opening.rules_in, Given.KeepsGivenOpen, OpenPromised.HasPlayedOpen, Contents.contents, Pool.IsWithinTwice, Room.room_of};
+ghost use Rattle.dn_game.specs.{Opening.AreLimited, Opening.IsAdmitted, Opening.rules_in, Frame.KeepsGivenOpen, OpenPromised.HasPlayedOpen, Contents.contents, Pool.IsWithinTwice, Room.room_of};
 
 use crate::config::{GameConfig, GameFault};
 use crate::game::Game;
 use crate::played::Played;
-use dn_open::OpenEvent;
+use dn_machine::Done;
+use dn_open::{Arrived, OpenEvent};
 use dn_seal::Seal;
 use dn_setup::settings_found_again;
 use dn_world::World;
 use std::alloc::Global;
+
+/// What an event of a game on an open network did.
+#[derive(Clone, Copy, Debug, PartialEq, Eq)]
+pub enum OpenDone {
+    /// The answer to an event of the game.
+    Own(Done),
+    /// What the node made of the bytes that came to it.
+    Arrived(Arrived),
+}
 
 /// Applies all open events in order, to a new game with this seal. Whatever the network does - lose, repeat,
 /// reorder, delay for a week, alter, forge, misattribute - the games of nodes that seal their packets agree, as

@@ -4,7 +4,7 @@ ghost use Rattle.std.specs.Prelude.{◌≡◌, ◌<◌, ◌+◌, ◌^◌, OnOk};
 
 use crate::game::Game;
 use crate::observing::Observer;
-use crate::open_done::OpenDone;
+use crate::open_playing::OpenDone;
 use dn_machine::{Done, Event, Refusal};
 use dn_open::OpenEvent;
 use dn_seal::Seal;

@@ -1,7 +1,7 @@
 //! Playing a list of events: what the whole project promises.
 
 ghost use Rattle.std.specs.Prelude.{◌≡◌, ◌⊎◌, length, Err, IfOk};
-ghost use Rattle.dn_game.specs.{Contents.contents, Fresh.AreLimited, Given.KeepsGiven, Headline.HaveAgreed, Observed.IsPlayedObserved, Opening.IsAdmitted, Opening.rules_in, Pool.IsWithinTwice, Promised.HasPlayed};
+ghost use Rattle.dn_game.specs.{Contents.contents, Opening.AreLimited, Opening.IsAdmitted, Opening.rules_in, Frame.KeepsGiven, Headline.HaveAgreed, Observed.IsPlayedObserved, Pool.IsWithinTwice, Promised.HasPlayed};
 ghost use Rattle.dn_game.specs.{Room.room_of, declared.config.GameFault.TheVariants.Players, declared.config.GameFault.TheVariants.Limit};
 
 use crate::config::{GameConfig, GameFault};

@@ -3,8 +3,8 @@
 ghost use Rattle.std.specs.Prelude.{◌≡◌, ◌↔◌, true, map, Err};
 ghost use Rattle.dn_tic.specs.{declared.input.Input.TheVariants.Pressed, Inputs.input_of};
 ghost use Rattle.dn_machine.specs.{declared.events.Refusal.Refusal, Progress.build_of, Progress.exchange, Progress.turn, Progress.good_round, Progress.good_rounds};
-ghost use Rattle.dn_game.specs.{Applied.Tells, Contents.contents, Room.Continues, Room.IsFull, RoundEvents.exchange_events, RoundEvents.turn_events};
-ghost use Rattle.dn_game.specs.{RoundEvents.round_events, RoundEvents.rounds_events, Rounds.pressed_by, Rounds.IsCarriedOut, declared.rounds.RoundFault.RoundFault};
+ghost use Rattle.dn_game.specs.{Applied.Tells, Contents.contents, Room.Continues, Room.IsFull, Rounds.exchange_events, Rounds.turn_events};
+ghost use Rattle.dn_game.specs.{Rounds.round_events, Rounds.rounds_events, Rounds.pressed_by, Rounds.IsCarriedOut, declared.rounds.RoundFault.RoundFault};
 
 use crate::game::Game;
 use dn_machine::{Done, Event, Refusal};

@@ -2,7 +2,7 @@
 
 ghost use Rattle.std.specs.Prelude.{◌≡◌, ◌↔◌, ◌<◌, None, IfSome, length, false, slice_index_or};
 ghost use Rattle.dn_machine.specs.Game.{refused};
-ghost use Rattle.dn_game.specs.{Applied.Tells, Contents.contents, Stopped.IsMoving, Stopped.AllStopped, Schedule.generator_of, Schedule.behind_three, Schedule.scheduled, Schedule.first_moving};
+ghost use Rattle.dn_game.specs.{Applied.Tells, Contents.contents, Schedule.IsMoving, Schedule.AllStopped, Schedule.generator_of, Schedule.behind_three, Schedule.scheduled, Schedule.first_moving};
 ghost use Rattle.dn_game.specs.{Schedule.delivery_or_run, Schedule.event_of};
 
 use crate::game::Game;

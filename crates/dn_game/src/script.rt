@@ -1,11 +1,9 @@
 //! Scripts: lists of events as text, read and written.
 
-mod laws;
 mod line;
 mod reading;
 mod words;
 mod written;
 
-pub use laws::written_scripts_are_read;
 pub use reading::{MAX_SCRIPT, ScriptFault, read_script};
-pub use written::{push_event, push_event_line};
+pub use written::{push_event, push_event_line, written_scripts_are_read};

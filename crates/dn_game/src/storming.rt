@@ -1,7 +1,7 @@
 //! A storm: a game under the events of a schedule.
 
 ghost use Rattle.std.specs.Prelude.{◌≡◌, ◌⊎◌, length, Err, IfOk};
-ghost use Rattle.dn_game.specs.{Contents.contents, Fresh.AreLimited, Observed.IsStormedObserved, Observed.IsStormedObservedFrom, Opening.IsAdmitted, Opening.rules_in, Pool.IsWithinTwice, Room.room_of};
+ghost use Rattle.dn_game.specs.{Contents.contents, Opening.AreLimited, Opening.IsAdmitted, Opening.rules_in, Observed.IsStormedObserved, Observed.IsStormedObservedFrom, Pool.IsWithinTwice, Room.room_of};
 ghost use Rattle.dn_game.specs.{Stormed.HasStormed, Stormed.HasStormedFrom, declared.config.GameFault.TheVariants.Players, declared.config.GameFault.TheVariants.Limit};
 
 use crate::config::{GameConfig, GameFault};

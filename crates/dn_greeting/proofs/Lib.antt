@@ -1,2 +1,1 @@
-pub mod Hints
 pub mod Readings

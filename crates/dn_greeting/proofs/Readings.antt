@@ -1,12 +1,18 @@
--- Bytes are read as one greeting of a sort, and what a reader returns is that one.
-use Rattle.std.proofs.Common.{◌≡◌, ◌≢◌, ◌≤◌, ◌+◌, ◌-◌, ℕ, List, ◌∷◌, ◌++◌, length, take, drop, refl, ap, sym, subst, ◌∙◌, arith, Option, Some, None, Result, Ok, Err, inl, inr, Bool, true, false}
+-- Bytes are read as one greeting of a sort or as one hint, and what a reader returns is that one.
+use Rattle.std.proofs.Common.{◌≡◌, ◌≢◌, ◌≤◌, ◌+◌, ◌-◌, ℕ, List, ◌∷◌, ◌++◌, length, take, drop, refl, ap, sym, subst, ◌∙◌, arith, Option, Some, None, Result, Ok, Err, inl, inr, Bool, true, false, []}
 use Rattle.std.proofs.{lemmas.Bool.{cases_lt, eq-eqb, eqb-true, le-ltb, leb-true, lt-ltb, ltb-false}, lemmas.List.{take-append-drop, take-take, drop-take, length-append}, lemmas.Option.{same_Some, none-some}}
 use Rattle.std.proofs.{lemmas.Slice.Eq.bytes_eq-Decides, Math.Seq.{take-append_seam, drop-append_seam}}
 use Rattle.std.specs.{Prelude.{MatchOption, slice_index, not, if◌then◌else◌}, Option.ok_or}
-use Rattle.dn_seal.specs.{declared.seal.Seal.Seal, Hmac.tag_of, Keys.suite_byte, Opening.{told_body, told_tag}}
+use Rattle.dn_seal.specs.declared.seal.Seal.{Seal}
+use Rattle.dn_seal.specs.Hmac.{tag_of, suite_byte}
+use Rattle.dn_seal.specs.Opening.{told_body, told_tag}
 use Rattle.dn_seal.proofs.Envelopes.{length-tag}
-use Rattle.dn_greeting.specs.{declared.greeting.GreetingFault.GreetingFault, declared.greeting.GreetingFault.TheVariants.{Short, Form}, Text.{kind_bytes, head_bytes, body_bytes, greeting_bytes}}
-use Rattle.dn_greeting.specs.{Reading.{first_fault, IsReadAs}, Sorts.Sort}
+use Rattle.dn_greeting.specs.{declared.greeting.GreetingFault.GreetingFault, declared.greeting.GreetingFault.TheVariants.{Short, Form}, Text.{kind_bytes, head_bytes, body_bytes, greeting_bytes, hint_byte, hinted_bytes, version_of, IsHinted}}
+use Rattle.dn_greeting.specs.{Reading.{first_fault, IsReadAs, hint_fault, IsHintedIn}, Rests.Sort, Rests.sixteen}
+use Rattle.dn_greeting.specs.declared.greeting.Hint.{Hint}
+use Rattle.dn_greeting.specs.declared.greeting.Hint.TheVariants as hint
+use Rattle.dn_greeting.specs.declared.greeting.Hinted.{Hinted}
+use Rattle.dn_greeting.specs.Told.{told_hint, told_hinted}
 
 -- what bytes without a fault have
 pub record Passes (seal : Seal) (what size : ℕ) (bytes : List ℕ) : Type 0 where
@@ -146,3 +152,42 @@ pub long_fault : (seal : Seal) (what size : ℕ) (bytes : List ℕ) (f : Greetin
     → first_fault seal what size bytes ≡ Some f → f ≢ Short → 29 ≤ length bytes
 unfolding first_fault
 long_fault seal what size bytes f first other = grind (arith, cases_lt, lt-ltb, same_Some)
+
+-- why it was not read is found again in its bytes
+hint_back : (h : Hint) → told_hint (hint_byte h) (version_of h) ≡ h
+hint_back hint.Key = refl
+hint_back (hint.Version v) = refl
+
+pub hinted_back : (hinted : Hinted) → IsHinted hinted → told_hinted (hinted_bytes hinted) ≡ hinted
+hinted_back hinted is =
+    sixteen hinted.mark is.mark
+    (λ m. told_hinted (hinted_bytes (record hinted { mark = m })) ≡ record hinted { mark = m })
+    (λ a b c d e f g h i j k l n o p q.
+    let why = hint_back hinted.hint in
+    λ x. record { mark = a ∷ b ∷ c ∷ d ∷ e ∷ f ∷ g ∷ h ∷ i ∷ j ∷ k ∷ l ∷ n ∷ o ∷ p ∷ q ∷ []; hint = why x })
+
+pub same_hinted : (a b : Hinted) → IsHinted a → IsHinted b → hinted_bytes a ≡ hinted_bytes b → a ≡ b
+same_hinted a b ha hb e = sym (hinted_back a ha) ∙ ap told_hinted e ∙ hinted_back b hb
+
+-- the bytes of a hint have no fault
+clean_hint : (hinted : Hinted) → IsHinted hinted → hint_fault (hinted_bytes hinted) ≡ None
+unfolding hint_fault
+clean_hint hinted is =
+    sixteen hinted.mark is.mark (λ m. hint_fault (hinted_bytes (record hinted { mark = m })) ≡ None)
+    (λ a b c d e f g h i j k l n o p q. refl)
+
+no_hint_and_fault : (bytes : List ℕ) (h : Hinted) (f : GreetingFault) → IsHintedIn bytes (Ok h) → IsHintedIn bytes (Err f) → ⊥
+no_hint_and_fault bytes h f ok (inl first) = none-some f (sym (ap hint_fault ok.1 ∙ clean_hint h ok.0) ∙ first)
+no_hint_and_fault bytes h f ok (inr (form, none, never)) = never h ok.0 ok.1
+
+one_fault : (bytes : List ℕ) (f g : GreetingFault) → IsHintedIn bytes (Err f) → IsHintedIn bytes (Err g) → f ≡ g
+one_fault bytes f g (inl x) (inl y) = same_Some f g (sym x ∙ y)
+one_fault bytes f g (inl x) (inr y) = absurd (none-some f (sym y.1 ∙ x))
+one_fault bytes f g (inr x) (inl y) = absurd (none-some g (sym x.1 ∙ y))
+one_fault bytes f g (inr x) (inr y) = x.0 ∙ sym y.0
+
+pub one_hint : (bytes : List ℕ) (a b : Result Hinted GreetingFault) → IsHintedIn bytes a → IsHintedIn bytes b → a ≡ b
+one_hint bytes (Ok s) (Ok t) x y = ap Ok (same_hinted s t x.0 y.0 (sym x.1 ∙ y.1))
+one_hint bytes (Ok s) (Err f) x y = absurd (no_hint_and_fault bytes s f x y)
+one_hint bytes (Err f) (Ok t) x y = absurd (no_hint_and_fault bytes t f y x)
+one_hint bytes (Err f) (Err g) x y = ap Err (one_fault bytes f g x y)

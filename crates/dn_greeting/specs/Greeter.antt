@@ -3,9 +3,9 @@ use Rattle.std.specs.Prelude.{ℕ, ◌==◌, ◌&&◌, ◌++◌, Bool, List, cod
 use Rattle.std.specs.Int.{w16, w32, to_le_bytes}
 use Rattle.std.specs.Str.{bytes_eq}
 use Rattle.dn_seal.specs.declared.seal.Seal.{Seal}
-use Rattle.dn_seal.specs.declared.suite.Suite.TheVariants.{Secret, Open}
+use Rattle.dn_seal.specs.declared.seal.Suite.TheVariants.{Secret, Open}
 use Rattle.dn_seal.specs.Hmac.{tag_of}
-use Rattle.dn_seal.specs.Keys.{no_secret}
+use Rattle.dn_seal.specs.Hmac.{no_secret}
 use Rattle.dn_seal.specs.Sealing.{sealed_with}
 use Rattle.dn_greeting.specs.declared.greeting.Address.{Address}
 

@@ -2,7 +2,6 @@ pub mod Text
 pub mod Told
 pub mod Reading
 pub mod Rests
-pub mod Sorts
 pub mod Greeter
 pub mod Seats
 pub mod Lobby

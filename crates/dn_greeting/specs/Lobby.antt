@@ -14,8 +14,8 @@ use Rattle.dn_greeting.specs.declared.greeting.Refusal.{Refusal}
 use Rattle.dn_greeting.specs.declared.greeting.Refusal.TheVariants.{Full, Taken, Players, Begun}
 use Rattle.dn_greeting.specs.declared.greeting.Retry.{Retry}
 use Rattle.dn_greeting.specs.declared.greeting.Terms.{Terms}
-use Rattle.dn_greeting.specs.declared.seats.Place.{Place}
-use Rattle.dn_greeting.specs.declared.seats.Place.TheVariants.{Closed, Free, Held}
+use Rattle.dn_greeting.specs.declared.places.Place.{Place}
+use Rattle.dn_greeting.specs.declared.places.Place.TheVariants.{Closed, Free, Held}
 use Rattle.dn_greeting.specs.declared.table.Table.{Table}
 use Rattle.dn_greeting.specs.Greeter.{cookie_of}
 use Rattle.dn_greeting.specs.Reading.{IsCallIn}

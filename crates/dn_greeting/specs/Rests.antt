@@ -1,6 +1,7 @@
--- The rest of a greeting, which stands behind its head, is found again in its bytes; and, at the end, the four sorts.
+-- The sorts of greetings that have a tag. The rest of a greeting, which stands behind its head, is found again in its
+-- bytes; and, at the end, the four sorts.
+use Rattle.std.specs.Prelude.{nat_le, IfSome, ◌==◌, slice_index}
 use Rattle.std.proofs.Common.{◌≡◌, ◌≤◌, ◌+◌, ℕ, zero, suc, List, [], ◌∷◌, ◌++◌, length, drop, All, refl, ap, sym, ◌∙◌, arith, Option, Some, None, length-append, true, false, Bool}
-use Rattle.std.specs.Prelude.{IfSome, ◌==◌, slice_index}
 use Rattle.std.specs.List.{flat_map}
 use Rattle.std.specs.Int.{w16, w32, to_le_bytes}
 use Rattle.std.proofs.lemmas.Bool.{ne_eqb}
@@ -15,8 +16,35 @@ use Rattle.dn_greeting.specs.declared.greeting.Refusal.TheVariants as refusal
 use Rattle.dn_greeting.specs.declared.greeting.Refused.{Refused}
 use Rattle.dn_greeting.specs.declared.greeting.Retry.{Retry}
 use Rattle.dn_greeting.specs.Text.{address_bytes, answer_rest, bit, call_rest, terms_bytes, is_count_or_none, is_wish, named, padding, reason_bytes, refused_rest, retry_rest, IsAddress, IsAnswer, IsCall, IsRefused, IsRetry}
-use Rattle.dn_greeting.specs.Sorts.{Sort, sort}
 use Rattle.dn_greeting.specs.Told.{told_address, told_answer, told_call, told_name, told_reason, told_refused, told_retry}
+
+-- a sort: the number in the head, how many bytes a greeting has (twelve of the head, its rest, 16 of the tag),
+-- whether its fields fit, the bytes of its rest, and what bytes are decoded as. The laws: there is a rest; a rest
+-- has as many bytes as it should; and what fits is decoded from its rest
+pub record Sort (T : Type 0) : Type 1 where
+  pub what : ℕ
+  pub size : ℕ
+  pub Is : T → Type 0
+  pub rest : T → List ℕ
+  pub told : List ℕ → T
+  pub enough : nat_le 29 size ≡ true
+  pub long : (t : T) → Is t → length (rest t) + 28 ≡ size
+  pub back : (t : T) → Is t → told (rest t) ≡ t
+
+-- a sort with these laws
+abbrev pub sort : {T : Type 0} (what size : ℕ) (Is : T → Type 0) (rest : T → List ℕ) (told : List ℕ → T)
+    → (nat_le 29 size ≡ true) × ((t : T) → Is t → length (rest t) + 28 ≡ size)
+    × ((t : T) → Is t → told (rest t) ≡ t) → Sort T
+sort what size Is rest told laws = record {
+  what = what;
+  size = size;
+  Is = Is;
+  rest = rest;
+  told = told;
+  enough = laws.0;
+  long = laws.1;
+  back = laws.2;
+}
 
 -- sixteen bytes, one by one
 pub sixteen : (m : List ℕ) → length m ≡ 16 → (P : List ℕ → Type 0)

@@ -4,8 +4,8 @@ use Rattle.std.specs.List.{list_all}
 use Rattle.std.specs.Str.{bytes_eq}
 use Rattle.dn_greeting.specs.declared.greeting.Address.{Address}
 use Rattle.dn_greeting.specs.declared.greeting.Call.{Call}
-use Rattle.dn_greeting.specs.declared.seats.Place.{Place}
-use Rattle.dn_greeting.specs.declared.seats.Place.TheVariants.{Closed, Free, Held}
+use Rattle.dn_greeting.specs.declared.places.Place.{Place}
+use Rattle.dn_greeting.specs.declared.places.Place.TheVariants.{Closed, Free, Held}
 use Rattle.dn_greeting.specs.Greeter.{same_address}
 
 -- a game of so many has the seat

@@ -1,17 +1,80 @@
-//! What the host's table makes of a call.
+//! What the host's table makes of a call: cookies, which show that a caller is reached where it calls from, hints to
+//! those whose calls cannot be read, and answers.
 
-ghost use Rattle.std.specs.Prelude.{◌≡◌, ◌<◌, ◌≤◌, ◌+◌, ◌-◌, length, map, position, slice_index_or, slice_set, Ok, IfOk, IfSome, option_map};
-ghost use Rattle.dn_greeting.specs.declared.seats.Place.TheVariants.{Closed};
+ghost use Rattle.std.specs.Prelude.{◌≡◌, ◌≤◌, length, ◌<◌, ◌+◌, ◌-◌, map, position, slice_index_or, slice_set, Ok, IfOk, IfSome, option_map};
+ghost use Rattle.dn_greeting.specs.Greeter.{cookie_of};
+ghost use Rattle.dn_greeting.specs.Lobby.{hint_for, hint_to, retry_to};
+ghost use Rattle.dn_greeting.specs.declared.places.Place.TheVariants.{Closed};
 
 use crate::choosing::{any_seat, asks_for_other, held_by, wanted};
-use crate::cookies::cookie_of;
-use crate::greeting::{Address, Answer, Call, Refusal, Refused};
-use crate::hinting::{hint_for, hint_to};
+use crate::greeting::{
+    Address, Answer, Call, GreetingFault, Hint, Hinted, Refusal, Refused, Retry,
+};
 use crate::places::{holding, left_by, number_in, shown_to};
 use crate::reading::open;
 use crate::table::Table;
-use crate::writing::seal;
+use crate::telling::sixteen_at;
+use crate::writing::{VERSION, hinted_bytes, seal};
 use arrayvec::ArrayVec;
+use dn_seal::{append, hmac};
+
+/// The cookie of an address after so many changes, under a host's own secret.
+fn cookie_of(secret: &[u8; 32], address: &Address, changes: u32) -> [u8; 16]
+    ensures { result ≡ cookie_of secret.now address.now changes }
+{
+    let mut text = ArrayVec::<u8, 22>::new();
+    append(&mut text, &address.ip);
+    append(&mut text, &address.port.to_le_bytes());
+    append(&mut text, &changes.to_le_bytes());
+    sixteen_at(&hmac(secret, text.as_slice()), 0)
+}
+
+/// The hint to who sent bytes with this fault, if it gets one.
+fn hint_for(fault: GreetingFault) -> Option<Hint>
+    ensures { result ≡ hint_for fault }
+{
+    match fault {
+        GreetingFault::Version => Some(Hint::Version(VERSION)),
+        GreetingFault::Suite | GreetingFault::Tag => Some(Hint::Key),
+        _ => None,
+    }
+}
+
+/// A hint to who sent these bytes.
+fn hint_to(bytes: &[u8], hint: Hint) -> ArrayVec<u8, 130>
+    requires { 29 ≤ length bytes.now }
+    ensures value { result.items ≡ hint_to bytes.now hint }
+    ensures short { length result.items ≡ 29 }
+{
+    hinted_bytes(&Hinted {
+        mark: sixteen_at(bytes, 12),
+        hint,
+    })
+}
+
+/// What asks for a call again, with this cookie.
+fn retry_to(cookie: [u8; 16], call: &Call) -> Retry
+    ensures { result ≡ retry_to cookie call.now }
+{
+    Retry {
+        mark: call.mark,
+        number: call.number,
+        cookie,
+    }
+}
+
+impl Table {
+    ghost use Rattle.dn_greeting.specs.Lobby.{lobby, retried};
+
+    /// Its bytes.
+    fn retried(&self, cookie: [u8; 16], call: &Call) -> ArrayVec<u8, 130>
+        ensures value { result.items ≡ retried cookie call.now (lobby self.now) }
+        ensures short { length result.items ≤ 130 }
+    {
+        let retry = retry_to(cookie, call);
+        seal(&self.sealer, &retry)
+    }
+}
 
 impl Table {
     ghost use Rattle.dn_greeting.specs.{Seats.is_of, Lobby.answer_to, Lobby.answered, Lobby.lobby, Lobby.moved, Lobby.on_holder, Lobby.on_newcomer, Lobby.on_opened, Lobby.on_read, Lobby.seat_for};

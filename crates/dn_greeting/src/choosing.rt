@@ -4,8 +4,7 @@ ghost use Rattle.std.specs.Prelude.{◌≡◌, ◌<◌, position, Result, IfOk, 
 ghost use Rattle.dn_greeting.specs.{Seats.gives_way, Seats.is_at, Seats.is_free, Seats.is_of, Lobby.any_seat, Lobby.asks_for_other, Lobby.found_or, Lobby.wanted, declared.greeting.Refusal.Refusal};
 
 use crate::greeting::{Address, Refusal};
-use crate::places::{gives_way, is_at, is_free, is_of, is_quiet};
-use crate::seats::Place;
+use crate::places::{Place, gives_way, is_at, is_free, is_of, is_quiet};
 
 /// The place of who has this mark, if it holds one.
 pub(crate) fn held_by(mark: &[u8; 16], places: &[Place; 3]) -> Option<usize>

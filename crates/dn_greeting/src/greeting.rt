@@ -1,5 +1,10 @@
-//! What a host and those who join tell each other, and why bytes are none of it.
+//! What a host and those who join tell each other, why bytes are none of it, and by what it is sealed.
 
+ghost use Rattle.std.specs.Prelude.{◌≡◌};
+ghost use Rattle.dn_seal.specs.Sealing.{sealing};
+ghost use Rattle.dn_greeting.specs.Greeter.{greeting_number, greeting_seal, same_address};
+
+use dn_seal::{Seal, Sealer};
 use thiserror::Error;
 
 /// Where a player is reached: an IPv6 address, or an IPv4 address mapped into one (RFC 4291), and a port.
@@ -136,4 +141,30 @@ pub enum GreetingFault {
     /// Under the tag stands what no such greeting has.
     #[error("sealed, but malformed")]
     Form,
+}
+
+/// The number from which the key of greetings is derived, and no game's.
+#[tactic(auto, unfolding(crate::specs::Greeter::greeting_number))]
+fn greeting_number() -> [u8; 16]
+    ensures { result ≡ greeting_number }
+{
+    *b"zirmegat greeter"
+}
+
+/// What greetings are sealed by, under a secret or without one.
+pub fn greeter(secret: Option<[u8; 32]>) -> Sealer
+    ensures { sealing result ≡ record { seal = greeting_seal secret; me = 0 } }
+{
+    let number = greeting_number();
+    match secret {
+        Some(secret) => Sealer::of(Seal::new(secret, number), 0),
+        None => Sealer::of(Seal::without_secret(number), 0),
+    }
+}
+
+/// Whether two addresses are the same.
+pub(crate) fn same_address(one: &Address, other: &Address) -> bool
+    ensures { result ≡ same_address one.now other.now }
+{
+    one.ip == other.ip && one.port == other.port
 }

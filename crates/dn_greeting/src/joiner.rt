@@ -3,10 +3,9 @@
 ghost use Rattle.std.specs.Prelude.{◌≡◌, Option, Result, false, replicate, true};
 ghost use Rattle.dn_greeting.specs.{Greeter.greeting_seal, Text.call_rest, Text.greeting_bytes};
 
-use crate::greeting::{Address, Answer, Call};
+use crate::greeting::{Address, Answer, Call, greeter, same_address};
 use crate::news::News;
 use crate::reading::{open, read_hinted};
-use crate::sealing::{greeter, same_address};
 use crate::writing::seal;
 use arrayvec::ArrayVec;
 use dn_seal::Sealer;

@@ -3,25 +3,20 @@
 
 mod calls;
 mod choosing;
-mod cookies;
 mod greeting;
-mod hinting;
 mod joiner;
 mod laws;
 mod news;
 mod places;
 mod reading;
 mod replies;
-mod retrying;
-mod sealing;
-mod seats;
 mod sorts;
 mod table;
 mod telling;
 mod writing;
 
 pub use greeting::{
-    Address, Answer, Call, GreetingFault, Hint, Hinted, Refusal, Refused, Retry, Terms,
+    Address, Answer, Call, GreetingFault, Hint, Hinted, Refusal, Refused, Retry, Terms, greeter,
 };
 pub use joiner::Joiner;
 pub use laws::{
@@ -29,9 +24,8 @@ pub use laws::{
     greetings_are_no_envelopes, greetings_are_read_back, one_greeting,
 };
 pub use news::News;
+pub use places::{Holder, Place, QUIET, SILENCE};
 pub use reading::{open, read_hinted};
-pub use sealing::greeter;
-pub use seats::{Holder, Place, QUIET, SILENCE};
 pub use sorts::Greeting;
 pub use table::Table;
 pub use writing::{hinted_bytes, seal};

@@ -3,8 +3,7 @@
 ghost use Rattle.std.specs.{Prelude.◌≡◌, Prelude.Option, Prelude.false, Prelude.true, Cmp.Lexicographic.pointwise};
 ghost use Rattle.dn_greeting.specs.Joining.{is_later, news_in, same_flag, same_game, same_place, same_terms};
 
-use crate::greeting::{Address, Answer, Hint, Refusal, Terms};
-use crate::sealing::same_address;
+use crate::greeting::{Address, Answer, Hint, Refusal, Terms, same_address};
 
 /// What is new for a joiner.
 #[derive(Clone, Copy, Debug, PartialEq, Eq)]

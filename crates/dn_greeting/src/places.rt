@@ -1,11 +1,39 @@
-//! What a seat is to a caller.
+//! A seat, who holds it, and what it is to a caller.
 
 ghost use Rattle.std.specs.{Prelude.◌≡◌, List.list_any};
 ghost use Rattle.dn_greeting.specs.Seats.{gives_way, holding, is_at, is_free, is_loopback, is_lost, is_of, is_quiet, is_quietest, kept_at, left_by, number_in, place_for, shown_to, silence_of};
 
-use crate::greeting::{Address, Call};
-use crate::sealing::same_address;
-use crate::seats::{Holder, Place, QUIET, SILENCE};
+use crate::greeting::{Address, Call, same_address};
+
+/// A holder that was silent for more seconds loses its seat before the game.
+pub const SILENCE: u32 = 10;
+
+/// A holder that was silent for more seconds gives way, before the game, to one who finds no free seat.
+pub const QUIET: u32 = 3;
+
+/// Who holds a seat.
+#[derive(Clone, Copy, Debug, PartialEq, Eq)]
+pub struct Holder {
+    /// Where it is.
+    pub address: Address,
+    /// Its mark.
+    pub mark: [u8; 16],
+    /// The number of its newest call.
+    pub number: u32,
+    /// The second at which that came.
+    pub heard: u32,
+}
+
+/// A seat other than the host's.
+#[derive(Clone, Copy, Debug, PartialEq, Eq)]
+pub enum Place {
+    /// The game has no such seat.
+    Closed,
+    /// Nobody holds it.
+    Free,
+    /// It is held.
+    Held(Holder),
+}
 
 /// The seat of a game of so many players before anybody holds it.
 pub(crate) fn place_for(players: u8, seat: u8) -> Place

@@ -1,7 +1,7 @@
 //! The sorts of greetings that have a tag.
 
 ghost use Rattle.std.specs.Prelude.{◌≡◌, ◌≢◌, ◌+◌, length, MatchOption};
-ghost use Rattle.dn_greeting.specs.{Rests.answers, Rests.calls, Rests.refusals, Rests.retries, Sorts.Sort};
+ghost use Rattle.dn_greeting.specs.{Rests.answers, Rests.calls, Rests.refusals, Rests.retries, Rests.Sort};
 
 use crate::greeting::{Answer, Call, Refused, Retry};
 use crate::telling::{is_answer, is_call, name_in, reason_in, sixteen_at, told_answer};

@@ -2,10 +2,8 @@
 
 ghost use Rattle.std.specs.Prelude.{◌≡◌, true};
 
-use crate::greeting::Terms;
-use crate::places::{is_any_lost, kept_at, place_for};
-use crate::sealing::greeter;
-use crate::seats::Place;
+use crate::greeting::{Terms, greeter};
+use crate::places::{Place, is_any_lost, kept_at, place_for};
 use dn_seal::Sealer;
 
 /// The host's table: who holds which seat.

@@ -1,9 +1,9 @@
 -- What is told of a game, one thing after another.
 use Rattle.std.proofs.Common.{◌≡◌, ◌<◌, ◌^◌, ◌+◌, ◌++◌, [], ◌∷◌, ℕ, zero, suc, List, length, replicate, append_assoc, append-nil, refl, ap, sym, ◌∙◌, subst, arith, Option, Some, None}
 use Rattle.std.specs.List.{AllByRecursion}
-use Rattle.dn_measure.specs.{declared.told.Told.Told, declared.told.Told.TheVariants.Built, declared.told.Told.TheVariants.Ran, Measure.IsMeasureOf, Runs.as_count, Told.builds_of, Told.runs_of}
+use Rattle.dn_measure.specs.{declared.measure.Told.Told, declared.measure.Told.TheVariants.Built, declared.measure.Told.TheVariants.Ran, Measure.IsMeasureOf, Runs.as_count, Told.builds_of, Told.runs_of}
 use Rattle.dn_lockstep.specs.Contents.{Contents}
-use Rattle.dn_host.specs.{declared.counts.Counts.Counts, declared.done.Done.Done, Counted.CountsMore, Counted.IsAt, Counted.IsCounted, Counted.last_run, Counted.told_of, Played.Plays}
+use Rattle.dn_host.specs.{declared.counts.Counts.Counts, declared.play.Done.Done, Counted.CountsMore, Counted.IsAt, Counted.IsCounted, Counted.last_run, Counted.told_of, Played.Plays}
 use Rattle.dn_host.proofs.Playing.{plays_on}
 
 runs_on : (one other : List Told) → length (runs_of (one ++ other)) ≡ length (runs_of one) + length (runs_of other)

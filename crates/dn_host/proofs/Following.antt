@@ -3,10 +3,10 @@ use Rattle.std.proofs.Common.{◌≡◌, ℕ, List, Option, Some, true, refl, sy
 use Rattle.std.specs.Prelude.{IfErr, IfOk, is_ok, map}
 use Rattle.dn_seal.specs.declared.seal.Seal.{Seal}
 use Rattle.dn_link.specs.{declared.link.Link.Link, Linking.seal_of, Linked.Linked, Linking.linked}
-use Rattle.dn_host.specs.{declared.game.Game.Game, Parts.IsPart, Seals.IsSealedUnder, Seals.game_seal, declared.ends.Ending.Ending, declared.letter.Letter.Letter, declared.ends.HostFault.HostFault, Keepers.FollowsAll}
+use Rattle.dn_host.specs.{declared.game.Game.Game, Parts.IsPart, Seals.IsSealedUnder, Seals.game_seal, declared.ends.Ending.Ending, declared.hearing.Letter.Letter, declared.ends.HostFault.HostFault, Keepers.FollowsAll}
 use Rattle.dn_host.specs.{Keepers.FollowsSeats, Keepers.Holding, Keepers.IsAnother, Keepers.IsNoEnding, Keepers.IsRenewed, Keepers.KeeperGreets, Keepers.closed_by, Keepers.is_any_spoiled, Keepers.mark_at}
 use Rattle.dn_host.specs.{Keepers.seconds_of, Keepers.without_absent, Keepers.without_left, Peers.AreFollowed, Peers.holder_address}
-use Rattle.dn_greeting.specs.{declared.greeting.Address.Address, declared.seats.Place.Place, Lobby.HearsCall, Lobby.Lobby}
+use Rattle.dn_greeting.specs.{declared.greeting.Address.Address, declared.places.Place.Place, Lobby.HearsCall, Lobby.Lobby}
 
 -- nothing but its link has changed
 abbrev pub IsLinkAlone : Game → Game → Type 0

@@ -2,12 +2,24 @@
 use Rattle.std.proofs.Common.{◌≡◌, ◌+◌, [], ◌∷◌, ℕ, ℤ, Bool, true, false, List, length, length-append, refl, ap, sym, ◌∙◌, subst, arith, Option, Some, None}
 use Rattle.std.specs.Prelude.{is_some}
 use Rattle.dn_tic.specs.{declared.command.Move.Move, declared.input.Input.Input}
-use Rattle.dn_machine.specs.{declared.answers.Made.Made, declared.answers.Ran.Ran, Building.on_build, Limits.Limits, Running.on_run}
+use Rattle.dn_machine.specs.declared.answers.Made.{Made}
+use Rattle.dn_machine.specs.declared.answers.Ran.{Ran}
+use Rattle.dn_machine.specs.Sending.{on_build}
+use Rattle.dn_machine.specs.Limits.{Limits}
+use Rattle.dn_machine.specs.Running.{on_run}
 use Rattle.dn_machine.proofs.Calls.{run_cases}
-use Rattle.dn_lockstep.specs.{Contents.Contents, Represents.Represents, Runs.RunsBy, Runs.marks_in, Runs.row_told, Sent.sent_to, Session.taken_on, Session.told_on, Steps.Steps}
+use Rattle.dn_lockstep.specs.Contents.{Contents}
+use Rattle.dn_lockstep.specs.Represents.{Represents}
+use Rattle.dn_lockstep.specs.Steps.{RunsBy, marks_in, row_told, Steps}
+use Rattle.dn_lockstep.specs.Sent.{sent_to}
+use Rattle.dn_lockstep.specs.OneGame.{taken_on, told_on}
 use Rattle.dn_lockstep.proofs.{OneGame.build_inputs, OneGame.build_rows, OneGame.send_quiet, Running.run_tells}
 use Rattle.dn_seal.specs.declared.seal.Seal.{Seal}
-use Rattle.dn_link.specs.{declared.bundle.Carried.Carried, declared.bundle.Identity.Identity, Giving.SendsCarried, Hearing.ByTest, Linked.Gives, Linked.Linked, Linked.holds_back, Paced.PaceState}
+use Rattle.dn_link.specs.declared.bundle.Carried.{Carried}
+use Rattle.dn_link.specs.declared.bundle.Identity.{Identity}
+use Rattle.dn_link.specs.Hearing.{SendsCarried, ByTest}
+use Rattle.dn_link.specs.Linked.{Gives, Linked, holds_back}
+use Rattle.dn_link.specs.Pacing.{PaceState}
 use Rattle.dn_host.specs.Played.{Plays, is_caught_up, is_made, times_of}
 use Rattle.dn_machine.specs.Node as machine
 

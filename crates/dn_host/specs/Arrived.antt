@@ -1,8 +1,8 @@
 -- What came from each player, by what its link reports of the lines.
 use Rattle.std.specs.Prelude.{ℕ, ◌-◌, List, [], ◌∷◌, slice_index, slice_index_or, Option, Some, None, option_map}
-use Rattle.dn_link.specs.declared.figures.Figures.{Figures}
+use Rattle.dn_link.specs.declared.tally.Figures.{Figures}
 use Rattle.dn_link.specs.Linked.{Linked}
-use Rattle.dn_link.specs.Paced.{PaceState}
+use Rattle.dn_link.specs.Pacing.{PaceState}
 use Rattle.dn_measure.specs.declared.arrivals.Arrivals.{Arrivals}
 use Rattle.dn_host.specs.Coming.{figures_by_link}
 

@@ -8,12 +8,12 @@ use Rattle.dn_greeting.specs.declared.news.News.TheVariants as news
 use Rattle.dn_greeting.specs.Greeter.{same_address}
 use Rattle.dn_greeting.specs.Joining.{HearsReply, Joining, joining, one_more}
 use Rattle.dn_host.specs.declared.caller.Caller.{Caller}
-use Rattle.dn_host.specs.declared.letter.Letter.{Letter}
+use Rattle.dn_host.specs.declared.hearing.Letter.{Letter}
 use Rattle.dn_host.specs.declared.ends.Ending.{Ending}
 use Rattle.dn_host.specs.declared.ends.Ending.TheVariants.{Refused, Hinted}
 use Rattle.dn_host.specs.declared.ends.HostFault.{HostFault}
 use Rattle.dn_host.specs.declared.game.Game.{Game}
-use Rattle.dn_host.specs.declared.waiting.Waiting.{Waiting}
+use Rattle.dn_host.specs.declared.screen.Waiting.{Waiting}
 use Rattle.dn_host.specs.Begun.{has_begun, has_run, silence}
 use Rattle.dn_host.specs.Calling.{is_calling, may_pass}
 use Rattle.dn_host.specs.Made.{IsPartAs}

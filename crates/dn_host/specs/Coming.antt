@@ -1,11 +1,11 @@
 -- How a player's datagrams come: what counts as a sign of life, and of where the player is.
 use Rattle.std.specs.Prelude.{ℕ, ◌+◌, min, nat_lt, nat_le, if◌then◌else◌, List, [], ◌∷◌, slice_index, slice_index_or, slice_set, Option, Some, None}
-use Rattle.dn_link.specs.declared.figures.Figures.{Figures}
+use Rattle.dn_link.specs.declared.tally.Figures.{Figures}
 use Rattle.dn_link.specs.declared.received.Received.{Received}
 use Rattle.dn_link.specs.declared.received.Received.TheVariants.{Heard}
-use Rattle.dn_link.specs.Figures.{figures_of}
+use Rattle.dn_link.specs.Linked.{figures_of}
 use Rattle.dn_link.specs.Linked.{Linked, is_peer}
-use Rattle.dn_link.specs.Paced.{PaceState}
+use Rattle.dn_link.specs.Pacing.{PaceState}
 use Rattle.dn_host.specs.declared.coming.Coming.{Coming}
 use Rattle.dn_host.specs.declared.coming.Coming.TheVariants.{New, Late, Again}
 

@@ -1,14 +1,14 @@
 -- What is counted of a game: what its link builds and runs, from its beginning on.
 use Rattle.std.specs.Prelude.{◌≡◌, ◌<◌, ◌^◌, ℕ, ◌+◌, List, [], ◌∷◌, ◌++◌, length, replicate, Option, Some, None}
 use Rattle.std.specs.List.{AllByRecursion}
-use Rattle.dn_measure.specs.declared.told.Told.{Told}
-use Rattle.dn_measure.specs.declared.told.Told.TheVariants.{Built, Ran}
+use Rattle.dn_measure.specs.declared.measure.Told.{Told}
+use Rattle.dn_measure.specs.declared.measure.Told.TheVariants.{Built, Ran}
 use Rattle.dn_measure.specs.Measure.{IsMeasureOf}
 use Rattle.dn_measure.specs.Runs.{as_count}
 use Rattle.dn_measure.specs.Told.{builds_of, runs_of}
 use Rattle.dn_lockstep.specs.Contents.{Contents}
 use Rattle.dn_host.specs.declared.counts.Counts.{Counts}
-use Rattle.dn_host.specs.declared.done.Done.{Done}
+use Rattle.dn_host.specs.declared.play.Done.{Done}
 use Rattle.dn_host.specs.Played.{Plays}
 
 -- what was done at a time: so many commands were built, and then so many tics run

@@ -1,7 +1,7 @@
 -- Which bytes are taken for a greeting, and how many greetings a turn opens.
 use Rattle.std.specs.Prelude.{◌≡◌, ◌≤◌, ℕ, zero, suc, ◌+◌, ◌==◌, ◌&&◌, nat_le, nat_lt, Bool, true, false, not, List, length, take, drop, slice_index, codes, Option, Result}
 use Rattle.std.specs.Str.{bytes_eq}
-use Rattle.dn_host.specs.declared.letter.Letter.{Letter}
+use Rattle.dn_host.specs.declared.hearing.Letter.{Letter}
 use Rattle.dn_host.specs.declared.ends.Ending.{Ending}
 use Rattle.dn_host.specs.declared.ends.HostFault.{HostFault}
 use Rattle.dn_host.specs.declared.game.Game.{Game}

@@ -5,10 +5,10 @@ use Rattle.dn_link.specs.declared.presence.Presence.{Presence}
 use Rattle.dn_link.specs.declared.presence.Presence.TheVariants.{Forgotten}
 use Rattle.dn_link.specs.Linked.{Linked, forgotten}
 use Rattle.dn_link.specs.Linking.{linked}
-use Rattle.dn_greeting.specs.declared.seats.Place.{Place}
-use Rattle.dn_greeting.specs.declared.seats.Place.TheVariants.{Closed, Held}
+use Rattle.dn_greeting.specs.declared.places.Place.{Place}
+use Rattle.dn_greeting.specs.declared.places.Place.TheVariants.{Closed, Held}
 use Rattle.dn_greeting.specs.Lobby.{HearsCall, Lobby, lobby, swept}
-use Rattle.dn_host.specs.declared.letter.Letter.{Letter}
+use Rattle.dn_host.specs.declared.hearing.Letter.{Letter}
 use Rattle.dn_host.specs.declared.ends.Ending.{Ending}
 use Rattle.dn_host.specs.declared.ends.HostFault.{HostFault}
 use Rattle.dn_host.specs.declared.game.Game.{Game}

@@ -11,7 +11,7 @@ use Rattle.dn_link.specs.declared.bundle.Identity.{Identity}
 use Rattle.dn_link.specs.declared.link.Link.{Link}
 use Rattle.dn_link.specs.Linking.{identity_of, linked, new_peer, seal_of}
 use Rattle.dn_link.specs.Pacing.{new_pace, pace_of}
-use Rattle.dn_survivor.specs.OfOthers.Keeping.{nothing_kept}
+use Rattle.dn_survivor.specs.OfOthers.{nothing_kept}
 use Rattle.dn_greeting.specs.declared.greeting.Address.{Address}
 use Rattle.dn_greeting.specs.declared.greeting.Answer.{Answer}
 use Rattle.dn_greeting.specs.declared.greeting.Terms.{Terms}

@@ -1,7 +1,7 @@
 -- What a session's measure is of.
 use Rattle.std.specs.Prelude.{ℕ, List}
 use Rattle.dn_measure.specs.declared.measure.Measure.{Measure}
-use Rattle.dn_measure.specs.declared.told.Told.{Told}
+use Rattle.dn_measure.specs.declared.measure.Told.{Told}
 use Rattle.dn_measure.specs.Measure.{IsMeasureOf}
 
 -- a measure of a game that began at some time, and told this and that

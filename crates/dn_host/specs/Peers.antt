@@ -1,8 +1,8 @@
 -- Where the players are, by the table of the host.
 use Rattle.std.specs.Prelude.{◌≡◌, ◌≢◌, ℕ, List, slice_index_or, Option, Some, None}
 use Rattle.dn_greeting.specs.declared.greeting.Address.{Address}
-use Rattle.dn_greeting.specs.declared.seats.Place.{Place}
-use Rattle.dn_greeting.specs.declared.seats.Place.TheVariants.{Held}
+use Rattle.dn_greeting.specs.declared.places.Place.{Place}
+use Rattle.dn_greeting.specs.declared.places.Place.TheVariants.{Held}
 
 -- where the holder of a seat is
 abbrev pub holder_address : Place → Option Address

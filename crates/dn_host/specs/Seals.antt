@@ -1,8 +1,8 @@
 -- What a game is sealed with.
 use Rattle.std.specs.Prelude.{◌≡◌, ℕ, List, Option, Some, None}
 use Rattle.dn_seal.specs.declared.seal.Seal.{Seal}
-use Rattle.dn_seal.specs.declared.suite.Suite.TheVariants.{Open, Secret}
-use Rattle.dn_seal.specs.Keys.{no_secret}
+use Rattle.dn_seal.specs.declared.seal.Suite.TheVariants.{Open, Secret}
+use Rattle.dn_seal.specs.Hmac.{no_secret}
 use Rattle.dn_seal.specs.Sealing.{sealed_with}
 use Rattle.dn_link.specs.declared.link.Link.{Link}
 use Rattle.dn_link.specs.Linking.{seal_of}

@@ -1,12 +1,12 @@
 -- What a summary says by itself, and of the link that was measured.
 use Rattle.std.specs.Prelude.{⊤, ◌≡◌, ◌≤◌, ◌<◌, ℕ, slice_index_or, Option, Some, None}
-use Rattle.dn_link.specs.declared.figures.Figures.{Figures}
+use Rattle.dn_link.specs.declared.tally.Figures.{Figures}
 use Rattle.dn_link.specs.Linked.{Linked}
-use Rattle.dn_link.specs.Paced.{PaceState}
+use Rattle.dn_link.specs.Pacing.{PaceState}
 use Rattle.dn_measure.specs.declared.arrivals.Arrivals.{Arrivals}
 use Rattle.dn_measure.specs.declared.felt.Felt.{Felt}
 use Rattle.dn_measure.specs.declared.felt.Felt.TheVariants.{Never, Within, Longer}
-use Rattle.dn_measure.specs.declared.summary.Summary.{Summary}
+use Rattle.dn_measure.specs.declared.measure.Summary.{Summary}
 use Rattle.dn_measure.specs.Thresholds.{longest_calm}
 use Rattle.dn_host.specs.Coming.{figures_by_link}
 

@@ -1,11 +1,11 @@
 -- What a part in a game measured.
 use Rattle.std.specs.Prelude.{◌≡◌, ℕ, List, Option, Some, None}
-use Rattle.dn_measure.specs.declared.summary.Summary.{Summary}
-use Rattle.dn_measure.specs.declared.told.Told.{Told}
+use Rattle.dn_measure.specs.declared.measure.Summary.{Summary}
+use Rattle.dn_measure.specs.declared.measure.Told.{Told}
 use Rattle.dn_measure.specs.Measure.{IsMeasureOf, IsSummaryOf}
 use Rattle.dn_link.specs.Linked.{Linked}
 use Rattle.dn_link.specs.Linking.{linked}
-use Rattle.dn_link.specs.Paced.{PaceState}
+use Rattle.dn_link.specs.Pacing.{PaceState}
 use Rattle.dn_link.specs.Pacing.{pace_of}
 use Rattle.dn_host.specs.declared.counts.Counts.{Counts}
 use Rattle.dn_host.specs.declared.game.Game.{Game}

@@ -1,7 +1,7 @@
 -- How the game stands, as it is told each second.
 use Rattle.std.specs.Prelude.{◌≡◌, ℕ, ◌-◌, if◌then◌else◌, Option, Some, None}
 use Rattle.dn_link.specs.Linked.{Linked}
-use Rattle.dn_link.specs.Paced.{PaceState}
+use Rattle.dn_link.specs.Pacing.{PaceState}
 use Rattle.dn_measure.specs.Runs.{is_gap}
 use Rattle.dn_measure.specs.declared.status.Status.{Status}
 use Rattle.dn_host.specs.declared.counts.Counts.{Counts}

@@ -1,25 +1,46 @@
-//! A joiner in the lobby and in its game.
+//! A joiner in the lobby and in its game: when it calls its host, and whether it goes on after a refusal.
 
 ghost use Rattle.std.specs.Prelude.{◌≡◌, ◌||◌, ℕ, List, Option, Bool, ⊤, true, false, IfOk, IfSome};
+ghost use Rattle.dn_host.specs.Calling.{is_calling, may_pass};
 ghost use Rattle.dn_greeting.specs.Joining.{joining, one_more};
-ghost use Rattle.dn_host.specs.{Begun.has_begun, Begun.has_run, Begun.silence, Callers.FollowsAnswer, Callers.FollowsIn, Callers.IsStarted, Callers.TakesNews, Callers.called, Callers.closed, Calling.is_calling, Parts.IsPart, Stages.is_refusal};
+ghost use Rattle.dn_host.specs.Begun.{has_begun, has_run, silence};
+ghost use Rattle.dn_host.specs.Callers.{FollowsAnswer, FollowsIn, IsStarted, TakesNews, called, closed};
+ghost use Rattle.dn_host.specs.Parts.{IsPart};
+ghost use Rattle.dn_host.specs.Stages.{is_refusal};
 
-use crate::begun::{has_begun, has_run, silence};
-use crate::calling::{is_calling, may_pass};
 use crate::ends::{Ending, HostFault};
-use crate::game::Game;
+use crate::game::{Game, has_begun, has_run, silence};
 use crate::guest::Guest;
-use crate::letter::Letter;
+use crate::hearing::Letter;
 use crate::lobby::{GoesOn, Greeted, Lobby};
 use crate::parts::part_of;
 use crate::plan::Plan;
 use crate::random::draw;
-use crate::screen::Screen;
-use crate::waiting::Waiting;
+use crate::screen::{Screen, Waiting};
 use crate::wire::Wire;
-use dn_greeting::{Address, Answer, Joiner, News};
+use dn_greeting::{Address, Answer, Joiner, News, Refusal};
 use std::alloc::Global;
 use std::random::RandomSource;
+
+/// For how long the host of a game that goes on may be silent, and is called.
+const UNHEARD: u64 = 2_000_000;
+
+/// Whether a seat may become free where there was none.
+fn may_pass(refusal: Refusal) -> bool
+    ensures { result ≡ may_pass refusal }
+{
+    match refusal {
+        Refusal::Full | Refusal::Taken => true,
+        Refusal::Players(_) | Refusal::Begun => false,
+    }
+}
+
+/// Whether it calls, by whether its game goes on, and for how long the host was not heard.
+fn is_calling(has_run: bool, silence: u64) -> bool
+    ensures { result ≡ is_calling has_run silence }
+{
+    !has_run || silence < UNHEARD
+}
 
 /// The host's player.
 const HOST: u8 = 0;

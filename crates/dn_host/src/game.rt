@@ -1,15 +1,52 @@
-//! One player's part in a game: its link, where the others are, and what is counted.
+//! One player's part in a game: its link, where the others are, when they were heard, and what is counted.
+
+ghost use Rattle.std.specs.Prelude.{◌≡◌, ◌-◌, if◌then◌else◌, nat_lt, replicate, slice_index, Some};
+ghost use Rattle.dn_host.specs.Coming.{noted};
+ghost use Rattle.dn_host.specs.Begun.{has_begun, has_run, silence};
 
 use crate::coming::{Coming, late_of};
 use crate::counts::Counts;
-use crate::done::Done;
-use crate::heard::LastHeard;
 use crate::peers::Peers;
-use crate::play::Play;
+use crate::play::{Done, Play};
 use crate::walking::is_started;
 use crate::wire::Wire;
 use dn_greeting::Address;
 use dn_link::Received;
+
+/// When each player was last heard.
+#[derive(Clone, Copy, Debug, PartialEq, Eq)]
+pub(crate) struct LastHeard {
+    at: [u64; 4],
+}
+
+impl LastHeard {
+    /// All are heard now.
+    pub(crate) fn new(now: u64) -> LastHeard
+        ensures { result.at ≡ replicate 4 now }
+    {
+        LastHeard { at: [now; 4] }
+    }
+
+    /// A player is heard now.
+    fn note(&mut self, player: u8, now: u64)
+        ensures { self.new.at ≡ noted (Some player) now self.old.at }
+    {
+        if player < 4 {
+            self.at[usize::from(player)] = now;
+        }
+    }
+
+    /// For how long a player was not heard.
+    pub(crate) fn silence(&self, player: u8, now: u64) -> u64
+        ensures { result ≡ (if nat_lt player 4 then now - slice_index self.now.at player else 0) }
+    {
+        if player < 4 {
+            now.saturating_sub(self.at[usize::from(player)])
+        } else {
+            0
+        }
+    }
+}
 
 /// One player's part in a game.
 #[derive(Drop)]
@@ -153,5 +190,35 @@ impl Game {
         if matches!(received, Received::Heard { .. }) {
             self.run(wire, now);
         }
+    }
+}
+
+/// Whether it has begun.
+pub(crate) fn has_begun(game: &Option<Game>) -> bool
+    ensures { result ≡ has_begun game.now }
+{
+    match game {
+        Some(game) => game.has_begun(),
+        None => false,
+    }
+}
+
+/// Whether a tic was run in it: then everyone was heard, and the host has begun.
+pub(crate) fn has_run(game: &Option<Game>) -> bool
+    ensures { result ≡ has_run game.now }
+{
+    match game {
+        Some(game) => game.has_run(),
+        None => false,
+    }
+}
+
+/// For how long nothing new came of a player.
+pub(crate) fn silence(game: &Option<Game>, player: u8, now: u64) -> u64
+    ensures { result ≡ silence game.now player now }
+{
+    match game {
+        Some(game) => game.heard.silence(player, now),
+        None => 0,
     }
 }

@@ -1,15 +1,22 @@
-//! Taking the datagrams that are there.
+//! A datagram that came, and taking those that are there.
 
 ghost use Rattle.std.specs.Prelude.{◌≡◌, ◌≤◌, ◌&&◌, ℕ, List, Option, Bool, length, false, IfOk, IfErr, IfSome};
 ghost use Rattle.dn_host.specs.{Begun.has_begun, Greetings.GreetsFew, Greetings.Opens, Greetings.TakesSome, Greetings.is_greeting, Greetings.is_hint, Greetings.is_named, Greetings.is_opened, Parts.IsPart};
 ghost use Rattle.dn_host.specs.{Stages.IfEnding};
 
-use crate::begun::has_begun;
 use crate::ends::{Ending, HostFault};
-use crate::game::Game;
-use crate::letter::Letter;
+use crate::game::{Game, has_begun};
 use crate::lobby::{Greeted, Lobby};
 use crate::wire::{MOST, Wire};
+use dn_greeting::Address;
+
+/// A datagram: bytes that came from an address at a time.
+#[derive(Clone, Copy, Debug, PartialEq, Eq)]
+pub(crate) struct Letter<'a> {
+    pub(crate) from: Address,
+    pub(crate) bytes: &'a [u8],
+    pub(crate) now: u64,
+}
 
 /// The most datagrams that are read between two looks at the clock.
 const POLLS: u32 = 64;

@@ -10,7 +10,7 @@ ghost use Rattle.dn_host.specs.declared.ends.HostFault.TheVariants as fault;
 use crate::clock::seconds;
 use crate::ends::HostFault;
 use crate::game::Game;
-use crate::letter::Letter;
+use crate::hearing::Letter;
 use crate::lobby::{GoesOn, Greeted, Lobby};
 use crate::parts::Offer;
 use crate::peers::address_of;

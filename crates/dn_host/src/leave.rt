@@ -1,14 +1,52 @@
-//! When a session ends, and how it leaves.
+//! When a session ends, how it leaves, and how a game ends that all others left.
 
-ghost use Rattle.std.specs.Prelude.{◌≡◌, None, is_some};
+ghost use Rattle.std.specs.Prelude.{◌≡◌, ◌<◌, IfSome, None, is_some};
+ghost use Rattle.dn_host.specs.Endings.{is_told, left_for, others_end};
 ghost use Rattle.dn_link.specs.{Linked.may_leave, Linking.linked, Linking.seal_of};
-ghost use Rattle.dn_host.specs.{declared.leave.Stage.TheVariants.Leaving, Absence.causes_of, Endings.others_end, Leaving.IsAfterPlay, Leaving.IsStageAfter, Leaving.after_wait, Leaving.end_of};
-ghost use Rattle.dn_host.specs.{Leaving.free_since, Leaving.has_waited, Leaving.is_over, Leaving.leaving_for, Leaving.left_at, Leaving.own_end, Leaving.stage_after};
+ghost use Rattle.dn_host.specs.declared.leave.Stage.TheVariants.{Leaving};
+ghost use Rattle.dn_host.specs.Absence.{causes_of};
+ghost use Rattle.dn_host.specs.Leaving.{IsAfterPlay, IsStageAfter, after_wait, end_of, free_since, has_waited, is_over, leaving_for, left_at, own_end, stage_after};
 
-use crate::endings::others_end;
 use crate::game::Game;
 use dn_machine::{Cause, Phase};
 use dn_measure::End;
+
+/// The byte of the cause of a player whose demo was full.
+const FULL: u8 = 2;
+
+/// That of one who found a world to be another.
+const INCONSISTENT: u8 = 3;
+
+/// Whether this cause was told.
+fn is_told(cause: u8, told: &Option<u8>) -> bool
+    ensures { result ≡ is_told cause told.now }
+{
+    match told {
+        Some(told) => *told == cause,
+        None => false,
+    }
+}
+
+/// The lowest player who left for this cause.
+fn left_for(cause: u8, causes: &[Option<u8>; 4]) -> Option<usize>
+    ensures player { result ≡ left_for cause causes.now }
+    ensures within { IfSome result (λ player. player < 4) }
+{
+    causes.iter().position(|told| is_told(cause, told))
+}
+
+/// How it ends, by the causes for which each player left.
+pub(crate) fn others_end(causes: &[Option<u8>; 4]) -> End
+    ensures { result ≡ others_end causes.now }
+{
+    match left_for(INCONSISTENT, causes) {
+        Some(player) => End::InconsistentAt(player as u8),
+        None => match left_for(FULL, causes) {
+            Some(player) => End::FullAt(player as u8),
+            None => End::OthersLeft,
+        },
+    }
+}
 
 /// For how long it goes on once nobody needs it.
 const FAREWELL: u64 = 2_000_000;

@@ -1,11 +1,11 @@
 //! The greetings of a session: the host's, or those of one who joins.
 
 ghost use Rattle.std.specs.Prelude.{◌≡◌, ℕ, List, Option, Bool, Result, false, IfOk, IfErr, IfSome};
-ghost use Rattle.dn_host.specs.{Begun.has_begun, Parts.IsPart, declared.letter.Letter.Letter, declared.ends.Ending.Ending, declared.ends.HostFault.HostFault, declared.game.Game.Game};
+ghost use Rattle.dn_host.specs.{Begun.has_begun, Parts.IsPart, declared.hearing.Letter.Letter, declared.ends.Ending.Ending, declared.ends.HostFault.HostFault, declared.game.Game.Game};
 
 use crate::ends::{Ending, HostFault};
 use crate::game::Game;
-use crate::letter::Letter;
+use crate::hearing::Letter;
 use crate::screen::Screen;
 use crate::wire::Wire;
 

@@ -1,8 +1,11 @@
-//! A player's part in a game, by the terms that the host offers.
+//! A player's part in a game, by the terms that the host offers, and by what the game is sealed.
 
 ghost use Rattle.std.specs.Prelude.{◌≡◌, ◌∷◌, map, None, Some, true, IfErr, IfOk};
+ghost use Rattle.dn_host.specs.Seals.{game_seal, IsSealedUnder};
 ghost use Rattle.dn_greeting.specs.{Lobby.lobby, Text.is_rate};
-ghost use Rattle.dn_host.specs.{Made.IsPartAs, Made.IsPartOf, Made.config_under, Offers.IsTerms, Peers.holder_address, Seals.IsSealedUnder, Seals.game_seal};
+ghost use Rattle.dn_host.specs.Made.{IsPartAs, IsPartOf, config_under};
+ghost use Rattle.dn_host.specs.Offers.{IsTerms};
+ghost use Rattle.dn_host.specs.Peers.{holder_address};
 ghost use Rattle.dn_host.specs.declared.ends.HostFault.TheVariants as fault;
 
 use crate::ends::HostFault;
@@ -11,12 +14,22 @@ use crate::host::Hosting;
 use crate::peers::Peers;
 use crate::plan::Plan;
 use crate::play::Play;
-use crate::seals::game_seal;
 use dn_demo::is_limit;
 use dn_greeting::{Address, Answer, Table, Terms};
 use dn_lockstep::{Config, is_game};
+use dn_seal::Seal;
 use dn_setup::Settings;
 use std::alloc::Global;
+
+/// By what a game of this number is sealed, under a secret or without one.
+fn game_seal(secret: Option<[u8; 32]>, game: [u8; 16]) -> Seal
+    ensures { result ≡ game_seal secret game }
+{
+    match secret {
+        Some(secret) => Seal::new(secret, game),
+        None => Seal::without_secret(game),
+    }
+}
 
 /// Whether so many tics can be played a second.
 fn is_rate(rate: u8) -> bool

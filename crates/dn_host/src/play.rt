@@ -1,22 +1,65 @@
-//! One player's link, with its walk and its keys.
+//! One player's link, with its walk and its keys; what its steps did, and what its answers tell.
 
 ghost use Rattle.std.specs.Prelude.{◌≡◌, ◌≤◌, true, false, IfErr, IfOk};
+ghost use Rattle.dn_host.specs.{Played.is_caught_up, Played.is_made, Played.times_of, Played.Plays, Walks.waited_for};
 ghost use Rattle.dn_link.specs.{Linked.IsWhole, Linking.linked};
-ghost use Rattle.dn_host.specs.Played.{Plays, times_of};
 
-use crate::answers::{is_caught_up, is_made, times_of, waits_for};
 use crate::coming::{Coming, came_by, lines_of};
-use crate::done::Done;
 use crate::ends::HostFault;
 use crate::walking::{go_on, is_started, marks_of};
 use dn_link::{Link, Received};
 use dn_lockstep::Config;
+use dn_machine::{Made, Ran};
 use dn_seal::Seal;
 use dn_tic::Keys;
 use dn_world::{Walk, World};
 use rand_core::utils::NextWord;
 use rand_pcg::Lcg64Xsh32;
 use std::alloc::Global;
+
+/// What a step of the session did.
+#[derive(Clone, Copy, Debug, PartialEq, Eq)]
+pub(crate) struct Done {
+    /// How many commands were built.
+    pub(crate) built: u32,
+    /// How many tics were run.
+    pub(crate) ran: u32,
+}
+
+/// One, if it was done.
+fn times_of(done: bool) -> u32
+    ensures value { result ≡ times_of done }
+    ensures few { result ≤ 1 }
+{
+    if done { 1 } else { 0 }
+}
+
+/// Whether a command was built.
+fn is_made(made: Made) -> bool
+    ensures { result ≡ is_made made }
+{
+    matches!(made, Made::Made(_))
+}
+
+/// Whether one was owed, and was built.
+fn is_caught_up(made: Option<Made>) -> bool
+    ensures { result ≡ is_caught_up made }
+{
+    match made {
+        Some(made) => is_made(made),
+        None => false,
+    }
+}
+
+/// For whom a run waits.
+fn waits_for(ran: Ran) -> Option<u8>
+    ensures { result ≡ waited_for ran }
+{
+    match ran {
+        Ran::Waiting(player) => Some(player),
+        _ => None,
+    }
+}
 
 /// The most tics that are run at once: more than the widest window has.
 const MOST_RUNS: u32 = 32;

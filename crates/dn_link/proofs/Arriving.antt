@@ -9,17 +9,24 @@ use Rattle.dn_setup.specs.Settings.{Settings}
 use Rattle.dn_machine.specs.{declared.answers.Heard.Heard, declared.answers.Phase.TheVariants.Playing, declared.peer.Peer.Peer, Game.Game, Hearing.on_packet, Limits.Limits, Node.is_ended, Worlds.Rules}
 use Rattle.dn_machine.specs.Flight.{Kind, SetUp, Play, Exit, Flight, packet_of, packet_of_kind, is_close, is_request_close, distance, end_of}
 use Rattle.dn_machine.specs.Node as machine
-use Rattle.dn_machine.proofs.Relays
+use Rattle.dn_machine.proofs.Asking
 use Rattle.dn_machine.proofs.{Invariant.IsKept, Invariant.history_of, Put.put_at, Put.put_off}
-use Rattle.dn_machine.proofs.Lists
+use Rattle.dn_machine.proofs.Invariant
 use Rattle.dn_machine.proofs.Promises
-use Rattle.dn_lockstep.specs.{Contents.Contents, Marking.Marking, Near.IsFair, OneGame.AreOneGame, OneGame.beside, Represents.Represents, Session.Session, Session.with_lockstep, Told.got}
-use Rattle.dn_lockstep.proofs.{OneGame.hear_quiet, Nearby.told_by, Nearby.told_is, Nearby.near_received, Shown.has}
+use Rattle.dn_lockstep.specs.Contents.{Contents}
+use Rattle.dn_lockstep.specs.Marking.{Marking}
+use Rattle.dn_lockstep.specs.Sent.{IsFair}
+use Rattle.dn_lockstep.specs.OneGame.{AreOneGame, beside, Session, with_lockstep}
+use Rattle.dn_lockstep.specs.Represents.{Represents}
+use Rattle.dn_lockstep.specs.Told.{got}
+use Rattle.dn_lockstep.proofs.OneGame.{hear_quiet}
+use Rattle.dn_lockstep.proofs.Receiving.{told_by, told_is, near_received}
+use Rattle.dn_lockstep.proofs.Shown.{has}
 use Rattle.dn_seal.specs.declared.opened.Opened.{Opened}
 use Rattle.dn_open.specs.Arrivals.{HearsOpened, IsRead, SparesSealed, heard, on_opened}
-use Rattle.dn_open.specs.{declared.arrived.Arrived.Arrived, Sealed.opened_of}
-use Rattle.dn_open.proofs.{Alikes.alike, Deliveries.near_if}
-use Rattle.dn_link.specs.{Bundles.WasGiven, CaughtUp.told_end, Hearing.ByTest, Hearing.HearsAll, Hearing.HearsUntil, Hearing.is_start, Onward.next_to}
+use Rattle.dn_open.specs.{declared.hearing.Arrived.Arrived, Sealed.opened_of}
+use Rattle.dn_open.proofs.{Sealables.alike, Deliveries.near_if}
+use Rattle.dn_link.specs.{LinkedGame.WasGiven, CaughtUp.told_end, Hearing.ByTest, Hearing.HearsAll, Hearing.HearsUntil, Hearing.is_start, CaughtUp.next_to}
 use Rattle.dn_link.proofs.{Hearer.IsSpared, Hearer.Leaves, Hearer.settings_leave, Hearer.word_leaves, Hearer.word_reaches, Keeping.LettersKeep, Keeping.keeps_one, Makers.HaveNoGaps, Makers.ends_of, Makers.then_end}
 
 -- who starts is told so
@@ -93,7 +100,7 @@ module _ {S : Type 0} (rules : Rules S) (settings : Settings) (game : Game) (kep
       let piece = kept.from_inputs.pieces which flight there in
       let reached = piece.reached in
       let goes_on : is_ended (game.nodes q).phase ≡ false = ap is_ended plays in
-      let close = Lists.close rules settings (history_of game) game.flights kept.from_inputs flight.from q piece.sender
+      let close = Invariant.close rules settings (history_of game) game.flights kept.from_inputs flight.from q piece.sender
       piece.receiver (Promises.stays_in rules settings game kept q goes_on) in
       let count = kept.from_inputs.counted q piece.receiver in
       let ahead = kept.from_inputs.ahead q piece.receiver in
@@ -120,7 +127,7 @@ module _ (letters : LettersKeep) (marking : Marking) (limits : Limits) (settings
   given_from : (now : Contents) → AreOneGame marking limits settings (at now) → (packet : Opened)
       → WasGiven session.given player packet → packet.from < limits.players
   given_from now game packet (which, flight, found, to, is) =
-      let kept = Relays.always (beside marking limits) settings game.window game.events game.last game.runs in
+      let kept = Asking.always (beside marking limits) settings game.window game.events game.last game.runs in
       let there = ap (λ (fs : List Flight). slice_get fs which) game.flights ∙ found in
       let sender = (kept.from_inputs.pieces which flight there).sender in
       omega (arith, sender, ap (λ (p : Opened). p.from) is)
@@ -162,7 +169,7 @@ module _ (letters : LettersKeep) (marking : Marking) (limits : Limits) (settings
       there = ap (λ (fs : List Flight). slice_get fs which) game.flights ∙ found
 
       kept : IsKept (beside marking limits) settings game.last
-      kept = Relays.always (beside marking limits) settings game.window game.events game.last game.runs
+      kept = Asking.always (beside marking limits) settings game.window game.events game.last game.runs
 
       fair : IsFair flight
       fair = game.fair which flight found

@@ -9,15 +9,19 @@ use Rattle.std.proofs.lemmas.List.{length-map}
 use Rattle.std.proofs.Math.Seq.{take-append_seam}
 use Rattle.dn_seal.specs.{declared.opened.Opened.Opened, declared.seal.Seal.Seal}
 use Rattle.dn_link.specs.{declared.bundle.Identity.Identity, declared.bundle.Part.Part, declared.bundle.Part.TheVariants.Whole, declared.bundle.Part.TheVariants.Run, declared.bundle.Part.TheVariants.Relay}
-use Rattle.dn_link.specs.{Linked.Gives, Linked.Linked, Paced.PaceState, Packets.own_in, Packets.own_of, Packets.packets_of, Packing.IsNeeded, Relays.Handed, Relays.handed_part, declared.bundle.Bundle.Bundle}
-use Rattle.dn_link.specs.{declared.bundle.Carried.Carried, Counting.has_ended, Giving.carried_of, Kept.going, Kept.taken_by, Kept.takes_packet, LinkedGame.AreLinked, Onward.next_to, Packets.opened_from}
+use Rattle.dn_link.specs.{Linked.Gives, Linked.Linked, Pacing.PaceState, Packets.own_in, Packets.own_of, Packets.packets_of, Packing.IsNeeded, Relays.Handed, Relays.handed_part, declared.bundle.Bundle.Bundle}
+use Rattle.dn_link.specs.{declared.bundle.Carried.Carried, Counting.has_ended, Hearing.carried_of, Kept.going, Kept.taken_by, Kept.takes_packet, LinkedGame.AreLinked, CaughtUp.next_to, Packets.opened_from}
 use Rattle.dn_link.specs.{Text.parts_bytes, CaughtUp.AreCaughtUp, CaughtUp.Brings, CaughtUp.HasGrown, CaughtUp.IsInStep, CaughtUp.last_end}
 use Rattle.dn_setup.specs.Settings.{Settings}
 use Rattle.dn_machine.specs.{declared.answers.Phase.TheVariants.Playing, declared.peer.Peer.Peer, Flight.Play, Limits.Limits, Node.put, Sending.after_sent, Sending.commands_flight, Sending.on_send, Sending.request_to}
 use Rattle.dn_machine.proofs.Put.{put_off}
-use Rattle.dn_lockstep.specs.{Marking.Marking, Represents.Represents, Sent.sent_to, Session.Session, Told.got, Told.made}
-use Rattle.dn_lockstep.proofs.Counting.{made_is}
-use Rattle.dn_link.proofs.{Catching.not_yet, Chains.chain_goes, Chains.later_goes, Following.gone_or_idle, Sending.Follows, Sending.follows}
+use Rattle.dn_lockstep.specs.Marking.{Marking}
+use Rattle.dn_lockstep.specs.Represents.{Represents}
+use Rattle.dn_lockstep.specs.Sent.{sent_to}
+use Rattle.dn_lockstep.specs.OneGame.{Session}
+use Rattle.dn_lockstep.specs.Told.{got, made}
+use Rattle.dn_lockstep.proofs.Shown.{made_is}
+use Rattle.dn_link.proofs.{Catching.not_yet, Makers.chain_goes, Makers.later_goes, Following.gone_or_idle, Sending.Follows, Sending.follows}
 use Rattle.dn_machine.specs.Node as machine
 use Rattle.dn_link.specs.Kept as keep
 use Rattle.dn_link.proofs.Linking as base

@@ -5,21 +5,26 @@ use Rattle.std.proofs.lemmas.Bool.{and_from, and_parts, and_right, cases_eq, eq-
 use Rattle.dn_setup.specs.Settings.{Settings}
 use Rattle.dn_machine.specs.{Limits.Limits, Node.is_ended, Node.put}
 use Rattle.dn_machine.proofs.Put.{put_at, put_off}
-use Rattle.dn_lockstep.specs.{Agreed.AreAgreed, Contents.Contents, Contents.end_in, Marking.Marking, OneGame.AreOneGame, Rings.count_of, Session.Session, Session.with_lockstep, Told.got, Told.made}
+use Rattle.dn_lockstep.specs.Agreed.{AreAgreed}
+use Rattle.dn_lockstep.specs.Contents.{Contents, end_in}
+use Rattle.dn_lockstep.specs.Marking.{Marking}
+use Rattle.dn_lockstep.specs.OneGame.{AreOneGame, Session, with_lockstep}
+use Rattle.dn_lockstep.specs.Tables.{count_of}
+use Rattle.dn_lockstep.specs.Told.{got, made}
 use Rattle.dn_seal.specs.{declared.seal.Seal.Seal, Opening.Sealing}
 use Rattle.dn_open.specs.Sealed.{sealing_of}
 use Rattle.dn_link.specs.{declared.bundle.Bundle.Bundle, declared.bundle.BundleFault.BundleFault, declared.bundle.Identity.Identity, declared.presence.Presence.Presence, declared.received.Received.Received}
-use Rattle.dn_link.specs.{declared.received.Received.TheVariants.GivenUp, declared.received.Received.TheVariants.Stranger, declared.bundle.Message.Message, declared.bundle.Message.TheVariants.Game, Bundles.HasReached}
-use Rattle.dn_link.specs.{Bundles.IsGenuineDatagram, Bundles.WasGiven, Hearing.ByTest, Hearing.HearsAll, Kept.IsKeptRising, Kept.Unacknowledged, Kept.acknowledged, LinkedGame.AreLinked, LinkedGame.IsLater}
-use Rattle.dn_link.specs.{Onward.next_to, Paced.PaceState, Packets.heard_in, Packets.own_in, Packets.packets_in, Reading.IsBundledAs, Reading.IsDatagramOf, Text.IsBundle, Text.sealed_bytes}
+use Rattle.dn_link.specs.{declared.received.Received.TheVariants.GivenUp, declared.received.Received.TheVariants.Stranger, declared.bundle.Message.Message, declared.bundle.Message.TheVariants.Game, LinkedGame.HasReached}
+use Rattle.dn_link.specs.{LinkedGame.IsGenuineDatagram, LinkedGame.WasGiven, Hearing.ByTest, Hearing.HearsAll, Kept.IsKeptRising, Kept.Unacknowledged, Kept.acknowledged, LinkedGame.AreLinked, LinkedGame.IsLater}
+use Rattle.dn_link.specs.{CaughtUp.next_to, Pacing.PaceState, Packets.heard_in, Packets.own_in, Packets.packets_in, Reading.IsBundledAs, Reading.IsDatagramOf, Text.IsBundle, Text.sealed_bytes}
 use Rattle.dn_link.specs.{declared.presence.Presence.TheVariants.Unknown, declared.presence.Presence.TheVariants.There, declared.presence.Presence.TheVariants.Playing, declared.presence.Presence.TheVariants.Different}
 use Rattle.dn_link.specs.{declared.presence.Presence.TheVariants.Away, declared.presence.Presence.TheVariants.Left, declared.presence.Presence.TheVariants.Forgotten, CaughtUp.AreCaughtUp, CaughtUp.Brings}
 use Rattle.dn_link.specs.{CaughtUp.HasNoGap, CaughtUp.IsCaughtUp, CaughtUp.IsInStep, CaughtUp.IsInStepTo, CaughtUp.IsKeptChain, CaughtUp.StayCaughtUp, CaughtUp.last_end, Counting.has_ended, Counting.has_of}
 use Rattle.dn_link.specs.{Counting.held_of, Counting.reached, Counting.with_end, Linked.IsTakenIn, Linked.Linked, Linked.PeerState, Linked.Receives, Linked.ReceivesAs, Linked.TakesIn, Linked.all_ready, Linked.certain}
 use Rattle.dn_link.specs.{Linked.done_with, Linked.has_given_up, Linked.hears, Linked.is_gathering, Linked.is_peer, Linked.known_by, Linked.met, Linked.takes, Presence.Becomes, Presence.Differs, Presence.is_fresh}
 use Rattle.dn_link.specs.{Presence.is_there, Presence.plays_on, Presence.takes_part}
-use Rattle.dn_link.proofs.{Arriving.all_hears, Catching.ends_on, Catching.not_yet, Catching.relinked, Catching.still, Chains.chain_past, Outgoing.same_bundle, Keeping.LettersKeep, Keeping.as_it_is}
-use Rattle.dn_link.proofs.{Leaving.at_most_there, Lefts.unended, Rising.rises_past, Makers.HaveNoGaps, Makers.ends_of, Makers.parts_ask, Makers.parts_go, Lefts.parts_heard}
+use Rattle.dn_link.proofs.{Arriving.all_hears, Catching.ends_on, Catching.not_yet, Catching.relinked, Catching.still, Makers.chain_past, Linking.same_bundle, Keeping.LettersKeep, Keeping.as_it_is}
+use Rattle.dn_link.proofs.{Leaving.at_most_there, Leaving.unended, Covered.rises_past, Makers.HaveNoGaps, Makers.ends_of, Makers.parts_ask, Makers.parts_go, Leaving.parts_heard}
 use Rattle.dn_machine.specs.declared.answers.Phase.TheVariants as phase
 use Rattle.dn_link.specs.declared.bundle.Relay as relay
 use Rattle.dn_link.proofs.Linking as base

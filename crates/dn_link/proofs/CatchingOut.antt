@@ -9,15 +9,21 @@ use Rattle.dn_tic.specs.{declared.command.TicCmd.TicCmd, declared.command.Move.M
 use Rattle.dn_setup.specs.Settings.{Settings}
 use Rattle.dn_machine.specs.{declared.peer.Peer.Peer, Flight.Flight, Limits.Limits, Node.put, Sending.lag, Sending.after_sent, Sending.set_up_flight}
 use Rattle.dn_machine.proofs.{Calls.send_cases, Put.put_at, Put.put_off}
-use Rattle.dn_lockstep.specs.{Agreed.AreAgreed, Contents.Contents, Contents.end_in, Marking.Marking, Represents.Represents, Sent.sent_to, Session.Session, Told.got, Told.made}
-use Rattle.dn_lockstep.proofs.{Counting.made_is, Shown.has}
+use Rattle.dn_lockstep.specs.Agreed.{AreAgreed}
+use Rattle.dn_lockstep.specs.Contents.{Contents, end_in}
+use Rattle.dn_lockstep.specs.Marking.{Marking}
+use Rattle.dn_lockstep.specs.Represents.{Represents}
+use Rattle.dn_lockstep.specs.Sent.{sent_to}
+use Rattle.dn_lockstep.specs.OneGame.{Session}
+use Rattle.dn_lockstep.specs.Told.{got, made}
+use Rattle.dn_lockstep.proofs.Shown.{made_is, has}
 use Rattle.dn_seal.specs.declared.seal.Seal.{Seal}
-use Rattle.dn_link.specs.{declared.bundle.Carried.Carried, declared.bundle.Identity.Identity, declared.presence.Presence.TheVariants.Left, Counting.has_ended, Giving.SendsCarried, Giving.carried_of, Hearing.ByTest}
+use Rattle.dn_link.specs.{declared.bundle.Carried.Carried, declared.bundle.Identity.Identity, declared.presence.Presence.TheVariants.Left, Counting.has_ended, Hearing.SendsCarried, Hearing.carried_of, Hearing.ByTest}
 use Rattle.dn_link.specs.{Kept.IsKeptRising, Kept.Unacknowledged, Kept.going, Kept.is_news, Kept.kept_after, Kept.taken_by, Linked.Gives, Linked.Linked, Linked.PeerState, Linked.holds_back, Linked.is_gathering}
-use Rattle.dn_link.specs.{LinkedGame.AreLinked, Onward.GoesOn, Onward.IsInTime, Onward.StillGoesOn, Onward.next_to, Paced.PaceState, Packets.opened_from, Packets.own_in, CaughtUp.AreCaughtUp, CaughtUp.HasNoGap}
+use Rattle.dn_link.specs.{LinkedGame.AreLinked, CaughtUp.GoesOn, CaughtUp.IsInTime, CaughtUp.StillGoesOn, CaughtUp.next_to, Pacing.PaceState, Packets.opened_from, Packets.own_in, CaughtUp.AreCaughtUp, CaughtUp.HasNoGap}
 use Rattle.dn_link.specs.{CaughtUp.IsCaughtUp, CaughtUp.IsInStep, CaughtUp.IsKeptChain, CaughtUp.StayCaughtUp, CaughtUp.WasInStep}
-use Rattle.dn_link.proofs.{Catching.relinked, Bringing.gives_own, Following.covers, Following.kept_rises, Lefts.unended, Outgoing.taken_given, Sending.Sends, Sending.sends, Chains.IsQuiet, Chains.first_goes}
-use Rattle.dn_link.proofs.{Chains.going_asks, Chains.going_goes, Chains.keeps_chain, Chains.later_goes}
+use Rattle.dn_link.proofs.{Catching.relinked, Bringing.gives_own, Following.covers, Following.kept_rises, Leaving.unended, Linking.taken_given, Sending.Sends, Sending.sends, Makers.IsQuiet, Makers.first_goes}
+use Rattle.dn_link.proofs.{Makers.going_asks, Makers.going_goes, Makers.keeps_chain, Makers.later_goes}
 use Rattle.dn_machine.specs.Node as machine
 use Rattle.dn_link.specs.Kept as keep
 use Rattle.dn_link.proofs.Linking as base

@@ -1,21 +1,89 @@
--- The packets that are kept for a peer have each command that it still needs, of those that they cover.
-use Rattle.std.proofs.Common.{◌≡◌, ◌<◌, ◌≤◌, ℕ, zero, suc, Bool, true, false, List, [], ◌∷◌, ◌++◌, length, map, take, append-nil, refl, ap, sym, ◌∙◌, subst, arith, inl, inr, Option, Some, None}
-use Rattle.std.specs.Prelude.{if◌then◌else◌, ◌&&◌, ◌↔◌, nat_le, nat_lt}
+-- The packets that are kept for a peer: each ends past those before it, and they have each command that it
+-- still needs, of those that they cover.
+use Rattle.std.proofs.Common.{◌≡◌, ◌<◌, ◌≤◌, ℕ, zero, suc, Bool, true, false, List, [], ◌∷◌, ◌++◌, length, map, take, append-nil, refl, ap, sym, ◌∙◌, subst, arith, inl, inr, Option, Some, None, ◌+◌}
+use Rattle.std.specs.Prelude.{if◌then◌else◌, ◌&&◌, ◌↔◌, nat_le, nat_lt, max}
 use Rattle.std.specs.List.{flat_map}
-use Rattle.std.proofs.lemmas.Bool.{and_from, and_parts, and_right, cases_lt, le-ltb, le-leb, leb-true, lt-ltb, ltb-true, or_cases, or_left, or_right, true≢false}
+use Rattle.std.proofs.lemmas.Bool.{and_from, and_parts, and_right, cases_lt, le-ltb, le-leb, leb-true, lt-ltb, ltb-true, or_cases, or_left, or_right, true≢false, leb-false}
 use Rattle.std.proofs.Math.Seq.{take-append_seam}
 use Rattle.std.proofs.lemmas.List.{length-map}
-use Rattle.dn_machine.proofs.Put.{put_at}
 use Rattle.dn_seal.specs.{declared.opened.Opened.Opened, declared.seal.Seal.Seal}
-use Rattle.dn_link.specs.{declared.bundle.Carried.Carried, declared.bundle.Identity.Identity, declared.peer.Peer.Peer, Linked.Gives, Linked.Linked, Linked.PeerState, Linking.peers_of, Paced.PaceState, Packets.opened_from, Packets.packets_of, Packing.ArePacked, Text.parts_bytes}
-use Rattle.dn_link.specs.Kept.{IsCovering, Reaches, Unacknowledged, acknowledged, end_of, going, has_tic, is_news, kept_after, taken_by, with_packet, without}
+use Rattle.dn_machine.proofs.Put.{put_at}
+use Rattle.dn_link.specs.{declared.bundle.Carried.Carried, declared.bundle.Identity.Identity, declared.peer.Peer.Peer, Linked.Gives, Linked.Linked, Linked.PeerState, Linking.peers_of, Pacing.PaceState}
+use Rattle.dn_link.specs.{Packets.opened_from, Packets.packets_of, Packing.ArePacked, Text.parts_bytes}
+use Rattle.dn_link.specs.Kept.{IsCovering, Reaches, Unacknowledged, acknowledged, end_of, going, has_tic, is_news, kept_after, taken_by, with_packet, without, IsKeptRising, IsRising}
+
+-- Each packet that is kept for a peer ends past those before it.
+
+-- so there are no more of them than commands that they cover and the peer needs
+pub few : (done : ℕ) (packets : List Carried) (covered : ℕ) → IsRising done packets covered
+    → done + length packets ≤ covered
+few done [] covered rising = omega (arith, rising)
+few done (packet ∷ packets) covered (first, rest) =
+    omega (arith, first, few (end_of packet) packets covered rest)
+
+-- they may cover more
+covers_on : (done : ℕ) (packets : List Carried) (covered more : ℕ) → covered ≤ more
+    → IsRising done packets covered → IsRising done packets more
+covers_on done [] covered more less rising = omega (arith, less, rising)
+covers_on done (packet ∷ packets) covered more less (first, rest) =
+    (first, covers_on (end_of packet) packets covered more less rest)
+
+-- one more that ends past what they cover
+rises_on : (done : ℕ) (packets : List Carried) (covered : ℕ) (packet : Carried) → covered < end_of packet
+    → IsRising done packets covered → IsRising done (packets ++ packet ∷ []) (end_of packet)
+rises_on done [] covered packet past rising = (omega (arith, past, rising), omega arith)
+rises_on done (other ∷ packets) covered packet past (first, rest) =
+    (first, rises_on (end_of other) packets covered packet past rest)
+
+pub news_rises : (kept : Unacknowledged) (packet : Carried) → is_news kept packet ≡ true
+    → IsRising kept.done kept.packets kept.covered
+    → IsRising kept.done (kept.packets ++ packet ∷ []) (end_of packet)
+news_rises kept packet news rising = grind (arith, and_parts, ltb-true, rises_on)
+
+-- the peer needs fewer
+pub rises_past : (done : ℕ) (packets : List Carried) (covered count : ℕ) → IsRising done packets covered
+    → IsRising (max done count) (without count packets) (max covered count)
+rises_past done [] covered count rising = omega (arith, rising)
+rises_past done (packet ∷ packets) covered count (first, rest) =
+    go (nat_le (end_of packet) count) refl (rises_past (end_of packet) packets covered count rest)
+  where
+    go : (test : Bool) → nat_le (end_of packet) count ≡ test
+        → IsRising (max (end_of packet) count) (without count packets) (max covered count)
+        → IsRising (max done count) (if test then without count packets else packet ∷ packets) (max covered count)
+    go true ends behind =
+        let within = leb-true (end_of packet) count ends in
+        let same : max (end_of packet) count ≡ max done count = omega (arith, within, first) in
+        subst (λ (n : ℕ). IsRising n (without count packets) (max covered count)) same behind
+    go false past behind =
+        let beyond = leb-false (end_of packet) count past in (
+          omega (arith, first, beyond),
+          covers_on (end_of packet) packets covered (max covered count) (omega arith) rest,
+        )
+
+-- and no more packets than before are left
+pub fewer : (packets : List Carried) (count : ℕ) → length (without count packets) ≤ length packets
+fewer [] count = omega arith
+fewer (packet ∷ packets) count = go (nat_le (end_of packet) count) (fewer packets count)
+  where
+    go : (test : Bool) → length (without count packets) ≤ length packets
+        → length (if test then without count packets else packet ∷ packets) ≤ length (packet ∷ packets)
+    go true less = omega (arith, less)
+    go false less = omega arith
+
+-- for each peer
+pub all_rising : (peers : List Peer) (place : ℕ) → IsKeptRising (peers_of peers place).kept
+all_rising [] place = omega arith
+all_rising (peer ∷ peers) zero = peer.kept.rising
+all_rising (peer ∷ peers) (suc place) = all_rising peers place
+
+-- So each command that is covered, and still needed, is in them.
 
 -- the packet has it
 abbrev lies : ℕ → Carried → Bool
 lies tic packet = nat_le packet.start tic && nat_lt tic (end_of packet)
 
 -- with more packets behind
-pub has_more : (tic : ℕ) (packets more : List Carried) → has_tic tic packets ≡ true
+has_more : (tic : ℕ) (packets more : List Carried) → has_tic tic packets ≡ true
     → has_tic tic (packets ++ more) ≡ true
 has_more tic [] more has = absurd (true≢false (sym has))
 has_more tic (packet ∷ packets) more has = elim (or_cases (lies tic packet) (has_tic tic packets) has) [
@@ -24,14 +92,14 @@ has_more tic (packet ∷ packets) more has = elim (or_cases (lies tic packet) (h
 ]
 
 -- the last has it
-pub has_last : (tic : ℕ) (packets : List Carried) (packet : Carried) → packet.start ≤ tic → tic < end_of packet
+has_last : (tic : ℕ) (packets : List Carried) (packet : Carried) → packet.start ≤ tic → tic < end_of packet
     → has_tic tic (packets ++ packet ∷ []) ≡ true
 has_last tic [] packet from before = grind (arith, or_left, and_from, le-leb, lt-ltb)
 has_last tic (other ∷ packets) packet from before =
     or_right (lies tic other) (has_tic tic (packets ++ packet ∷ [])) (has_last tic packets packet from before)
 
 -- a packet that ends before does not have it
-pub has_behind : (tic : ℕ) (packet : Carried) (packets : List Carried) → end_of packet ≤ tic
+has_behind : (tic : ℕ) (packet : Carried) (packets : List Carried) → end_of packet ≤ tic
     → has_tic tic (packet ∷ packets) ≡ true → has_tic tic packets ≡ true
 has_behind tic packet packets ends has = grind (arith, or_cases, true≢false, and_right, le-ltb)
 
@@ -41,7 +109,7 @@ pub covers_more : (kept : Unacknowledged) (packet : Carried) → IsCovering kept
 covers_more kept packet covers news tic needed before = grind (arith, has_more, has_last, leb-true, and_parts)
 
 -- what goes to the peer has all that is kept afterwards
-pub goes_covering : (kept : Unacknowledged) (packet : Option Carried) → IsCovering kept → (tic : ℕ)
+goes_covering : (kept : Unacknowledged) (packet : Option Carried) → IsCovering kept → (tic : ℕ)
     → kept.done ≤ tic → tic < (kept_after kept packet).covered → has_tic tic (going kept packet) ≡ true
 goes_covering kept None covers tic needed before = covers tic needed before
 goes_covering kept (Some packet) covers tic needed before = grind (arith, covers_more, has_more)

@@ -5,16 +5,27 @@ use Rattle.std.specs.Option.{option_map}
 use Rattle.std.proofs.lemmas.Bool.{and_parts, cases_eq, cond_both, eqb-true, lt-ltb, ltb-true, not-false, true≢false}
 use Rattle.std.proofs.lemmas.Option.{none-some, same_Some}
 use Rattle.dn_tic.specs.{declared.command.Move.Move, declared.input.Input.Input}
-use Rattle.dn_machine.specs.{declared.answers.Made.Made, declared.answers.Ran.Ran, declared.peer.Peer.Peer, Building.on_build, Flight.Flight, Limits.Limits, Node.put, Running.on_run, Running.on_quit, Sending.on_send}
+use Rattle.dn_machine.specs.declared.answers.Made.{Made}
+use Rattle.dn_machine.specs.declared.answers.Ran.{Ran}
+use Rattle.dn_machine.specs.declared.peer.Peer.{Peer}
+use Rattle.dn_machine.specs.Sending.{on_build, on_send}
+use Rattle.dn_machine.specs.Flight.{Flight}
+use Rattle.dn_machine.specs.Limits.{Limits}
+use Rattle.dn_machine.specs.Node.{put}
+use Rattle.dn_machine.specs.Running.{on_run, on_quit}
 use Rattle.dn_machine.specs.Node as machine
 use Rattle.dn_machine.proofs.Put.{put_at, put_off}
-use Rattle.dn_lockstep.specs.{Contents.Contents, Represents.Represents, Runs.RunsBy, Runs.marks_in, Sent.sent_to, Steps.Steps, Told.made}
-use Rattle.dn_lockstep.proofs.Counting.{made_is}
+use Rattle.dn_lockstep.specs.Contents.{Contents}
+use Rattle.dn_lockstep.specs.Represents.{Represents}
+use Rattle.dn_lockstep.specs.Steps.{RunsBy, marks_in, Steps}
+use Rattle.dn_lockstep.specs.Sent.{sent_to}
+use Rattle.dn_lockstep.specs.Told.{made}
+use Rattle.dn_lockstep.proofs.Shown.{made_is}
 use Rattle.dn_seal.specs.declared.seal.Seal.{Seal}
-use Rattle.dn_link.specs.{declared.bundle.Carried.Carried, declared.bundle.Identity.Identity, declared.presence.Presence.Presence, Giving.SendsCarried, Giving.carried_of, Hearing.ByTest, Onward.GoesOn, Onward.IsGone, Onward.IsInTime, Onward.StillGoesOn, Onward.next_to, Paced.PaceState, Presence.when_forgotten}
+use Rattle.dn_link.specs.{declared.bundle.Carried.Carried, declared.bundle.Identity.Identity, declared.presence.Presence.Presence, Hearing.SendsCarried, Hearing.carried_of, Hearing.ByTest, CaughtUp.GoesOn, CaughtUp.IsGone, CaughtUp.IsInTime, CaughtUp.StillGoesOn, CaughtUp.next_to, Pacing.PaceState, Presence.when_forgotten}
 use Rattle.dn_link.specs.Kept.{IsKeptRising, Reaches, Unacknowledged, commands_in, end_of, is_idle, kept_after, taken_by, takes_packet, with_packet}
 use Rattle.dn_link.specs.Linked.{Gives, Linked, PeerState, forgotten, holds_back, is_gathering, is_peer}
-use Rattle.dn_link.proofs.{Covered.reached, Outgoing.taken_given, Rising.few, Rising.news_rises}
+use Rattle.dn_link.proofs.{Covered.reached, Linking.taken_given, Covered.few, Covered.news_rises}
 use Rattle.dn_link.proofs.Sending.{Follows, Silent, resend_of, build_same, quit_same, run_same, send_same, sends}
 
 -- a packet that is kept, or is not

@@ -6,14 +6,21 @@ use Rattle.std.proofs.lemmas.Bool.{cond_both}
 use Rattle.dn_setup.specs.Settings.{Settings}
 use Rattle.dn_machine.specs.{Flight.Flight, Limits.Limits, Node.put}
 use Rattle.dn_machine.proofs.Put.{put_at}
-use Rattle.dn_lockstep.specs.{Contents.Contents, Marking.Marking, OneGame.AreOneGame, Represents.Represents, Sent.sent_to, Session.Session, Session.with_lockstep, Session.after_packet, Session.after_relays}
-use Rattle.dn_lockstep.specs.{Session.given_on, Near.IsFair, Steps.Tells, Told.command_told}
+use Rattle.dn_lockstep.specs.Contents.{Contents}
+use Rattle.dn_lockstep.specs.Marking.{Marking}
+use Rattle.dn_lockstep.specs.OneGame.{AreOneGame, Session, with_lockstep, after_packet, after_relays}
+use Rattle.dn_lockstep.specs.Represents.{Represents}
+use Rattle.dn_lockstep.specs.Sent.{sent_to}
+use Rattle.dn_lockstep.specs.OneGame.{given_on}
+use Rattle.dn_lockstep.specs.Sent.{IsFair}
+use Rattle.dn_lockstep.specs.Steps.{Tells}
+use Rattle.dn_lockstep.specs.Told.{command_told}
 use Rattle.dn_lockstep.proofs.OneGame.{GoesBetween, sent_between, gave, relays}
 use Rattle.dn_seal.specs.declared.seal.Seal.{Seal}
 use Rattle.dn_link.specs.{declared.bundle.Bundle.Bundle, declared.bundle.Carried.Carried, declared.bundle.Counts.Counts, declared.bundle.Identity.Identity, Counting.counts_of, Counting.has_ended, Counting.has_of}
-use Rattle.dn_link.specs.{Ends.tells_end, declared.presence.Presence.TheVariants.Left, Bundles.WasBundled, Hearing.ByTest, Kept.kept_after, Kept.taken_by, Giving.SendsCarried, Giving.carried_of, Linked.Linked}
-use Rattle.dn_link.specs.{Linked.Gives, Linked.PeerState, Linked.holds_back, Linked.is_gathering, LinkedGame.AreLinked, LinkedGame.IsLater, Paced.PaceState, Relays.AreHandedOn, Relays.Handed, Relays.flights_of}
-use Rattle.dn_link.proofs.{Lefts.counts_reach, Lefts.tells_own, Relays.gives_all, Growing.HasAsMuch, Growing.grows, Holding.Holds, Holding.holds_same, Holding.send_holds, Outgoing.goes_given, Outgoing.stays_kept}
+use Rattle.dn_link.specs.{Presence.tells_end, declared.presence.Presence.TheVariants.Left, LinkedGame.WasBundled, Hearing.ByTest, Kept.kept_after, Kept.taken_by, Hearing.SendsCarried, Hearing.carried_of, Linked.Linked}
+use Rattle.dn_link.specs.{Linked.Gives, Linked.PeerState, Linked.holds_back, Linked.is_gathering, LinkedGame.AreLinked, LinkedGame.IsLater, Pacing.PaceState, Relays.AreHandedOn, Relays.Handed, Relays.flights_of}
+use Rattle.dn_link.proofs.{Leaving.counts_reach, Leaving.tells_own, Handing.gives_all, Growing.HasAsMuch, Growing.grows, Growing.Holds, Growing.holds_same, Growing.send_holds, Linking.goes_given, Linking.stays_kept}
 use Rattle.dn_link.proofs.{Relinking.AreKept, Linking.at_most, Linking.same_reported, Linking.same_presence, Relinking.found_later, Relinking.found_on, Relinking.later_by, Relinking.relinked}
 use Rattle.dn_survivor.specs.declared.others.Others.{Others}
 use Rattle.dn_machine.specs.Node as machine

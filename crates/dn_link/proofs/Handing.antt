@@ -1,12 +1,23 @@
--- What a link may hand on, and to whom.
+-- What a link may hand on, and to whom; and the commands of third players that are handed on were given.
 use Rattle.std.proofs.Common.{◌≡◌, ◌<◌, ◌≤◌, ◌+◌, ◌||◌, ℕ, length, append_assoc, zero, suc, Bool, true, false, List, [], ◌∷◌, ◌++◌, append-nil, refl, ap, sym, subst, ◌∙◌, arith, Option, Some, None, inl, inr}
-use Rattle.std.specs.Prelude.{◌≢◌, ◌⊎◌, IfSome, map, not}
-use Rattle.std.proofs.lemmas.{List.Elements.All-nil, List.Elements.All-cons, Bool.and_parts, Bool.not-true}
-use Rattle.dn_lockstep.specs.{Contents.Contents}
-use Rattle.dn_survivor.specs.{declared.others.Others.Others, declared.report.Report.Report, OfOthers.Keeping.newest_of, Relaying.MayRelay, Relaying.told_gone}
-use Rattle.dn_link.specs.{declared.bundle.Part.Part, declared.bundle.Part.TheVariants.Relay, Relays.AreHandedOn, Relays.AreLacked, Relays.Handed, Relays.handed_part, Linked.Linked, Linked.has_given_up, Linked.surviving_of, Surviving.names, Surviving.reports_gone}
+use Rattle.std.proofs.Common.{◌≢◌, ◌*◌, ◌/◌, ◌%◌, ◌^◌, negsuc, map, All}
+use Rattle.std.specs.Prelude.{◌⊎◌, IfSome, not, slice_get}
+use Rattle.std.proofs.lemmas.{List.Elements.All-nil, List.Elements.All-cons, Bool.and_parts, Bool.not-true, List.length-append, Grind.flat_map-append, List.Elements.All-append}
+use Rattle.std.specs.List.{flat_map}
+use Rattle.std.proofs.Math.Nat.{mod-lt}
+use Rattle.dn_tic.specs.{Command.IsCommand, Command.command_bytes, declared.command.TicCmd.TicCmd}
+use Rattle.dn_machine.specs.{Flight.Flight, Relaying.packet_of_one}
+use Rattle.dn_lockstep.specs.Contents.{Contents}
+use Rattle.dn_lockstep.specs.Sent.{IsFair}
+use Rattle.dn_lockstep.specs.Told.{command_told}
+use Rattle.dn_lockstep.proofs.Keeping.{none_stops}
+use Rattle.dn_survivor.specs.{declared.others.Others.Others, declared.report.Report.Report, OfOthers.newest_of, Telling.MayRelay, Telling.told_gone}
+use Rattle.dn_open.specs.Sealed.{opened_of}
+use Rattle.dn_link.specs.{declared.bundle.Part.Part, declared.bundle.Part.TheVariants.Relay, Linked.Linked, Linked.has_given_up, Linked.surviving_of, Surviving.names, Surviving.reports_gone, LinkedGame.WasGiven}
+use Rattle.dn_link.specs.{Packets.opened_from, Packets.packets_of, Packets.short_packet, Packets.short_packets}
 use Rattle.dn_link.specs.declared.bundle.Relay as relay
-use Rattle.dn_link.specs.Handing.{HasBehind, HasTwoBehind, IsHandedFor, may_hand, shares_gone}
+use Rattle.dn_link.specs.Surviving.{HasBehind, HasTwoBehind, IsHandedFor, may_hand, shares_gone}
+use Rattle.dn_link.specs.Relays.{AreTold, AreHandedOn, AreLacked, Handed, handed_part, flights_of, run_flights}
 
 names_told : (report : Option Report) (player : ℕ) → names report player ≡ told_gone report player
 names_told None player = refl
@@ -127,3 +138,153 @@ at_most_two n to reported (a ∷ b ∷ c ∷ handed) here there apart on lacked 
     let never = third_of_four a.player b.player c.player to n.me lacked.4.0 lacked.4.4.0 on.1.1.0.small there here
     on.0.third on.1.0.third on.1.1.0.third on.0.other on.1.0.other on.1.1.0.other apart in
     absurd (omega (arith, never))
+
+-- The commands of third players that are handed on were given, and their packets are in the datagram.
+
+-- a packet of one command can be carried
+fair_one : (player to tic : ℕ) (command : TicCmd) → player < 4 → IsCommand command
+    → (command.forward ≢ negsuc 127) → IsFair (packet_of_one player to tic command)
+fair_one player to tic command small is no_stop = grind (arith, mod-lt, All-cons, All-nil, none_stops, negsuc)
+
+-- whatever is kept by each packet of a command that is told is kept by all
+module _ (n : Contents) (to : ℕ) (Game : List Flight → Type 0)
+    (one : (given : List Flight) (player tic : ℕ) (command : TicCmd) → Game given → player < n.players
+    → to < n.players → player ≢ to → command_told n player tic ≡ Some command → IsFair (packet_of_one player to tic command)
+    → Game (given ++ packet_of_one player to tic command ∷ [])) where
+  gives_run : (given : List Flight) (player start : ℕ) (commands : List TicCmd) → Game given → player < n.players
+      → to < n.players → player < 4 → player ≢ to → AreTold n player start commands → Game (given ++ run_flights player to start commands)
+  gives_run given player start [] game its there small apart told = subst Game (sym (append-nil given)) game
+  gives_run given player start (command ∷ commands) game its there small apart told =
+      subst Game (append_assoc given (packet_of_one player to start command ∷ [])
+      (run_flights player to (start + 1) commands)) (gives_run (given ++ packet_of_one player to start command
+      ∷ []) player (start + 1) commands (one given player start command game its there apart told.0
+      (fair_one player to start command small told.1 told.2)) its there small apart told.3)
+
+  pub gives_all : (given : List Flight) (handed : List Handed) → Game given → AreHandedOn n to handed
+      → Game (given ++ flights_of to handed)
+  gives_all given [] game all = subst Game (sym (append-nil given)) game
+  gives_all given (h ∷ handed) game all =
+      subst Game (append_assoc given (run_flights h.player to h.start h.commands) (flights_of to handed))
+      (gives_all (given ++ run_flights h.player to h.start h.commands) handed
+      (gives_run given h.player h.start h.commands game all.0.player all.0.there all.0.small all.0.third all.0.told) all.1)
+
+-- each of some packets is one of these
+abbrev Each : List Flight → List Flight → Type 0
+Each given [] = Unit {0}
+Each given (flight ∷ flights) = ((which : ℕ) × (slice_get given which ≡ Some flight)) × Each given flights
+
+found_at : {A : Type 0} (xs ys : List A) (x : A) → slice_get (xs ++ x ∷ ys) (length xs) ≡ Some x
+found_at [] ys x = refl
+found_at (z ∷ xs) ys x = found_at xs ys x
+
+each_here : (given flights : List Flight) → Each (given ++ flights) flights
+each_here given [] = tt
+each_here given (flight ∷ flights) = (
+  (length given, found_at given flights flight),
+  subst (λ (all : List Flight). Each all flights) (append_assoc given (flight ∷ []) flights)
+      (each_here (given ++ flight ∷ []) flights),
+)
+
+each_front : (given xs ys : List Flight) → Each given (xs ++ ys) → Each given xs
+each_front given [] ys all = tt
+each_front given (x ∷ xs) ys all = (all.0, each_front given xs ys all.1)
+
+each_back : (given xs ys : List Flight) → Each given (xs ++ ys) → Each given ys
+each_back given [] ys all = all
+each_back given (x ∷ xs) ys all = each_back given xs ys all.1
+
+none_more : (k : ℕ) → 0 + k ≡ k
+none_more k = omega arith
+
+-- the packet of one command, by its eight bytes
+one_is : (player to tic : ℕ) (command : TicCmd)
+    → opened_from player (short_packet player tic (command_bytes command)) ≡ opened_of (packet_of_one player to tic command)
+one_is player to tic command = grind (arith, none_more)
+
+run_given : (given : List Flight) (player to start : ℕ) (commands : List TicCmd) → start + length commands ≤ 2 ^ 32
+    → Each given (run_flights player to start commands)
+    → All (WasGiven given to) (short_packets (length commands) player start (flat_map command_bytes commands))
+run_given given player to start [] low each = All-nil (WasGiven given to)
+run_given given player to start (command ∷ commands) low each =
+    let rest : List ℕ = flat_map command_bytes commands in
+    All-cons (WasGiven given to) (opened_from player (short_packet player start (command_bytes command)))
+    (short_packets (length commands) player ((start + 1) % 2 ^ 32) rest)
+    (each.0.0, packet_of_one player to start command, each.0.1, refl, one_is player to start command)
+    (go commands refl (λ below. run_given given player to (start + 1) commands below each.1))
+  where
+    go : (more : List TicCmd) → more ≡ commands
+        → (start + 1 + length commands ≤ 2 ^ 32 → All (WasGiven given to) (short_packets (length commands) player
+        (start + 1) (flat_map command_bytes commands))) → All (WasGiven given to)
+        (short_packets (length commands) player ((start + 1) % 2 ^ 32) (flat_map command_bytes commands))
+    go [] e rest = subst (λ (cs : List TicCmd). All (WasGiven given to) (short_packets (length cs) player
+        ((start + 1) % 2 ^ 32) (flat_map command_bytes cs))) e (All-nil (WasGiven given to))
+    go (c ∷ more) e rest =
+        let long = ap (length {A = TicCmd}) e in
+        let next : start + 1 ≡ (start + 1) % 2 ^ 32 = omega (arith, low, long) in
+        subst (λ (k : ℕ). All (WasGiven given to) (short_packets (length commands) player k
+        (flat_map command_bytes commands))) next (rest (omega (arith, low)))
+
+pub length_commands : (commands : List TicCmd) → length (flat_map command_bytes commands) ≡ 8 * length commands
+length_commands [] = refl
+length_commands (command ∷ commands) = let rest = length_commands commands in omega (arith, rest)
+
+-- what the parts of a datagram stand for was given
+parts_given : (n : Contents) (given : List Flight) (from to : ℕ) (handed : List Handed) → AreHandedOn n to handed
+    → Each given (flights_of to handed)
+    → All (WasGiven given to) (flat_map (packets_of from) (map handed_part handed))
+parts_given n given from to [] all each = All-nil (WasGiven given to)
+parts_given n given from to (h ∷ handed) all each =
+    let long = length_commands h.commands in
+    let count : length (flat_map command_bytes h.commands) / 8 ≡ length h.commands = omega (arith, long) in
+    All-append (WasGiven given to) (packets_of from (handed_part h)) (flat_map (packets_of from) (map handed_part handed))
+    (subst (λ (k : ℕ). All (WasGiven given to) (short_packets k h.player h.start (flat_map command_bytes h.commands)))
+    (sym count) (run_given given h.player to h.start h.commands all.0.low
+    (each_front given (run_flights h.player to h.start h.commands) (flights_of to handed) each)))
+    (parts_given n given from to handed all.1
+    (each_back given (run_flights h.player to h.start h.commands) (flights_of to handed) each))
+
+pub all_given : (n : Contents) (given : List Flight) (from to : ℕ) (handed : List Handed) → AreHandedOn n to handed
+    → All (WasGiven (given ++ flights_of to handed) to) (flat_map (packets_of from) (map handed_part handed))
+all_given n given from to handed all =
+    parts_given n (given ++ flights_of to handed) from to handed all (each_here given (flights_of to handed))
+
+-- one command after another is told
+told_more : (n : Contents) (player start : ℕ) (commands : List TicCmd) (command : TicCmd)
+    → AreTold n player start commands → command_told n player (start + length commands) ≡ Some command
+    → IsCommand command → (command.forward ≢ negsuc 127) → AreTold n player start (commands ++ command ∷ [])
+told_more n player start [] command told here is no_stop = grind arith
+told_more n player start (c ∷ commands) command told here is no_stop =
+    let same : start + 1 + length commands ≡ start + length (c ∷ commands) = omega arith in (
+      told.0,
+      told.1,
+      told.2,
+      told_more n player (start + 1) commands command told.3 (ap (command_told n player) same ∙ here) is no_stop,
+    )
+
+bytes_more : (commands : List TicCmd) (command : TicCmd)
+    → flat_map command_bytes (commands ++ command ∷ []) ≡ flat_map command_bytes commands ++ command_bytes command
+bytes_more commands command = grind (arith, flat_map-append, append-nil)
+
+-- where the loop over the tics is
+pub record SoFar (n : Contents) (player start done : ℕ) (items : List ℕ) : Type 0 where
+  pub commands : List TicCmd
+  pub bytes : items ≡ flat_map command_bytes commands
+  pub told : AreTold n player start commands
+  pub many : length commands ≡ done
+  pub low : start + done ≤ 2 ^ 32
+
+pub so_goes_on : (n : Contents) (player start done : ℕ) (items new : List ℕ) (command : TicCmd)
+    → SoFar n player start done items → start + done < 2 ^ 32 → command_told n player (start + done) ≡ Some command
+    → IsCommand command → (command.forward ≢ negsuc 127) → new ≡ items ++ command_bytes command
+    → SoFar n player start (done + 1) new
+so_goes_on n player start done items new command so low here is no_stop adds =
+    let long = so.many in
+    record {
+      commands = so.commands ++ command ∷ [];
+      bytes = adds ∙ ap (λ (xs : List ℕ). xs ++ command_bytes command) so.bytes
+          ∙ sym (bytes_more so.commands command);
+      told = told_more n player start so.commands command so.told
+          (ap (λ (k : ℕ). command_told n player (start + k)) long ∙ here) is no_stop;
+      many = length-append so.commands (command ∷ []) ∙ ap (λ (k : ℕ). k + 1) long;
+      low = omega (arith, low);
+    }

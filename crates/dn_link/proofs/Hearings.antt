@@ -3,7 +3,7 @@ use Rattle.std.proofs.Common.{◌≡◌, ◌<◌, ◌≤◌, ◌+◌, ◌*◌, �
 use Rattle.std.proofs.lemmas.List.{length-drop}
 use Rattle.dn_lockstep.specs.Contents.{Contents, whose}
 use Rattle.dn_seal.specs.declared.opened.Opened.{Opened}
-use Rattle.dn_open.specs.{Arrivals.HearsOpened, Arrivals.SparesSealed, declared.arrived.Arrived.Arrived}
+use Rattle.dn_open.specs.{Arrivals.HearsOpened, Arrivals.SparesSealed, declared.hearing.Arrived.Arrived}
 use Rattle.dn_link.specs.declared.bundle.Run as run
 use Rattle.dn_link.specs.{declared.bundle.Part.TheVariants.Run, Hearing.ByTest, Hearing.HearsAll, Hearing.HearsUntil, Hearing.is_start, Packets.opened_from, Packets.packets_of, Packets.short_packet, Packets.short_packets}
 

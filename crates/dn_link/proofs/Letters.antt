@@ -7,12 +7,13 @@ use Rattle.dn_setup.specs.{Settings.Settings, declared.setup.SetupFault.SetupFau
 use Rattle.dn_machine.specs.{declared.answers.Heard.Heard, Flight.Flight, Flight.packet_of, Flight.is_close, Flight.is_request_close, Limits.Limits, Node.put}
 use Rattle.dn_machine.proofs.Put.{put_at}
 use Rattle.dn_lockstep.specs.{Contents.Contents, Hearing.HearsAny, Hearing.Spares, Marking.Marking, Received.received, Represents.Represents, Sent.bytes_of, Steps.IsAfter, Told.made}
-use Rattle.dn_lockstep.proofs.{Counting.made_is, Nearby.near_from_any, Nearby.told_by, Nearby.told_is}
-use Rattle.dn_survivor.specs.{declared.others.Others.Others, OfOthers.Keeping.has, OneGame.AreRemaining, Session.Session, Session.with_survivor, Surviving.Surviving, Surviving.has_given_up}
+use Rattle.dn_lockstep.proofs.Shown.{made_is}
+use Rattle.dn_lockstep.proofs.Receiving.{near_from_any, told_by, told_is}
+use Rattle.dn_survivor.specs.{declared.others.Others.Others, OfOthers.has, OneGame.AreRemaining, OneGame.Session, OneGame.with_survivor, Surviving.Surviving, Surviving.has_given_up}
 use Rattle.dn_seal.specs.declared.opened.Opened.{Opened}
-use Rattle.dn_open.specs.{Arrivals.HearsOpened, Arrivals.IsRead, Arrivals.SparesSealed, Arrivals.heard, Arrivals.on_opened, declared.arrived.Arrived.Arrived, Sealed.opened_of}
-use Rattle.dn_open.proofs.{Alikes.alike, Deliveries.near_if}
-use Rattle.dn_link.specs.Bundles.{WasGiven}
+use Rattle.dn_open.specs.{Arrivals.HearsOpened, Arrivals.IsRead, Arrivals.SparesSealed, Arrivals.heard, Arrivals.on_opened, declared.hearing.Arrived.Arrived, Sealed.opened_of}
+use Rattle.dn_open.proofs.{Sealables.alike, Deliveries.near_if}
+use Rattle.dn_link.specs.LinkedGame.{WasGiven}
 use Rattle.dn_link.proofs.Keeping.{KeepsOne, put_twice}
 use Rattle.dn_machine.specs.Node as machine
 use Rattle.dn_survivor.proofs.OneGame as one_game

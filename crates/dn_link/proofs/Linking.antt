@@ -1,16 +1,27 @@
 -- A link of one game, and what calls leave that keep what it knows of its peers.
-use Rattle.std.proofs.Common.{◌≡◌, ℕ, Bool, true, false, refl, ap, sym, ◌∙◌, inl, inr, ◌≤◌, List, arith, ◌<◌, subst}
-use Rattle.std.specs.Prelude.{if◌then◌else◌, max, slice_index, slice_get}
+use Rattle.std.proofs.Common.{◌≡◌, ℕ, Bool, true, false, refl, ap, sym, ◌∙◌, inl, inr, ◌≤◌, List, arith, ◌<◌, subst, [], ◌∷◌, Some, All, ◌++◌, Option, None}
+use Rattle.std.specs.Prelude.{if◌then◌else◌, max, slice_index, slice_get, map}
 use Rattle.std.proofs.lemmas.Bool.{cases_eq}
+use Rattle.std.proofs.lemmas.List.Elements.{All-nil, All-cons, All-head, All-tail, All-append}
+use Rattle.std.proofs.lemmas.Option.{same_Some, none-some}
+use Rattle.std.specs.List.{flat_map}
+use Rattle.std.proofs.lemmas.Grind.{flat_map-append}
+use Rattle.std.specs.Option.{option_map}
+use Rattle.dn_setup.specs.Settings.{Settings}
+use Rattle.dn_seal.specs.{declared.opened.Opened.Opened, declared.seal.Seal.Seal}
 use Rattle.dn_machine.specs.{Node.put, Flight.Flight, Limits.Limits}
 use Rattle.dn_machine.proofs.Put.{put_at, put_off}
-use Rattle.dn_link.specs.{declared.presence.Presence.Presence, declared.presence.Presence.TheVariants.Left, Linked.Linked, Linked.PeerState, Linked.forgotten, Linked.is_peer, Presence.when_forgotten}
-use Rattle.dn_link.specs.{Kept.Unacknowledged, Linked.larger, Counting.has_ended, LinkedGame.AreLinked, LinkedGame.IsLater}
-use Rattle.dn_link.proofs.{Lefts.given_up_left, Growing.HasAsMuch, Growing.as_much, Growing.grows, Holding.Holds, Relinking.AreGiven, Relinking.all_later, Relinking.later_by, Relinking.relinked}
-use Rattle.dn_lockstep.proofs.OneGame.{gave}
-use Rattle.dn_setup.specs.Settings.{Settings}
-use Rattle.dn_lockstep.specs.{Contents.Contents, Marking.Marking, OneGame.AreOneGame, Represents.Represents, Session.Session, Session.with_lockstep, Steps.Simulates}
 use Rattle.dn_machine.specs.Node as machine
+use Rattle.dn_lockstep.proofs.OneGame.{gave, GoesBetween}
+use Rattle.dn_lockstep.specs.{Contents.Contents, Marking.Marking, OneGame.AreOneGame, Represents.Represents, Steps.Simulates}
+use Rattle.dn_lockstep.specs.OneGame.{given_on, Session, with_lockstep}
+use Rattle.dn_open.specs.Sealed.{sealing_of}
+use Rattle.dn_link.specs.{declared.presence.Presence.Presence, declared.presence.Presence.TheVariants.Left, Linked.Linked, Linked.PeerState, Linked.forgotten, Linked.is_peer, Presence.when_forgotten}
+use Rattle.dn_link.specs.{Kept.Unacknowledged, Linked.larger, Counting.has_ended, LinkedGame.AreLinked, LinkedGame.IsLater, declared.bundle.Bundle.Bundle, LinkedGame.WasGiven, LinkedGame.WasBundled}
+use Rattle.dn_link.specs.{Packets.packets_in, Reading.IsDatagramOf, Text.IsBundle, Text.sealed_bytes, declared.bundle.Carried.Carried, declared.bundle.Identity.Identity, Hearing.carried_of, Kept.going}
+use Rattle.dn_link.specs.{Kept.taken_by, Linked.Gives, Pacing.PaceState, Packets.packets_of, Relays.flights_of, Relays.handed_part, declared.bundle.Part.Part, Packing.ArePacked}
+use Rattle.dn_link.proofs.{Leaving.given_up_left, Growing.HasAsMuch, Growing.as_much, Growing.grows, Growing.Holds, Relinking.AreGiven, Relinking.all_later, Relinking.later_by, Relinking.relinked}
+use Rattle.dn_link.proofs.{Wholes.its_bundle, Handing.all_given, Relinking.AreKept, Relinking.put_kept, Relinking.all_stay, Relinking.found_on, Relinking.keeps_given, Relinking.packs_given}
 
 -- What peers reported, and who they are, where other things are kept of them.
 
@@ -168,3 +179,93 @@ module _ (old : Linked) where
 
   pub forgets_others : (peer : ℕ) → (forgotten peer old).others ≡ old.others
   forgets_others peer = forgets_but_peers (λ (l : Linked). l.others) (λ peers. refl) peer
+
+-- What goes to a peer was given, and what is kept for it.
+
+-- What was sealed stays so, and has one bundle.
+
+-- two bundles of one text are one
+pub same_bundle : (seal : Seal) (bytes : List ℕ) (one other : Bundle) (player : ℕ)
+    → IsDatagramOf (sealing_of seal player) bytes one → IsBundle other → bytes ≡ sealed_bytes seal other
+    → other ≡ one
+same_bundle seal bytes one other player is fits spelled =
+    same_Some other one (sym (its_bundle (sealing_of seal other.to) bytes other (record {
+      game = is.game;
+      fits = fits;
+      short = is.short;
+      to = refl;
+      is = spelled;
+    })) ∙ its_bundle (sealing_of seal player) bytes one is)
+
+-- what was sealed stays so
+pub opened_later : (given later : List Flight) → ((which : ℕ) (flight : Flight) → slice_get given which ≡ Some flight
+    → slice_get later which ≡ Some flight) → (to : ℕ) (packets : List Opened)
+    → All (WasGiven given to) packets → All (WasGiven later to) packets
+opened_later given later stay to [] all = All-nil (WasGiven later to)
+opened_later given later stay to (packet ∷ packets) all =
+    let was = All-head (WasGiven given to) packet packets all in
+    All-cons (WasGiven later to) packet packets (was.0, was.1, stay was.0 was.1 was.2, was.3, was.4)
+    (opened_later given later stay to packets (All-tail (WasGiven given to) packet packets all))
+
+pub bundled_on : (seal : Seal) (session later : Session) (bytes : List ℕ) → IsLater session later
+    → WasBundled seal session bytes → WasBundled seal later bytes
+bundled_on seal session later bytes is was = (
+  was.0,
+  was.1,
+  was.2,
+  opened_later session.given later.given is.given was.0.to (packets_in was.0) was.3,
+  record {
+    got = λ which apart. at_most refl (was.4.got which apart) (is.got was.0.from which apart);
+    end = λ tells. is.ended was.0.from (was.4.end tells);
+  },
+)
+
+-- what a peer takes was given
+pub taken_given : (presence : Presence) (given : Option Carried) (carried : Carried)
+    → taken_by presence given ≡ Some carried → Some carried ≡ given
+taken_given presence None carried is = absurd (none-some carried is)
+taken_given presence (Some packet) carried is = grind (arith, none-some)
+
+module _ (given : List Flight) (flight : Option Flight) (player : ℕ) (old new : Linked)
+    (own : old.node.me ≡ player) (seal : Seal) (identity : Identity) (pace : PaceState) (to : ℕ) (bytes : List ℕ)
+    (gives : Gives seal identity pace to old new bytes) (between : GoesBetween player to flight)
+    (answer : gives.given ≡ option_map carried_of flight) (all : AreKept given player old.peers) where
+  abbrev taken : Option Carried
+  taken = taken_by (old.peers to).presence gives.given
+
+  is_given : (carried : Carried) → taken ≡ Some carried → Some carried ≡ option_map carried_of flight
+  is_given carried is = taken_given (old.peers to).presence gives.given carried is ∙ answer
+
+  own_given : All (WasGiven (given_on given flight) to) (flat_map (packets_of player) gives.own)
+  own_given = packs_given given flight player to (old.peers to).kept taken between is_given (all to) gives.own
+      (subst (λ (k : ℕ). ArePacked k (going (old.peers to).kept taken) gives.own) own gives.packed)
+
+  -- what was given before was given with what is handed on
+  pub with_handed : (which : ℕ) (one : Flight) → slice_get (given_on given flight) which ≡ Some one
+      → slice_get (given_on given flight ++ flights_of to gives.handed) which ≡ Some one
+  with_handed which one found = found_on (given_on given flight) (flights_of to gives.handed) which one found
+
+  pub goes_given : All (WasGiven (given_on given flight ++ flights_of to gives.handed) gives.bundle.to)
+      (packets_in gives.bundle)
+  goes_given =
+      let P = WasGiven (given_on given flight ++ flights_of to gives.handed) to in
+      let both = All-append P (flat_map (packets_of player) gives.own)
+      (flat_map (packets_of player) (map handed_part gives.handed))
+      (opened_later (given_on given flight) (given_on given flight ++ flights_of to gives.handed) with_handed to
+      (flat_map (packets_of player) gives.own) own_given)
+      (all_given new.node (given_on given flight) player to gives.handed gives.handed_on) in
+      let whole = subst (All P) (sym (flat_map-append (packets_of player) gives.own (map handed_part gives.handed))) both in
+      let spelled = subst (λ (parts : List Part). All P (flat_map (packets_of player) parts)) (sym gives.parts) whole in
+      subst (λ (k : ℕ). All (WasGiven (given_on given flight ++ flights_of to gives.handed) k) (packets_in gives.bundle))
+      (sym gives.goes)
+      (subst (λ (k : ℕ). All P (flat_map (packets_of k) gives.bundle.parts.items)) (sym (gives.from ∙ own)) spelled)
+
+  own_kept : AreKept (given_on given flight) player new.peers
+  own_kept = subst (λ (f : ℕ → PeerState). AreKept (given_on given flight) player f) (sym gives.peers)
+      (put_kept (given_on given flight) player old.peers to _
+      (λ peer. all_stay given flight player peer (old.peers peer).kept.packets (all peer))
+      (keeps_given given flight player to (old.peers to).kept taken between is_given (all to)))
+
+  pub stays_kept : AreKept (given_on given flight ++ flights_of to gives.handed) player new.peers
+  stays_kept peer = all_later (given_on given flight) (given_on given flight ++ flights_of to gives.handed) with_handed
+      player peer (new.peers peer).kept.packets (own_kept peer)

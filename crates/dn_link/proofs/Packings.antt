@@ -1,4 +1,4 @@
--- Packets are written as parts, one after the other.
+-- Packets are written as parts, one after the other, and as no more than they need.
 use Rattle.std.proofs.Common.{◌≡◌, ◌<◌, ◌≤◌, ◌+◌, ◌^◌, ℕ, List, [], ◌∷◌, ◌++◌, length, refl, ap, sym, ◌∙◌, subst, arith, All, append-nil, ◌*◌, inl, inr, ◌/◌, ◌%◌, zero, suc, map, take, drop, append_assoc}
 use Rattle.std.specs.Int.{w32, to_le_bytes}
 use Rattle.std.specs.List.{flat_map}
@@ -7,20 +7,127 @@ use Rattle.std.proofs.lemmas.List.{length-append, length-drop, map-append, take-
 use Rattle.std.proofs.lemmas.List.Elements.{All-nil, All-cons, All-append}
 use Rattle.std.proofs.lemmas.Bool.{cases_lt}
 use Rattle.std.proofs.Math.Seq.{take-append_seam}
+use Rattle.std.proofs.lemmas.{Bool.lt-ltb, Bool.le-ltb}
 use Rattle.arrayvec.specs.ArrayVec.{ArrayVec}
-use Rattle.dn_link.specs.{declared.bundle.Part.Part, declared.bundle.Part.TheVariants.Run, declared.packing.Packing.Packing, OpenPacking.IsPacking, Text.IsPart, Text.part_bytes, Text.parts_bytes, OpenPacking.IsOpen}
-use Rattle.dn_link.specs.{OpenPacking.part_of, Packing.runs, Packing.runs_last, declared.bundle.Carried.Carried, Packets.opened_from, Packets.packets_of, Packets.short_packet, Packets.short_packets, Packing.ArePacked}
-use Rattle.dn_link.specs.{OpenPacking.packed, OpenPacking.IsTight}
-use Rattle.dn_link.proofs.Tight.{is_part, is_none, IsClosed, closed}
 use Rattle.dn_seal.specs.declared.opened.Opened.{Opened}
+use Rattle.dn_link.specs.{declared.bundle.Part.Part, declared.bundle.Part.TheVariants.Run, declared.packing.Packing.Packing, Text.IsPart, Text.part_bytes, Text.parts_bytes, Packing.runs, Packing.runs_last}
+use Rattle.dn_link.specs.{declared.bundle.Carried.Carried, Packets.opened_from, Packets.packets_of, Packets.short_packet, Packets.short_packets, Packing.ArePacked, declared.bundle.Part.TheVariants.Whole}
+use Rattle.dn_link.specs.{declared.bundle.Part.TheVariants.Relay, Packing.AreEnded, Packing.IsEnded, Packing.IsNeeded}
 use Rattle.dn_link.specs.declared.bundle.Run as run
+use Rattle.dn_link.specs.Packing.{MayFollow, IsPacking, IsOpen, part_of, packed, IsTight}
+
+-- Packets are written as no more parts than they need.
+
+-- with one more part behind the last
+more_ended : (parts : List Part) (one other : Part) → AreEnded (parts ++ one ∷ []) → IsEnded one other
+    → AreEnded ((parts ++ one ∷ []) ++ other ∷ [])
+more_ended [] one other all is = (is, tt)
+more_ended (a ∷ []) one other all is = (all.0, (is, tt))
+more_ended (a ∷ b ∷ parts) one other all is = (all.0, more_ended (b ∷ parts) one other all.1 is)
+
+-- without the last
+front_ended : (parts : List Part) (one : Part) → AreEnded (parts ++ one ∷ []) → AreEnded parts
+front_ended [] one all = tt
+front_ended (a ∷ []) one all = tt
+front_ended (a ∷ b ∷ parts) one all = (all.0, front_ended (b ∷ parts) one all.1)
+
+before_whole : (one : Part) (packet : Carried) → IsEnded one (Whole packet)
+before_whole (Whole other) packet = tt
+before_whole (Run run) packet = tt
+before_whole (Relay relay) packet = tt
+
+whole_ended : (parts : List Part) (packet : Carried) → AreEnded parts → AreEnded (parts ++ Whole packet ∷ [])
+whole_ended [] packet all = tt
+whole_ended (a ∷ []) packet all = (before_whole a packet, tt)
+whole_ended (a ∷ b ∷ parts) packet all = (all.0, whole_ended (b ∷ parts) packet all.1)
+
+-- an open run is a part where it has commands
+is_part : (r : run.Run) → 0 < length r.commands.items → part_of r ≡ Run r ∷ []
+is_part r some = let on = lt-ltb 0 (length r.commands.items) some in rw on refl
+
+is_none : (r : run.Run) → length r.commands.items ≤ 0 → part_of r ≡ []
+is_none r none = let off = le-ltb 0 (length r.commands.items) none in rw off refl
+
+-- a run of no commands
+abbrev empty : ℕ → run.Run
+empty start = record { start = start; commands = record { items = [] } }
+
+-- what is written, with the open run as its last part
+pub record IsClosed (from : ℕ) (parts : List Part) : Type 0 where
+  pub needed : All (IsNeeded from) parts
+  pub ended : AreEnded parts
+
+closed : (from : ℕ) (p : Packing) → IsTight from p → IsClosed from (p.parts.items ++ part_of p.run)
+closed from p tight = elim (cases_lt 0 (length p.run.commands.items)) [
+  | inl some ↦ let at = tight p.run.start (λ more. refl) in
+      subst (λ (last : List Part). IsClosed from (p.parts.items ++ last)) (sym (is_part p.run some)) (record {
+        needed = All-append (IsNeeded from) p.parts.items (Run p.run ∷ []) at.needed
+            (All-cons (IsNeeded from) (Run p.run) [] tt (All-nil (IsNeeded from)));
+        ended = at.ended p.run refl;
+      })
+  | inr none ↦ let at = tight 0 (λ some. absurd (omega (arith, none, some))) in
+      subst (λ (last : List Part). IsClosed from (p.parts.items ++ last)) (sym (is_none p.run none))
+      (subst (IsClosed from) (sym (append-nil p.parts.items)) (record {
+        needed = at.needed;
+        ended = front_ended p.parts.items (Run (empty 0)) (at.ended (empty 0) refl);
+      }))
+]
+
+-- the run is ended, since it is full, or the next one does not go on where it ends
+pub ended_for : (from : ℕ) (p : Packing) (parts : List Part) (start first : ℕ) → IsPacking p → IsTight from p
+    → parts ≡ p.parts.items ++ part_of p.run → first ≡ start
+    → ((p.run.start + length p.run.commands.items / 8) % 2 ^ 32 ≡ start → length p.run.commands.items / 8 ≡ 24)
+    → MayFollow from parts first
+ended_for from p parts start first is tight now same full =
+    record {
+      needed = subst (All (IsNeeded from)) (sym now) (closed from p tight).needed;
+      ended = λ next begins. subst (λ (ps : List Part). AreEnded (ps ++ Run next ∷ [])) (sym now)
+          (go next (begins ∙ same));
+    }
+  where
+    go : (next : run.Run) → next.start ≡ start → AreEnded ((p.parts.items ++ part_of p.run) ++ Run next ∷ [])
+    go next begins = elim (cases_lt 0 (length p.run.commands.items)) [
+      | inl some ↦
+          let at = tight p.run.start (λ more. refl) in
+          let whole = is.run.whole in
+          subst (λ (last : List Part). AreEnded ((p.parts.items ++ last) ++ Run next ∷ [])) (sym (is_part p.run some))
+          (more_ended p.parts.items (Run p.run) (Run next) (at.ended p.run refl)
+          (λ goes. let count = full (goes ∙ begins) in omega (arith, count, whole)))
+      | inr none ↦
+          let at = tight next.start (λ some. absurd (omega (arith, none, some))) in
+          subst (λ (last : List Part). AreEnded ((p.parts.items ++ last) ++ Run next ∷ [])) (sym (is_none p.run none))
+          (subst (λ (ps : List Part). AreEnded (ps ++ Run next ∷ [])) (sym (append-nil p.parts.items))
+          (at.ended next refl))
+    ]
+
+-- the run has one more command
+pub run_tight : (from : ℕ) (p q : Packing) → MayFollow from p.parts.items p.run.start → q.parts ≡ p.parts
+    → q.run.start ≡ p.run.start → 1 ≤ length q.run.commands.items → IsTight from q
+run_tight from p q may parts begin some start at =
+    subst (MayFollow from q.parts.items) (sym (at some ∙ begin))
+    (subst (λ (ps : ArrayVec Part). MayFollow from ps.items p.run.start) (sym parts) may)
+
+-- a packet stands whole, behind the run
+pub whole_tight : (from : ℕ) (p q : Packing) (packet : Carried) → IsTight from p → IsNeeded from (Whole packet)
+    → q.parts.items ≡ (p.parts.items ++ part_of p.run) ++ Whole packet ∷ [] → IsTight from q
+whole_tight from p q packet tight needed now start at =
+    let before = closed from p tight in
+    let all : List Part = p.parts.items ++ part_of p.run in
+    record {
+      needed = subst (All (IsNeeded from)) (sym now) (All-append (IsNeeded from) all (Whole packet ∷ []) before.needed
+          (All-cons (IsNeeded from) (Whole packet) [] needed (All-nil (IsNeeded from))));
+      ended = λ next begins. subst (λ (ps : List Part). AreEnded (ps ++ Run next ∷ [])) (sym now)
+          (more_ended all (Whole packet) (Run next) (whole_ended all packet before.ended) tt);
+    }
+
+-- Packets one after the other.
 
 -- The last of the parts, and the bytes that are left behind it.
 
 -- Parts that are written fit.
 
 -- parts with one more
-pub pushed_bytes : (parts : List Part) (part : Part)
+pushed_bytes : (parts : List Part) (part : Part)
     → length (parts_bytes (parts ++ part ∷ [])) ≡ length (parts_bytes parts) + length (part_bytes part)
 pushed_bytes parts part =
     let split = ap (length {A = ℕ}) (flat_map-append part_bytes parts (part ∷ [])) in
@@ -28,11 +135,11 @@ pushed_bytes parts part =
     let one = ap (length {A = ℕ}) (append-nil (part_bytes part)) in
     omega (arith, split, both, one)
 
-pub pushed_all : (parts : List Part) (part : Part) → All IsPart parts → IsPart part → All IsPart (parts ++ part ∷ [])
+pushed_all : (parts : List Part) (part : Part) → All IsPart parts → IsPart part → All IsPart (parts ++ part ∷ [])
 pushed_all parts part all is =
     All-append IsPart parts (part ∷ []) all (All-cons IsPart part [] is (All-nil IsPart))
 
-pub run_length : (r : run.Run) → length (part_bytes (Run r)) ≡ 5 + length r.commands.items
+run_length : (r : run.Run) → length (part_bytes (Run r)) ≡ 5 + length r.commands.items
 run_length r =
     let four : length (to_le_bytes w32 r.start) ≡ 4 = refl in
     omega (arith, length-append (to_le_bytes w32 r.start) r.commands.items, four)
@@ -62,7 +169,7 @@ ended p q is few some parts bytes start none =
       run_fits = λ more. absurd (omega (arith, more, empty));
     }
 
-pub run_fits : (p q : Packing) (command : List ℕ) → IsPacking p → length command ≡ 8
+run_fits : (p q : Packing) (command : List ℕ) → IsPacking p → length command ≡ 8
     → length p.run.commands.items ≤ 184 → p.bytes + 5 + length p.run.commands.items + 8 ≤ 1118
     → q.parts ≡ p.parts → q.bytes ≡ p.bytes → q.run.start ≡ p.run.start
     → q.run.commands.items ≡ p.run.commands.items ++ command → IsPacking q
@@ -90,7 +197,7 @@ last_of (a ∷ []) part = refl
 last_of (a ∷ b ∷ parts) part = last_of (b ∷ parts) part
 
 -- where a run may have been ended, and there was no room for another packet
-pub ended_full : (p : Packing) (parts : List Part) → IsPacking p → IsOpen p
+ended_full : (p : Packing) (parts : List Part) → IsPacking p → IsOpen p
     → parts ≡ p.parts.items ++ part_of p.run
     → (length p.parts.items < 22 → 1118 < p.bytes + 5 + length p.run.commands.items + 115)
     → length parts < 22 + runs_last parts → 1118 + 5 * runs_last parts < length (parts_bytes parts) + (5 + 115)
@@ -120,7 +227,7 @@ take_all xs eight =
     ap (λ (k : ℕ). take k xs) (sym eight) ∙ ap (take (length xs)) (sym (append-nil xs)) ∙ take-append_seam xs []
 
 -- a run with one more command
-pub longer : (n from start : ℕ) (commands command : List ℕ) → start < 2 ^ 32 → length commands ≡ 8 * n
+longer : (n from start : ℕ) (commands command : List ℕ) → start < 2 ^ 32 → length commands ≡ 8 * n
     → length command ≡ 8 → short_packets (suc n) from start (commands ++ command)
     ≡ short_packets n from start commands ++ opened_from from (short_packet from ((start + n) % 2 ^ 32) command) ∷ []
 longer zero from start [] command small none eight =

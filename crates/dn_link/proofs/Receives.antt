@@ -5,16 +5,18 @@ use Rattle.std.proofs.lemmas.Bool.{cases_eq}
 use Rattle.dn_setup.specs.Settings.{Settings}
 use Rattle.dn_machine.specs.{Limits.Limits, Node.put}
 use Rattle.dn_machine.proofs.Put.{put_at, put_off}
-use Rattle.dn_lockstep.specs.{Contents.Contents, Marking.Marking, OneGame.AreOneGame, Session.Session, Session.with_lockstep}
+use Rattle.dn_lockstep.specs.Contents.{Contents}
+use Rattle.dn_lockstep.specs.Marking.{Marking}
+use Rattle.dn_lockstep.specs.OneGame.{AreOneGame, Session, with_lockstep}
 use Rattle.dn_seal.specs.declared.seal.Seal.{Seal}
 use Rattle.dn_open.specs.Sealed.{sealing_of}
 use Rattle.dn_link.specs.{declared.bundle.Bundle.Bundle, declared.bundle.BundleFault.BundleFault, declared.bundle.Identity.Identity, declared.presence.Presence.Presence, Counting.has_ended, Counting.has_of}
 use Rattle.dn_link.specs.{Counting.held_of, declared.presence.Presence.TheVariants.Left, declared.received.Received.Received, declared.received.Received.TheVariants.GivenUp}
-use Rattle.dn_link.specs.{declared.received.Received.TheVariants.Stranger, Bundles.HasReached, Bundles.WasGiven, Bundles.IsGenuineDatagram, Hearing.ByTest, Hearing.HearsAll, LinkedGame.AreLinked, LinkedGame.IsLater}
-use Rattle.dn_link.specs.{Paced.PaceState, Packets.heard_in, Packets.packets_in, Reading.IsBundledAs, Linked.IsTakenIn, Linked.Linked, Linked.Receives, Linked.ReceivesAs, Linked.TakesIn, Linked.PeerState}
+use Rattle.dn_link.specs.{declared.received.Received.TheVariants.Stranger, LinkedGame.HasReached, LinkedGame.WasGiven, LinkedGame.IsGenuineDatagram, Hearing.ByTest, Hearing.HearsAll, LinkedGame.AreLinked, LinkedGame.IsLater}
+use Rattle.dn_link.specs.{Pacing.PaceState, Packets.heard_in, Packets.packets_in, Reading.IsBundledAs, Linked.IsTakenIn, Linked.Linked, Linked.Receives, Linked.ReceivesAs, Linked.TakesIn, Linked.PeerState}
 use Rattle.dn_link.specs.{Linked.has_given_up, Linked.hears, Linked.is_peer, Linked.known_by, Linked.met, Linked.takes}
-use Rattle.dn_link.proofs.{Lefts.becomes_left, Lefts.parts_heard, Keeping.LettersKeep, Keeping.all_keeps, Growing.HasAsMuch, Growing.all_grows, Relinking.AreKept, Relinking.met_kept, Relinking.reached_kept}
-use Rattle.dn_link.proofs.{Relinking.later_by, Relinking.relinked, Linking.at_most, Linking.larger_most, Outgoing.same_bundle}
+use Rattle.dn_link.proofs.{Leaving.becomes_left, Leaving.parts_heard, Keeping.LettersKeep, Keeping.all_keeps, Growing.HasAsMuch, Growing.all_grows, Relinking.AreKept, Relinking.met_kept, Relinking.reached_kept}
+use Rattle.dn_link.proofs.{Relinking.later_by, Relinking.relinked, Linking.at_most, Linking.larger_most, Linking.same_bundle}
 use Rattle.dn_survivor.specs.declared.others.Others.{Others}
 use Rattle.dn_link.proofs.Linking as base
 

@@ -8,10 +8,12 @@ use Rattle.std.proofs.lemmas.Option.{none-some, same_Some}
 use Rattle.dn_machine.specs.{Flight.Flight, Node.put, Limits.Limits}
 use Rattle.dn_remain.proofs.Vanished.Put.{at_put, at_both}
 use Rattle.dn_link.specs.{declared.bundle.Bundle.Bundle, declared.presence.Presence.Presence, Counting.reached, Linked.Linked, Linked.PeerState, Linked.known_by, Linked.met, Linked.with_reached, Linked.IsWhole}
-use Rattle.dn_link.specs.{declared.bundle.Part.Part, declared.bundle.Carried.Carried, Bundles.WasGiven, Giving.carried_of, Kept.Unacknowledged, Kept.going, Kept.is_news, Kept.kept_after, Kept.without, Kept.end_of}
+use Rattle.dn_link.specs.{declared.bundle.Part.Part, declared.bundle.Carried.Carried, LinkedGame.WasGiven, Hearing.carried_of, Kept.Unacknowledged, Kept.going, Kept.is_news, Kept.kept_after, Kept.without, Kept.end_of}
 use Rattle.dn_link.specs.{Counting.has_ended, Counting.has_of, declared.presence.Presence.TheVariants.Left, LinkedGame.AreLinked, LinkedGame.IsLater, Packets.opened_from, Packets.packets_of, Packing.ArePacked}
-use Rattle.dn_lockstep.specs.{Contents.Contents, Marking.Marking, OneGame.AreOneGame, Session.Session, Session.given_on}
-use Rattle.dn_survivor.specs.{OfOthers.Keeping.has, OfOthers.Keeping.nothing_kept, declared.others.Others.Others}
+use Rattle.dn_lockstep.specs.Contents.{Contents}
+use Rattle.dn_lockstep.specs.Marking.{Marking}
+use Rattle.dn_lockstep.specs.OneGame.{AreOneGame, Session, given_on}
+use Rattle.dn_survivor.specs.{OfOthers.has, OfOthers.nothing_kept, declared.others.Others.Others}
 use Rattle.dn_setup.specs.Settings.{Settings}
 use Rattle.dn_lockstep.proofs.OneGame.{GoesBetween}
 use Rattle.dn_seal.specs.declared.opened.Opened.{Opened}

@@ -1,18 +1,53 @@
 -- The links of one game in which players may be given up stay so.
-use Rattle.std.proofs.Common.{◌≡◌, ◌<◌, ℕ, ℤ, pos, Bool, true, false, List, get_or, refl, ap, sym, ◌∙◌, subst, Option, Some, inl, inr}
+use Rattle.std.proofs.Common.{◌≡◌, ◌<◌, ℕ, ℤ, pos, Bool, true, false, List, get_or, refl, ap, sym, ◌∙◌, subst, Option, Some, inl, inr, None}
 use Rattle.std.specs.Prelude.{slice_get}
 use Rattle.std.proofs.lemmas.Bool.{cases_eq}
 use Rattle.dn_tic.specs.{declared.command.Move.Move, declared.input.Input.Input}
-use Rattle.dn_survivor.specs.{declared.report.Report.Report, Calls.GivesUp, Calls.HearsReport, OneGame.AreRemaining, Surviving.Surviving, Surviving.has_given_up, Telling.report_for, declared.answers.GivenUp.GivenUp}
-use Rattle.dn_survivor.specs.{declared.answers.Reported.Reported, Session.Given, Session.Session, Session.after_build, Session.after_report, Session.after_run, Session.with_survivor}
 use Rattle.dn_setup.specs.Settings.{Settings}
-use Rattle.dn_machine.specs.{declared.answers.Made.Made, declared.answers.Ran.Ran, Building.on_build, Flight.Flight, Limits.Limits, Node.put, Running.is_over, Running.on_quit, Running.on_run_but}
+use Rattle.dn_machine.specs.declared.answers.Made.{Made}
+use Rattle.dn_machine.specs.declared.answers.Ran.{Ran}
+use Rattle.dn_machine.specs.Sending.{on_build}
+use Rattle.dn_machine.specs.Flight.{Flight}
+use Rattle.dn_machine.specs.Limits.{Limits}
+use Rattle.dn_machine.specs.Node.{put}
+use Rattle.dn_machine.specs.Running.{is_over, on_quit, on_run_but}
 use Rattle.dn_machine.proofs.Put.{put_at, put_off}
-use Rattle.dn_lockstep.specs.{Contents.end_in, Marking.Marking, OneGame.world_told, Runs.RunsBy, Steps.Steps}
+use Rattle.dn_lockstep.specs.Contents.{end_in}
+use Rattle.dn_lockstep.specs.Marking.{Marking}
+use Rattle.dn_lockstep.specs.OneGame.{world_told}
+use Rattle.dn_lockstep.specs.Steps.{RunsBy, Steps}
+use Rattle.dn_survivor.specs.{declared.report.Report.Report, Calls.GivesUp, Calls.HearsReport, OneGame.AreRemaining, Surviving.Surviving, Surviving.has_given_up, Telling.report_for}
+use Rattle.dn_survivor.specs.{declared.answers.GivenUp.GivenUp, declared.answers.Reported.Reported, OneGame.Given, OneGame.Session, OneGame.after_build, OneGame.after_report, OneGame.after_run}
+use Rattle.dn_survivor.specs.{OneGame.with_survivor, declared.others.Others.Others, Calls.GivesUpUnless, Calls.HearsReportUnless, Calls.refused_give_up, Calls.refused_report}
+use Rattle.dn_survivor.proofs.OneGame as one_game
 use Rattle.dn_link.specs.{Kept.Unacknowledged, Linked.Linked, Linked.PeerState, Linked.forgotten, Linked.surviving_of, RemainingLinks.AreRemainingLinks, RemainingLinks.KeepsGiven, Surviving.GivesUpPeer}
 use Rattle.dn_link.specs.{Surviving.forgotten_if, Surviving.is_given_up}
-use Rattle.dn_link.proofs.{Linking.forgets, Linking.forgets_node, Linking.forgets_others, Relinking.AreKept, Noticed.reports_stay, Relinking.AreGiven, Relinking.all_later, Relinking.all_put}
-use Rattle.dn_survivor.proofs.OneGame as one_game
+use Rattle.dn_link.proofs.{Linking.forgets, Linking.forgets_node, Linking.forgets_others, Relinking.AreKept, SealedReports.reports_stay, Relinking.AreGiven, Relinking.all_later, Relinking.all_put}
+
+-- Whose a survivor is stays.
+
+-- and whom it has given up, where it hears a report
+pub hears_same : (from : ℕ) (report : Report) (old new : Surviving) (answer : Reported)
+    → HearsReport from report old new answer
+    → (new.lockstep.me ≡ old.lockstep.me) × (new.others.gone ≡ old.others.gone)
+hears_same from report old new answer hears = go (refused_report old from report) hears
+  where
+    go : (refused : Option Reported) → HearsReportUnless refused from report old new answer
+        → (new.lockstep.me ≡ old.lockstep.me) × (new.others.gone ≡ old.others.gone)
+    go (Some reason) stays =
+        (ap (λ (n : Surviving). n.lockstep.me) stays.1, ap (λ (n : Surviving). n.others.gone) stays.1)
+    go None steps = (ap (λ w. w.me) steps.1.same, ap (λ (o : Others). o.gone) steps.0)
+
+pub gives_up_own : (player : ℕ) (old new : Surviving) (answer : GivenUp)
+    → GivesUp player old new answer → new.lockstep.me ≡ old.lockstep.me
+gives_up_own player old new answer gives = go (refused_give_up old player) gives
+  where
+    go : (refused : Option GivenUp) → GivesUpUnless refused player old new answer
+        → new.lockstep.me ≡ old.lockstep.me
+    go (Some reason) stays = ap (λ (n : Surviving). n.lockstep.me) stays.1
+    go None steps = ap (λ w. w.me) steps.1.same
+
+-- The calls.
 
 -- what was given is where no more was
 pub nothing_given : (session later : Session) → later.packets ≡ session.packets → later.reports ≡ session.reports

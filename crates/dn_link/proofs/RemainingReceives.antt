@@ -1,20 +1,20 @@
 -- What a link takes in, within one game in which players may be given up.
 use Rattle.std.proofs.Common.{◌≡◌, ◌<◌, ℕ, Bool, true, false, List, refl, ap, sym, ◌∙◌, subst, arith, All, Some, inl, inr}
 use Rattle.std.specs.Prelude.{◌&&◌, not, Result, Ok, Err}
-use Rattle.dn_survivor.specs.{declared.report.Report.Report, declared.others.Others.Others, OfOthers.Keeping.has, OneGame.AreRemaining, Session.Given, Session.Session, Session.with_survivor}
+use Rattle.dn_survivor.specs.{declared.report.Report.Report, declared.others.Others.Others, OfOthers.has, OneGame.AreRemaining, OneGame.Given, OneGame.Session, OneGame.with_survivor}
 use Rattle.dn_setup.specs.Settings.{Settings}
 use Rattle.dn_machine.specs.{Limits.Limits, Node.put}
 use Rattle.dn_lockstep.specs.{Contents.Contents, Marking.Marking}
 use Rattle.dn_seal.specs.declared.seal.Seal.{Seal}
-use Rattle.dn_link.specs.{declared.notice.fault.ReportDatagramFault.ReportDatagramFault, SealedReports.Opening.IsOpenedAs, declared.bundle.Bundle.Bundle, declared.bundle.BundleFault.BundleFault}
+use Rattle.dn_link.specs.{declared.notice.ReportDatagramFault.ReportDatagramFault, SealedReports.IsOpenedAs, declared.bundle.Bundle.Bundle, declared.bundle.BundleFault.BundleFault}
 use Rattle.dn_link.specs.{declared.bundle.Identity.Identity, declared.presence.Presence.Presence, declared.received.Received.Received, declared.received.Received.TheVariants.GivenUp}
-use Rattle.dn_link.specs.{declared.received.Received.TheVariants.Stranger, Bundles.WasGiven, Counting.held_of, Hearing.ByTest, Hearing.HearsAll, Notices.HearsNotice, Notices.HearsNoticeAs, Notices.is_notice}
-use Rattle.dn_link.specs.{Paced.PaceState, Packets.heard_in, Packets.packets_in, Reading.IsBundledAs, Reading.IsDatagramOf, RemainingLinks.AreRemainingLinks, RemainingLinks.CarriesGiven, RemainingLinks.IsGenuineIn}
+use Rattle.dn_link.specs.{declared.received.Received.TheVariants.Stranger, LinkedGame.WasGiven, Counting.held_of, Hearing.ByTest, Hearing.HearsAll, Notices.HearsNotice, Notices.HearsNoticeAs, Notices.is_notice}
+use Rattle.dn_link.specs.{Pacing.PaceState, Packets.heard_in, Packets.packets_in, Reading.IsBundledAs, Reading.IsDatagramOf, RemainingLinks.AreRemainingLinks, RemainingLinks.CarriesGiven, RemainingLinks.IsGenuineIn}
 use Rattle.dn_link.specs.{Linked.IsTakenIn, Linked.Linked, Linked.Receives, Linked.ReceivesAs, Linked.TakesIn, Linked.PeerState, Linked.has_given_up, Linked.hears, Linked.is_peer, Linked.met, Linked.surviving_of}
 use Rattle.dn_link.specs.{Linked.takes}
 use Rattle.dn_open.specs.Sealed.{sealing_of}
-use Rattle.dn_link.proofs.{Keeping.all_along, Outgoing.same_bundle, Relinking.AreKept, Relinking.met_kept, Relinking.reached_kept, Letters.AreWith, Letters.MayBeHeard, Letters.packet_keeps, Noticed.opened_given}
-use Rattle.dn_link.proofs.{RemainingCalls.GoOn, RemainingCalls.nothing_given, Lefts.parts_from, Lefts.parts_heard}
+use Rattle.dn_link.proofs.{Keeping.all_along, Linking.same_bundle, Relinking.AreKept, Relinking.met_kept, Relinking.reached_kept, Letters.AreWith, Letters.MayBeHeard, Letters.packet_keeps, SealedReports.opened_given}
+use Rattle.dn_link.proofs.{RemainingCalls.GoOn, RemainingCalls.nothing_given, Leaving.parts_from, Leaving.parts_heard}
 use Rattle.dn_survivor.proofs.OneGame as one_game
 use Rattle.dn_link.proofs.RemainingCalls as base
 

@@ -4,7 +4,17 @@ use Rattle.std.specs.Prelude.{◌==◌, if◌then◌else◌}
 use Rattle.std.proofs.lemmas.Bool.{cases_eq, cond_both}
 use Rattle.dn_tic.specs.declared.input.Input.{Input}
 use Rattle.dn_setup.specs.Settings.{Settings}
-use Rattle.dn_machine.specs.{declared.answers.Cause.Cause, declared.answers.Heard.Heard, declared.peer.Peer.Peer, Building.on_build, Flight.Flight, Game.Game, Game.opening_game, Game.fresh, Hearing.is_within, Hearing.after_request, Hearing.on_packet, Limits.Limits, Node.Node, Node.with_peer, Node.made, Node.has_left, Node.is_ended, Running.on_run, Running.on_quit, Sending.on_send, Worlds.Rules}
+use Rattle.dn_machine.specs.declared.answers.Cause.{Cause}
+use Rattle.dn_machine.specs.declared.answers.Heard.{Heard}
+use Rattle.dn_machine.specs.declared.peer.Peer.{Peer}
+use Rattle.dn_machine.specs.Sending.{on_build, on_send}
+use Rattle.dn_machine.specs.Flight.{Flight}
+use Rattle.dn_machine.specs.Game.{Game, opening_game, fresh}
+use Rattle.dn_machine.specs.Hearing.{is_within, after_request, on_packet}
+use Rattle.dn_machine.specs.Limits.{Limits}
+use Rattle.dn_machine.specs.Node.{Node, with_peer, made, has_left, is_ended}
+use Rattle.dn_machine.specs.Running.{on_run, on_quit}
+use Rattle.dn_machine.specs.Worlds.{Rules}
 use Rattle.dn_machine.specs.declared.answers.Phase.TheVariants.{Listening, Gathering, Playing, Ended}
 use Rattle.dn_machine.specs.Relaying.{RelayEvent, Own, Relay, NextRelayed, LeadsRelayed, RunsRelayed}
 use Rattle.dn_machine.proofs.{Calls.build_cases, Calls.send_cases, Calls.run_cases, Calls.quit_cases, Calls.packet_cases, EachEvent.after_event, EachEvent.next_keeps, Put.put_at, Put.put_off}

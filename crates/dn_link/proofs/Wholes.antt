@@ -1,43 +1,122 @@
--- A bundle is read back, and what is read is what stands there.
-use Rattle.std.proofs.Common.{◌≡◌, ◌<◌, ◌≤◌, ◌+◌, ◌^◌, ℕ, List, [], ◌∷◌, ◌++◌, length, take, drop, refl, ap, sym, ◌∙◌, subst, arith, append_assoc, Option, Some, None, All, inl, inr, w8, ℤ, to_z, of_z}
+-- A bundle is read back, and what is read is what stands there, one part after the other. So bytes are read
+-- as one thing.
+use Rattle.std.proofs.Common.{◌≡◌, ◌<◌, ◌≤◌, ◌+◌, ◌^◌, ℕ, List, [], ◌∷◌, ◌++◌, length, take, drop, refl, ap, sym, ◌∙◌, subst, arith, append_assoc, Option, Some, None, All, inl, inr, w8, ℤ, to_z, of_z, zero}
+use Rattle.std.proofs.Common.{suc, append-nil, ◌≢◌, ◌-◌, Result, Ok, Err}
 use Rattle.std.specs.Prelude.{slice_index, FitsSigned}
 use Rattle.std.specs.Option.{option_map}
 use Rattle.std.specs.Int.{w32, cast_signed, cast_unsigned, to_le_bytes}
-use Rattle.std.proofs.lemmas.{Bool.cases_lt, Bool.lt-ltb, Bool.le-ltb, Int.to_z-of_z, Int.of_z-to_z, List.take-append-drop, List.length-drop, List.drop-drop, Nat.from_le_bytes-to_le_bytes_4, Option.same_Some, Option.none-some}
-use Rattle.std.proofs.Math.Seq.{drop-append_seam}
-use Rattle.dn_seal.specs.{declared.seal.Seal.Seal, Keys.suite_byte, Opening.told_game}
-use Rattle.dn_seal.proofs.{Envelopes.eight, Openings.four_bytes}
-use Rattle.dn_link.specs.{declared.bundle.Bundle.Bundle, declared.bundle.Message.Message, declared.bundle.Part.Part, Text.counts_bytes, Text.message_bytes, Text.parts_bytes, Text.bundle_bytes, Text.IsBundle, Text.IsPart}
-use Rattle.dn_link.specs.Told.{number_at, told_counts, told_message, told_parts, bundle_with, told_with, told_bundle}
+use Rattle.std.proofs.lemmas.{Bool.cases_lt, Bool.lt-ltb, Bool.le-ltb, Int.to_z-of_z, Int.of_z-to_z, List.take-append-drop, List.length-drop, List.drop-drop, Nat.from_le_bytes-to_le_bytes_4, Option.same_Some}
+use Rattle.std.proofs.lemmas.{Option.none-some, List.length-append, List.length-take-le, List.length-take, List.take-take, List.get_or-take, List.get_or_past}
+use Rattle.std.proofs.Math.Seq.{drop-append_seam, take-append_seam}
+use Rattle.dn_seal.specs.declared.seal.Seal.{Seal}
+use Rattle.dn_seal.specs.Hmac.{suite_byte, tag_of}
+use Rattle.dn_seal.proofs.{Openings.four_bytes}
+use Rattle.dn_seal.specs.Opening.{Sealing, told_game, IsOfKind, IsOfGame, IsFor, IsTagged, told_body, told_tag}
+use Rattle.dn_seal.proofs.Envelopes.{length-tag, eight}
+use Rattle.dn_link.specs.{declared.bundle.Bundle.Bundle, declared.bundle.Message.Message, declared.bundle.Part.Part, Text.counts_bytes, Text.message_bytes, Text.parts_bytes, Text.bundle_bytes, Text.IsBundle}
+use Rattle.dn_link.specs.{Text.IsPart, Text.part_bytes, declared.bundle.BundleFault.BundleFault, Reading.IsDatagramOf, Reading.IsBundledAs, Reading.bundles}
+use Rattle.dn_link.specs.Told.{number_at, told_counts, told_message, told_parts, bundle_with, told_with, told_bundle, told_part, told_all}
 use Rattle.dn_link.proofs.Parts.{Fit, fit_drop, small, counts_back, length-counts, counts_is, message_back, message_is}
-use Rattle.dn_link.proofs.Items.{all_back, all_is}
+use Rattle.dn_link.proofs.Items.{all_back, all_is, opened}
+use Rattle.dn_link.specs.declared.bundle.BundleFault.TheVariants.{Short, Long, Game, Receiver, Tag, Form}
+
+-- Parts are read one after the other.
+
+-- what is found, with what the rest tells, is what all tells
+pub record SoFar (count : ℕ) (bytes : List ℕ) (done : ℕ) (rest : List ℕ) (found : List Part) : Type 0 where
+  pub left : ℕ
+  pub adds : left + done ≡ count
+  pub told : told_all count bytes ≡ option_map (λ (more : List Part). found ++ more) (told_all left rest)
+
+pub begins : (count : ℕ) (bytes : List ℕ) (found : List Part) → found ≡ [] → SoFar count bytes 0 bytes found
+begins count bytes found none = subst (SoFar count bytes 0 bytes) (sym none) (record { left = count; adds = omega arith; told = go (told_all count bytes) })
+  where
+    go : (o : Option (List Part)) → o ≡ option_map (λ (more : List Part). more) o
+    go None = refl
+    go (Some more) = refl
+
+module _ (count : ℕ) (bytes : List ℕ) (done : ℕ) (rest : List ℕ) (found : List Part) where
+  goes_on : (part : Part) → done < count → SoFar count bytes done rest found → told_part rest ≡ Some part
+      → SoFar count bytes (done + 1) (drop (length (part_bytes part)) rest) (found ++ part ∷ [])
+  goes_on part below so one = go so.left so.adds so.told
+    where
+      glued : (o : Option (List Part))
+          → option_map (λ (more : List Part). found ++ more) (option_map (λ (more : List Part). part ∷ more) o)
+          ≡ option_map (λ (more : List Part). (found ++ part ∷ []) ++ more) o
+      glued None = refl
+      glued (Some more) = ap Some (sym (append_assoc found (part ∷ []) more))
+
+      go : (left : ℕ) → left + done ≡ count
+          → told_all count bytes ≡ option_map (λ (more : List Part). found ++ more) (told_all left rest)
+          → SoFar count bytes (done + 1) (drop (length (part_bytes part)) rest) (found ++ part ∷ [])
+      go zero adds told = absurd (omega arith)
+      go (suc left) adds told =
+          record {
+            left = left;
+            adds = omega arith;
+            told = told ∙ ap (λ (o : Option Part). option_map (λ (more : List Part). found ++ more) (opened left rest o)) one
+                ∙ glued (told_all left (drop (length (part_bytes part)) rest));
+          }
+
+  pub goes_on_to : (part : Part) (n : ℕ) (rest_new : List ℕ) (found_new : List Part) → done < count
+      → SoFar count bytes done rest found → told_part rest ≡ Some part → n ≡ length (part_bytes part)
+      → rest_new ≡ drop n rest → found_new ≡ found ++ part ∷ []
+      → SoFar count bytes (done + 1) rest_new found_new
+  goes_on_to part n rest_new found_new below so one e r f =
+      let rests : drop (length (part_bytes part)) rest ≡ rest_new = ap (λ (k : ℕ). drop k rest) (sym e) ∙ sym r in
+      subst (λ (xs : List ℕ). SoFar count bytes (done + 1) xs found_new) rests
+      (subst (SoFar count bytes (done + 1) (drop (length (part_bytes part)) rest)) (sym f) (goes_on part below so one))
+
+  pub fails : done < count → SoFar count bytes done rest found → told_part rest ≡ None
+      → told_all count bytes ≡ None
+  fails below so one = go so.left so.adds so.told
+    where
+      go : (left : ℕ) → left + done ≡ count
+          → told_all count bytes ≡ option_map (λ (more : List Part). found ++ more) (told_all left rest)
+          → told_all count bytes ≡ None
+      go zero adds told = absurd (omega arith)
+      go (suc left) adds told =
+          told ∙ ap (λ (o : Option Part). option_map (λ (more : List Part). found ++ more) (opened left rest o)) one
+
+ends : (count : ℕ) (bytes rest : List ℕ) (found : List Part) → length rest ≡ 0
+    → SoFar count bytes count rest found → told_all count bytes ≡ Some found
+ends count bytes rest found none so = go so.left rest so.adds none so.told
+  where
+    go : (left : ℕ) (xs : List ℕ) → left + count ≡ count → length xs ≡ 0
+        → told_all count bytes ≡ option_map (λ (more : List Part). found ++ more) (told_all left xs)
+        → told_all count bytes ≡ Some found
+    go zero [] adds none told = told ∙ ap Some (append-nil found)
+    go zero (x ∷ xs) adds none told = absurd (omega arith)
+    go (suc left) xs adds none told = absurd (omega arith)
+
+-- A whole bundle.
 
 -- the eighteen bytes in front, with this suite and these bytes of the game's number
-abbrev pub headed : ℕ → List ℕ → Bundle → List ℕ
+abbrev headed : ℕ → List ℕ → Bundle → List ℕ
 headed suite game b =
     (suite ∷ 2 ∷ game) ++ (b.from ∷ b.to ∷ []) ++ to_le_bytes w32 b.number
     ++ (cast_unsigned w8 b.lead ∷ b.holes ∷ [])
 
-abbrev pub head_bytes : Seal → Bundle → List ℕ
+abbrev head_bytes : Seal → Bundle → List ℕ
 head_bytes seal b = headed (suite_byte seal.suite) (take 8 seal.game) b
 
 -- and what follows them
-abbrev pub rest_bytes : Bundle → List ℕ
+abbrev rest_bytes : Bundle → List ℕ
 rest_bytes b = counts_bytes b.counts ++ (message_bytes b.message ++ parts_bytes b.parts.items)
 
-pub parted : (seal : Seal) (b : Bundle) → bundle_bytes seal b ≡ head_bytes seal b ++ rest_bytes b
+parted : (seal : Seal) (b : Bundle) → bundle_bytes seal b ≡ head_bytes seal b ++ rest_bytes b
 parted seal b = grind (arith, append_assoc)
 
 module _ (seal : Seal) (b : Bundle) (long : 8 ≤ length seal.game) where
   -- what is told by the bytes in front, whatever the game's number is
-  pub by_head : {A : Type 0} (f : List ℕ → A) (a : A) → ((x0 x1 x2 x3 x4 x5 x6 x7 : ℕ)
+  by_head : {A : Type 0} (f : List ℕ → A) (a : A) → ((x0 x1 x2 x3 x4 x5 x6 x7 : ℕ)
       → f (headed (suite_byte seal.suite) (x0 ∷ x1 ∷ x2 ∷ x3 ∷ x4 ∷ x5 ∷ x6 ∷ x7 ∷ []) b ++ rest_bytes b) ≡ a)
       → f (bundle_bytes seal b) ≡ a
   by_head f a each =
       ap f (parted seal b)
       ∙ eight seal.game long (λ g. f (headed (suite_byte seal.suite) g b ++ rest_bytes b) ≡ a) each
 
-  pub length-head : length (head_bytes seal b) ≡ 18
+  length-head : length (head_bytes seal b) ≡ 18
   length-head = eight seal.game long (λ g. length (headed (suite_byte seal.suite) g b) ≡ 18)
       (λ x0 x1 x2 x3 x4 x5 x6 x7. refl)
 
@@ -81,7 +160,7 @@ module _ (seal : Seal) (b : Bundle) (long : 8 ≤ length seal.game) (is : IsBund
   holes : slice_index (bundle_bytes seal b) 17 ≡ b.holes
   holes = by_head seal b long (λ xs. slice_index xs 17) b.holes (λ x0 x1 x2 x3 x4 x5 x6 x7. refl)
 
-  pub bundle_back : told_bundle (bundle_bytes seal b) ≡ Some b
+  bundle_back : told_bundle (bundle_bytes seal b) ≡ Some b
   bundle_back = grind (arith, after_counts, message_back, after_message, parts_back, after_head, counts_back, from, to, number, lead, holes)
 
 -- the eighteen bytes in front, by what was tested of them
@@ -164,7 +243,7 @@ module _ (seal : Seal) (body : List ℕ) (fits : Fit body) (long : 44 ≤ length
   with_message b (Some message) is e =
       with_parts message is b (told_parts (drop (42 + length (message_bytes message)) body)) refl e
 
-  pub bundle_is : (b : Bundle) → told_bundle body ≡ Some b → IsWhole seal body b
+  bundle_is : (b : Bundle) → told_bundle body ≡ Some b → IsWhole seal body b
   bundle_is b e = with_message b (told_message (drop 42 body)) refl e
 
 -- what a reading step by step tells
@@ -187,3 +266,106 @@ module _ (body : List ℕ) where
   pub signed : (byte : ℕ) (z : ℤ) → byte < 256 → z ≡ cast_signed w8 byte
       → to_z w8 (of_z w8 z) ≡ cast_signed w8 byte
   signed byte z below e = ap (λ (x : ℤ). to_z w8 (of_z w8 x)) e ∙ to_z-of_z w8 (cast_signed w8 byte) (signed_fits byte below)
+
+-- Bytes are read as one thing.
+length-message : (m : Message) → 1 ≤ length (message_bytes m)
+length-message m = grind arith
+
+body_long : (seal : Seal) (b : Bundle) → 8 ≤ length seal.game → IsBundle b → 44 ≤ length (bundle_bytes seal b)
+body_long seal b long is = grind (arith, parted, length-append, head_bytes, rest_bytes, length-head, length-counts, length-message)
+
+module _ (s : Sealing) (bytes : List ℕ) (b : Bundle) (is : IsDatagramOf s bytes b) where
+  abbrev tag : List ℕ
+  tag = tag_of s.seal.key (bundle_bytes s.seal b)
+
+  len : length bytes ≡ length (bundle_bytes s.seal b) + 16
+  len = ap (length {A = ℕ}) is.is ∙ length-append (bundle_bytes s.seal b) (tag_of s.seal.key (bundle_bytes s.seal b))
+      ∙ ap (λ (n : ℕ). length (bundle_bytes s.seal b) + n) (length-tag s.seal.key (bundle_bytes s.seal b))
+
+  seam : length bytes - 16 ≡ length (bundle_bytes s.seal b)
+  seam = omega (arith, len)
+
+  its_body : told_body bytes ≡ bundle_bytes s.seal b
+  its_body = grind (arith, seam, take-append_seam)
+
+  its_tag : told_tag bytes ≡ tag_of s.seal.key (bundle_bytes s.seal b)
+  its_tag = grind (arith, seam, drop-append_seam)
+
+  -- what is told by the bytes in front
+  in_front : {A : Type 0} (f : List ℕ → A) (a : A) → f (bundle_bytes s.seal b ++ tag) ≡ a → f bytes ≡ a
+  in_front f a e = ap f is.is ∙ e
+
+  tagged : IsTagged bundles s bytes
+  tagged = grind (arith, body_long, len, in_front, by_head, its_tag, its_body, parted)
+
+  pub its_bundle : told_bundle (told_body bytes) ≡ Some b
+  its_bundle = ap told_bundle its_body ∙ bundle_back s.seal b is.game is.fits
+
+-- the body of bytes
+front_fits : (xs : List ℕ) → Fit xs → Fit (told_body xs)
+front_fits xs fits i = grind (arith, get_or-take, length-take, get_or_past)
+
+game_front : (ys : List ℕ) → 10 ≤ length ys → told_game (take 10 ys) ≡ told_game ys
+game_front (v ∷ k ∷ a ∷ b ∷ c ∷ d ∷ e ∷ f ∷ g ∷ h ∷ rest) long = refl
+game_front _ long = absurd (omega arith)
+
+told_front : (xs : List ℕ) → 60 ≤ length xs → told_game (told_body xs) ≡ told_game xs
+told_front xs long = grind (arith, length-take-le, game_front, take-take)
+
+module _ (s : Sealing) (bytes : List ℕ) where
+  pub only_short : length bytes < 60 → (read : Result Bundle BundleFault) → IsBundledAs s bytes read
+      → Err Short ≡ read
+  only_short few read h = grind (arith, tagged)
+
+  pub only_long : 1200 < length bytes → (read : Result Bundle BundleFault) → IsBundledAs s bytes read
+      → Err Long ≡ read
+  only_long many read h = grind arith
+
+  pub only_game : IsOfKind bundles s bytes → told_game bytes ≢ take 8 s.seal.game → (read : Result Bundle BundleFault)
+      → IsBundledAs s bytes read → Err Game ≡ read
+  only_game of wrong read h = grind (arith, tagged)
+
+  pub only_receiver : IsOfGame bundles s bytes → slice_index bytes 11 ≢ s.me → (read : Result Bundle BundleFault)
+      → IsBundledAs s bytes read → Err Receiver ≡ read
+  only_receiver of wrong read h = grind (arith, tagged)
+
+  pub only_tag : IsFor bundles s bytes → told_tag bytes ≢ tag_of s.seal.key (told_body bytes)
+      → (read : Result Bundle BundleFault) → IsBundledAs s bytes read → Err Tag ≡ read
+  only_tag for wrong read h = grind (arith, tagged)
+
+  pub only_form : IsTagged bundles s bytes → told_bundle (told_body bytes) ≡ None
+      → (read : Result Bundle BundleFault) → IsBundledAs s bytes read → Err Form ≡ read
+  only_form tests none read h = grind (arith, none-some, its_bundle)
+
+  pub only_bundle : (b : Bundle) → IsDatagramOf s bytes b → (read : Result Bundle BundleFault)
+      → IsBundledAs s bytes read → Ok b ≡ read
+  only_bundle b is read h = grind (arith, Ok, same_Some, its_bundle, tagged)
+
+  -- what no bundle tells is none's datagram
+  pub formless : IsTagged bundles s bytes → told_bundle (told_body bytes) ≡ None → IsBundledAs s bytes (Err Form)
+  formless tests none = (tests, λ b is. none-some b (sym none ∙ its_bundle s bytes b is))
+
+  -- what passes all tests and tells a bundle is its datagram
+  pub datagram_is : 8 ≤ length s.seal.game → Fit bytes → IsTagged bundles s bytes → (b : Bundle)
+      → told_bundle (told_body bytes) ≡ Some b → IsDatagramOf s bytes b
+  datagram_is game fits tests b e =
+      let long = tests.0.0.0.0.0.0 in
+      let cut = length-take-le (length bytes - 16) bytes (omega arith) in
+      let at = λ (k : ℕ) (l : k < 44). get_or-take (length bytes - 16) bytes k 0 (omega (arith, l, long)) in
+      let whole = bundle_is s.seal (told_body bytes) (front_fits bytes fits) (omega (arith, cut, long))
+      (at 0 (omega arith) ∙ tests.0.0.0.0.1) (at 1 (omega arith) ∙ tests.0.0.0.1)
+      (told_front bytes (omega (arith, long)) ∙ tests.0.0.1) b e in
+      record {
+        game = game;
+        fits = whole.fits;
+        short = tests.0.0.0.0.0.1;
+        to = sym whole.to ∙ at 11 (omega arith) ∙ tests.0.1;
+        is = sym (take-append-drop (length bytes - 16) bytes)
+            ∙ (λ i. whole.spelled i ++ (tests.1 ∙ ap (tag_of s.seal.key) whole.spelled) i);
+      }
+
+-- the game's number has the eight bytes that are told of it
+pub eight_long : (suite kind : ℕ) (game front : List ℕ) → front ≡ suite ∷ kind ∷ take 8 game → length front ≡ 10
+    → 8 ≤ length game
+eight_long suite kind game front is ten =
+    let whole = ap (length {A = ℕ}) is in omega (arith, whole, ten, length-take 8 game)

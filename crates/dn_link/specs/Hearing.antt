@@ -1,11 +1,16 @@
--- How the packets of a datagram are heard.
-use Rattle.std.specs.Prelude.{◌≡◌, Bool, true, false, List, [], ◌∷◌}
-use Rattle.dn_machine.specs.declared.answers.Heard.TheVariants.{Started}
-use Rattle.dn_lockstep.specs.Contents.{Contents}
+-- How the packets of a datagram are heard, and what a lockstep gives to a peer.
+use Rattle.std.specs.Prelude.{◌≡◌, Bool, true, false, List, [], ◌∷◌, ℕ, Option}
+use Rattle.std.specs.Option.{option_map}
 use Rattle.dn_seal.specs.declared.opened.Opened.{Opened}
+use Rattle.dn_machine.specs.declared.answers.Heard.TheVariants.{Started}
+use Rattle.dn_machine.specs.Flight.{Flight}
+use Rattle.dn_lockstep.specs.Contents.{Contents}
+use Rattle.dn_lockstep.specs.Sent.{sent_to, bytes_of}
+use Rattle.dn_lockstep.specs.Steps.{Steps}
 use Rattle.dn_open.specs.Arrivals.{HearsOpened, SparesSealed}
-use Rattle.dn_open.specs.declared.arrived.Arrived.{Arrived}
-use Rattle.dn_open.specs.declared.arrived.Arrived.TheVariants.{Heard}
+use Rattle.dn_open.specs.declared.hearing.Arrived.{Arrived}
+use Rattle.dn_open.specs.declared.hearing.Arrived.TheVariants.{Heard}
+use Rattle.dn_link.specs.declared.bundle.Carried.{Carried}
 
 -- the game starts with it
 abbrev pub is_start : Arrived → Bool
@@ -29,3 +34,15 @@ abbrev pub HearsAll : List Opened → Contents → Contents → Bool → Type 0
 HearsAll packets old new started =
     (next : Contents) × HearsUntil packets old next started
     × ByTest started ((again : Bool) × HearsUntil packets next new again) (new ≡ next)
+
+-- What a lockstep gives to a peer.
+
+-- a packet that was sent, with its exact numbers
+abbrev pub carried_of : Flight → Carried
+carried_of flight =
+    record { start = flight.start; ask = flight.request; datagram = record { items = bytes_of flight } }
+
+-- the packet that the machine sends
+abbrev pub SendsCarried : ℕ → Contents → Contents → Option Carried → Type 0
+SendsCarried to old new given =
+    Steps old new (λ limits me m. sent_to to limits me m) (λ flight. given ≡ option_map carried_of flight)

@@ -1,14 +1,16 @@
--- What a link keeps, and what its calls do.
-use Rattle.std.specs.Prelude.{◌≡◌, ℕ, ◌+◌, ◌-◌, ◌%◌, ◌^◌, ◌==◌, ◌≤◌, ◌&&◌, ◌||◌, if◌then◌else◌, nat_lt, min, max, length, Bool, not, List, [], ◌∷◌, slice_index, ◌++◌, ◌≢◌, map, All, Option, is_none, is_some, None, true, false, Result, Ok, Err}
+-- What a link keeps, what its calls do, and what is known of the line to a peer.
+use Rattle.std.specs.Prelude.{◌≡◌, ℕ, ◌+◌, ◌-◌, ◌%◌, ◌^◌, ◌==◌, ◌≤◌, ◌&&◌, ◌||◌, if◌then◌else◌, nat_lt, min, max, length, Bool, not, List, [], ◌∷◌, slice_index, ◌++◌, ◌≢◌, map, All, Option, is_none, is_some}
+use Rattle.std.specs.Prelude.{None, true, false, Result, Ok, Err}
+use Rattle.dn_seal.specs.declared.seal.Seal.{Seal}
 use Rattle.dn_machine.specs.declared.answers.Phase.{Phase}
 use Rattle.dn_machine.specs.declared.answers.Phase.TheVariants.{Gathering}
 use Rattle.dn_machine.specs.Node.{is_ended, put}
 use Rattle.dn_lockstep.specs.Contents.{Contents, end_in}
 use Rattle.dn_lockstep.specs.Told.{made}
-use Rattle.dn_survivor.specs.OfOthers.Keeping.{has}
+use Rattle.dn_survivor.specs.OfOthers.{has}
 use Rattle.dn_survivor.specs.declared.others.Others.{Others}
 use Rattle.dn_survivor.specs.Surviving.{Surviving}
-use Rattle.dn_seal.specs.declared.seal.Seal.{Seal}
+use Rattle.dn_survivor.specs.Telling.{MayRelay}
 use Rattle.dn_open.specs.Sealed.{sealing_of}
 use Rattle.dn_link.specs.declared.bundle.Bundle.{Bundle}
 use Rattle.dn_link.specs.declared.bundle.BundleFault.{BundleFault}
@@ -20,19 +22,18 @@ use Rattle.dn_link.specs.declared.received.Received.{Received}
 use Rattle.dn_link.specs.declared.received.Received.TheVariants.{Unopened, Stranger, GivenUp, Different, Heard}
 use Rattle.dn_link.specs.Reading.{IsBundledAs}
 use Rattle.dn_link.specs.Counting.{counts_of, held_of, reached}
-use Rattle.dn_link.specs.Giving.{SendsCarried}
-use Rattle.dn_link.specs.Hearing.{ByTest, HearsAll}
+use Rattle.dn_link.specs.Hearing.{SendsCarried, ByTest, HearsAll}
 use Rattle.dn_link.specs.Kept.{Unacknowledged, acknowledged, going, kept_after, taken_by}
-use Rattle.dn_link.specs.Line.{missing}
-use Rattle.dn_link.specs.Paced.{PaceState}
+use Rattle.dn_link.specs.Line.{missing, LineState}
+use Rattle.dn_link.specs.Pacing.{PaceState}
 use Rattle.dn_link.specs.Packets.{heard_in, takes_relay}
 use Rattle.dn_link.specs.Packing.{ArePacked}
 use Rattle.dn_link.specs.Relays.{AreHandedOn, AreLacked, Handed, handed_part}
 use Rattle.dn_link.specs.declared.bundle.Part.{Part}
 use Rattle.dn_link.specs.declared.bundle.Relay as relay
-use Rattle.dn_survivor.specs.Relaying.{MayRelay}
 use Rattle.dn_link.specs.Presence.{Becomes, Differs, when_forgotten, has_gone, has_left, is_fresh, is_there, message_of}
 use Rattle.dn_link.specs.Text.{IsBundle, sealed_bytes}
+use Rattle.dn_link.specs.declared.tally.Figures.{Figures}
 
 -- what it keeps of a peer: the packets that the peer has not acknowledged, the most that the peer's datagrams
 -- told that it has of each of four players, whether it is there, whether it was given the settings, and the
@@ -254,3 +255,29 @@ forgotten player link =
       });
     }
     else link
+
+-- What is known of the line to a peer, and of the commands that are on their way.
+abbrev pub figures_of : LineState → Figures
+figures_of line =
+    record {
+      came = line.tally.came;
+      lost = line.tally.lost;
+      repeated = line.tally.repeated;
+      too_old = line.tally.too_old;
+      missing_there = line.reported_holes;
+      lead = line.own_lead;
+      lead_there = line.lead;
+    }
+
+-- how many of the node's commands a player has acknowledged; all, of one that needs nothing
+abbrev pub acknowledged_by : Linked → ℕ → ℕ
+acknowledged_by link player =
+    if needs_nothing link player
+    then made link.node
+    else min (link.peers player).kept.done (made link.node)
+
+-- how many of the node's commands not every remaining player has acknowledged
+abbrev pub unacknowledged : Linked → ℕ
+unacknowledged link =
+    made link.node
+    - min (min (acknowledged_by link 0) (acknowledged_by link 1)) (min (acknowledged_by link 2) (acknowledged_by link 3))

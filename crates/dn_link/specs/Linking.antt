@@ -1,4 +1,4 @@
--- What a link is.
+-- What a link is, with what is kept for a peer.
 use Rattle.std.specs.Prelude.{ℕ, List, [], ◌∷◌, false}
 use Rattle.dn_seal.specs.declared.seal.Seal.{Seal}
 use Rattle.dn_seal.specs.Sealing.{sealing}
@@ -7,9 +7,14 @@ use Rattle.dn_link.specs.declared.link.Link.{Link}
 use Rattle.dn_link.specs.declared.bundle.Identity.{Identity}
 use Rattle.dn_link.specs.declared.peer.Peer.{Peer}
 use Rattle.dn_link.specs.declared.presence.Presence.TheVariants.{Unknown}
-use Rattle.dn_link.specs.Keeping.{kept}
 use Rattle.dn_link.specs.Linked.{Linked, PeerState}
 use Rattle.dn_link.specs.Places.{by_place}
+use Rattle.dn_link.specs.declared.kept.Kept.{Kept}
+use Rattle.dn_link.specs.Kept.{Unacknowledged}
+
+-- what is kept for a peer
+abbrev pub kept : Kept → Unacknowledged
+kept k = record { packets = k.packets.items; covered = k.covered; done = k.done }
 
 abbrev pub state_of : Peer → PeerState
 state_of peer =

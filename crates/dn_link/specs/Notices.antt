@@ -2,9 +2,8 @@
 use Rattle.std.specs.Prelude.{◌≡◌, ℕ, ◌==◌, Bool, List, get_or, Option, Result, Ok, Err}
 use Rattle.std.specs.Option.{option_map}
 use Rattle.dn_survivor.specs.declared.report.Report.{Report}
-use Rattle.dn_link.specs.declared.notice.fault.ReportDatagramFault.{ReportDatagramFault}
-use Rattle.dn_link.specs.SealedReports.Opening.{IsOpenedAs}
-use Rattle.dn_link.specs.SealedReports.Text.{sealed_report_bytes}
+use Rattle.dn_link.specs.declared.notice.ReportDatagramFault.{ReportDatagramFault}
+use Rattle.dn_link.specs.SealedReports.{IsOpenedAs, sealed_report_bytes}
 use Rattle.dn_survivor.specs.Calls.{HearsReport}
 use Rattle.dn_survivor.specs.Telling.{report_for}
 use Rattle.dn_survivor.specs.declared.answers.Reported.{Reported}
@@ -13,7 +12,7 @@ use Rattle.dn_open.specs.Sealed.{sealing_of}
 use Rattle.dn_link.specs.declared.received.Received.{Received}
 use Rattle.dn_link.specs.Linked.{Linked, surviving_of}
 use Rattle.dn_link.specs.Pace.{after_refusal}
-use Rattle.dn_link.specs.Paced.{PaceState}
+use Rattle.dn_link.specs.Pacing.{PaceState}
 
 -- what a player is told of the others, sealed, if it is told anything
 abbrev pub notice_for : Seal → Linked → ℕ → Option (List ℕ)

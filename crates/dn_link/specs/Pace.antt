@@ -10,13 +10,12 @@ use Rattle.dn_open.specs.Sealed.{sealing_of}
 use Rattle.dn_link.specs.declared.bundle.Bundle.{Bundle}
 use Rattle.dn_link.specs.declared.bundle.BundleFault.{BundleFault}
 use Rattle.dn_link.specs.Hearing.{ByTest}
-use Rattle.dn_link.specs.Leaning.{LeaningState, looks, step_of, worked_off}
+use Rattle.dn_link.specs.Leaning.{LeaningState, looks, step_of, worked_off, StretchingState, drops, stretches}
 use Rattle.dn_link.specs.Line.{LineState, heard_on, lead_over, missing}
 use Rattle.dn_link.specs.Linked.{Linked, end_known, is_peer, remains}
-use Rattle.dn_link.specs.Paced.{PaceState}
+use Rattle.dn_link.specs.Pacing.{PaceState}
 use Rattle.dn_link.specs.Presence.{is_playing, may_come}
 use Rattle.dn_link.specs.Reading.{IsBundledAs}
-use Rattle.dn_link.specs.Stretching.{StretchingState, drops, stretches}
 use Rattle.dn_link.specs.Tally.{stops}
 
 -- an input for which there was no room is owed

@@ -1,12 +1,47 @@
--- The pace of a link, of what it keeps.
-use Rattle.std.specs.Prelude.{ℕ, List, None, pos}
+-- What a link keeps for its pace.
+use Rattle.std.specs.Prelude.{ℕ, List, None, pos, Option}
+use Rattle.dn_tic.specs.declared.input.Input.{Input}
 use Rattle.dn_link.specs.declared.line.Line.{Line}
 use Rattle.dn_link.specs.declared.link.Link.{Link}
 use Rattle.dn_link.specs.declared.pace.Pace.{Pace}
 use Rattle.dn_link.specs.Line.{LineState, new_line}
-use Rattle.dn_link.specs.Lines.{leaning_of, line_of, stretching_of}
-use Rattle.dn_link.specs.Paced.{PaceState}
 use Rattle.dn_link.specs.Places.{by_place}
+use Rattle.dn_link.specs.Leaning.{LeaningState, StretchingState}
+use Rattle.dn_link.specs.declared.leaning.Leaning.{Leaning}
+use Rattle.dn_link.specs.declared.tally.Tally.{Tally}
+use Rattle.dn_link.specs.declared.stretching.Stretching.{Stretching}
+use Rattle.dn_link.specs.Tally.{TallyState}
+
+-- the line from each player, the input of which a command is owed, how the ticks lean and stretch, and how many
+-- bytes came that were no datagram
+pub record PaceState : Type 0 where
+  pub lines : ℕ → LineState
+  pub owed : Option Input
+  pub leaning : LeaningState
+  pub stretching : StretchingState
+  pub refused : ℕ
+
+-- what each of these is, of what the link holds
+abbrev pub tally_of : Tally → TallyState
+tally_of t = record { came = t.came; lost = t.lost; repeated = t.repeated; too_old = t.too_old; seen = t.seen }
+
+abbrev pub line_of : Line → LineState
+line_of l =
+    record {
+      newest = l.newest;
+      holes = l.holes;
+      before = l.before;
+      reported_holes = l.reported_holes;
+      lead = l.lead;
+      own_lead = l.own_lead;
+      tally = tally_of l.tally;
+    }
+
+abbrev pub leaning_of : Leaning → LeaningState
+leaning_of l = record { rest = l.rest; looked = l.looked; sum = l.sum; left = l.left }
+
+abbrev pub stretching_of : Stretching → StretchingState
+stretching_of s = record { ticks = s.ticks; dropped = s.dropped; blocks = s.blocks; slow = s.slow }
 
 abbrev pub lines_of : List Line → ℕ → LineState
 lines_of lines = by_place line_of new_line lines

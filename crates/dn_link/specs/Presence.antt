@@ -1,5 +1,5 @@
 -- Who is there.
-use Rattle.std.specs.Prelude.{◌≡◌, ◌≢◌, ℕ, ◌+◌, ◌&&◌, ◌||◌, if◌then◌else◌, Bool, not, true, false, nat_lt, nat_le, Option, None, Some}
+use Rattle.std.specs.Prelude.{◌≡◌, ◌≢◌, ℕ, ◌+◌, ◌&&◌, ◌||◌, if◌then◌else◌, Bool, not, true, false, nat_lt, nat_le, Option, None, Some, slice_index}
 use Rattle.dn_machine.specs.declared.answers.Cause.{Cause}
 use Rattle.dn_machine.specs.declared.answers.Cause.TheVariants.{Quit, Full, Inconsistent}
 use Rattle.dn_machine.specs.declared.answers.Phase.{Phase}
@@ -10,8 +10,13 @@ use Rattle.dn_link.specs.declared.bundle.Message.{Message}
 use Rattle.dn_link.specs.declared.bundle.Message.TheVariants.{Hello, Game, Goodbye}
 use Rattle.dn_link.specs.declared.presence.Presence.{Presence}
 use Rattle.dn_link.specs.declared.presence.Presence.TheVariants.{There, Playing, Different, Away, Left, Forgotten}
-use Rattle.dn_link.specs.Ends.{tells_end}
 use Rattle.dn_link.specs.Hearing.{ByTest}
+
+-- what a datagram tells of its sender's end
+
+-- its sender has left
+abbrev pub tells_end : Bundle → Bool
+tells_end bundle = nat_lt bundle.counts.made (slice_index bundle.counts.got bundle.from)
 
 -- a player of the same identity says hello, or one of another
 abbrev pub Greets : Identity → Identity → Presence → Type 0

@@ -1,7 +1,7 @@
 -- What bytes are read as.
 use Rattle.std.specs.Prelude.{◌≡◌, ◌≢◌, ◌<◌, ◌≤◌, ℕ, List, length, slice_index, take, Result, Ok, Err}
 use Rattle.dn_seal.specs.Hmac.{tag_of}
-use Rattle.dn_seal.specs.Keys.{suite_byte}
+use Rattle.dn_seal.specs.Hmac.{suite_byte}
 use Rattle.dn_seal.specs.Opening.{Sealing, Format, IsSized, IsOfSuite, IsOfKind, IsOfGame, IsFor, IsTagged, told_game, told_body, told_tag}
 use Rattle.dn_link.specs.declared.bundle.Bundle.{Bundle}
 use Rattle.dn_link.specs.declared.bundle.BundleFault.{BundleFault}

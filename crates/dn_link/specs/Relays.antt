@@ -1,5 +1,5 @@
--- The commands of third players that a player hands on.
-use Rattle.std.specs.Prelude.{◌≡◌, ◌≢◌, ◌<◌, ◌≤◌, ℕ, ◌+◌, ◌^◌, negsuc, List, [], ◌∷◌, length, slice_index, Some}
+-- The commands of third players that a player hands on, and which these are.
+use Rattle.std.specs.Prelude.{◌≡◌, ◌≢◌, ◌<◌, ◌≤◌, ℕ, ◌+◌, ◌^◌, negsuc, List, [], ◌∷◌, length, slice_index, Some, ◌-◌, ◌/◌, ◌&&◌, ◌||◌, if◌then◌else◌, nat_lt, nat_le, min, max, Bool, slice_get, Option, None}
 use Rattle.std.specs.List.{flat_map}
 use Rattle.dn_tic.specs.Command.{IsCommand, command_bytes}
 use Rattle.dn_tic.specs.declared.command.TicCmd.{TicCmd}
@@ -9,6 +9,10 @@ use Rattle.dn_lockstep.specs.Contents.{Contents}
 use Rattle.dn_lockstep.specs.Told.{command_told}
 use Rattle.dn_link.specs.declared.bundle.Part.{Part}
 use Rattle.dn_link.specs.declared.bundle.Part.TheVariants.{Relay}
+use Rattle.dn_link.specs.declared.bundle.Run.{Run}
+use Rattle.dn_link.specs.declared.lag.Had.{Had}
+use Rattle.dn_link.specs.declared.lag.Lag.{Lag}
+use Rattle.dn_link.specs.Places.{by_place}
 
 -- whose commands, from which tic on, and these
 pub record Handed : Type 0 where
@@ -63,3 +67,76 @@ AreLacked reported low [] = Unit {0}
 AreLacked reported low (one ∷ handed) =
     (low ≤ one.player) × (slice_index reported one.player ≤ one.start) × (1 ≤ length one.commands)
     × (length one.commands ≤ 24) × AreLacked reported (one.player + 1) handed
+
+-- Which commands of third players are handed on.
+
+-- how many commands of a player it had at a tick
+abbrev pub had_then : ℕ → Option Had → ℕ
+had_then player None = 0
+had_then player (Some had) = slice_index had.counts player
+
+-- and so many ticks before the last
+abbrev pub had : List Had → (age player : ℕ) → ℕ
+had history age player = had_then player (slice_get history age)
+
+-- a lag in eighths of a tick, after a command that took longer, or less long
+abbrev pub moved : (longer shorter : Bool) → ℕ → ℕ
+moved longer shorter usual =
+    if longer then min (usual + 1) 224 else (if shorter then usual - 1 else usual)
+
+-- a peer has reported so many commands of a player. If these are more than before, the newest of them had been
+-- here for longer than usual, for as long, or less long
+abbrev pub learned : List Had → (player reported : ℕ) → Lag → Lag
+learned history player reported lag =
+    if nat_le reported lag.told
+    then lag
+    else record lag {
+      usual = moved (nat_le reported (had history (lag.usual / 8 + 1) player))
+          (nat_lt (had history (lag.usual / 8) player) reported) lag.usual;
+      told = reported;
+    }
+
+-- the oldest command that a peer has not reported was here three ticks longer than usual, or more
+abbrev pub is_overdue : List Had → (player reported : ℕ) → Lag → Bool
+is_overdue history player reported lag = nat_lt reported (had history (lag.usual / 8 + 3) player)
+
+-- what is handed on comes before the player's own datagrams: the peer reports commands of the player as late as
+-- those of this one, and two ticks late or more
+abbrev pub is_slow : (round_trip lag : Lag) → Bool
+is_slow round_trip lag = nat_le round_trip.usual lag.usual && nat_le 16 lag.usual
+
+-- a tick: from one at which commands are overdue or slow on, they are handed on for 512 ticks
+abbrev pub counted_down : Bool → Lag → Lag
+counted_down is_on lag = record lag { left = if is_on then 512 else lag.left - 1 }
+
+-- the first command that is handed on: the oldest that the peer has not reported if it is overdue; else, for as
+-- long, the first that was not handed on before, or one of the newest two
+abbrev pub handed_from : List Had → (player reported got : ℕ) → Lag → Option ℕ
+handed_from history player reported got lag =
+    if is_overdue history player reported lag
+    then Some reported
+    else (if nat_lt 0 lag.left then Some (max reported (min (got - 2) lag.end)) else None)
+
+-- commands of a run are handed on
+abbrev pub handed : Run → Lag → Lag
+handed run lag = record lag { end = min (run.start + min (length run.commands.items / 8) 24) (2 ^ 32 - 1) }
+
+-- what is known of how late a peer reports the commands of a player
+abbrev pub lag_of : List Lag → ℕ → Lag
+lag_of lags player = by_place (λ lag. lag) (record { usual = 0; told = 0; left = 0; end = 0 }) lags player
+
+abbrev pub learned_of : List Had → Had → List Lag → ℕ → Lag
+learned_of history reported lags player =
+    learned history player (slice_index reported.counts player) (lag_of lags player)
+
+abbrev pub is_on : List Had → ℕ → Had → List Lag → ℕ → Bool
+is_on history me reported lags player =
+    is_overdue history player (slice_index reported.counts player) (lag_of lags player)
+    || is_slow (lag_of lags me) (lag_of lags player)
+
+abbrev pub counted_of : List Had → ℕ → Had → List Lag → ℕ → Lag
+counted_of history me reported lags player =
+    counted_down (is_on history me reported lags player) (lag_of lags player)
+
+abbrev pub four_of : (ℕ → Lag) → List Lag
+four_of lag = lag 0 ∷ lag 1 ∷ lag 2 ∷ lag 3 ∷ []

@@ -2,19 +2,17 @@
 use Rattle.std.specs.Prelude.{◌≡◌, ◌<◌, ◌⊎◌, ℕ, List, All, Some, slice_get}
 use Rattle.dn_setup.specs.Settings.{Settings}
 use Rattle.dn_survivor.specs.declared.report.Report.{Report}
-use Rattle.dn_survivor.specs.ReportBytes.Text.{IsReport}
+use Rattle.dn_survivor.specs.ReportBytes.{IsReport}
 use Rattle.dn_machine.specs.Flight.{Flight}
 use Rattle.dn_machine.specs.Limits.{Limits}
 use Rattle.dn_machine.specs.Node.{put}
 use Rattle.dn_lockstep.specs.Marking.{Marking}
 use Rattle.dn_seal.specs.declared.seal.Seal.{Seal}
-use Rattle.dn_link.specs.SealedReports.Opening.{IsReportFrom}
-use Rattle.dn_link.specs.SealedReports.Text.{sealed_report_bytes}
+use Rattle.dn_link.specs.SealedReports.{IsReportFrom, sealed_report_bytes}
 use Rattle.dn_open.specs.Sealed.{sealing_of}
-use Rattle.dn_survivor.specs.OneGame.{AreRemaining}
-use Rattle.dn_survivor.specs.Session.{Given, Session}
+use Rattle.dn_survivor.specs.OneGame.{AreRemaining, Given, Session}
 use Rattle.dn_link.specs.declared.bundle.Bundle.{Bundle}
-use Rattle.dn_link.specs.Bundles.{WasGiven}
+use Rattle.dn_link.specs.LinkedGame.{WasGiven}
 use Rattle.dn_link.specs.Linked.{Linked, surviving_of}
 use Rattle.dn_link.specs.Packets.{opened_from, packets_in}
 use Rattle.dn_link.specs.Reading.{IsDatagramOf}

@@ -8,20 +8,18 @@ use Rattle.dn_machine.specs.declared.answers.Phase.TheVariants.{Playing}
 use Rattle.dn_machine.specs.declared.answers.Ran.{Ran}
 use Rattle.dn_machine.specs.Limits.{Limits}
 use Rattle.dn_machine.specs.Running.{on_run}
-use Rattle.dn_lockstep.specs.Commands.{Builds}
+use Rattle.dn_lockstep.specs.Told.{Builds}
 use Rattle.dn_lockstep.specs.Marking.{Marking}
-use Rattle.dn_lockstep.specs.Runs.{RunsBy}
-use Rattle.dn_lockstep.specs.Session.{Session}
+use Rattle.dn_lockstep.specs.Steps.{RunsBy}
+use Rattle.dn_lockstep.specs.OneGame.{Session}
 use Rattle.dn_lockstep.specs.Told.{made}
 use Rattle.dn_seal.specs.declared.seal.Seal.{Seal}
 use Rattle.dn_link.specs.declared.bundle.Identity.{Identity}
 use Rattle.dn_link.specs.declared.received.Received.{Received}
-use Rattle.dn_link.specs.Bundles.{IsGenuineDatagram}
-use Rattle.dn_link.specs.CaughtUp.{AreCaughtUp, HasGrown, IsInStepTo}
+use Rattle.dn_link.specs.LinkedGame.{IsGenuineDatagram, AreLinked}
+use Rattle.dn_link.specs.CaughtUp.{AreCaughtUp, HasGrown, IsInStepTo, next_to}
 use Rattle.dn_link.specs.Linked.{Gives, Linked, Receives}
-use Rattle.dn_link.specs.LinkedGame.{AreLinked}
-use Rattle.dn_link.specs.Onward.{next_to}
-use Rattle.dn_link.specs.Paced.{PaceState}
+use Rattle.dn_link.specs.Pacing.{PaceState}
 use Rattle.dn_link.specs.Text.{parts_bytes}
 
 -- the links of a game from one moment to another, in which all players play. From each moment to the next they

@@ -1,11 +1,26 @@
--- What becomes of the peers of a link that gives up a player.
-use Rattle.std.specs.Prelude.{◌≡◌, ℕ, ◌&&◌, Bool, true, false, not, Option, Some, None}
+-- What becomes of a link that gives up a player: of its peers, of its runs, and of what it hands on.
+use Rattle.std.specs.Prelude.{◌≡◌, ℕ, ◌&&◌, Bool, true, false, not, Option, Some, None, ℤ, List, ◌≢◌, ◌≤◌, ◌||◌, ◌++◌, [], All, length, map, slice_index}
+use Rattle.dn_tic.specs.declared.command.Move.{Move}
+use Rattle.dn_machine.specs.declared.answers.Ran.{Ran}
+use Rattle.dn_machine.specs.Running.{on_run_but}
+use Rattle.dn_lockstep.specs.Steps.{RunsBy}
 use Rattle.dn_survivor.specs.declared.report.Report.{Report}
-use Rattle.dn_survivor.specs.OfOthers.Keeping.{has, newest_of}
+use Rattle.dn_survivor.specs.OfOthers.{has, newest_of}
 use Rattle.dn_survivor.specs.Calls.{GivesUp}
 use Rattle.dn_survivor.specs.Surviving.{Surviving}
 use Rattle.dn_survivor.specs.declared.answers.GivenUp.{GivenUp}
+use Rattle.dn_survivor.specs.Telling.{MayRelay}
 use Rattle.dn_link.specs.Linked.{Linked, forgotten, has_given_up, surviving_of}
+use Rattle.dn_link.specs.declared.bundle.Part.{Part}
+use Rattle.dn_link.specs.declared.bundle.Part.TheVariants.{Relay}
+use Rattle.dn_link.specs.declared.bundle.Relay as relay
+use Rattle.dn_link.specs.Relays.{AreHandedOn, AreLacked, Handed, IsHandedOn, handed_part}
+use Rattle.dn_link.specs.Text.{IsRun}
+
+-- a run of a link, in which no mark is compared of players who are given up
+abbrev pub RunsBut : List ℤ → Linked → Linked → (Ran → Option (List (Option Move)) → Type 0) → Type 0
+RunsBut marks old new IsAnswer =
+    RunsBy marks old.node new.node (λ limits m marks. on_run_but limits (has_given_up old) m marks) IsAnswer
 
 -- a player is given up by the call with this answer
 abbrev pub is_given_up : GivenUp → Bool
@@ -35,3 +50,40 @@ names (Some report) player = has report.gone player
 -- another has given up a player, as far as it reported; of one who is given up itself nothing counts
 abbrev pub reports_gone : Linked → ℕ → ℕ → Bool
 reports_gone link teller player = not (has_given_up link teller) && names (newest_of link.others teller) player
+
+-- What a link hands on to a peer.
+
+-- a player is not given up, or another has reported to have given it up too
+abbrev pub shares_gone : Linked → ℕ → ℕ → Bool
+shares_gone link to player = not (has_given_up link player) || reports_gone link to player
+
+-- commands may be handed on to a peer
+abbrev pub may_hand : Linked → ℕ → Bool
+may_hand link to =
+    not (has_given_up link to)
+    && (shares_gone link to 0 && (shares_gone link to 1 && (shares_gone link to 2 && shares_gone link to 3)))
+
+-- a run of a third player who is not given up, of commands that the link has and the peer has not reported
+pub record IsHandedFor (link : Linked) (to player : ℕ) (relay : relay.Relay) : Type 0 where
+  pub handed : Handed
+  pub is : Relay relay ≡ handed_part handed
+  pub its : handed.player ≡ player
+  pub on : IsHandedOn link.node to handed
+  pub lacked : slice_index (link.peers to).reported handed.player ≤ handed.start
+  pub some : 1 ≤ length handed.commands
+  pub few : length handed.commands ≤ 24
+  pub stays : has_given_up link handed.player ≡ false
+  pub run : IsRun relay.run
+
+-- the parts of a datagram, and behind them runs of players from this number on
+pub record HasBehind (link : Linked) (to low : ℕ) (own all : List Part) : Type 0 where
+  pub handed : List Handed
+  pub parts : all ≡ own ++ map handed_part handed
+  pub on : AreHandedOn link.node to handed
+  pub lacked : AreLacked (link.peers to).reported low handed
+  pub stay : All (λ h. has_given_up link h.player ≡ false) handed
+  pub may : handed ≢ [] → MayRelay (surviving_of link) to
+
+-- of two players at most
+abbrev pub HasTwoBehind : Linked → ℕ → (own all : List Part) → Type 0
+HasTwoBehind link to own all = (behind : HasBehind link to 0 own all) × (length behind.handed ≤ 2)

@@ -4,14 +4,19 @@ ghost use Rattle.std.specs.Prelude.{◌≡◌, ◌≢◌, ◌<◌, ◌≤◌, �
 ghost use Rattle.dn_tic.specs.{declared.command.Move.Move, declared.input.Input.Input};
 ghost use Rattle.dn_setup.specs.Settings.{Settings};
 ghost use Rattle.dn_machine.specs.{declared.answers.Made.Made, declared.answers.Ran.Ran, Game.fresh, Limits.Limits, Node.put, Running.on_run, Running.on_quit, Sending.lag};
-ghost use Rattle.dn_lockstep.specs.{Commands.Builds, Marking.Marking, Near.IsFair, Represents.Represents, Runs.RunsBy, Sent.sent_to, Session.Session, Steps.Steps, Steps.Tells, Told.got, Told.made};
+ghost use Rattle.dn_lockstep.specs.Told.{Builds, got, made};
+ghost use Rattle.dn_lockstep.specs.Marking.{Marking};
+ghost use Rattle.dn_lockstep.specs.Sent.{IsFair, sent_to};
+ghost use Rattle.dn_lockstep.specs.Represents.{Represents};
+ghost use Rattle.dn_lockstep.specs.Steps.{RunsBy, Steps, Tells};
+ghost use Rattle.dn_lockstep.specs.OneGame.{Session};
 ghost use Rattle.dn_machine.specs.declared.answers.Phase.TheVariants.{Playing};
 ghost use Rattle.dn_open.specs.Sealed.{sealing_of};
 ghost use Rattle.dn_seal.specs.declared.seal.Seal.{Seal};
 ghost use Rattle.dn_link.specs.{declared.bundle.Bundle.Bundle, declared.bundle.Carried.Carried, declared.bundle.Message.TheVariants.Game, CaughtUp.Brings, CaughtUp.HasGrown, CaughtUp.IsInStep, Kept.end_of, Kept.taken_by, Reading.IsDatagramOf, Text.parts_bytes};
-ghost use Rattle.dn_link.specs.{declared.bundle.Identity.Identity, declared.received.Received.Received, Bundles.IsGenuineDatagram, CaughtUp.AreCaughtUp, CaughtUp.IsInStepTo, CaughtUp.StayCaughtUp, CaughtUp.WasInStep, Counting.has_ended};
+ghost use Rattle.dn_link.specs.{declared.bundle.Identity.Identity, declared.received.Received.Received, LinkedGame.IsGenuineDatagram, CaughtUp.AreCaughtUp, CaughtUp.IsInStepTo, CaughtUp.StayCaughtUp, CaughtUp.WasInStep, Counting.has_ended};
 ghost use Rattle.dn_link.specs.{Rounds.AreRounds, Rounds.AreFairLines, Rounds.Stretch};
-ghost use Rattle.dn_link.specs.{Linked.Gives, Linked.Linked, Linked.Receives, Linked.forgotten, Linked.holds_back, LinkedGame.AreLinked, Linking.new_peer, Onward.next_to, Paced.PaceState};
+ghost use Rattle.dn_link.specs.{Linked.Gives, Linked.Linked, Linked.Receives, Linked.forgotten, Linked.holds_back, LinkedGame.AreLinked, Linking.new_peer, CaughtUp.next_to, Pacing.PaceState};
 
 use crate::laws::{bundles_are_read_back, linked_game_goes_on};
 use dn_lockstep::locksteps_agree;

@@ -1,8 +1,10 @@
 //! What a lockstep gives to a peer.
 
 ghost use Rattle.std.specs.Prelude.{◌≡◌, ◌&&◌, None, false, IfSome, is_some};
-ghost use Rattle.dn_lockstep.specs.{Contents.contents, Near.IsFair, Sent.sent_to, Steps.Tells};
-ghost use Rattle.dn_link.specs.{Giving.SendsCarried, Hearing.ByTest};
+ghost use Rattle.dn_lockstep.specs.Contents.{contents};
+ghost use Rattle.dn_lockstep.specs.Sent.{IsFair, sent_to};
+ghost use Rattle.dn_lockstep.specs.Steps.{Tells};
+ghost use Rattle.dn_link.specs.{Hearing.SendsCarried, Hearing.ByTest};
 
 use crate::bundle::Carried;
 use arrayvec::ArrayVec;
@@ -11,7 +13,7 @@ use dn_packet::MAX_DATAGRAM;
 use dn_seal::append;
 
 /// The next packet to a peer, with its exact numbers; None where there is none.
-#[tactic(auto, using(dn_lockstep::proofs::Giving::some_given, dn_open::proofs::Giving::gives_none))]
+#[tactic(auto, using(dn_lockstep::proofs::Giving::some_given, dn_open::proofs::Sealables::gives_none))]
 fn next_packet(lockstep: &mut Lockstep, to: u8) -> Option<Carried>
     ensures step { SendsCarried to (contents lockstep.old) (contents lockstep.new) result }
     ensures idle { result ≡ None → contents lockstep.new ≡ contents lockstep.old }

@@ -2,8 +2,8 @@
 
 ghost use Rattle.std.specs.{Prelude.◌≡◌, Prelude.slice_index, List.flat_map};
 ghost use Rattle.dn_lockstep.specs.Contents.{contents};
-ghost use Rattle.dn_survivor.specs.OfOthers.Keeping.{has};
-ghost use Rattle.dn_open.specs.{Arrivals.HearsOpened, Arrivals.SparesSealed, declared.arrived.Arrived.Arrived};
+ghost use Rattle.dn_survivor.specs.OfOthers.{has};
+ghost use Rattle.dn_open.specs.{Arrivals.HearsOpened, Arrivals.SparesSealed, declared.hearing.Arrived.Arrived};
 ghost use Rattle.dn_link.specs.{Counting.held_of, Hearing.HearsUntil, Hearing.HearsAll, Hearing.is_start, Packets.opened_from, Packets.packets_of, Packets.heard_of, Packets.heard_in, Packets.takes_relay, declared.bundle.Part.TheVariants.Run as of_run};
 
 use crate::bundle::{Bundle, Carried, Part, Relay, Run};

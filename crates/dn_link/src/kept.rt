@@ -95,7 +95,7 @@ pub(crate) struct Kept {
 }
 
 impl Kept {
-    ghost use Rattle.dn_link.specs.Keeping.{kept};
+    ghost use Rattle.dn_link.specs.Linking.{kept};
 
     /// None.
     pub(crate) fn new() -> Kept

@@ -38,7 +38,7 @@ pub(crate) struct Leaning {
 }
 
 impl Leaning {
-    ghost use Rattle.dn_link.specs.Lines.{leaning_of};
+    ghost use Rattle.dn_link.specs.Pacing.{leaning_of};
 
     /// Upright.
     pub(crate) fn new() -> Leaning

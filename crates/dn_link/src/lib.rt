@@ -4,11 +4,8 @@
 mod bundle;
 mod caught_up;
 mod counting;
-mod covering;
-mod figures;
 mod giving;
 mod hearing;
-mod history;
 mod kept;
 mod lag;
 mod laws;
@@ -36,19 +33,18 @@ pub use caught_up::{
     caught_up_links_cover, links_bring_all, links_open_caught_up, links_run_on,
     links_stay_caught_up,
 };
-pub use covering::kept_covers;
-pub use figures::Figures;
 pub use laws::{
     acknowledged_is_there, bundles_are_read_back, datagrams_keep_one_game, leaving_is_safe,
     linked_game_goes_on, linked_game_opens, links_agree, sealed_datagrams_are_genuine,
     unplayed_links_give_nothing,
 };
 pub use link::Link;
-pub use onward::given_is_covered;
+pub use onward::{given_is_covered, kept_covers};
 pub use presence::Presence;
 pub use reading::open_bundle;
 pub use received::Received;
 pub use remaining::{
     remaining_bytes_are_genuine, remaining_links_agree, remaining_links_go_on, remaining_links_open,
 };
+pub use tally::Figures;
 pub use writing::seal_bundle;

@@ -2,7 +2,7 @@
 
 ghost use Rattle.std.specs.Prelude.{◌≡◌, ◌<◌, ◌≤◌, ◌+ℤ◌, ◌-ℤ◌, None, nat_abs, nat_le, pos};
 ghost use Rattle.dn_lockstep.specs.Contents.{contents};
-ghost use Rattle.dn_link.specs.{Line.after_old, Line.byte_of, Line.counted, Line.heard_on, Line.lead_over, Line.missing, Line.after_newest, Line.new_line, Line.with_tally, Lines.line_of};
+ghost use Rattle.dn_link.specs.{Line.after_old, Line.byte_of, Line.counted, Line.heard_on, Line.lead_over, Line.missing, Line.after_newest, Line.new_line, Line.with_tally, Pacing.line_of};
 ghost use Rattle.dn_link.specs.{Pace.is_lossy_line};
 
 use crate::bundle::Bundle;

@@ -46,10 +46,12 @@ pub struct Link {
 impl Link {
     ghost use Rattle.std.specs.Prelude.{ℕ, ◌<◌, ◌+◌, false, None, Some, IfOk, Ok};
     ghost use Rattle.dn_tic.specs.declared.input.Input.TheVariants.{Pressed, Given};
-    ghost use Rattle.dn_machine.specs.{Building.on_build, Running.on_quit, Game.fresh};
+    ghost use Rattle.dn_machine.specs.Sending.{on_build};
+    ghost use Rattle.dn_machine.specs.Running.{on_quit};
+    ghost use Rattle.dn_machine.specs.Game.{fresh};
     ghost use Rattle.dn_lockstep.specs.{Steps.Steps, Contents.whose, Opening.IsAdmittedWithin, Opening.limits_within, Opening.whose_within, Represents.Represents};
     ghost use Rattle.dn_setup.specs.Settings.{Settings as Choice};
-    ghost use Rattle.dn_survivor.specs.OfOthers.Keeping.{nothing_kept};
+    ghost use Rattle.dn_survivor.specs.OfOthers.{nothing_kept};
     ghost use Rattle.dn_link.specs.{Linking.identity_of, Linking.linked, Linking.new_peer, Linking.seal_of, Pace.after_input, Pacing.new_pace, Pacing.pace_of};
     ghost use Rattle.dn_machine.specs.declared.answers.Made.TheVariants as made;
 
@@ -108,7 +110,7 @@ impl Link {
 
     /// As `Lockstep::build`; keys for which there is no room are owed, and those that were owed before are
     /// dropped.
-    #[tactic(auto, using(dn_survivor::proofs::Lent::lent_steps))]
+    #[tactic(auto, using(dn_survivor::proofs::Steps::lent_steps))]
     pub fn build(&mut self, keys: Keys) -> Made
         ensures step { Steps (linked self.old).node (linked self.new).node
             (λ limits me m. on_build limits me m (Pressed keys)) (λ made. result ≡ made) }
@@ -126,7 +128,7 @@ impl Link {
     }
 
     /// As `Lockstep::give`; a command for which there is no room is owed, and what was owed before is dropped.
-    #[tactic(auto, using(dn_survivor::proofs::Lent::lent_steps))]
+    #[tactic(auto, using(dn_survivor::proofs::Steps::lent_steps))]
     pub fn give(&mut self, command: Command) -> Made
         ensures step { Steps (linked self.old).node (linked self.new).node
             (λ limits me m. on_build limits me m (Given command)) (λ made. result ≡ made) }
@@ -144,7 +146,7 @@ impl Link {
     }
 
     /// As `Lockstep::quit`.
-    #[tactic(auto, using(dn_survivor::proofs::Lent::lent_steps))]
+    #[tactic(auto, using(dn_survivor::proofs::Steps::lent_steps))]
     pub fn quit(&mut self) -> bool
         ensures step { Steps (linked self.old).node (linked self.new).node
             (λ limits me m. on_quit m) (λ quit. result ≡ quit) }

@@ -1,17 +1,50 @@
-//! That whatever is given to a peer is covered by what is kept for it.
+//! What is kept for a peer has what the peer needs; and a peer is to be sent commands from where those end
+//! that are kept for it, or from earlier on.
 
-ghost use Rattle.std.specs.Prelude.{◌≡◌, ◌≢◌, ◌<◌, ◌≤◌, ◌⊎◌, ◌+◌, ℕ, ℤ, Bool, List, Option, Some};
+ghost use Rattle.std.specs.Prelude.{◌≡◌, ◌≢◌, ◌<◌, ◌≤◌, ◌⊎◌, ◌+◌, ℕ, ℤ, Bool, List, Option, Some, ◌↔◌, true, length, map};
+ghost use Rattle.std.specs.List.{flat_map};
 ghost use Rattle.dn_tic.specs.{declared.command.Move.Move, declared.input.Input.Input};
 ghost use Rattle.dn_packet.specs.Read.{AreBytes};
 ghost use Rattle.dn_setup.specs.Settings.{Settings};
-ghost use Rattle.dn_machine.specs.{declared.answers.Made.Made, declared.answers.Ran.Ran, Building.on_build, Game.fresh, Limits.Limits, Running.on_run, Running.on_quit};
-ghost use Rattle.dn_lockstep.specs.{Represents.Represents, Runs.RunsBy, Steps.Steps, Told.made};
+ghost use Rattle.dn_machine.specs.declared.answers.Made.{Made};
+ghost use Rattle.dn_machine.specs.declared.answers.Ran.{Ran};
+ghost use Rattle.dn_machine.specs.Sending.{on_build};
+ghost use Rattle.dn_machine.specs.Game.{fresh};
+ghost use Rattle.dn_machine.specs.Limits.{Limits};
+ghost use Rattle.dn_machine.specs.Running.{on_run, on_quit};
+ghost use Rattle.dn_lockstep.specs.Represents.{Represents};
+ghost use Rattle.dn_lockstep.specs.Steps.{RunsBy, Steps};
+ghost use Rattle.dn_lockstep.specs.Told.{made};
 ghost use Rattle.dn_seal.specs.declared.seal.Seal.{Seal};
-ghost use Rattle.dn_link.specs.{declared.bundle.Carried.Carried, declared.bundle.Identity.Identity, declared.received.Received.Received, Kept.end_of, Kept.taken_by, Linked.Gives, Linked.Linked};
-ghost use Rattle.dn_link.specs.{Linked.Receives, Linked.forgotten, Linking.new_peer, Onward.AsksWithin, Onward.GoesOn, Onward.IsInTime, Onward.StillGoesOn, Paced.PaceState};
+ghost use Rattle.dn_link.specs.{declared.bundle.Carried.Carried, declared.bundle.Identity.Identity, declared.received.Received.Received, Kept.end_of, Kept.taken_by, Linked.Gives, Linked.Linked, Kept.Reaches};
+ghost use Rattle.dn_link.specs.{Linked.Receives, Linked.forgotten, Linking.new_peer, CaughtUp.AsksWithin, CaughtUp.GoesOn, CaughtUp.IsInTime, CaughtUp.StillGoesOn, Pacing.PaceState, declared.link.Link.Link};
+ghost use Rattle.dn_link.specs.{Kept.IsCovering, Kept.IsKeptRising, Kept.Unacknowledged, Kept.has_tic, Linking.linked, Packets.opened_from, Packets.packets_of, Text.parts_bytes};
 
 use dn_packet::every_datagram_is_read;
 use dn_setup::every_packet_is_told;
+
+/// The packets that any link keeps for a peer have each command from the first that the peer still needs to the
+/// last that they cover. And a datagram carries all of these, unless it has no room for some: then it has
+/// twenty-two parts or more, or these have more than 998 bytes. What they cover reaches the end of a packet that
+/// is given exactly if it did before, or if the packet begins there or before and fewer than twenty-four are
+/// kept. Each kept packet ends past those before it, so no more are kept than commands are covered that the peer
+/// still needs.
+pub fn kept_covers()
+    ensures covers { (link : Link) (peer : ℕ) → IsCovering ((linked link).peers peer).kept }
+    ensures rising { (link : Link) (peer : ℕ) → IsKeptRising ((linked link).peers peer).kept }
+    ensures few { (kept : Unacknowledged) → IsKeptRising kept → kept.done + length kept.packets ≤ kept.covered }
+    ensures carried { (seal : Seal) (identity : Identity) (pace : PaceState) (to : ℕ) (old new : Linked) (bytes : List ℕ)
+        (gives : Gives seal identity pace to old new bytes)
+        → IsCovering (old.peers to).kept → length gives.own < 22 → length (parts_bytes gives.own) ≤ 998
+        → (packets : List Carried) × (flat_map (packets_of gives.bundle.from) gives.own
+        ≡ map (opened_from old.node.me) packets)
+        × ((tic : ℕ) → (old.peers to).kept.done ≤ tic → tic < (new.peers to).kept.covered
+        → has_tic tic packets ≡ true) }
+    ensures reaches { (seal : Seal) (identity : Identity) (pace : PaceState) (to : ℕ) (old new : Linked) (bytes : List ℕ)
+        (gives : Gives seal identity pace to old new bytes) (packet : Carried)
+        → taken_by (old.peers to).presence gives.given ≡ Some packet
+        → (end_of packet ≤ (new.peers to).kept.covered) ↔ Reaches (old.peers to).kept packet }
+{}
 
 /// The tic from which a peer is to be sent commands is not past those that are covered for it: at the start;
 /// after every call on the link but `receive`, `hear_report`, `give_up` and a datagram to this peer; after any

@@ -1,11 +1,10 @@
 //! What a link keeps to decide which commands of third players it hands on.
 
 ghost use Rattle.std.specs.Prelude.{◌≡◌, ◌<◌, ◌≤◌, IfSome, false};
-ghost use Rattle.dn_link.specs.Overdue.{counted_of, four_of, lag_of, is_on, learned_of};
+ghost use Rattle.dn_link.specs.Relays.{counted_of, four_of, lag_of, is_on, learned_of};
 
 use crate::bundle::Part;
-use crate::history::{Had, History};
-use crate::lag::Lag;
+use crate::lag::{Had, History, Lag};
 
 /// How long lags are taken to be at first, in ticks: that of a third player's commands, and the round trip.
 const LAG_AT_FIRST: u8 = 16;

@@ -3,8 +3,8 @@
 ghost use Rattle.std.specs.Prelude.{◌≡◌, ◌<◌, ◌≤◌, ◌+ℤ◌, pos, nat_abs};
 ghost use Rattle.dn_machine.specs.declared.answers.Made.{Made as AnyMade};
 ghost use Rattle.dn_lockstep.specs.Contents.{contents};
-ghost use Rattle.dn_link.specs.{Leaning.looks, Leaning.step_of, Leaning.worked_off, Lines.line_of, Pace.after_datagram, Pace.after_input, Pace.after_refusal, Pace.owed_after, Pace.still_owed};
-ghost use Rattle.dn_link.specs.{Pace.with_leads, Pacing.new_pace, Pacing.state_of, Stretching.stretches};
+ghost use Rattle.dn_link.specs.{Leaning.looks, Leaning.step_of, Leaning.worked_off, Pacing.line_of, Pace.after_datagram, Pace.after_input, Pace.after_refusal, Pace.owed_after, Pace.still_owed};
+ghost use Rattle.dn_link.specs.{Pace.with_leads, Pacing.new_pace, Pacing.state_of, Leaning.stretches};
 
 use crate::bundle::Bundle;
 use crate::leaning::Leaning;

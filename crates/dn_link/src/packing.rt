@@ -2,8 +2,8 @@
 
 ghost use Rattle.std.specs.{Prelude.◌≡◌, Prelude.◌≤◌, Prelude.◌<◌, Prelude.◌+◌, Prelude.◌/◌, Prelude.◌%◌, Prelude.◌^◌, Prelude.◌++◌, Prelude.◌∷◌, Prelude.[], Prelude.ℕ, Prelude.All, Prelude.length};
 ghost use Rattle.std.specs.{Prelude.false, Prelude.true, List.flat_map};
-ghost use Rattle.dn_link.specs.{Packets.opened_from, Packets.packets_of, Packets.short_packet, declared.bundle.Part.TheVariants.Whole, OpenPacking.HasRoom, OpenPacking.IsOpen, OpenPacking.IsPacking};
-ghost use Rattle.dn_link.specs.{OpenPacking.IsTight, OpenPacking.MayFollow, OpenPacking.packed, OpenPacking.part_of, Packing.ArePacked, Packing.IsNeeded, Text.IsPart, Text.parts_bytes};
+ghost use Rattle.dn_link.specs.{Packets.opened_from, Packets.packets_of, Packets.short_packet, declared.bundle.Part.TheVariants.Whole, Packing.HasRoom, Packing.IsOpen, Packing.IsPacking};
+ghost use Rattle.dn_link.specs.{Packing.IsTight, Packing.MayFollow, Packing.packed, Packing.part_of, Packing.ArePacked, Packing.IsNeeded, Text.IsPart, Text.parts_bytes};
 
 use crate::bundle::{Carried, Part, Run};
 use crate::short::short_command;
@@ -121,7 +121,7 @@ impl Packing {
     }
 
     /// Adds a packet that is written as its command.
-    #[tactic(auto, using(crate::proofs::Packings::run_goes_on, crate::proofs::Tight::run_tight))]
+    #[tactic(auto, using(crate::proofs::Packings::run_goes_on, crate::proofs::Packings::run_tight))]
     fn add_short(&mut self, start: u32, command: &[u8; 8])
         requires fits { IsPacking self.old }
         requires room { HasRoom self.old }
@@ -137,7 +137,7 @@ impl Packing {
     }
 
     /// Adds any packet as it is.
-    #[tactic(auto, using(crate::proofs::Packings::last_of, crate::proofs::Tight::whole_tight))]
+    #[tactic(auto, using(crate::proofs::Packings::last_of, crate::proofs::Packings::whole_tight))]
     fn add_whole(&mut self, packet: &Carried)
         requires fits { IsPacking self.old }
         requires room { HasRoom self.old }

@@ -1,7 +1,7 @@
 //! Who is there.
 
 ghost use Rattle.std.specs.Prelude.{◌≡◌, Option};
-ghost use Rattle.dn_link.specs.{Ends.tells_end, Presence.Becomes, Presence.Differs, Presence.Greets, Presence.cause_byte, Presence.when_forgotten, Presence.goes, Presence.has_gone, Presence.has_left};
+ghost use Rattle.dn_link.specs.{Presence.tells_end, Presence.Becomes, Presence.Differs, Presence.Greets, Presence.cause_byte, Presence.when_forgotten, Presence.goes, Presence.has_gone, Presence.has_left};
 ghost use Rattle.dn_link.specs.{Presence.has_played, Presence.is_fresh, Presence.is_playing, Presence.is_there, Presence.may_come, Presence.message_of, Presence.plays_on};
 ghost use Rattle.dn_link.specs.{Presence.takes_part};
 ghost use Rattle.dn_machine.specs.{declared.answers.Cause.Cause as AnyCause, declared.answers.Phase.Phase as AnyPhase};

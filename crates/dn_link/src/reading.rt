@@ -37,7 +37,7 @@ fn bundle_in(body: &[u8]) -> Option<Bundle>
 }
 
 /// Opens a datagram to this player, or returns the first fault that the bytes have.
-#[tactic(auto, using(crate::proofs::Openings::only_short, crate::proofs::Openings::only_long, crate::proofs::Openings::only_game, crate::proofs::Openings::only_receiver, crate::proofs::Openings::only_tag, crate::proofs::Openings::only_form, crate::proofs::Openings::only_bundle, crate::proofs::Openings::formless, crate::proofs::Openings::datagram_is, crate::proofs::Openings::eight_long))]
+#[tactic(auto, using(crate::proofs::Wholes::only_short, crate::proofs::Wholes::only_long, crate::proofs::Wholes::only_game, crate::proofs::Wholes::only_receiver, crate::proofs::Wholes::only_tag, crate::proofs::Wholes::only_form, crate::proofs::Wholes::only_bundle, crate::proofs::Wholes::formless, crate::proofs::Wholes::datagram_is, crate::proofs::Wholes::eight_long))]
 pub fn open_bundle(sealer: &Sealer, bytes: &[u8]) -> Result<Bundle, BundleFault>
     ensures opens { IsBundledAs (sealing sealer.now) bytes.now result }
     ensures only { (read : Result Bundle BundleFault)

@@ -22,7 +22,7 @@ fn bytes_of(command: TicCmd) -> [u8; 8]
 }
 
 /// The commands of a player from a tic on, as many as this at most, and none past one that is missing.
-#[tactic(auto, using(crate::proofs::Relays::length_commands, crate::proofs::Relays::so_goes_on))]
+#[tactic(auto, using(crate::proofs::Handing::length_commands, crate::proofs::Handing::so_goes_on))]
 pub(crate) fn relay_of(lockstep: &Lockstep, player: u8, start: u32, most: u8) -> Relay
     requires { most ≤ 24 }
     ensures player { result.player ≡ player }

@@ -3,21 +3,27 @@
 ghost use Rattle.std.specs.Prelude.{◌≡◌, ◌<◌, ◌≤◌, ℕ, ℤ, pos, Bool, true, false, List, [], get_or, Option, Some, IfSome, Err, slice_get};
 ghost use Rattle.dn_tic.specs.{declared.command.Move.Move, declared.input.Input.Input};
 ghost use Rattle.dn_setup.specs.Settings.{Settings};
-ghost use Rattle.dn_survivor.specs.{declared.report.Report.Report, ReportBytes.Text.IsReport};
+ghost use Rattle.dn_survivor.specs.{declared.report.Report.Report, ReportBytes.IsReport};
 ghost use Rattle.dn_machine.specs.{declared.answers.Made.Made, declared.answers.Ran.Ran, Flight.Flight, Game.fresh, Limits.Limits, Limits.IsWindow, Running.is_over};
 ghost use Rattle.dn_machine.specs.{Running.on_quit, Running.on_run_but};
-ghost use Rattle.dn_lockstep.specs.{Commands.Builds, Contents.end_in, Marking.Marking, Near.IsFair, OneGame.world_told, Represents.Represents, Runs.RunsBy, Sent.sent_to, Steps.Steps, Steps.Tells};
-ghost use Rattle.dn_survivor.specs.OfOthers.Keeping.{nothing_kept};
-ghost use Rattle.dn_survivor.specs.{Agreed.AreAgreedInPairs, Agreed.FitInPairs, Calls.HearsReport, Demos.DemosAgreeInPairs, Session.Given, Session.Session, Session.after_build, Session.after_packet};
-ghost use Rattle.dn_survivor.specs.{Session.after_report, Session.after_run, Session.opening_session, Session.with_survivor, Telling.report_for, declared.answers.GivenUp.GivenUp};
+ghost use Rattle.dn_lockstep.specs.Told.{Builds};
+ghost use Rattle.dn_lockstep.specs.Contents.{end_in};
+ghost use Rattle.dn_lockstep.specs.Marking.{Marking};
+ghost use Rattle.dn_lockstep.specs.Sent.{IsFair, sent_to};
+ghost use Rattle.dn_lockstep.specs.OneGame.{world_told};
+ghost use Rattle.dn_lockstep.specs.Represents.{Represents};
+ghost use Rattle.dn_lockstep.specs.Steps.{RunsBy, Steps, Tells};
+ghost use Rattle.dn_survivor.specs.OfOthers.{nothing_kept};
+ghost use Rattle.dn_survivor.specs.{Agreed.AreAgreedInPairs, Agreed.FitInPairs, Calls.HearsReport, Agreed.DemosAgreeInPairs, OneGame.Given, OneGame.Session, OneGame.after_build, OneGame.after_packet};
+ghost use Rattle.dn_survivor.specs.{OneGame.after_report, OneGame.after_run, OneGame.opening_session, OneGame.with_survivor, Telling.report_for, declared.answers.GivenUp.GivenUp};
 ghost use Rattle.dn_survivor.specs.{declared.answers.Reported.Reported};
 ghost use Rattle.dn_seal.specs.declared.seal.Seal.{Seal};
-ghost use Rattle.dn_link.specs.{declared.notice.fault.ReportDatagramFault.ReportDatagramFault, SealedReports.Opening.IsOpenedAs};
+ghost use Rattle.dn_link.specs.{declared.notice.ReportDatagramFault.ReportDatagramFault, SealedReports.IsOpenedAs};
 ghost use Rattle.dn_open.specs.Sealed.{sealing_of};
 ghost use Rattle.dn_link.specs.{declared.bundle.Bundle.Bundle, declared.bundle.BundleFault.BundleFault, declared.bundle.Identity.Identity, declared.received.Received.Received, Linked.Gives};
 ghost use Rattle.dn_link.specs.{Linked.Linked, Linked.Receives, Linked.forgotten, Linked.has_given_up, Linked.holds_back, Linked.remains, Linked.surviving_of, Linking.new_peer, Notices.HearsNotice};
-ghost use Rattle.dn_link.specs.{Notices.is_notice, Notices.notice_for, Paced.PaceState, Reading.IsBundledAs, RemainingLinks.AreRemainingLinks, RemainingLinks.IsGenuineIn, RemainingLinks.KeepsGiven};
-ghost use Rattle.dn_survivor.specs.Session.{after_relays};
+ghost use Rattle.dn_link.specs.{Notices.is_notice, Notices.notice_for, Pacing.PaceState, Reading.IsBundledAs, RemainingLinks.AreRemainingLinks, RemainingLinks.IsGenuineIn, RemainingLinks.KeepsGiven};
+ghost use Rattle.dn_survivor.specs.OneGame.{after_relays};
 ghost use Rattle.dn_link.specs.Relays.{flights_of};
 ghost use Rattle.dn_link.specs.{RemainingLinks.StayRemaining, RemainingLinks.WasSealedIn, Surviving.GivesUpPeer, Text.IsBundle, Text.sealed_bytes};
 
@@ -139,7 +145,7 @@ pub fn remaining_links_go_on()
 /// What was sealed in such a game may come to any link of it at any later time, and so may bytes that a link
 /// refuses, and a datagram without packets. So whoever hands in nothing but these keeps what
 /// `remaining_links_go_on` asks of bytes that come in.
-#[tactic(auto, using(crate::proofs::SealedReports::Openings::one_opening, crate::proofs::Outgoing::opened_later, crate::proofs::Noticed::not_both, crate::proofs::Openings::only_bundle))]
+#[tactic(auto, using(crate::proofs::SealedReports::one_opening, crate::proofs::Linking::opened_later, crate::proofs::SealedReports::not_both, crate::proofs::Wholes::only_bundle))]
 pub fn remaining_bytes_are_genuine()
     ensures stay { (seal : Seal) (session later : Session) (bytes : List ℕ) → KeepsGiven session later
         → WasSealedIn seal session bytes → WasSealedIn seal later bytes }

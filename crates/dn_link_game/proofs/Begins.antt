@@ -3,14 +3,14 @@ use Rattle.std.proofs.Common.{◌≡◌, ◌<◌, ℕ, true, true≢false, List,
 use Rattle.std.proofs.lemmas.Option.{same_Some}
 use Rattle.dn_tic.specs.declared.command.Move.{Move}
 use Rattle.dn_setup.specs.Settings.{Settings}
-use Rattle.dn_setup.specs.Starts.{start_of}
+use Rattle.dn_setup.specs.Settings.{start_of}
 use Rattle.dn_world.specs.Physics.{Physics}
 use Rattle.dn_machine.specs.declared.answers.Phase.TheVariants.{Playing}
 use Rattle.dn_machine.specs.Limits.{Limits}
 use Rattle.dn_lockstep.specs.OneGame.{world_told}
 use Rattle.dn_lockstep.specs.Rows.{seats_of}
 use Rattle.dn_survivor.specs.Agreed.{AreAgreedInPairs}
-use Rattle.dn_survivor.specs.Session.{Session}
+use Rattle.dn_survivor.specs.OneGame.{Session}
 use Rattle.dn_survivor.specs.Surviving.{Surviving}
 use Rattle.dn_link.specs.Linked.{surviving_of}
 use Rattle.dn_link.specs.Linking.{linked}

@@ -9,7 +9,7 @@ use Rattle.dn_setup.specs.Settings.{Settings}
 use Rattle.dn_world.specs.Physics.{Physics}
 use Rattle.dn_machine.specs.{Limits.Limits, Node.put}
 use Rattle.dn_seal.specs.declared.seal.Seal.{Seal}
-use Rattle.dn_survivor.specs.Session.{Session}
+use Rattle.dn_survivor.specs.OneGame.{Session}
 use Rattle.dn_link.specs.{Linking.seal_of, RemainingLinks.IsGenuineIn, RemainingLinks.KeepsGiven, RemainingLinks.WasSealedIn, Linked.Linked, Linking.linked}
 use Rattle.dn_link_game.specs.{Games.IsLinkGame, Genuine.IsGenuine, Genuine.WasGiven, Headline.HasPlayer, declared.game.LinkGame.LinkGame, declared.player.Player.Player, Playing.GoesOn, Playing.GoesOnIf, Playing.IsPlayer}
 use Rattle.dn_machine.proofs.Put.{put_at, put_off}

@@ -2,7 +2,7 @@
 use Rattle.std.specs.Prelude.{◌≡◌, ℕ, Some, List, slice_get}
 use Rattle.arrayvec.specs.ArrayVec.{ArrayVec}
 use Rattle.dn_survivor.specs.declared.report.Report.{Report}
-use Rattle.dn_link.specs.SealedReports.Opening.{IsReportFrom}
+use Rattle.dn_link.specs.SealedReports.{IsReportFrom}
 use Rattle.dn_open.specs.Sealed.{sealing_of}
 use Rattle.dn_seal.specs.declared.seal.Seal.{Seal}
 use Rattle.dn_link.specs.declared.bundle.Bundle.{Bundle}

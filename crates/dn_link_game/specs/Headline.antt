@@ -5,7 +5,7 @@ use Rattle.dn_tic.specs.Command.{used}
 use Rattle.dn_tic.specs.Inputs.{made_by}
 use Rattle.dn_tic.specs.declared.command.Move.{Move}
 use Rattle.dn_setup.specs.Settings.{Settings}
-use Rattle.dn_setup.specs.Starts.{start_of}
+use Rattle.dn_setup.specs.Settings.{start_of}
 use Rattle.dn_world.specs.Physics.{Physics}
 use Rattle.dn_demo.specs.Layout.{long_tics}
 use Rattle.dn_demo.specs.Text.{demo_text}
@@ -13,7 +13,7 @@ use Rattle.dn_machine.specs.Headline.{AgreeWithin, AnyTwo, Shown, ran_by, whole_
 use Rattle.dn_machine.specs.Limits.{Limits}
 use Rattle.dn_machine.specs.Node.{is_ended}
 use Rattle.dn_machine.specs.Worlds.{Inputs}
-use Rattle.dn_lockstep.specs.Demos.{recorded}
+use Rattle.dn_lockstep.specs.Agreed.{recorded}
 use Rattle.dn_lockstep.specs.OneGame.{world_told}
 use Rattle.dn_lockstep.specs.Rows.{seats_of}
 use Rattle.dn_lockstep.specs.Told.{HasStarted, got}

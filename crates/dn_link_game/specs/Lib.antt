@@ -2,4 +2,3 @@ pub mod Playing
 pub mod Headline
 pub mod Games
 pub mod Genuine
-pub mod Going

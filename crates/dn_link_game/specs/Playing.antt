@@ -3,7 +3,7 @@ use Rattle.std.specs.Prelude.{◌≡◌, ◌≢◌, ◌<◌, ◌⊎◌, ℕ, tru
 use Rattle.dn_tic.specs.declared.command.Move.{Move}
 use Rattle.dn_tic.specs.declared.input.Input.{Input}
 use Rattle.dn_setup.specs.Settings.{Settings}
-use Rattle.dn_setup.specs.Starts.{start_of}
+use Rattle.dn_setup.specs.Settings.{start_of}
 use Rattle.dn_world.specs.Physics.{Physics}
 use Rattle.dn_machine.specs.declared.answers.Phase.TheVariants.{Playing}
 use Rattle.dn_machine.specs.declared.answers.Made.{Made}
@@ -12,8 +12,8 @@ use Rattle.dn_machine.specs.Node.{put}
 use Rattle.dn_lockstep.specs.Marking.{History, Marking}
 use Rattle.dn_lockstep.specs.OneGame.{world_told}
 use Rattle.dn_lockstep.specs.Rows.{seats_of}
-use Rattle.dn_lockstep.specs.Session.{taken_on, told_on}
-use Rattle.dn_survivor.specs.Session.{Session}
+use Rattle.dn_lockstep.specs.OneGame.{taken_on, told_on}
+use Rattle.dn_survivor.specs.OneGame.{Session}
 use Rattle.dn_link.specs.Linked.{Linked}
 use Rattle.dn_link.specs.Linking.{linked}
 use Rattle.dn_link.specs.RemainingLinks.{AreRemainingLinks, StayRemaining}

@@ -3,7 +3,7 @@
 ghost use Rattle.std.specs.Prelude.{◌≡◌, ◌<◌, ◌+◌, ◌≤◌, length, OnOk};
 ghost use Rattle.std.specs.Vec.{vec_capacity, vec_len};
 ghost use Rattle.dn_tic.specs.declared.input.Input.TheVariants.{Given};
-ghost use Rattle.dn_link_game.specs.{Genuine.IsGenuine, Going.Goes, Going.GoesIf, Playing.TakesNothing, Playing.TakesInput, Playing.TellsRow};
+ghost use Rattle.dn_link_game.specs.{Genuine.IsGenuine, Games.Goes, Games.GoesIf, Playing.TakesNothing, Playing.TakesInput, Playing.TellsRow};
 
 use crate::player::Player;
 use arrayvec::ArrayVec;

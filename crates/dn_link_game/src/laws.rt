@@ -4,7 +4,7 @@ ghost use Rattle.std.specs.Prelude.{◌≡◌, ◌≤◌, ℕ, [], length};
 ghost use Rattle.dn_setup.specs.Settings.{Settings};
 ghost use Rattle.dn_machine.specs.Limits.{IsWindow, Limits};
 ghost use Rattle.dn_seal.specs.declared.seal.Seal.{Seal};
-ghost use Rattle.dn_survivor.specs.Session.{Session};
+ghost use Rattle.dn_survivor.specs.OneGame.{Session};
 ghost use Rattle.dn_link_game.specs.{declared.game.LinkGame.LinkGame, declared.player.Player.Player, Games.IsLinkGame, Games.IsNew, Headline.HasPlayer, Headline.HaveAgreed};
 
 use dn_link::{remaining_links_agree, remaining_links_open};

@@ -2,7 +2,7 @@
 
 ghost use Rattle.std.specs.Prelude.{◌≡◌, ◌<◌, ℕ, pos, get_or, IfSome};
 ghost use Rattle.dn_tic.specs.declared.input.Input.TheVariants.{Given, Pressed};
-ghost use Rattle.dn_survivor.specs.Session.{after_build, after_run, with_survivor};
+ghost use Rattle.dn_survivor.specs.OneGame.{after_build, after_run, with_survivor};
 ghost use Rattle.dn_link.specs.{Linked.surviving_of, Linking.linked, Linking.seal_of, Pacing.pace_of, RemainingLinks.IsGenuineIn, RemainingLinks.WasSealedIn};
 ghost use Rattle.dn_link_game.specs.Playing.{CatchesUp, GoesOn, GoesOnIf, IsBegun, TakesNothing};
 

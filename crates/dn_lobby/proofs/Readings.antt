@@ -10,7 +10,7 @@ use Rattle.std.proofs.lemmas.Slice.Eq.{bytes_eq-Decides}
 use Rattle.std.proofs.Math.Seq.{take-append_seam, drop-append_seam}
 use Rattle.dn_seal.specs.declared.seal.Seal.{Seal}
 use Rattle.dn_seal.specs.Hmac.{tag_of}
-use Rattle.dn_seal.specs.Keys.{suite_byte}
+use Rattle.dn_seal.specs.Hmac.{suite_byte}
 use Rattle.dn_seal.specs.Opening.{told_body, told_tag}
 use Rattle.dn_seal.proofs.Envelopes.{length-tag}
 use Rattle.dn_lobby.specs.declared.greeting.GreetingFault.{GreetingFault}

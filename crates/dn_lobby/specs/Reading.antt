@@ -3,7 +3,7 @@ use Rattle.std.specs.Prelude.{◌≡◌, ◌≢◌, ◌⊎◌, ℕ, ◌==◌, no
 use Rattle.std.specs.Str.{bytes_eq}
 use Rattle.dn_seal.specs.declared.seal.Seal.{Seal}
 use Rattle.dn_seal.specs.Hmac.{tag_of}
-use Rattle.dn_seal.specs.Keys.{suite_byte}
+use Rattle.dn_seal.specs.Hmac.{suite_byte}
 use Rattle.dn_seal.specs.Opening.{told_body, told_tag}
 use Rattle.dn_lobby.specs.declared.greeting.Call.{Call}
 use Rattle.dn_lobby.specs.declared.greeting.GreetingFault.{GreetingFault}

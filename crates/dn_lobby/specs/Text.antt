@@ -4,8 +4,8 @@ use Rattle.std.specs.Int.{w32, to_le_bytes}
 use Rattle.std.specs.List.{flat_map}
 use Rattle.dn_seal.specs.declared.seal.Seal.{Seal}
 use Rattle.dn_seal.specs.Hmac.{tag_of}
-use Rattle.dn_seal.specs.declared.suite.Suite.TheVariants.{Secret, Open}
-use Rattle.dn_seal.specs.Keys.{no_secret, suite_byte}
+use Rattle.dn_seal.specs.declared.seal.Suite.TheVariants.{Secret, Open}
+use Rattle.dn_seal.specs.Hmac.{no_secret, suite_byte}
 use Rattle.dn_seal.specs.Sealing.{sealed_with}
 use Rattle.dn_lobby.specs.declared.greeting.Address.{Address}
 use Rattle.dn_lobby.specs.declared.greeting.Call.{Call}

@@ -4,7 +4,7 @@ use Rattle.std.proofs.{lemmas.Bool.cond-true, lemmas.List.FromFn.fill_by_all}
 use Rattle.std.specs.{Prelude.{unwrap_or, Ok}, List.take_while}
 use Rattle.dn_tic.specs.{Inputs.made_by, declared.command.TicCmd.TicCmd, declared.input.Input.Input}
 use Rattle.dn_tic.proofs.Making.{made_by-mark}
-use Rattle.dn_setup.specs.{Settings.Settings, Starts.start_of}
+use Rattle.dn_setup.specs.Settings.{Settings, start_of}
 use Rattle.dn_demo.specs.{Layout.long_tics, Reading.IsReadAs, Text.demo_text}
 use Rattle.dn_machine.specs.{Game.Game, Node.{is_ended, is_whole, has_left, demo_rows}}
 use Rattle.dn_machine.specs.Promise.{Agree, Fits, inputs_of, end_or}
@@ -12,10 +12,10 @@ use Rattle.dn_machine.specs.Worlds.{Inputs, Rules, command, row_by_inputs}
 use Rattle.dn_machine.specs.Node as machine
 use Rattle.dn_machine.proofs.{Invariant.IsKept, RowsByInputs.row_is}
 use Rattle.dn_machine.proofs.Promises
-use Rattle.dn_lockstep.specs.{Agreed.AreAgreed, Contents.{Contents, end_in}}
-use Rattle.dn_lockstep.specs.{Demos.{rows_to, rows_made, demo_made, is_closed}, Represents.Represents}
+use Rattle.dn_lockstep.specs.{Agreed.{AreAgreed, rows_to, rows_made, demo_made, is_closed}, Contents.{Contents, end_in}}
+use Rattle.dn_lockstep.specs.Represents.{Represents}
 use Rattle.dn_lockstep.specs.{Rows.seats_of, Told.{HasStarted, got, made, command_told}}
-use Rattle.dn_lockstep.proofs.{DemosAgreeing.demos_of, Replaying.read_back}
+use Rattle.dn_lockstep.proofs.{DemosAgreeing.demos_of, Moving.read_back}
 use Rattle.dn_lockstep.proofs.Shown
 
 -- a command with any mark, and what it says of its own

@@ -1,18 +1,137 @@
--- A node that was asked for a packet, and the packets of its own commands.
-use Rattle.std.proofs.Common.{arith, ◌≡◌, ℕ, List, take, Option, Some, None, refl, ◌≢◌, ◌⊎◌, ◌<◌, ◌%◌, drop, false, ◌∙◌}
-use Rattle.std.proofs.{Math.Seq.take-append_seam, lemmas.Option.same_Some}
-use Rattle.std.specs.{Option.option_map, Prelude.IfSome, List.list_any}
-use Rattle.dn_machine.specs.{declared.answers.Phase.Phase, Limits.Limits}
-use Rattle.dn_machine.specs.Flight.{Flight, packet_of, Kind, Play, Exit, request_byte, packet_of_kind}
-use Rattle.dn_machine.specs.{Sending.on_send_in, declared.answers.Phase.TheVariants.Gathering}
+-- What a node sends and gives: by the machine, and by a lockstep that was asked for a packet.
+use Rattle.std.proofs.Common.{◌≡◌, ◌≢◌, ◌<◌, ◌≤◌, ℕ, Option, None, arith, ◌+◌, ◌-◌, min, Some, true, false, length, take, drop, refl, ap, Bool, ◌∙◌, inl, inr, List, ◌%◌}
+use Rattle.std.proofs.{lemmas.Bool.{le-ltb, cond-false}, lemmas.List.{length-drop, length-take}}
+use Rattle.std.proofs.lemmas.Option.{same_Some}
+use Rattle.std.proofs.Math.Seq.{take-append_seam}
+use Rattle.std.specs.{Prelude.{nat_lt, ◌⊎◌, if◌then◌else◌, IfSome}, Option.option_map}
+use Rattle.std.specs.List.{list_any}
+use Rattle.dn_machine.specs.{Limits.Limits, Flight.{Flight, Kind, packet_of_kind, Play, packet_of, Exit, request_byte}}
+use Rattle.dn_machine.specs.Sending.{on_send, on_send_in, commands_flight, first_sent, last_sent, left_kind, set_up_flight, after_sent, request_to}
+use Rattle.dn_machine.specs.{declared.answers.Phase.Phase, declared.answers.Cause.Cause}
+use Rattle.dn_machine.specs.declared.answers.Phase.TheVariants.{Playing, Ended, Gathering}
 use Rattle.dn_machine.specs.Node as machine
+use Rattle.dn_lockstep.specs.{Contents.Contents, Represents.Represents, Sent.{sent_to, aim_of, after_giving, bytes_of, IsFair}}
+use Rattle.dn_lockstep.specs.declared.lockstep.aiming.Aim.{Aim}
+use Rattle.dn_lockstep.specs.Giving.{Gives, Reaches, packet_of_aim}
+use Rattle.dn_lockstep.specs.Tables.{is_stop}
+use Rattle.dn_lockstep.proofs.Shown.{below}
+use Rattle.dn_lockstep.proofs.After.{along}
+use Rattle.dn_setup.specs.Settings.{Settings, IsSettings}
+use Rattle.dn_setup.specs.Setup.{setup_packet}
+use Rattle.dn_packet.specs.Flags as flag
 use Rattle.dn_packet.specs.{declared.packet.Packet.Packet, Text.{text, IsPacket}, Written.IsGiven}
-use Rattle.dn_lockstep.specs.{declared.lockstep.aiming.Aim.Aim, Contents.Contents}
-use Rattle.dn_lockstep.specs.{Giving.{Gives, Reaches, packet_of_aim}, Represents.Represents}
-use Rattle.dn_lockstep.specs.{Sent.{sent_to, after_giving, aim_of, bytes_of}, Rings.is_stop, Near.IsFair}
-use Rattle.dn_lockstep.proofs.{After.along, Sending.{to_itself, to_nobody, to_peer, sends_in}, Counting.below}
-use Rattle.dn_setup.specs.{Settings.{Settings, IsSettings}, Setup.setup_packet}
-use Rattle.dn_ring.proofs.Keeping.{since-ring_of}
+use Rattle.dn_ring.proofs.Slots.{since-ring_of}
+
+-- What the machine's node sends, by the receiver's number and the phase, and its numbers.
+
+module _ (limits : Limits) (me : ℕ) (m : machine.Node) (to : ℕ) where
+  pub to_nobody : limits.players ≤ to → ◌≡◌ {A = machine.Node × Option Flight} (sent_to to limits me m)
+      (m, None)
+  to_nobody past = cond-false (nat_lt to limits.players) _ _ (le-ltb to limits.players past)
+
+  pub to_itself : me ≡ to → ◌≡◌ {A = machine.Node × Option Flight} (sent_to to limits me m) (m, None)
+  unfolding on_send
+  to_itself same = grind arith
+
+  pub to_peer : to < limits.players → me ≢ to → ◌≡◌ {A = machine.Node × Option Flight} (sent_to to limits me m)
+      (on_send_in limits me m to m.phase)
+  unfolding on_send
+  to_peer below apart = grind arith
+
+-- the same of a node that represents it
+pub sends_in : (limits : Limits) (me : ℕ) (n : Contents) (m : machine.Node) (to : ℕ)
+    (phase : Phase)
+    → Represents limits me n m → to < n.players → to ≢ n.me → n.phase ≡ phase
+    → ◌≡◌ {A = machine.Node × Option Flight} (sent_to to limits me m) (on_send_in limits me m to phase)
+sends_in limits me n m to phase r inside apart on = grind (arith, to_peer, below)
+
+-- how many commands a packet has, and where it ends
+module _ (limits : Limits) (me : ℕ) (m : machine.Node) (to : ℕ) where
+  many_sent : length (take limits.most (drop (first_sent limits me m to) (m.held me)))
+      ≡ min limits.most (machine.made me m - first_sent limits me m to)
+  many_sent = grind (arith, length-take, length-drop)
+
+  pub last_is : (aim : Aim) (kind : Kind) (request : Option ℕ) → aim.start ≤ machine.made me m
+      → aim ≡ aim_of (commands_flight limits me m to kind request)
+      → aim.start + aim.count ≡ last_sent limits me m to
+  last_is aim kind request low is = grind (arith, many_sent)
+
+-- the numbers of the own commands from where the next packet starts
+pub aim_is : (limits : Limits) (me : ℕ) (m : machine.Node) (to : ℕ) (kind : Kind)
+    {flags : ℕ} {ask request : Option ℕ} {start made count : ℕ}
+    → flags ≡ (packet_of_kind (commands_flight limits me m to kind request) kind).flags → ask ≡ request
+    → start ≡ first_sent limits me m to → made ≡ machine.made me m → 12 ≡ limits.most
+    → count ≡ min 12 (made - start)
+    → ◌≡◌ {A = Aim} (record { flags = flags; ask = ask; start = start; count = count })
+    (aim_of (commands_flight limits me m to kind request))
+aim_is limits me m to kind flagged asks starts made most counted = grind (arith, many_sent)
+
+-- one who has left tells its end where the packet reaches it
+pub left_flags : (limits : Limits) (me : ℕ) (m : machine.Node) (to : ℕ) {start made count : ℕ}
+    → start ≡ first_sent limits me m to → made ≡ machine.made me m → start ≤ made → 12 ≡ limits.most
+    → count ≡ min 12 (made - start)
+    → (if nat_lt (start + count) made then 0 else flag.exit)
+    ≡ (packet_of_kind (commands_flight limits me m to (left_kind limits me m to) None)
+    (left_kind limits me m to)).flags
+left_flags limits me m to {start} {made} {count} starts makes low most counted = grind arith
+
+pub exit_given : (limits : Limits) (me : ℕ) (m : machine.Node) (to : ℕ) (cause : Cause)
+    (aim : Aim) → m.played ≡ true
+    → aim ≡ aim_of (commands_flight limits me m to (left_kind limits me m to) None)
+    → ◌≡◌ {A = Option Aim} (Some aim) (option_map aim_of (on_send_in limits me m to (Ended cause)).1)
+exit_given limits me m to cause aim has is = rw has (ap (λ (a : Aim). Some a) is)
+
+pub none_given : (limits : Limits) (me : ℕ) (m : machine.Node) (to : ℕ) (cause : Cause)
+    → m.played ≡ false
+    → ◌≡◌ {A = Option Aim} None (option_map aim_of (on_send_in limits me m to (Ended cause)).1)
+none_given limits me m to cause never = rw never refl
+
+-- the numbers of a packet of one who plays or has ended are those of own commands
+pub own_aim : (limits : Limits) (me : ℕ) (m : machine.Node) (to : ℕ) (aim : Aim) (phase : Phase)
+    → (phase ≡ Playing) ⊎ ((cause : Cause) × (phase ≡ Ended cause))
+    → ◌≡◌ {A = Option Aim} (Some aim) (option_map aim_of (on_send_in limits me m to phase).1)
+    → (kind : Kind) × (request : Option ℕ) × (aim ≡ aim_of (commands_flight limits me m to kind request))
+own_aim limits me m to aim phase (inl plays) is = (
+  Play,
+  request_to m to,
+  same_Some _ _ (grind arith),
+)
+own_aim limits me m to aim phase (inr ended) is =
+    go m.played (is ∙ ap (λ (ph : Phase). option_map aim_of (on_send_in limits me m to ph).1) ended.1)
+  where
+    left_sent : Bool → machine.Node × Option Flight
+    left_sent played =
+        if played
+        then (after_sent limits me m to, Some (commands_flight limits me m to (left_kind limits me m to) None))
+        else (m, None)
+
+    go : (played : Bool) → ◌≡◌ {A = Option Aim} (Some aim) (option_map aim_of (left_sent played).1)
+        → (kind : Kind) × (request : Option ℕ) × (aim ≡ aim_of (commands_flight limits me m to kind request))
+    go true e = (left_kind limits me m to, None, same_Some _ _ e)
+    go false e = absurd (cc)
+
+pub aim_of_set_up : (me to : ℕ) (settings : Option Settings) → settings ≢ None
+    → ◌≡◌ {A = Option Aim} (Some (record { flags = 2; ask = None; start = 0; count = 0 }))
+    (option_map aim_of (set_up_flight me to settings))
+aim_of_set_up me to settings n = grind arith
+
+-- the aim of what is sent, where what is sent is known
+pub aimed : (limits : Limits) (me : ℕ) (m : machine.Node) (to : ℕ)
+    (next : machine.Node × Option Flight) (aim : Option Aim)
+    → sent_to to limits me m ≡ next → aim ≡ option_map aim_of next.1
+    → aim ≡ option_map aim_of (sent_to to limits me m).1
+aimed limits me m to next aim e is = grind (arith, is, e)
+
+-- and where it is sent to a peer, by the phase
+pub aimed_in : {limits : Limits} {me : ℕ} {n : Contents} {m : machine.Node}
+    (r : Represents limits me n m) {to : ℕ} {phase : Phase} {aim : Option Aim}
+    → to < n.players → to ≢ n.me → n.phase ≡ phase
+    → aim ≡ option_map aim_of (on_send_in limits me m to phase).1
+    → aim ≡ option_map aim_of (sent_to to limits me m).1
+aimed_in {limits = limits} {me = me} {n = n} {m = m} r {to} {phase} {aim} below other at is =
+    aimed limits me m to _ aim (sends_in limits me n m to phase r below other at) is
+
+-- A node that was asked for a packet, and the packets of its own commands.
 
 -- the machine's node once it was asked for a packet: as it was where it gave none, and else as noted
 module _ (limits : Limits) (me : ℕ) (m : machine.Node) (to : ℕ) where

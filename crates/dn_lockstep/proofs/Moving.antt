@@ -1,21 +1,74 @@
 -- What a node represents after a tic.
-use Rattle.std.proofs.Common.{◌≡◌, ◌≢◌, ◌<◌, ◌+◌, ◌%◌, ℕ, ℤ, Bool, true, false, not, cond, List, [], ◌∷◌, ◌++◌, ap, sym, ◌∙◌, subst, arith, inl, inr, Option, Some, None, refl}
-use Rattle.std.proofs.{lemmas.Bool.{cases_Bool, le-ltb, lt-ltb}, lemmas.List.length_push}
+use Rattle.std.proofs.{Common.{◌≡◌, ◌≤◌, ℕ, true, length, Some, arith, ◌+◌, false, Option, ◌≢◌, ◌<◌, ◌%◌, ℤ, Bool, not, cond, List, [], ◌∷◌, ◌++◌, ap, sym, ◌∙◌, subst, inl, inr, None, refl}, lemmas.List.{take_all, length_push}}
+use Rattle.std.proofs.lemmas.List.Folds.{length-prefix_len}
+use Rattle.std.proofs.lemmas.Bool.{cases_Bool, le-ltb, lt-ltb}
 use Rattle.std.proofs.lemmas.List.Elements.{All-push}
-use Rattle.std.specs.Prelude.{All, IfSome}
+use Rattle.std.specs.Prelude.{Ok, All, IfSome}
 use Rattle.dn_tic.specs.declared.command.Move.{Move}
-use Rattle.dn_setup.specs.{Settings.Settings, Starts.start_of}
-use Rattle.dn_demo.specs.{Recorded.{Recorded, AddsRow, Closes, is_closed}, Layout.long_tics}
-use Rattle.dn_demo.specs.{Rows.{IsMove, IsRow, AreWritable}, Text.demo_text}
+use Rattle.dn_setup.specs.Settings.{Settings, start_of}
+use Rattle.dn_demo.specs.{Layout.long_tics, Reading.{IsReadAs, written_demo}, Text.{demo_text, IsMove, IsRow, AreWritable}}
+use Rattle.dn_demo.specs.Recorded.{Recorded, AddsRow, Closes, is_closed}
 use Rattle.dn_demo.specs.declared.recorder.Stage.TheVariants.{Blank, Open, Closed}
-use Rattle.dn_machine.specs.{Running.is_over, declared.answers.Phase.TheVariants.Playing, Limits.Limits}
-use Rattle.dn_machine.specs.Node.{put, ends_of, own_mark, is_whole, demo_rows}
-use Rattle.dn_machine.proofs.Demos.{front_stops, front_goes_on, front_short}
+use Rattle.dn_demo.proofs.ReadBack.{long_read_back}
+use Rattle.dn_machine.specs.{Limits.Limits, Node.{is_ended, demo_rows, put, ends_of, own_mark, is_whole}}
 use Rattle.dn_machine.specs.Node as machine
-use Rattle.dn_lockstep.specs.Contents.{Contents}
-use Rattle.dn_lockstep.specs.{Represents.{Represents, CanBeWritten, is_demo_closed, marked_to}, Rows.seats_of}
-use Rattle.dn_lockstep.proofs.Replaying.{all_recorded, demo_is}
-use Rattle.dn_lockstep.proofs.Marked.{marked_low, marked_here, marked_next, marked_gone}
+use Rattle.dn_machine.specs.Running.{is_over}
+use Rattle.dn_machine.specs.declared.answers.Phase.TheVariants.{Playing}
+use Rattle.dn_machine.proofs.Demos.{front_stops, front_goes_on, front_short}
+use Rattle.dn_lockstep.specs.{Contents.Contents, Represents.{Represents, CanBeWritten, demo_of, is_demo_closed, marked_to}}
+use Rattle.dn_lockstep.specs.Rows.{seats_of}
+
+-- The demo of a lockstep that has played.
+
+-- where the demo has as many rows as were run, it has all
+pub all_recorded : (limits : Limits) (m : machine.Node)
+    → machine.ran m ≤ length (demo_rows limits.players m) → demo_rows limits.players m ≡ m.rows
+all_recorded limits m all = grind (arith, length-prefix_len, take_all)
+
+module _ (limits : Limits) (m : machine.Node) (settings : Settings)
+    (known : m.settings ≡ Some settings) where
+  pub demo_is : (me : ℕ) → m.played ≡ true
+      → demo_of limits me m ≡ demo_text long_tics (start_of settings) me (seats_of limits.players)
+      (demo_rows limits.players m) (is_demo_closed limits m)
+  demo_is me played = grind arith
+
+module _ (limits : Limits) (me : ℕ) (n : Contents) (m : machine.Node) (settings : Settings)
+    (r : Represents limits me n m) (played : m.played ≡ true) (known : m.settings ≡ Some settings) where
+  pub demo_ended : is_ended m.phase ≡ true
+      → n.demo.bytes ≡ demo_text long_tics (start_of settings) me (seats_of limits.players) (demo_rows limits.players m)
+      true
+  demo_ended ended = grind arith
+
+  -- and is read back
+  pub read_back : is_ended m.phase ≡ true
+      → IsReadAs n.demo.bytes
+      (Ok (written_demo long_tics (start_of settings) me (seats_of limits.players) (demo_rows limits.players m)))
+  unfolding CanBeWritten
+  read_back ended =
+      rw (demo_ended ended)
+      (long_read_back (start_of settings) me (seats_of limits.players) (demo_rows limits.players m) r.demo.writable)
+
+-- Up to which tic a player's marks are kept.
+
+-- of no more tics than were run
+pub marked_low : (tics : ℕ) (end : Option ℕ) → marked_to tics end ≤ tics
+marked_low tics end = grind arith
+
+-- of all that were run, while the player is there
+pub marked_here : (tics : ℕ) (end : Option ℕ) → is_over end tics ≡ false → marked_to tics end ≡ tics
+marked_here tics end here = grind arith
+
+-- and of the next one too
+pub marked_next : (tics : ℕ) (end : Option ℕ) → is_over end tics ≡ false
+    → marked_to (tics + 1) end ≡ tics + 1
+marked_next tics end here = grind arith
+
+-- once the player is gone, of no further one
+pub marked_gone : (tics : ℕ) (end : Option ℕ) → is_over end tics ≡ true
+    → marked_to (tics + 1) end ≡ marked_to tics end
+marked_gone tics end gone = grind arith
+
+-- After a tic.
 
 -- the machine's node after one row more, with these marks
 abbrev pub moved : machine.Node → List (Option Move) → (ℕ → ℤ) → machine.Node

@@ -7,26 +7,24 @@ use Rattle.dn_setup.specs.Settings.{Settings}
 use Rattle.dn_machine.specs.{declared.answers.Heard.Heard, declared.answers.Made.Made, declared.answers.Ran.Ran}
 use Rattle.dn_machine.specs.declared.events.Event.{Event}
 use Rattle.dn_machine.specs.declared.events.Event.TheVariants.{Send, Deliver, Run, Quit}
-use Rattle.dn_machine.specs.{declared.events.Refusal.Refusal, Building.on_build, Flight.{Flight, is_near}}
+use Rattle.dn_machine.specs.{declared.events.Refusal.Refusal, Sending.{on_build, set_up_flight}, Flight.{Flight, is_near}}
 use Rattle.dn_machine.specs.Game.{fresh, opening_game, own_marks, delivered, refused_at, refused_flight, refused, applied_if, applied, on_event}
 use Rattle.dn_machine.specs.{Hearing.on_packet, Limits.{Limits, IsWindow}, Node.{put, is_ended}}
 use Rattle.dn_machine.specs.{Running.{is_over, on_run, on_quit}, Worlds.{Inputs, Rules, world_after}}
 use Rattle.dn_machine.specs.Relaying.{Own, Relay, CanRelay, packet_of_one, relayed, with_relayed}
-use Rattle.dn_machine.specs.{Sending.set_up_flight, Nearness.is_start_near, Progress.build_of}
+use Rattle.dn_machine.specs.{Nearness.is_start_near, Progress.build_of}
 use Rattle.dn_machine.specs.Node as machine
 use Rattle.dn_machine.proofs.Calls.{build_cases, send_cases, packet_cases, run_cases, quit_cases}
 use Rattle.dn_machine.proofs.{Invariant.IsKept, Put.{put_at, put_off, slice_get_push}, Asking.IsAsking}
-use Rattle.dn_machine.proofs.{Nearness.{asks, numbered}, Pairs.accepted_build}
-use Rattle.dn_machine.proofs.Relays
+use Rattle.dn_machine.proofs.{Nearness.{asks, numbered}, GoingOn.accepted_build}
+use Rattle.dn_machine.proofs.Asking
 use Rattle.dn_machine.proofs.Promises
 use Rattle.dn_machine.specs.Drops as drops
 use Rattle.dn_lockstep.specs.{Contents.{Contents, end_in}, Hearing.HearsNear, Marking.{History, Marking, free}}
-use Rattle.dn_lockstep.specs.{Near.IsFair, OneGame.{beside, world_told, AreOneGame, IsGivenAs}}
-use Rattle.dn_lockstep.specs.Session.{Session, opening_session, with_lockstep, taken_on, after_build, given_on, after_packet, after_relays, told_on, after_run}
-use Rattle.dn_lockstep.specs.{Represents.Represents, Rows.is_gone, Runs.{marks_in, RunsBy}}
-use Rattle.dn_lockstep.specs.{Sent.{sent_to, bytes_of}, Steps.{Steps, Tells, IsAfter}}
+use Rattle.dn_lockstep.specs.{Sent.{IsFair, sent_to, bytes_of}, OneGame.{beside, world_told, AreOneGame, IsGivenAs, Session, opening_session, with_lockstep, taken_on, after_build, given_on, after_packet, after_relays, told_on, after_run}}
+use Rattle.dn_lockstep.specs.{Represents.Represents, Rows.is_gone, Steps.{marks_in, RunsBy, Steps, Tells, IsAfter}}
 use Rattle.dn_lockstep.specs.{Told.{made, command_told}, Phases.is_listening}
-use Rattle.dn_lockstep.proofs.{Counting.got_is, Shown.tells_held, Running.{kept_same, run_same, run_tells}}
+use Rattle.dn_lockstep.proofs.{Shown.{got_is, tells_held}, Running.{kept_same, run_same, run_tells}}
 
 abbrev pub Rows : Type 0
 Rows = List (List (Option Move))
@@ -136,7 +134,7 @@ module _ (marking : Marking) (limits : Limits) (settings : Settings) where
     node = game.last.nodes
 
     pub kept : IsKept rules settings game.last
-    kept = Relays.always rules settings game.window game.events game.last game.runs
+    kept = Asking.always rules settings game.window game.events game.last game.runs
 
     -- a lockstep that is what it was
     pub keeps : (i : ℕ) (new : Contents) → new ≡ session.locksteps i
@@ -178,7 +176,7 @@ module _ (marking : Marking) (limits : Limits) (settings : Settings) where
         window = game.window;
         events = game.events ++ Own event ∷ [];
         last = record { nodes = put node i m; stopped = game.last.stopped; flights = flights };
-        runs = grind (arith, Relays.goes_on);
+        runs = grind (arith, Asking.goes_on);
         nodes = grind (arith, put_at, put_off);
         inputs = takes;
         flights = same;
@@ -316,7 +314,7 @@ module _ (marking : Marking) (limits : Limits) (settings : Settings) where
             window = game.window;
             events = game.events ++ Relay i player to tic ∷ [];
             last = with_relayed game.last i player to tic;
-            runs = grind (arith, Relays.goes_on);
+            runs = grind (arith, Asking.goes_on);
             nodes = game.nodes;
             inputs = game.inputs;
             flights = grind arith;
@@ -337,7 +335,7 @@ module _ (marking : Marking) (limits : Limits) (settings : Settings) where
           grind (arith, got_is)
 
       asking : IsAsking rules settings game.last
-      asking = Relays.always_asking rules settings game.window game.events game.last game.runs
+      asking = Asking.always_asking_relayed rules settings game.window game.events game.last game.runs
 
       pub numbered_near : is_start_near limits (made (session.locksteps flight.to)) flight.start ≡ true
           → is_near (made (session.locksteps flight.to)) flight ≡ true

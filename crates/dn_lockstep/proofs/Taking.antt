@@ -14,10 +14,10 @@ use Rattle.dn_machine.specs.{Running.is_over, declared.answers.Cause.Cause}
 use Rattle.dn_machine.specs.{declared.answers.Phase.TheVariants.{Playing, Ended}, declared.peer.Peer.Peer}
 use Rattle.dn_machine.specs.Drops as drops
 use Rattle.dn_machine.specs.Node as machine
-use Rattle.dn_lockstep.specs.{Contents.Contents, Reading.{has_flag, start_in, request_in, flight_in}}
-use Rattle.dn_lockstep.specs.{Received.on_player, Represents.{Represents, marked_to}, Rings.{count_of, ring_of}}
+use Rattle.dn_lockstep.specs.{Contents.Contents, Received.{has_flag, start_in, request_in, flight_in, on_player}}
+use Rattle.dn_lockstep.specs.{Represents.{Represents, marked_to}, Tables.{count_of, ring_of}}
 use Rattle.dn_lockstep.specs.Steps.{IsAfter}
-use Rattle.dn_lockstep.proofs.{After.after, Counting.{below, got_is, made_is}}
+use Rattle.dn_lockstep.proofs.{After.after, Shown.{below, got_is, made_is}}
 use Rattle.dn_lockstep.proofs.Changing.{shows_commands, shows_peer}
 use Rattle.dn_machine.proofs.Peers.{asked_end}
 

@@ -9,9 +9,7 @@ use Rattle.dn_lockstep.specs.declared.lockstep.Lockstep.{Lockstep}
 use Rattle.dn_machine.specs.declared.peer.Peer.{Peer}
 use Rattle.dn_machine.specs.Limits.{Limits}
 use Rattle.dn_machine.specs.Node.{is_ended}
-use Rattle.dn_lockstep.specs.Rings.{ring_at, count_of}
-use Rattle.dn_lockstep.specs.Peers.{peer_at}
-use Rattle.dn_lockstep.specs.Marks.{slot}
+use Rattle.dn_lockstep.specs.Tables.{ring_at, count_of, peer_at, slot}
 
 pub record Contents : Type 0 where
   pub players : ℕ

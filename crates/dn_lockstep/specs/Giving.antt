@@ -9,7 +9,7 @@ use Rattle.dn_machine.specs.declared.answers.Phase.TheVariants.{Listening, Gathe
 use Rattle.dn_machine.specs.Flight.{request_byte}
 use Rattle.dn_lockstep.specs.declared.lockstep.aiming.Aim.{Aim}
 use Rattle.dn_lockstep.specs.Contents.{Contents}
-use Rattle.dn_lockstep.specs.Rings.{count_of}
+use Rattle.dn_lockstep.specs.Tables.{count_of}
 use Rattle.dn_lockstep.specs.Sent.{sent_to, bytes_of}
 use Rattle.dn_lockstep.specs.Steps.{Steps}
 

@@ -13,7 +13,7 @@ use Rattle.dn_machine.specs.Calls as call
 use Rattle.dn_machine.specs.Limits.{Limits}
 use Rattle.dn_machine.specs.Node.{Node}
 use Rattle.dn_lockstep.specs.Contents.{Contents, whose}
-use Rattle.dn_lockstep.specs.Near.{IsFair}
+use Rattle.dn_lockstep.specs.Sent.{IsFair}
 use Rattle.dn_lockstep.specs.Received.{received, IsTold}
 use Rattle.dn_lockstep.specs.Represents.{Represents}
 use Rattle.dn_lockstep.specs.Told.{made}

@@ -1,7 +1,7 @@
 -- Laws of marks: all that a node sees of a world beside it.
 use Rattle.std.specs.Prelude.{ℕ, ℤ, Bool, List, [], ◌∷◌, ◌++◌, Option}
 use Rattle.dn_tic.specs.declared.command.Move.{Move}
-use Rattle.dn_setup.specs.declared.start.Start.{Start}
+use Rattle.dn_setup.specs.declared.settings.Start.{Start}
 use Rattle.dn_world.specs.Physics.{Physics}
 
 -- how a game began, with which seats taken, and the rows that it went on by

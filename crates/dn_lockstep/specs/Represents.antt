@@ -5,20 +5,18 @@ use Rattle.dn_tic.specs.Inputs.{hold_of}
 use Rattle.dn_tic.specs.declared.command.Move.{Move}
 use Rattle.dn_tic.specs.declared.command.TicCmd.{TicCmd}
 use Rattle.dn_ring.specs.Ring.{Ring}
-use Rattle.dn_setup.specs.Settings.{Settings}
-use Rattle.dn_setup.specs.Starts.{start_of}
+use Rattle.dn_setup.specs.Settings.{Settings, start_of}
 use Rattle.dn_setup.specs.Gathered.{is_noted, is_peer}
 use Rattle.dn_demo.specs.Layout.{long_tics}
-use Rattle.dn_demo.specs.Text.{demo_text}
+use Rattle.dn_demo.specs.Text.{demo_text, AreWritable}
 use Rattle.dn_demo.specs.Recorded.{Recorded, is_closed}
-use Rattle.dn_demo.specs.Rows.{AreWritable}
 use Rattle.dn_machine.specs.declared.answers.Phase.{Phase}
 use Rattle.dn_machine.specs.Limits.{Limits}
 use Rattle.dn_machine.specs.Node as machine
 use Rattle.dn_machine.specs.Node.{own_mark, ends_of, is_ended, demo_rows}
 use Rattle.dn_machine.specs.declared.peer.Peer.{Peer}
 use Rattle.dn_lockstep.specs.Contents.{Contents}
-use Rattle.dn_lockstep.specs.Rings.{ring_of}
+use Rattle.dn_lockstep.specs.Tables.{ring_of}
 use Rattle.dn_lockstep.specs.Rows.{seats_of}
 
 -- the demo is closed once a row that lacks a player was run, or the node has ended

@@ -10,7 +10,7 @@ use Rattle.dn_machine.specs.Node.{lowest}
 use Rattle.dn_machine.specs.Running.{is_over}
 use Rattle.dn_machine.specs.declared.peer.Peer.{Peer}
 use Rattle.dn_machine.specs.Limits.{four}
-use Rattle.dn_lockstep.specs.Rings.{get}
+use Rattle.dn_lockstep.specs.Tables.{get}
 
 -- which seats this many players take
 abbrev pub seats_of : ℕ → List Bool

@@ -13,7 +13,7 @@ use Rattle.dn_machine.specs.Hearing.{on_gathering}
 use Rattle.dn_machine.specs.Settling.{settled_one}
 use Rattle.dn_lockstep.specs.declared.lockstep.settling.Settled.{Settled}
 use Rattle.dn_lockstep.specs.Phases.{is_listening}
-use Rattle.dn_lockstep.specs.Rings.{is_stop}
+use Rattle.dn_lockstep.specs.Tables.{is_stop}
 
 -- no other player of the game has this number
 abbrev pub is_no_peer : ℕ → ℕ → ℕ → Bool

@@ -5,7 +5,7 @@ ghost use Rattle.std.specs.{Prelude.if◌then◌else◌, List.list_any};
 ghost use Rattle.dn_tic.specs.declared.command.TicCmd.{TicCmd};
 ghost use Rattle.dn_machine.specs.{Limits.Limits, Node.ends_of, Node.got, Node.is_ended, Node.ran, Settling.settled_one, Settling.settled_to};
 ghost use Rattle.dn_machine.specs.Node as machine;
-ghost use Rattle.dn_lockstep.specs.{Phases.is_listening, Rings.is_stop, Settling.is_no_peer, Settling.is_other_end, Settling.on_settle};
+ghost use Rattle.dn_lockstep.specs.{Phases.is_listening, Tables.is_stop, Settling.is_no_peer, Settling.is_other_end, Settling.on_settle};
 ghost use Rattle.dn_lockstep.specs.declared.lockstep.settling.Settled.TheVariants as Settled;
 
 /// The last of a player's commands are enough: a node that has the first of them, and is told the others from a
@@ -24,7 +24,7 @@ pub fn last_commands_settle()
 /// Ends that are taken for one player after another are taken for all at once: each player who is given up has
 /// the commands that were told and an end behind the last of them, nothing more is wanted of the player, and
 /// nothing else changes.
-#[tactic(auto, using(crate::proofs::Turns::in_turn))]
+#[tactic(auto, using(crate::proofs::Wholes::in_turn))]
 pub fn ends_settle_in_turn()
     ensures { (players : ℕ) (m : machine.Node) (gone : ℕ → Bool) (commands : ℕ → List TicCmd)
         → ((player : ℕ) → players ≤ player → gone player ≡ false)

@@ -4,15 +4,15 @@ ghost use Rattle.std.specs.{Prelude.◌≡◌, Prelude.◌≢◌, Prelude.◌∷
 ghost use Rattle.std.specs.{Prelude.Some, Prelude.Ok, Prelude.IfSome, Prelude.◌⊎◌, Prelude.get_or, Prelude.length, Prelude.pos, Prelude.slice_get, Option.option_map};
 ghost use Rattle.dn_machine.specs.Drops as drops;
 ghost use Rattle.dn_tic.specs.{declared.command.Move.Move, declared.input.Input.Input, declared.command.TicCmd.TicCmd};
-ghost use Rattle.dn_setup.specs.{Settings.Settings, Starts.start_of};
+ghost use Rattle.dn_setup.specs.Settings.{Settings, start_of};
 ghost use Rattle.dn_demo.specs.{Layout.long_tics, Reading.IsReadAs, Reading.written_demo};
 ghost use Rattle.dn_machine.specs.{declared.answers.Cause.Cause, declared.answers.Heard.Heard, declared.answers.Made.Made, declared.answers.Phase.TheVariants.Ended, declared.answers.Ran.Ran};
-ghost use Rattle.dn_machine.specs.{Building.on_build, Flight.Flight, Flight.is_near, Game.fresh, Limits.Limits, Limits.IsWindow, Progress.IsSwift, Progress.GoesInto, Nearness.is_start_near};
+ghost use Rattle.dn_machine.specs.{Sending.on_build, Flight.Flight, Flight.is_near, Game.fresh, Limits.Limits, Limits.IsWindow, Progress.IsSwift, Progress.GoesInto, Nearness.is_start_near};
 ghost use Rattle.dn_machine.specs.{Node.demo_rows, Node.is_ended, Promise.Agree, Promise.Fits, Promise.Steady, Running.is_over, Running.on_run, Running.on_quit, Worlds.command};
 ghost use Rattle.dn_lockstep.specs.{declared.config.Config.Config, Opening.CanBeAhead, Opening.FitsPackets, Opening.limits_in, Opening.limits_within, Told.command_told, Told.made, Contents.Contents};
-ghost use Rattle.dn_lockstep.specs.{Contents.end_in, Hearing.HearsNear, Marking.Marking, Near.IsFair, OneGame.beside, OneGame.world_told, OneGame.AreOneGame, OneGame.IsGivenAs, Agreed.AreAgreed};
-ghost use Rattle.dn_lockstep.specs.{Demos.rows_to, Phases.is_listening, Represents.Represents, Rows.seats_of, Runs.RunsBy, Sent.sent_to, Sent.bytes_of, Session.Session, Session.opening_session};
-ghost use Rattle.dn_lockstep.specs.{Session.with_lockstep, Session.after_build, Session.after_packet, Session.after_relays, Session.after_run, Steps.Steps, Steps.Tells};
+ghost use Rattle.dn_lockstep.specs.{Contents.end_in, Hearing.HearsNear, Marking.Marking, Sent.IsFair, OneGame.beside, OneGame.world_told, OneGame.AreOneGame, OneGame.IsGivenAs, Agreed.AreAgreed};
+ghost use Rattle.dn_lockstep.specs.{Agreed.rows_to, Phases.is_listening, Represents.Represents, Rows.seats_of, Steps.RunsBy, Sent.sent_to, Sent.bytes_of, OneGame.Session, OneGame.opening_session};
+ghost use Rattle.dn_lockstep.specs.{OneGame.with_lockstep, OneGame.after_build, OneGame.after_packet, OneGame.after_relays, OneGame.after_run, Steps.Steps, Steps.Tells};
 ghost use Rattle.dn_machine.specs.Relaying.{packet_of_one};
 ghost use Rattle.dn_machine.specs.Node as machine;
 
@@ -162,7 +162,7 @@ pub fn given_packets_are_heard()
 
 /// The demo of a lockstep that has played and ended is read back to what it was played from, with its own
 /// number as view, to its players and to the rows that it told before the first that lacks a player.
-#[tactic(auto, using(crate::proofs::Replaying::read_back))]
+#[tactic(auto, using(crate::proofs::Moving::read_back))]
 pub fn ended_demos_are_read()
     ensures { (limits : Limits) (me : ℕ) (n : Contents)
         (m : machine.Node) (settings : Settings) (cause : Cause)

@@ -8,7 +8,6 @@
 #![tactic(auto)]
 
 mod config;
-mod drops;
 mod ends;
 mod laws;
 mod lockstep;

@@ -4,17 +4,16 @@ ghost use Rattle.std.specs.Prelude.{◌≡◌, ◌≢◌, ℕ, ◌+◌, ◌*◌,
 ghost use Rattle.dn_demo.specs.{Layout.long_tics, Places.place, Places.seats_in, Recorded.recorded_size, declared.recorder.Stage.TheVariants.Blank, declared.recorder.Stage.TheVariants.Open};
 ghost use Rattle.dn_demo.specs.{declared.recorder.Stage.TheVariants.Closed};
 ghost use Rattle.dn_machine.specs.{declared.answers.Phase.TheVariants.Gathering, declared.answers.Phase.TheVariants.Playing, Running.tic_limit};
-ghost use Rattle.dn_lockstep.specs.{Phases.is_waiting, Rings.ring_at, Rings.count_of, Peers.peer_at, Rows.seats_of, Rows.is_gone, Rows.has_gone};
+ghost use Rattle.dn_lockstep.specs.{Phases.is_waiting, Tables.ring_at, Tables.count_of, Tables.peer_at, Rows.seats_of, Rows.is_gone, Rows.has_gone};
 
 pub(crate) mod aiming;
 pub(crate) mod building;
-mod ending;
 mod hearing;
 pub(crate) mod opening;
+mod phases;
 mod running;
 mod sending;
 pub(crate) mod settling;
-mod starting;
 mod taking;
 
 use crate::marks::Marks;
@@ -87,7 +86,7 @@ pub struct Lockstep {
 
 impl Lockstep {
     ghost use Rattle.dn_machine.specs.Node.{known_end};
-    ghost use Rattle.dn_lockstep.specs.{Contents.contents, Contents.end_in, Commands.last_held, Told.command_told, Steps.Tells};
+    ghost use Rattle.dn_lockstep.specs.{Contents.contents, Contents.end_in, Told.last_held, Told.command_told, Steps.Tells};
 
     /// The number of its player.
     pub fn me(&self) -> u8

@@ -2,7 +2,7 @@
 
 ghost use Rattle.std.specs.Prelude.{◌≡◌, ◌≢◌, ◌<◌, ◌%◌, ℕ, pos, slice_index_or, get_or, true, false};
 ghost use Rattle.dn_machine.specs.Node.{lacks};
-ghost use Rattle.dn_lockstep.specs.Marks.{slot};
+ghost use Rattle.dn_lockstep.specs.Tables.{slot};
 
 use dn_tic::Move;
 use std::marker::Model;

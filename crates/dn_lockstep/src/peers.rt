@@ -2,7 +2,7 @@
 
 ghost use Rattle.std.specs.Prelude.{◌≡◌, ◌≢◌, ◌<◌, ℕ};
 ghost use Rattle.dn_machine.specs.{Node.no_peer, Hearing.after_request, Hearing.after_exit, Hearing.is_strange_end};
-ghost use Rattle.dn_lockstep.specs.Peers.{peer_at};
+ghost use Rattle.dn_lockstep.specs.Tables.{peer_at};
 
 use dn_machine::Peer;
 

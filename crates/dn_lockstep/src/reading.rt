@@ -1,10 +1,12 @@
-//! What a node looks for in a packet of commands.
+//! What a node looks for in a packet of commands, and why what cannot be read is dropped.
 
 ghost use Rattle.std.specs.{Prelude.◌≡◌, Prelude.◌≤◌, Prelude.◌+◌, Prelude.false, Prelude.IfOk, List.list_any};
-ghost use Rattle.dn_lockstep.specs.{Rings.is_stop, Reading.request_in, Reading.start_in, Reading.has_flag};
+ghost use Rattle.dn_lockstep.specs.{Tables.is_stop, Received.request_in, Received.start_in, Received.has_flag};
+ghost use Rattle.dn_lockstep.specs.Received.{packet_drop, setup_drop};
 
 use dn_machine::Dropped;
-use dn_packet::{Packet, RETRANSMIT};
+use dn_packet::{Packet, PacketFault, RETRANSMIT};
+use dn_setup::SetupFault;
 use dn_tic::{TicCmd, expand};
 
 /// Whether a flag of the packet is set.
@@ -46,5 +48,28 @@ pub(crate) fn request(made: u32, packet: &Packet) -> Option<u32>
         expand(made, packet.ask)
     } else {
         None
+    }
+}
+
+/// The number of the drop of bytes that are no packet.
+pub(crate) fn packet_drop(fault: PacketFault) -> u8
+    ensures { result ≡ packet_drop fault }
+{
+    match fault {
+        PacketFault::Short => Dropped::Short as u8,
+        PacketFault::Many => Dropped::Many as u8,
+        PacketFault::Length => Dropped::Length as u8,
+        PacketFault::Sum => Dropped::Sum as u8,
+    }
+}
+
+/// The number of the drop of a set-up packet whose settings a listener cannot take.
+pub(crate) fn setup_drop(fault: SetupFault) -> u8
+    ensures { result ≡ setup_drop fault }
+{
+    match fault {
+        SetupFault::NotSetup => Dropped::OutOfPlace as u8,
+        SetupFault::Version => Dropped::Version as u8,
+        SetupFault::Range => Dropped::Range as u8,
     }
 }

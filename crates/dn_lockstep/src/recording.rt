@@ -1,7 +1,7 @@
 //! What a node writes into its demo.
 
 ghost use Rattle.std.specs.Prelude.{◌≡◌, ◌≢◌, ◌≤◌, ◌+◌, ◌*◌, true, false, length, if◌then◌else◌};
-ghost use Rattle.dn_demo.specs.{Layout.long_tics, Layout.command_size, Places.seats_in, Recorded.AddsRow, Recorded.Closes, Rows.IsRow, Rows.player_count, declared.recorder.Stage.TheVariants.Blank};
+ghost use Rattle.dn_demo.specs.{Layout.long_tics, Layout.command_size, Places.seats_in, Recorded.AddsRow, Recorded.Closes, Text.IsRow, Text.player_count, declared.recorder.Stage.TheVariants.Blank};
 ghost use Rattle.dn_demo.specs.{declared.recorder.Stage.TheVariants.Open, declared.recorder.Stage.TheVariants.Closed};
 
 use dn_demo::Recorder;

@@ -1,9 +1,9 @@
 //! The commands of one tic, of all players.
 
 ghost use Rattle.std.specs.Prelude.{◌≡◌, ◌<◌, ◌≤◌, ◌+◌, ℕ, nat_lt, not, All, None, [], ◌∷◌, true, false, IfSome, if◌then◌else◌};
-ghost use Rattle.dn_demo.specs.Rows.{IsMove, IsRow};
+ghost use Rattle.dn_demo.specs.Text.{IsMove, IsRow};
 ghost use Rattle.dn_machine.specs.{Node.lowest, Node.is_whole, Running.tic_limit, Limits.four};
-ghost use Rattle.dn_lockstep.specs.{Rings.ring_at, Marks.slot, Peers.peer_at, Rows.seats_of, Rows.mark_at, Rows.move_held, Rows.differs, Rows.differs_but, Rows.has, Rows.is_missing, Rows.is_gone};
+ghost use Rattle.dn_lockstep.specs.{Tables.ring_at, Tables.peer_at, Tables.slot, Rows.seats_of, Rows.mark_at, Rows.move_held, Rows.differs, Rows.differs_but, Rows.has, Rows.is_missing, Rows.is_gone};
 ghost use Rattle.dn_lockstep.specs.{Rows.has_gone};
 
 use crate::marks::Marks;

@@ -1,14 +1,17 @@
--- A node that wants a resend lacks a command that was made, so the tic that it asks for lies at most the window
--- before the packet's first.
-use Rattle.std.proofs.{Common.{ℤ, ◌≡◌, ℕ, ◌+◌, ◌<◌, ◌≤◌, ◌≢◌, ◌++◌, [], ◌∷◌, true, ◌&&◌, List, length, refl, sym, subst, arith, Option, Some, None, inl, inr, ltb}, lemmas.Bool.{ltb-true, and_parts}, lemmas.List.length-append}
+-- A node that wants a resend lacks a command that was made, so the tic that it asks for lies at most the
+-- window before the packet's first; and so it is where commands are relayed.
+use Rattle.std.proofs.{Common.{ℤ, ◌≡◌, ℕ, ◌+◌, ◌<◌, ◌≤◌, ◌≢◌, ◌++◌, [], ◌∷◌, true, ◌&&◌, List, length, refl, sym, subst, arith, Option, Some, None, inl, inr, ltb, get_or}, lemmas.Bool.{ltb-true, and_parts}, lemmas.List.length-append}
 use Rattle.std.proofs.lemmas.Option.{none-some}
-use Rattle.std.specs.Prelude.{slice_get}
+use Rattle.std.specs.Prelude.{slice_get, map}
 use Rattle.dn_tic.specs.{declared.command.TicCmd.TicCmd, declared.input.Input.Input, declared.input.Input.TheVariants.{Pressed, Given}}
 use Rattle.dn_setup.specs.Settings.{Settings}
-use Rattle.dn_machine.specs.{declared.answers.Heard.Heard, declared.events.Event.Event, declared.events.Event.TheVariants.{Build, Send, Deliver, Run, Quit, Stop, Give}, Limits.{Limits, IsWindow}, Worlds.Rules, Flight.{Play, Flight, end_of}}
-use Rattle.dn_machine.specs.{Node.{Node, put, got, made}, Building.on_build, Sending.{first_sent, set_up_flight, left_kind, commands_flight, request_to, on_send}, Hearing.on_packet, Running.{on_run, on_quit}}
-use Rattle.dn_machine.specs.{Game.{Game, opening_game, with_node, posted, own_marks, refused_at, refused, delivered, on_event, applied}, Runs.Runs}
-use Rattle.dn_machine.proofs.{Invariant.IsKept, Put.slice_get_push, Calls.{build_cases, send_cases, quit_cases, packet_cases}, SendKeeps.first_reached, EachEvent.leads_keep, Games.{applied_keeps, passes}}
+use Rattle.dn_machine.specs.{declared.answers.Heard.Heard, declared.events.Event.Event, declared.events.Event.TheVariants.{Build, Send, Deliver, Run, Quit, Stop, Give}, Limits.{Limits, IsWindow}, Worlds.{Rules, command}, Flight.{Play, Flight, end_of}}
+use Rattle.dn_machine.specs.{Node.{Node, put, got, made, has_left, held_at, blank}, Sending.{on_build, first_sent, set_up_flight, left_kind, commands_flight, request_to, on_send}, Hearing.on_packet, Running.{on_run, on_quit}}
+use Rattle.dn_machine.specs.Game.{Game, opening_game, with_node, posted, own_marks, refused_at, refused, delivered, on_event, applied}
+use Rattle.dn_machine.specs.Runs.{Runs, Leads}
+use Rattle.dn_machine.specs.Relaying.{relayed, RelayEvent, Own, Relay, CanRelay, with_relayed, NextRelayed, LeadsRelayed, RunsRelayed}
+use Rattle.dn_machine.proofs.{Invariant.{IsKept, IsPiece}, Put.slice_get_push, Calls.{build_cases, send_cases, quit_cases, packet_cases}, OwnKeeps.first_reached, EachEvent.{leads_keep, next_keeps}, Games.{applied_keeps, passes}}
+use Rattle.dn_machine.proofs.Invariant
 
 -- each node that wants a resend of a player lacks a command of that player
 abbrev pub Lacks : ℕ → (ℕ → Node) → Type 0
@@ -169,3 +172,65 @@ module _ {S : Type 0} (rules : Rules S) (settings : Settings) where
   always_asking window events game run = leads_keep rules (λ (now : Game). IsAsking rules settings now)
       (λ now event asking. applied_asking rules settings now asking event)
       events (opening_game settings) game (opens_asking window) run
+
+-- A packet with a command of a third player keeps what every event keeps.
+
+module _ {S : Type 0} (rules : Rules S) (settings : Settings) where
+  module _ (game : Game) (kept : IsKept rules settings game) (node player to tic : ℕ)
+      (can : CanRelay rules.players game node player to tic) where
+    -- its one command is the maker's
+    only : (j : ℕ) → j < 1
+        → get_or (held_at (game.nodes node) player tic ∷ []) j blank
+        ≡ command rules settings (λ q. (game.nodes q).inputs) player (tic + j)
+    only j l = grind arith
+
+    -- it is a piece of what its maker has
+    piece : IsPiece rules settings (λ q. (game.nodes q).inputs) (λ q. has_left (game.nodes q))
+        (relayed (game.nodes node) player to tic)
+    piece = grind arith
+
+    pub keeps : IsKept rules settings (with_relayed game node player to tic)
+    keeps = grind (arith, Invariant.sends)
+
+  -- it asks for nothing
+  asks_not : (game : Game) → IsAsking rules settings game → (node player to tic : ℕ)
+      → CanRelay rules.players game node player to tic
+      → IsAsking rules settings (with_relayed game node player to tic)
+  asks_not game asking node player to tic can = grind (arith, keeps, slice_get_push)
+
+  one : (game next : Game) (event : RelayEvent) → IsAsking rules settings game
+      → NextRelayed rules game event next → IsAsking rules settings next
+  one game next (Own event) asking step = next_keeps rules (λ (now : Game). IsAsking rules settings now)
+      (λ now event asking. applied_asking rules settings now asking event) game next event asking step
+  one game next (Relay node player to tic) asking step =
+      subst (λ (now : Game). IsAsking rules settings now) (sym step.1)
+      (asks_not game asking node player to tic step.0)
+
+  leads : (events : List RelayEvent) (game last : Game) → IsAsking rules settings game
+      → LeadsRelayed rules game events last → IsAsking rules settings last
+  leads [] game last asking same = subst (λ (now : Game). IsAsking rules settings now) (sym same) asking
+  leads (event ∷ events) game last asking way = leads events way.0 last (one game way.0 event asking way.1) way.2
+
+  -- after every list of events
+  pub always_asking_relayed : IsWindow rules.limits → (events : List RelayEvent) (game : Game)
+      → RunsRelayed rules settings events game → IsAsking rules settings game
+  always_asking_relayed window events game run = leads events (opening_game settings) game
+      (opens_asking rules settings window) run
+
+  pub always : IsWindow rules.limits → (events : List RelayEvent) (game : Game)
+      → RunsRelayed rules settings events game → IsKept rules settings game
+  always window events game run = (always_asking_relayed window events game run).kept
+
+  -- one more event
+  pub goes_on : (events : List RelayEvent) (event : RelayEvent) (game mid last : Game)
+      → LeadsRelayed rules game events mid → NextRelayed rules mid event last
+      → LeadsRelayed rules game (events ++ event ∷ []) last
+  goes_on [] event game mid last same next = grind arith
+  goes_on (e ∷ events) event game mid last way next =
+      (way.0, way.1, goes_on events event way.0 mid last way.2 next)
+
+-- and a game of own events is one with packets given on
+pub own_events : {S : Type 0} (rules : Rules S) (events : List Event) (game last : Game) → Leads rules game events last
+    → LeadsRelayed rules game (map Own events) last
+own_events rules [] game last same = same
+own_events rules (event ∷ events) game last way = (way.0, way.1, own_events rules events way.0 last way.2)

@@ -5,10 +5,10 @@ use Rattle.std.specs.Prelude.{◌⊎◌}
 use Rattle.dn_setup.specs.Settings.{Settings}
 use Rattle.dn_machine.specs.{declared.answers.Phase.TheVariants.Playing, declared.events.Event.Event, declared.events.Event.TheVariants.{Run, Send, Deliver}, Worlds.Rules, Node.{Node, ran, is_ended, has_left}}
 use Rattle.dn_machine.specs.{Game.{Game, on_own_run, with_node}, Progress.{after, exchange, turn, build_of}}
-use Rattle.dn_machine.proofs.RunKeeps
-use Rattle.dn_machine.proofs.{Pairs.accepted, GoingOn.{IsLive, IsFar, StayRan, IsOn, far_after, exchange_far, full_far, ran_after, live_after, stays_in, IsRoomy, roomy_after, row_fits}, InOrder.each_of}
-use Rattle.dn_machine.proofs.{Openings.{Stands, Gathers, Listens, Plays, HasGone, IsOpen, applied_open}, EachEvent.{is_of_round, after_build, after_send, after_deliver}, Changes.{Change, build_change, send_change, hear_change}}
-use Rattle.dn_machine.proofs.Pairs
+use Rattle.dn_machine.proofs.OwnKeeps
+use Rattle.dn_machine.proofs.{GoingOn.{accepted, IsLive, IsFar, StayRan, IsOn, far_after, exchange_far, full_far, ran_after, live_after, stays_in, IsRoomy, roomy_after, row_fits}, EachEvent.{each_of, is_of_round, after_build, after_send, after_deliver}}
+use Rattle.dn_machine.proofs.{Openings.{Stands, Gathers, Listens, Plays, HasGone, IsOpen, applied_open}, Calls.{Change, build_change, send_change, hear_change}}
+use Rattle.dn_machine.proofs.GoingOn
 use Rattle.dn_tic.specs.declared.input.Input.{Input}
 
 -- What builds, sends and packets leave of a node: it does not end, and whom it has noted stays noted.
@@ -116,7 +116,7 @@ module _ {S : Type 0} (rules : Rules S) (settings : Settings) (cap : ℕ) (stay 
     far_of = full_far rules settings cap stay game begun.live begun.there r mine
 
     runs : RunsGently (on_own_run rules (game.nodes r)).0
-    runs = RunKeeps.cases rules settings game begun.live.kept r mine (λ (new : Node). RunsGently new)
+    runs = OwnKeeps.cases rules settings game begun.live.kept r mine (λ (new : Node). RunsGently new)
         (λ waits. inr (gentle_same (game.nodes r)))
         (λ plays there full.
         let most = row_fits rules cap tic game settings begun.live.kept r mine
@@ -128,7 +128,7 @@ module _ {S : Type 0} (rules : Rules S) (settings : Settings) (cap : ℕ) (stay 
     run_gentle = elim runs [
       | inl far ↦ inl far
       | inr gentle ↦
-          inr (search (rules, accepted, Pairs.accepts, placed_gentle))
+          inr (search (rules, accepted, GoingOn.accepts, placed_gentle))
     ]
 
   -- a game of which something is so, unless every demo is as good as full

@@ -4,7 +4,7 @@ use Rattle.std.proofs.{lemmas.List.Sums.{take_while-cons, prefix_len_passes, pre
 use Rattle.std.specs.{List.take_while, Option.{option_map, is_none}}
 use Rattle.dn_tic.specs.{declared.command.TicCmd.TicCmd, Command.used, declared.input.Input.Input}
 use Rattle.dn_machine.specs.{Worlds.if_made, Node.{Node, lacks, is_whole}, Running.{is_absent, row_held}, Promise.IsPrefixOf, Limits.{Limits, row_of}}
-use Rattle.dn_machine.proofs.Marks.{lowest_none, lowest_none_each}
+use Rattle.dn_machine.proofs.Truth.{lowest_none, lowest_none_each}
 
 -- the front of a longer list
 

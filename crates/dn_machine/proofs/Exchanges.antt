@@ -3,9 +3,9 @@ use Rattle.std.proofs.{Common.{◌≡◌, ℕ, ◌+◌, ◌≤◌, ◌-◌, ◌<
 use Rattle.std.specs.Prelude.{◌⊎◌}
 use Rattle.dn_setup.specs.Settings.{Settings}
 use Rattle.dn_machine.specs.{Limits.Limits, Worlds.Rules, Flight.{Flight, is_near}, Node.{Node, put, ends_of, got, made, is_ended, has_left}, Game.{Game, with_node}, Progress.{after, exchange}}
-use Rattle.dn_machine.proofs.{Invariant.{HoldsAll, history_of}, Put.{put_at, put_off}, GoingOn.{IsOn, ran_after, live_after, on_alike, roomy_after}, Stages.{side, goal_of, Holds, Taken, Moves, Asked}, Pairs.Gives}
+use Rattle.dn_machine.proofs.{Invariant.{HoldsAll, history_of}, Put.{put_at, put_off}, GoingOn.{IsOn, ran_after, live_after, on_alike, roomy_after, Gives}, Stages.{side, goal_of, Holds, Taken, Moves, Asked}}
 use Rattle.dn_machine.proofs.Receivers.{in_play, request_within, hears}
-use Rattle.dn_machine.proofs.Pairs
+use Rattle.dn_machine.proofs.GoingOn
 
 -- what a node keeps of the others is as it was
 abbrev pub IsQuiet : Game → Game → Type 0
@@ -59,28 +59,28 @@ module _ {S : Type 0} (rules : Rules S) (settings : Settings) (cap : ℕ) (stay 
     J = game.nodes j
 
     abbrev flight : Flight
-    flight = Pairs.packet rules settings game on.live i j mine its apart gone asks_it sends
+    flight = GoingOn.packet rules settings game on.live i j mine its apart gone asks_it sends
 
     asked_within : asks_it ≡ true → (got I j ≤ made j J) × (made j J ≤ got I j + (rules.ahead + rules.ahead))
     asked_within = request_within rules settings cap stay tic game on i j mine its apart built gone asks_it
         sends goes here asker goal aims
 
     near : made i I ≤ made j J + rules.ahead → made j J ≤ made i I + rules.ahead → is_near (made j J) flight ≡ true
-    near a b = Pairs.near rules settings game on.live i j mine its apart gone asks_it sends a b asked_within
+    near a b = GoingOn.near rules settings game on.live i j mine its apart gone asks_it sends a b asked_within
 
     -- a packet to one that stays is near, or that one needs no more
     near_j : stay j ≡ true → (is_near (made j J) flight ≡ true) ⊎ Holds tic (side J i)
-    near_j s = grind (arith, near, Pairs.fits)
+    near_j s = grind (arith, near, GoingOn.fits)
 
     -- and so is one from one that stays
     near_i : stay i ≡ true → (is_near (made j J) flight ≡ true) ⊎ Holds tic (side I j)
-    near_i s = grind (arith, close_or, near, Pairs.fits)
+    near_i s = grind (arith, close_or, near, GoingOn.fits)
 
     abbrev new_i : Node
-    new_i = Pairs.sender rules settings game on.live i j mine its apart gone asks_it sends
+    new_i = GoingOn.sender rules settings game on.live i j mine its apart gone asks_it sends
 
     abbrev sent_game : Game
-    sent_game = Pairs.sent rules settings game on.live i j mine its apart gone asks_it sends
+    sent_game = GoingOn.sent rules settings game on.live i j mine its apart gone asks_it sends
 
     -- a view in which both nodes are as they were
     looks : {A : Type 0} (y : Node) (view : Node → A) → view new_i ≡ view I → view y ≡ view J → (r : ℕ)
@@ -105,8 +105,8 @@ module _ {S : Type 0} (rules : Rules S) (settings : Settings) (cap : ℕ) (stay 
           mine_got = ap (λ (x : Node). length (x.held j)) (at_i i refl);
           mine_want = grind arith;
           mine_end = grind arith;
-          begins = grind (arith, Pairs.fits);
-          moves = grind (arith, Pairs.moves);
+          begins = grind (arith, GoingOn.fits);
+          moves = grind (arith, GoingOn.moves);
           taken = λ u. subst (λ (x : Node). Taken rules.most tic goal flight.start (side J i) (side x i)) (sym (at_j j refl))
               (y_taken u);
           asked = grind arith;
@@ -120,12 +120,12 @@ module _ {S : Type 0} (rules : Rules S) (settings : Settings) (cap : ℕ) (stay 
           let h = hears rules settings cap stay tic game on i j mine its apart built gone asks_it sends goes
           here asker goal aims in
           subst (λ (g : Game). IsExchanged rules.limits stay tic goal flight.start i j game g)
-          (sym (Pairs.exchanged rules settings game on.live i j mine its apart gone asks_it sends near))
+          (sym (GoingOn.exchanged rules settings game on.live i j mine its apart gone asks_it sends near))
           (placed _ h.phase h.played h.other h.taken
           (λ u. grind arith))
       | inr far ↦
           subst (λ (g : Game). IsExchanged rules.limits stay tic goal flight.start i j game g)
-          (sym (grind (arith, Pairs.not_exchanged)))
+          (sym (grind (arith, GoingOn.not_exchanged)))
           (placed J refl refl (λ s n. refl)
           (λ u. elim (near_j u) [ inl near ↦ absurd (true≢false (sym near ∙ far)) | inr holds ↦ inl holds ])
           (λ u. elim (near_i u) [ inl near ↦ absurd (true≢false (sym near ∙ far)) | inr holds ↦ inl holds ]))
@@ -139,13 +139,13 @@ module _ {S : Type 0} (rules : Rules S) (settings : Settings) (cap : ℕ) (stay 
       | inl s ↦ (
         _,
         exchanges_by i j mine its apart built false ((game.nodes i).peers j).want
-            (Pairs.sends_playing rules settings game on.live i j apart (on.plays i mine s))
+            (GoingOn.sends_playing rules settings game on.live i j apart (on.plays i mine s))
             (λ e. absurd (true≢false (sym e))) (λ e. s) (λ e. s) (λ e. refl) goal aims,
       )
       | inr s ↦ (
         _,
         exchanges_by i j mine its apart built true false
-            (Pairs.sends_left rules settings game on.live i j apart (on.left i mine s))
+            (GoingOn.sends_left rules settings game on.live i j apart (on.left i mine s))
             (λ e. (s, on.left i mine s)) (λ e. absurd (true≢false e)) (λ e. absurd (true≢false (sym e)))
             (λ e. absurd (true≢false (sym e ∙ s))) goal aims,
       )

@@ -3,9 +3,9 @@
 use Rattle.std.proofs.{Common.{◌≡◌, ℕ, ◌≤◌, true, List, length, arith, ◌++◌, false, true≢false, refl, sym, ◌∙◌}, lemmas.List.{length_push, length-append}, lemmas.Bool.and_parts}
 use Rattle.dn_tic.specs.{declared.input.Input.Input, declared.command.TicCmd.TicCmd}
 use Rattle.dn_setup.specs.Settings.{Settings}
-use Rattle.dn_machine.specs.{declared.answers.Heard.Heard, declared.events.Event.Event, Worlds.Rules, Node.{Node, ran, put, got, is_ended, has_left}, Building.on_build, Sending.on_send, Hearing.on_packet, Running.{on_run, on_quit}}
+use Rattle.dn_machine.specs.{declared.answers.Heard.Heard, declared.events.Event.Event, Worlds.Rules, Node.{Node, ran, put, got, is_ended, has_left}, Sending.{on_build, on_send}, Hearing.on_packet, Running.{on_run, on_quit}}
 use Rattle.dn_machine.specs.{Game.{Game, opening_game, applied}, Runs.{Runs, Leads}, Progress.{after, in_order, exchange, turn, good_round, good_rounds, build_of}}
-use Rattle.dn_machine.proofs.{Calls.packet_cases, InOrder.each_of, EachEvent.{after_event, leads_keep}}
+use Rattle.dn_machine.proofs.{Calls.packet_cases, EachEvent.{each_of, after_event, leads_keep}}
 
 pub record Grows (old new : Node) : Type 0 where
   pub rows : length old.rows ≤ length new.rows

@@ -6,7 +6,7 @@ use Rattle.dn_setup.specs.Settings.{Settings}
 use Rattle.dn_machine.specs.{declared.answers.Phase.TheVariants.{Gathering, Playing}, declared.events.Event.Event, Limits.{Limits, IsWindow}, Worlds.Rules, Flight.{SetUp, Flight, distance, is_near}}
 use Rattle.dn_machine.specs.{Node.{Node, got, made, ran, is_ended, has_left}, Sending.{first_sent, set_up_flight, on_send}, Running.is_absent, Game.Game, Runs.Runs, Progress.IsSwift, Nearness.{is_start_near, IsYoung, IsSoon, IsOnItsWay}}
 use Rattle.dn_machine.proofs.{Invariant.{IsKept, history_of}, Games.{always, leads_keeps}, Asking.IsAsking, Growth.{IsLater, leads_later}}
-use Rattle.dn_machine.proofs.Lists
+use Rattle.dn_machine.proofs.Invariant
 use Rattle.dn_machine.proofs.Promises
 
 -- a packet whose tics lie within 64 of a count
@@ -54,7 +54,7 @@ module _ {S : Type 0} (rules : Rules S) (settings : Settings) (window : IsWindow
   close : (game : Game) → IsKept rules settings game → (p q : ℕ) → p < rules.players → q < rules.players
       → has_left (game.nodes q) ≡ false → made p (game.nodes p) ≤ made q (game.nodes q) + rules.ahead
   close game kept p q l m stays =
-      let c = Lists.close rules settings (history_of game) game.flights kept.from_inputs p q l m stays in
+      let c = Invariant.close rules settings (history_of game) game.flights kept.from_inputs p q l m stays in
       omega arith
 
   -- where a packet of commands starts

@@ -5,8 +5,7 @@ use Rattle.std.specs.Prelude.{slice_get}
 use Rattle.dn_setup.specs.{Settings.Settings, Gathered.all_noted}
 use Rattle.dn_machine.specs.{declared.answers.Phase.TheVariants.{Listening, Gathering, Playing}, declared.events.Event.Event, declared.events.Event.TheVariants.{Build, Send, Deliver, Run, Quit, Stop, Give}, Limits.IsWindow, Worlds.Rules}
 use Rattle.dn_machine.specs.{Flight.Flight, Node.{Node, is_ended}, Sending.on_send, Game.{Game, opening_game, with_node, posted, refused, delivered, on_event, applied, own_marks, built}, Runs.Runs}
-use Rattle.dn_machine.proofs.{Invariant.IsKept, Put.{put_at, put_off, slice_get_push}, Games.{opens, applied_keeps}, EachEvent.leads_keep, Calls.IsWord}
-use Rattle.dn_machine.proofs.Changes.{each_noted, Change, Same, Starts, Notes, Completes, Gone, build_change, send_change, run_change, quit_change, hear_change}
+use Rattle.dn_machine.proofs.{Invariant.IsKept, Put.{put_at, put_off, slice_get_push}, Games.{opens, applied_keeps}, EachEvent.leads_keep, Calls.{IsWord, each_noted, Change, Same, Starts, Notes, Completes, Gone, build_change, send_change, run_change, quit_change, hear_change}}
 use Rattle.dn_tic.specs.{declared.input.Input.Input, declared.input.Input.TheVariants.{Pressed, Given}}
 
 -- Where a node stands: the key player gathers, any other listens, until it plays; and then it may end.

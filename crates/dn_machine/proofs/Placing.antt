@@ -5,8 +5,8 @@ use Rattle.dn_tic.specs.{declared.command.TicCmd.TicCmd, declared.command.Move.M
 use Rattle.dn_setup.specs.Settings.{Settings}
 use Rattle.dn_machine.specs.{declared.answers.Cause.Cause, declared.answers.Phase.Phase, declared.answers.Phase.TheVariants.{Gathering, Playing, Ended}, declared.peer.Peer.Peer, Worlds.{Inputs, Rules, mark_in, worlds_to}, Flight.Flight}
 use Rattle.dn_machine.specs.{Node.{Node, put, with_peer, ends_of, made, ran, own_mark, has_left}, Game.{Game, with_node}, Running.is_over}
-use Rattle.dn_machine.proofs.{Invariant.{History, ComesFromInputs, IsSound, HasTrueMarks, IsKept, history_of}, Put.view_kept, Marks.own_mark_true, Demos.whole_held}
-use Rattle.dn_machine.proofs.Lists
+use Rattle.dn_machine.proofs.{Invariant.{History, ComesFromInputs, IsSound, HasTrueMarks, IsKept, history_of}, Put.view_kept, Truth.own_mark_true, Demos.whole_held}
+use Rattle.dn_machine.proofs.Invariant
 
 -- equal lists tell the same
 along : {S : Type 0} (rules : Rules S) (settings : Settings) (a b : History) (flights : List Flight)
@@ -55,7 +55,7 @@ module _ {S : Type 0} (rules : Rules S) (settings : Settings) (game : Game)
       record {
         from_inputs = along rules settings (record history { left = λ q. has_left (put game.nodes i new q) }) _
             flights k h r e refl
-            (grind (arith, Lists.leaves));
+            (grind (arith, Invariant.leaves));
         window = kept.window;
         sound = sound_placed new sound;
         marks = grind arith;

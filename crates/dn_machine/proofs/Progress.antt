@@ -5,8 +5,8 @@ use Rattle.std.specs.Prelude.{◌⊎◌}
 use Rattle.dn_setup.specs.Settings.{Settings}
 use Rattle.dn_machine.specs.{declared.answers.Phase.Phase, declared.events.Event.Event, Limits.IsWindow, Worlds.Rules, Node.{ran, is_ended}, Running.tic_limit, Game.Game, Runs.Runs}
 use Rattle.dn_machine.specs.Progress.{IsSwift, GoesInto, in_order, turn, good_round, good_rounds, NoneLost, AllRan, HasRoom}
-use Rattle.dn_machine.proofs.{Games.always, Stages.{Unknown, reach, reaches, lag_low}, GoingOn.{IsFar, IsOn, IsRoomy, InDemos, Without, roomy_on}, InOrder.each_of, Growth.{always_patient, rounds_ran}}
-use Rattle.dn_machine.proofs.{Rounds.{At, AtOn, turn_keeps, round_nearer, has_after}, LastRound.{other_player, next_run}, Openings.{Stands, Gathers, Listens, Plays, HasGone, always_open}, Begun.{IsBegun, all_play}, StartUp.round_starts}
+use Rattle.dn_machine.proofs.{Games.always, Stages.{Unknown, reach, reaches, lag_low}, GoingOn.{IsFar, IsOn, IsRoomy, InDemos, Without, roomy_on}, EachEvent.each_of, Growth.{always_patient, rounds_ran}}
+use Rattle.dn_machine.proofs.{Rounds.{At, AtOn, turn_keeps, round_nearer, has_after, other_player, next_run}, Openings.{Stands, Gathers, Listens, Plays, HasGone, always_open}, Begun.{IsBegun, all_play}, StartUp.round_starts}
 use Rattle.dn_tic.specs.declared.input.Input.{Input}
 
 module _ {S : Type 0} (rules : Rules S) where

@@ -7,9 +7,9 @@ use Rattle.dn_setup.specs.Settings.{Settings}
 use Rattle.dn_machine.specs.{declared.answers.Phase.TheVariants.Playing, declared.answers.Heard.Heard, Worlds.{Rules, row, if_made, command}, Flight.{Flight, is_exit, end_of}}
 use Rattle.dn_machine.specs.{Node.{Node, ends_of, blank, got, made, ran, is_ended, has_left, known_end, lacks, is_whole, demo_rows}, Game.Game, Promise.{IsPrefixOf, inputs_of, Agree, Fits, Steady}, Hearing.{is_strange_end, on_packet}}
 use Rattle.dn_machine.specs.Headline.{AgreeWithin, AnyTwo, shown_by}
-use Rattle.dn_machine.proofs.{Invariant.{IsKept, history_of}, Truth.{world_after_true, length-commands_to, get_or-commands_to}, Demos.{front_prefix, front_passes, front_each, front_short, none_is, seat_is, whole_has}}
-use Rattle.dn_machine.proofs.{Marks.lowest_none_each, Calls.packet_cases}
-use Rattle.dn_machine.proofs.Lists
+use Rattle.dn_machine.proofs.{Invariant.{IsKept, history_of}, Truth.{world_after_true, length-commands_to, get_or-commands_to, lowest_none_each}, Demos.{front_prefix, front_passes, front_each, front_short, none_is, seat_is, whole_has}}
+use Rattle.dn_machine.proofs.Calls.{packet_cases}
+use Rattle.dn_machine.proofs.Invariant
 
 -- of two lists that agree as far as both go, the one that is no longer is a prefix
 prefix_from_reads : {A : Type 0} (d : A) (xs ys : List A) → length xs ≤ length ys
@@ -32,7 +32,7 @@ module _ {S : Type 0} (rules : Rules S) (settings : Settings) (game : Game)
   -- a player who has not left has made a command for every tic that was run
   whole : (q p tic : ℕ) → q < rules.players → p < rules.players → tic < ran (game.nodes q)
       → has_left (game.nodes p) ≡ false → tic < length (inputs_of game p)
-  whole q p tic l m n stays = let below = Lists.ran_below rules settings (history_of game) game.flights
+  whole q p tic l m n stays = let below = Invariant.ran_below rules settings (history_of game) game.flights
       kept.from_inputs q p l m stays in omega arith
 
   -- the row of a tic lacks a player where the player has made no command for it
@@ -117,7 +117,7 @@ module _ {S : Type 0} (rules : Rules S) (settings : Settings) (game : Game)
     unheard = λ q p l m goes_on.
         let stays = stays_in q goes_on in
         let a = kept.from_inputs.counted p m in
-        let b = Lists.close rules settings (history_of game) game.flights kept.from_inputs p q m l stays in
+        let b = Invariant.close rules settings (history_of game) game.flights kept.from_inputs p q m l stays in
         elim (kept.from_inputs.run q p l m) [
           | inl le ↦ omega arith
           | inr h ↦
@@ -126,7 +126,7 @@ module _ {S : Type 0} (rules : Rules S) (settings : Settings) (game : Game)
     ahead = λ p l. let a = kept.from_inputs.ahead p l in let b = kept.from_inputs.counted p l in omega arith;
     close = λ p q l m goes_on.
         let stays = stays_in q goes_on in
-        let b = Lists.close rules settings (history_of game) game.flights kept.from_inputs p q l m stays in
+        let b = Invariant.close rules settings (history_of game) game.flights kept.from_inputs p q l m stays in
         grind arith;
     room = λ q l. (kept.sound q l).room;
     least = least;
@@ -143,7 +143,7 @@ module _ {S : Type 0} (rules : Rules S) (settings : Settings) (game : Game)
           ≤ ran (game.nodes flight.to) + (rules.ahead + rules.ahead)
       within e =
           let piece = kept.from_inputs.pieces which flight posted in
-          let b = Lists.close rules settings (history_of game) game.flights kept.from_inputs flight.from
+          let b = Invariant.close rules settings (history_of game) game.flights kept.from_inputs flight.from
           flight.to
           piece.sender piece.receiver (stays_in flight.to (ap is_ended e)) in grind arith
 

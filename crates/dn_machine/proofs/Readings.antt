@@ -4,7 +4,7 @@
 use Rattle.std.specs.Prelude.{ℕ, ◌+◌, ◌==◌, true, false, List, [], ◌∷◌, ◌≡◌, refl, pos, map, take, fold, Some, None, if◌then◌else◌, Bool, length, replicate, Option}
 use Rattle.dn_setup.specs.Settings.{Settings}
 use Rattle.dn_machine.specs.{declared.events.Event.Event, declared.events.Event.TheVariants.{Send, Deliver}, Flight.{Exit, Flight, is_near, Kind, Play}, Limits.{vanilla_limits, row_of, Limits, IsWindow}, Worlds.{Rules, world_after}}
-use Rattle.dn_machine.specs.{Node.{ran, lowest, blank, Node, with_peer, no_peer}, Game.{Game, opening_game, applied, fresh}, Building.on_build, Sending.on_send, Hearing.{on_packet, is_within}, Running.{on_run, full_at}}
+use Rattle.dn_machine.specs.{Node.{ran, lowest, blank, Node, with_peer, no_peer}, Game.{Game, opening_game, applied, fresh}, Sending.{on_build, on_send}, Hearing.{on_packet, is_within}, Running.{on_run, full_at}}
 use Rattle.dn_machine.specs.{Progress.{after, in_order, exchange, turn, good_round, good_rounds, IsSwift, GoesInto}, declared.answers.Made.Made, declared.answers.Phase.TheVariants.{Playing, Ended}}
 use Rattle.dn_tic.specs.{Pressed.pressed, Inputs.made_by, Command.used, declared.input.Input.TheVariants.Pressed}
 use Rattle.std.proofs.Common.{arith}

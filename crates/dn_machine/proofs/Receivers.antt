@@ -5,8 +5,8 @@ use Rattle.dn_tic.specs.declared.command.TicCmd.{TicCmd}
 use Rattle.dn_setup.specs.Settings.{Settings}
 use Rattle.dn_machine.specs.{declared.answers.Phase.TheVariants.Playing, declared.answers.Heard.Heard, declared.peer.Peer.Peer, Worlds.Rules, Flight.{Kind, Play, Exit, Flight, end_of, is_exit}}
 use Rattle.dn_machine.specs.{Node.{Node, with_peer, ends_of, got, made, is_ended, has_left}, Hearing.{is_strange_end, is_within, after_request, on_commands, on_ended, on_packet, on_packet_in}, Game.Game}
-use Rattle.dn_machine.proofs.{Peers.{no_strange_end, flight_end}, Calls.{commands_cases, sender_after}, GoingOn.IsOn, Stages.{side, Holds, Taken, Asked, asks, goal_of}, Pairs.Gives}
-use Rattle.dn_machine.proofs.Pairs
+use Rattle.dn_machine.proofs.{Peers.{no_strange_end, flight_end}, Calls.{commands_cases, sender_after}, GoingOn.{IsOn, Gives}, Stages.{side, Holds, Taken, Asked, asks, goal_of}}
+use Rattle.dn_machine.proofs.GoingOn
 
 -- what a receiver is left as
 pub record IsHeard (most tic goal start request : ℕ) (want : Bool) (stays asks_too : Type 0) (i : ℕ)
@@ -36,23 +36,23 @@ module _ {S : Type 0} (rules : Rules S) (settings : Settings) (cap : ℕ) (stay 
     J = game.nodes j
 
     abbrev flight : Flight
-    flight = Pairs.packet rules settings game on.live i j mine its apart gone asks_it sends
+    flight = GoingOn.packet rules settings game on.live i j mine its apart gone asks_it sends
 
     end_is : end_of flight ≡ min (made i I) (flight.start + rules.most)
-    end_is = Pairs.end_is rules settings game on.live i j mine its apart gone asks_it sends
+    end_is = GoingOn.end_is rules settings game on.live i j mine its apart gone asks_it sends
 
     exits : is_exit flight.kind ≡ true → end_of flight ≡ made i I
-    exits = Pairs.exits rules settings game on.live i j mine its apart gone asks_it sends
+    exits = GoingOn.exits rules settings game on.live i j mine its apart gone asks_it sends
 
     tells : gone ≡ true → made i I ≤ end_of flight → is_exit flight.kind ≡ true
-    tells = Pairs.tells rules settings game on.live i j mine its apart gone asks_it sends
+    tells = GoingOn.tells rules settings game on.live i j mine its apart gone asks_it sends
 
     -- the sender has made what the other needs
     pub goal_low : goal ≤ made i I
     goal_low = grind arith
 
     pub request_within : asks_it ≡ true → (got I j ≤ made j J) × (made j J ≤ got I j + (rules.ahead + rules.ahead))
-    request_within w = grind (arith, Pairs.fits)
+    request_within w = grind (arith, GoingOn.fits)
 
     -- an end that is known is that of all that were made
     known : (e : ℕ) → ends_of J i ≡ Some e → e ≡ made i I
@@ -94,7 +94,7 @@ module _ {S : Type 0} (rules : Rules S) (settings : Settings) (cap : ℕ) (stay 
     -- a playing node hears commands, and maybe an end
     heard : stay j ≡ true → Heard_so (on_commands rules.limits j J flight).0
     heard s =
-        let f = Pairs.fits rules settings game on.live in
+        let f = GoingOn.fits rules settings game on.live in
         let tip = end_is in
         let a = f.close i j mine its (in_play j its s) in
         let b = f.ahead j its in

@@ -3,12 +3,12 @@ use Rattle.std.proofs.{Common.{◌≡◌, ℕ, ◌<◌, ◌≤◌, ◌≢◌, Bo
 use Rattle.std.specs.Prelude.{◌⊎◌}
 use Rattle.dn_tic.specs.declared.input.Input.{Input}
 use Rattle.dn_setup.specs.Settings.{Settings}
-use Rattle.dn_machine.specs.{declared.events.Event.Event, declared.events.Event.TheVariants.Run, Worlds.Rules, Node.{Node, got, made, ran}, Building.on_build, Running.{is_absent, row_held}, Game.{Game, with_node, on_own_run}}
+use Rattle.dn_machine.specs.{declared.events.Event.Event, declared.events.Event.TheVariants.Run, Worlds.Rules, Node.{Node, got, made, ran}, Sending.on_build, Running.{is_absent, row_held}, Game.{Game, with_node, on_own_run}}
 use Rattle.dn_machine.specs.Progress.{after, build_of}
-use Rattle.dn_machine.proofs.{Marks.lowest_none, Stages.side, Pairs.{accepted, accepted_build}, Exchanges.IsQuiet, GoingOn.{IsFar, IsOn, full_far, ran_after, live_after, on_alike, stays_in, roomy_after, row_fits}, Receivers.in_play}
+use Rattle.dn_machine.proofs.{Truth.lowest_none, Stages.side, GoingOn.{accepted, accepted_build, IsFar, IsOn, full_far, ran_after, live_after, on_alike, stays_in, roomy_after, row_fits}, Exchanges.IsQuiet, Receivers.in_play}
 use Rattle.dn_machine.proofs.EachEvent.{build_round, is_of_round}
-use Rattle.dn_machine.proofs.RunKeeps
-use Rattle.dn_machine.proofs.Pairs
+use Rattle.dn_machine.proofs.OwnKeeps
+use Rattle.dn_machine.proofs.GoingOn
 
 module _ {S : Type 0} (rules : Rules S) (settings : Settings) (cap : ℕ) (stay : ℕ → Bool) (tic : ℕ) where
   module _ (game : Game) (on : IsOn rules settings cap stay tic game) where
@@ -44,7 +44,7 @@ module _ {S : Type 0} (rules : Rules S) (settings : Settings) (cap : ℕ) (stay 
 
       built_is : (input : Input) → after rules (build_of r input) game
           ≡ with_node game r (on_build rules.limits r (game.nodes r) input).0
-      built_is input = accepted_build rules game r input (Pairs.accepts rules settings game on.live r mine)
+      built_is input = accepted_build rules game r input (GoingOn.accepts rules settings game on.live r mine)
 
       pub build_on : (input : Input) → IsOn rules settings cap stay tic (after rules (build_of r input) game)
       build_on input = placed_on (build_of r input) (build_round r input) r _ (built_is input) (builds input).phase
@@ -69,7 +69,7 @@ module _ {S : Type 0} (rules : Rules S) (settings : Settings) (cap : ℕ) (stay 
             → IsRun new
 
       runs : IsRun (on_own_run rules (game.nodes r)).0
-      runs = RunKeeps.cases rules settings game on.live.kept r mine (λ (new : Node). IsRun new)
+      runs = OwnKeeps.cases rules settings game on.live.kept r mine (λ (new : Node). IsRun new)
           (λ waits. grind (arith, lowest_none))
           (λ plays there full.
           let most = row_fits rules cap tic game settings on.live.kept r mine
@@ -79,7 +79,7 @@ module _ {S : Type 0} (rules : Rules S) (settings : Settings) (cap : ℕ) (stay 
           grind arith)
 
       run_is : after rules (Run r) game ≡ with_node game r (on_own_run rules (game.nodes r)).0
-      run_is = accepted rules game (Run r) (Pairs.accepts rules settings game on.live r mine)
+      run_is = accepted rules game (Run r) (GoingOn.accepts rules settings game on.live r mine)
 
       -- where one demo is full, every demo is as good as full
       far_of : cap ≤ ran (game.nodes r) → IsFar rules cap stay game

@@ -3,7 +3,7 @@ use Rattle.std.proofs.{Common.{◌≡◌, ◌≤◌, ℕ, ◌+◌, List, [], ◌
 use Rattle.std.proofs.lemmas.List.Elements.{All-nil, All-cons, All-head, All-tail}
 use Rattle.std.specs.Prelude.{All, nat_lt}
 use Rattle.dn_measure.specs.{declared.arrivals.Arrivals.Arrivals, declared.felt.Felt.Felt, declared.felt.Felt.TheVariants.{Never, Within, Longer}, declared.verdict.Lack.Lack}
-use Rattle.dn_measure.specs.{declared.verdict.Lack.TheVariants.{Time, Tics, Datagrams}, declared.summary.Summary.Summary, Thresholds.{longest_key, greatest_loss}}
+use Rattle.dn_measure.specs.{declared.verdict.Lack.TheVariants.{Time, Tics, Datagrams}, declared.measure.Summary.Summary, Thresholds.{longest_key, greatest_loss}}
 use Rattle.dn_measure.specs.Verdict.{note, note_loss, losses_of, lacks_of, is_late, peer_loss, IsInTime, Carries}
 
 -- nothing is noted, and what nothing was added to

@@ -1,4 +1,3 @@
 pub mod Counting
-pub mod Waiting
 pub mod Telling
 pub mod Judging

@@ -2,7 +2,7 @@
 use Rattle.std.proofs.{Common.{◌≡◌, ◌<◌, ℕ, ◌-◌, List, [], ◌∷◌, ◌++◌, length, take, drop, get_or, refl, sym, ap, ◌∙◌, arith, fold, subst, append_assoc}, lemmas.Bool.{lt-ltb, le-ltb}, lemmas.List.{map_push, append-nil, length_push}}
 use Rattle.std.proofs.lemmas.List.Sums.{fold_push}
 use Rattle.std.specs.Prelude.{map}
-use Rattle.dn_measure.specs.{declared.told.Told.Told, declared.told.Told.TheVariants.{Built, Ran}, Told.{runs_of, Keys, told_more, ran_more, keys_of, built_more, builds_of, times_from, IsInOrder}, Felt.bin_of}
+use Rattle.dn_measure.specs.{declared.measure.Told.Told, declared.measure.Told.TheVariants.{Built, Ran}, Told.{runs_of, Keys, told_more, ran_more, keys_of, built_more, builds_of, times_from, IsInOrder}, Histogram.bin_of}
 
 pub runs_built : (told : List Told) (at : ℕ) → runs_of (told ++ Built at ∷ []) ≡ runs_of told
 runs_built [] at = refl

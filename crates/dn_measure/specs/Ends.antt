@@ -1,10 +1,19 @@
--- How a session ended.
-use Rattle.std.specs.Prelude.{ℕ, pos, ◌==◌, Bool, if◌then◌else◌, List, [], ◌∷◌, ◌++◌, Option, Some, None, codes}
+-- How a session ended, and the lines of what it measured.
+use Rattle.std.specs.Prelude.{ℕ, List, ◌++◌, pos, ◌==◌, Bool, if◌then◌else◌, [], ◌∷◌, Option, Some, None, codes}
+use Rattle.dn_measure.specs.declared.measure.Summary.{Summary}
+use Rattle.dn_measure.specs.Fields.{of_each, labelled}
+use Rattle.dn_measure.specs.Lines.{played_line, gaps_line, keys_line, came_line}
+use Rattle.dn_measure.specs.Lacking.{verdict_lines}
 use Rattle.dn_measure.specs.declared.end.End.{End}
 use Rattle.dn_measure.specs.declared.end.End.TheVariants.{Left, OthersLeft, Full, FullAt, Lost, Inconsistent, InconsistentAt}
-use Rattle.dn_measure.specs.declared.summary.Summary.{Summary}
-use Rattle.dn_measure.specs.Fields.{labelled}
-use Rattle.dn_measure.specs.SummaryLines.{figure_lines, summary_lines}
+
+-- all that was measured
+abbrev pub figure_lines : Summary → List ℕ
+figure_lines s = played_line s ++ (gaps_line s ++ (keys_line s ++ of_each came_line 0 s.peers))
+
+-- all that was measured, and what follows from it
+abbrev pub summary_lines : Summary → List ℕ
+summary_lines s = figure_lines s ++ verdict_lines s
 
 -- how it ended at a player, in words before its number and behind it
 abbrev pub player_text : List ℕ → ℕ → List ℕ → List ℕ

@@ -1,9 +1,9 @@
 -- The lines of what a line carries or lacks.
 use Rattle.std.specs.Prelude.{ℕ, pos, ◌+◌, ◌*◌, ◌/◌, ◌==◌, Bool, if◌then◌else◌, List, [], ◌∷◌, ◌++◌, length, codes}
-use Rattle.dn_measure.specs.declared.summary.Summary.{Summary}
+use Rattle.dn_measure.specs.declared.measure.Summary.{Summary}
 use Rattle.dn_measure.specs.declared.verdict.Lack.{Lack}
 use Rattle.dn_measure.specs.declared.verdict.Lack.TheVariants.{Time, Tics, Rate, Calm, Pause, Speed, Datagrams}
-use Rattle.dn_measure.specs.Rate.{tenths_a_second}
+use Rattle.dn_measure.specs.Runs.{tenths_a_second}
 use Rattle.dn_measure.specs.Fields.{labelled, with_tenth}
 use Rattle.dn_measure.specs.Lines.{felt_text}
 use Rattle.dn_measure.specs.Verdict as verdict

@@ -1,15 +1,12 @@
 pub mod Told
 pub mod Histogram
 pub mod Runs
-pub mod Felt
 pub mod Arrivals
-pub mod Rate
 pub mod Thresholds
 pub mod Measure
 pub mod Verdict
 pub mod Fields
 pub mod Lines
 pub mod Lacking
-pub mod SummaryLines
 pub mod Ends
 pub mod StatusLine

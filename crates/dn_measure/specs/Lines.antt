@@ -3,9 +3,9 @@ use Rattle.std.specs.Prelude.{ℕ, pos, ◌+◌, ◌/◌, List, [], ◌∷◌, �
 use Rattle.dn_measure.specs.declared.arrivals.Arrivals.{Arrivals}
 use Rattle.dn_measure.specs.declared.felt.Felt.{Felt}
 use Rattle.dn_measure.specs.declared.felt.Felt.TheVariants.{Never, Within, Longer}
-use Rattle.dn_measure.specs.declared.summary.Summary.{Summary}
+use Rattle.dn_measure.specs.declared.measure.Summary.{Summary}
 use Rattle.dn_measure.specs.Arrivals.{loss_of}
-use Rattle.dn_measure.specs.Rate.{tenths_a_second}
+use Rattle.dn_measure.specs.Runs.{tenths_a_second}
 use Rattle.dn_measure.specs.Fields.{labelled, with_tenth}
 
 -- within how many milliseconds keys were felt

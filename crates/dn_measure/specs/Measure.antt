@@ -1,13 +1,12 @@
 -- What a measure keeps of all that it was told, and what it makes of it.
 use Rattle.std.specs.Prelude.{◌≡◌, ℕ, ◌-◌, List, [], ◌∷◌, ◌++◌, length, map, Option}
-use Rattle.dn_measure.specs.declared.told.Told.{Told}
+use Rattle.dn_measure.specs.declared.measure.Told.{Told}
 use Rattle.dn_measure.specs.declared.arrivals.Arrivals.{Arrivals}
 use Rattle.dn_measure.specs.declared.measure.Measure.{Measure}
-use Rattle.dn_measure.specs.declared.summary.Summary.{Summary}
+use Rattle.dn_measure.specs.declared.measure.Summary.{Summary}
 use Rattle.dn_measure.specs.Told.{runs_of, keys_of}
-use Rattle.dn_measure.specs.Histogram.{AreCountsOf}
+use Rattle.dn_measure.specs.Histogram.{AreCountsOf, bin_of, IsFelt}
 use Rattle.dn_measure.specs.Runs.{AreRunsOf, Running, as_count, times_in, gaps_in, longest_of, running}
-use Rattle.dn_measure.specs.Felt.{bin_of, IsFelt}
 
 -- the bins of the times from when each command was built until it was run
 abbrev pub samples_of : List Told → List ℕ

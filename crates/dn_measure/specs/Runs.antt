@@ -1,5 +1,5 @@
--- The tics that were run, and the times between them.
-use Rattle.std.specs.Prelude.{◌≡◌, ℕ, ◌-◌, ◌^◌, min, max, Bool, List, [], ◌∷◌, length, fold, count_by, nat_lt, Option, Some, None}
+-- The tics that were run, the times between them, and how many there were a second.
+use Rattle.std.specs.Prelude.{◌≡◌, ℕ, ◌-◌, ◌^◌, min, max, Bool, List, [], ◌∷◌, length, fold, count_by, nat_lt, Option, Some, None, ◌*◌, ◌/◌, ◌==◌, if◌then◌else◌}
 use Rattle.dn_measure.specs.declared.runs.Runs.{Runs}
 use Rattle.dn_measure.specs.Thresholds.{longest_calm}
 
@@ -58,3 +58,7 @@ pub record AreWaitsOf (ends : List ℕ) (r : Running) : Type 0 where
 pub record AreRunsOf (runs : List ℕ) (r : Running) : Type 0 where
   pub count : r.count ≡ as_count (length runs)
   pub waits : AreWaitsOf runs r
+
+-- how many tenths of a tic were run in each second, on average; a part of a tenth does not count
+abbrev pub tenths_a_second : (tics micros : ℕ) → ℕ
+tenths_a_second tics micros = if micros == 0 then 0 else 10000000 * tics / micros

@@ -2,7 +2,7 @@
 use Rattle.std.specs.Prelude.{ℕ, pos, List, [], ◌∷◌, ◌++◌, Option, Some, None, codes}
 use Rattle.dn_measure.specs.declared.status.PeerStatus.{PeerStatus}
 use Rattle.dn_measure.specs.declared.status.Status.{Status}
-use Rattle.dn_measure.specs.Rate.{tenths_a_second}
+use Rattle.dn_measure.specs.Runs.{tenths_a_second}
 use Rattle.dn_measure.specs.Fields.{labelled, with_tenth, of_each}
 use Rattle.dn_measure.specs.Lines.{flaws_text}
 

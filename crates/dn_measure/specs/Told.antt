@@ -1,7 +1,7 @@
 -- What is made of all that a session told.
 use Rattle.std.specs.Prelude.{⊤, ◌<◌, ℕ, ◌+◌, ◌-◌, List, [], ◌∷◌, ◌++◌, length, fold, nat_lt, if◌then◌else◌}
-use Rattle.dn_measure.specs.declared.told.Told.{Told}
-use Rattle.dn_measure.specs.declared.told.Told.TheVariants.{Built, Ran}
+use Rattle.dn_measure.specs.declared.measure.Told.{Told}
+use Rattle.dn_measure.specs.declared.measure.Told.TheVariants.{Built, Ran}
 
 -- when tics were run
 abbrev pub runs_of : List Told → List ℕ

@@ -3,7 +3,7 @@ use Rattle.std.specs.Prelude.{◌≤◌, ◌<◌, ℕ, ◌+◌, ◌-◌, ◌*◌
 use Rattle.dn_measure.specs.declared.arrivals.Arrivals.{Arrivals}
 use Rattle.dn_measure.specs.declared.felt.Felt.{Felt}
 use Rattle.dn_measure.specs.declared.felt.Felt.TheVariants.{Never, Within, Longer}
-use Rattle.dn_measure.specs.declared.summary.Summary.{Summary}
+use Rattle.dn_measure.specs.declared.measure.Summary.{Summary}
 use Rattle.dn_measure.specs.declared.verdict.Lack.{Lack}
 use Rattle.dn_measure.specs.declared.verdict.Lack.TheVariants.{Time, Tics, Rate, Calm, Pause, Speed, Datagrams}
 use Rattle.dn_measure.specs.Arrivals.{loss_of}

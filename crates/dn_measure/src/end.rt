@@ -4,7 +4,7 @@ ghost use Rattle.std.specs.{Prelude.◌≡◌, Prelude.◌++◌, Prelude.OnOk, P
 ghost use Rattle.dn_measure.specs.Ends.{end_text, judged_lines, player_text, session_lines, status_of};
 
 use crate::fields::push_fields;
-use crate::summary::Summary;
+use crate::measure::Summary;
 use crate::text::{push_figures, push_summary};
 use std::alloc::{AllocError, Global};
 

@@ -1,7 +1,7 @@
 //! How soon keys are felt.
 
 ghost use Rattle.std.specs.Prelude.{◌≡◌};
-ghost use Rattle.dn_measure.specs.Felt.{felt_of, bin_of};
+ghost use Rattle.dn_measure.specs.Histogram.{felt_of, bin_of};
 
 /// The last bin that stands for a time, in milliseconds; the one above holds all that took longer.
 const LONGEST_BIN: usize = 1_000;

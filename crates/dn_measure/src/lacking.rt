@@ -4,8 +4,8 @@ ghost use Rattle.std.specs.{Prelude.◌≡◌, Prelude.◌++◌, Prelude.Bool, P
 ghost use Rattle.dn_measure.specs.Lacking.{words_of, rate_text, loss_text, figure_text, lack_line, lack_lines, judgement, verdict_lines};
 
 use crate::fields::{push_fields, push_tenths};
-use crate::rate::tenths_a_second;
-use crate::summary::Summary;
+use crate::measure::Summary;
+use crate::runs::tenths_a_second;
 use crate::text::{longest_millis, push_felt};
 use crate::verdict::{Lack, lacks_of};
 use std::alloc::AllocError;

@@ -1,7 +1,7 @@
 //! What the time of a key is.
 
 ghost use Rattle.std.specs.Prelude.{◌≡◌, List};
-ghost use Rattle.dn_measure.specs.{declared.told.Told.Told, Told.keys_of, Told.builds_of, Told.runs_of, Told.times_from, Told.IsInOrder};
+ghost use Rattle.dn_measure.specs.{declared.measure.Told.Told, Told.keys_of, Told.builds_of, Told.runs_of, Told.times_from, Told.IsInOrder};
 
 /// Where each run tells of a command that was built, and never more than twelve wait, each run took the time
 /// from when its own command was built: the first from the first, the second from the second, and so on.

@@ -1,12 +1,41 @@
-//! What a session counts as it goes.
+//! What a session tells of its own commands, what it counts as it goes, and what it measured.
 
 use crate::arrivals::Arrivals;
-use crate::felt::{BINS, bin_of, felt_of};
+use crate::felt::{BINS, Felt, bin_of, felt_of};
 use crate::histogram::Histogram;
 use crate::runs::Runs;
-use crate::summary::Summary;
-use crate::told::Told;
 use arrayvec::ArrayVec;
+
+/// What a session tells as it happens, with the time in microseconds.
+#[derive(Clone, Copy, Debug, PartialEq, Eq)]
+pub enum Told {
+    /// A command was built.
+    Built(u64),
+    /// A tic was run.
+    Ran(u64),
+}
+
+/// What a session measured over the time of play. Times are in microseconds.
+#[derive(Clone, Copy, Debug, PartialEq, Eq)]
+pub struct Summary {
+    /// How many tics a second the clock gave.
+    pub rate: u8,
+    /// How many tics were run. Counts stop at the largest number of 64 bits.
+    pub tics: u64,
+    /// How long the game was played.
+    pub micros: u64,
+    /// How many times between two tics were longer than 100 ms. The time from the last tic on is one of them,
+    /// the time before the first is none.
+    pub gaps: u64,
+    /// The longest of these times.
+    pub longest: u64,
+    /// Within which time half of the commands were run, after each was built.
+    pub half: Felt,
+    /// Within which time 95 of a hundred were.
+    pub most: Felt,
+    /// What came from each player, and None for this player and for a number that is no player's.
+    pub peers: [Option<Arrivals>; 4],
+}
 
 /// How many commands can wait to be run: as many as the widest window has.
 const WAITING: usize = 12;
@@ -22,7 +51,7 @@ pub struct Measure {
 
 impl Measure {
     ghost use Rattle.std.specs.Prelude.{◌≡◌, ◌≤◌, ℕ, List, [], ◌∷◌, ◌++◌};
-    ghost use Rattle.dn_measure.specs.{declared.told.Told.Told, declared.told.Told.TheVariants.Built, declared.told.Told.TheVariants.Ran, Measure.IsMeasureOf, Measure.IsSummaryOf};
+    ghost use Rattle.dn_measure.specs.{declared.measure.Told.Told, declared.measure.Told.TheVariants.Built, declared.measure.Told.TheVariants.Ran, Measure.IsMeasureOf, Measure.IsSummaryOf};
 
     /// Nothing, of a game that begins now.
     pub fn new(start: u64) -> Measure

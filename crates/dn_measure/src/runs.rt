@@ -1,4 +1,7 @@
-//! The tics that were run, and the times between them.
+//! The tics that were run, the times between them, and how many there were a second.
+
+ghost use Rattle.std.specs.Prelude.{◌≡◌};
+ghost use Rattle.dn_measure.specs.Runs.{tenths_a_second};
 
 /// How many tics were run, when the last, and what is kept of the times between one and the next.
 #[derive(Clone, Copy, Debug)]
@@ -41,14 +44,14 @@ impl Runs {
         ensures count { self.new.count ≡ self.old.count }
     {
         let time = now.saturating_sub(last);
-        if time > crate::thresholds::GAP {
+        if time > crate::verdict::GAP {
             self.gaps = self.gaps.saturating_add(1);
         }
         self.longest = self.longest.max(time);
     }
 
     /// The time up to now passes: from the last on, if there was one.
-    #[tactic(auto, using(crate::proofs::Waiting::has_first, crate::proofs::Waiting::last_more, crate::proofs::Waiting::has_none))]
+    #[tactic(auto, using(crate::proofs::Counting::has_first, crate::proofs::Counting::last_more, crate::proofs::Counting::has_none))]
     pub(crate) fn wait_until(&mut self, now: u64)
         ensures waits { (ends : List ℕ) → AreWaitsOf ends (running self.old)
             → AreWaitsOf (ends ++ now ∷ []) (running self.new) }
@@ -69,4 +72,15 @@ impl Runs {
         self.wait_until(now);
         self.count = self.count.saturating_add(1);
     }
+}
+
+/// How many tenths of a tic were run in each second, on average. A part of a tenth does not count, and of no
+/// time there are none.
+pub(crate) fn tenths_a_second(tics: u64, micros: u64) -> u128
+    ensures { result ≡ tenths_a_second tics micros }
+{
+    if micros == 0 {
+        return 0;
+    }
+    10_000_000 * u128::from(tics) / u128::from(micros)
 }

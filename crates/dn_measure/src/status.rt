@@ -5,7 +5,7 @@ ghost use Rattle.dn_measure.specs.{StatusLine.rate_text, StatusLine.waiting_text
 
 use crate::arrivals::Arrivals;
 use crate::fields::{push_each, push_fields, push_tenths};
-use crate::rate::tenths_a_second;
+use crate::runs::tenths_a_second;
 use crate::text::push_flaws;
 use std::alloc::{AllocError, Global};
 

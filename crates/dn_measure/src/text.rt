@@ -1,14 +1,14 @@
 //! The lines of what was measured.
 
 ghost use Rattle.std.specs.{Prelude.◌≡◌, Prelude.◌+◌, Prelude.◌/◌, Prelude.◌++◌, Prelude.OnOk, Prelude.IfOk, String.string_bytes};
-ghost use Rattle.dn_measure.specs.{Lines.felt_text, Lines.played_line, Lines.gaps_line, Lines.keys_line, Lines.came_line, Lines.flaws_text, Fields.if_there, Fields.of_each, SummaryLines.figure_lines, SummaryLines.summary_lines};
+ghost use Rattle.dn_measure.specs.{Lines.felt_text, Lines.played_line, Lines.gaps_line, Lines.keys_line, Lines.came_line, Lines.flaws_text, Fields.if_there, Fields.of_each, Ends.figure_lines, Ends.summary_lines};
 
 use crate::arrivals::Arrivals;
 use crate::felt::Felt;
 use crate::fields::{push_each, push_fields, push_line, push_tenths};
 use crate::lacking::push_verdict;
-use crate::rate::tenths_a_second;
-use crate::summary::Summary;
+use crate::measure::Summary;
+use crate::runs::tenths_a_second;
 use std::alloc::{AllocError, Global};
 
 /// Within how many milliseconds keys were felt.

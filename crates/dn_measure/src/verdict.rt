@@ -1,4 +1,4 @@
-//! Whether a line carries a game of four, or what it lacks.
+//! What a line must reach to carry a game of four; whether it does, or what it lacks.
 
 ghost use Rattle.std.specs.Prelude.{◌≡◌, ◌+◌, ◌≤◌, ◌<◌, ◌++◌, IsTrue, ◌↔◌};
 ghost use Rattle.arrayvec.specs.ArrayVec.{array_vec_len};
@@ -6,9 +6,32 @@ ghost use Rattle.dn_measure.specs.Verdict.{is_slow, has_gaps, has_paused, is_lat
 
 use crate::arrivals::Arrivals;
 use crate::felt::Felt;
-use crate::summary::Summary;
-use crate::thresholds::{GIVEN, KEY, LEAST_TIME, LONGEST, LOSS, RUN, TIME_OF_A_GAP};
+use crate::measure::Summary;
 use arrayvec::ArrayVec;
+
+/// A time between two tics that is longer, in microseconds, is a gap.
+pub(crate) const GAP: u64 = 100_000;
+
+/// The least time of play that is judged, in microseconds.
+const LEAST_TIME: u64 = 10_000_000;
+
+/// At least so many of the tics that the clock gives have to be run,
+const RUN: u128 = 69;
+
+/// of so many: 34.5 of 35.
+const GIVEN: u128 = 70;
+
+/// There may be as many gaps as such times in microseconds, of which a begun one counts whole.
+const TIME_OF_A_GAP: u128 = 60_000_000;
+
+/// The longest time between two tics may be so many microseconds.
+const LONGEST: u64 = 1_000_000;
+
+/// Of a hundred keys 95 have to be felt within so many milliseconds.
+const KEY: u16 = 250;
+
+/// So many of a thousand datagrams of each peer may be lost.
+const LOSS: u64 = 150;
 
 /// What a line lacks that does not carry a game of four.
 #[derive(Clone, Copy, Debug, PartialEq, Eq)]

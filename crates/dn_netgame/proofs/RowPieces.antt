@@ -6,10 +6,10 @@ use Rattle.std.proofs.Math.Seq.{take-append-add}
 use Rattle.std.proofs.lemmas.List.{length-take, length-take-le, take-append-le}
 use Rattle.dn_tic.specs.declared.command.Move.{Move}
 use Rattle.dn_world.specs.Plane.{Spots, walking}
-use Rattle.dn_demo.specs.{Feeding.{Feeding, Shows, Takes}, Listed.{AreListed, Lists, TellsFront}}
+use Rattle.dn_demo.specs.Feeding.{Feeding, Shows, Takes, AreListed, Lists, TellsFront}
 use Rattle.dn_demo.proofs.Listing.{tells_more, tells_all, rows_of_listed}
-use Rattle.dn_netgame.specs.{Texts.RowLines.{lines_of_rows}, DemoShown.IsDemo, RowsShown.{AreRows, IsRowsShown, ListsWhole, ListsFront}, Transfer.{TakesUpTo, AppendsFront}}
-use Rattle.dn_netgame.proofs.FeedPieces.{up_to_more}
+use Rattle.dn_netgame.specs.{Texts.{lines_of_rows}, DemoShown.IsDemo, RowsShown.{AreRows, IsRowsShown, ListsWhole, ListsFront}, Transfer.{TakesUpTo, AppendsFront}}
+use Rattle.dn_netgame.proofs.Pieces.{up_to_more}
 
 -- the lines of some rows, and of those behind them
 pub lines_more : (tic : ℕ) (xs ys : List (List (Option Move)))

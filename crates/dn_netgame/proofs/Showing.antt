@@ -1,6 +1,6 @@
 -- What is shown of an input, by how the run ended.
 use Rattle.std.proofs.Common.{◌≡◌, ℕ, List, Option, Result, Ok, Err, subst, sym, ◌∙◌}
-use Rattle.dn_netgame.specs.{Shown.{PrintsOrFails, TheseLines, ShowsOrFails}, declared.fault.RunFault.RunFault, declared.fault.RunFault.TheVariants.{Read, Write, Memory}, Transfer.TakesUpTo}
+use Rattle.dn_netgame.specs.{Shown.{PrintsOrFails, TheseLines, ShowsOrFails}, declared.transfer.RunFault.RunFault, declared.transfer.RunFault.TheVariants.{Read, Write, Memory}, Transfer.TakesUpTo}
 
 -- the input was taken, and what was printed for it is shown for it
 pub shows_printed : {W : Type 0} (contents : W → Option (List ℕ)) (limit : ℕ)

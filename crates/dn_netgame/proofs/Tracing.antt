@@ -3,8 +3,9 @@ use Rattle.std.proofs.Common.{◌≡◌, ◌+◌, ℕ, List, [], ◌∷◌, ◌+
 use Rattle.std.specs.Prelude.{All}
 use Rattle.std.proofs.lemmas.List.Elements.{All-cons, All-nil}
 use Rattle.dn_machine.specs.{declared.events.Done.Done, declared.events.Event.Event, declared.events.Refusal.Refusal}
-use Rattle.dn_game.specs.{Observed.{Observing, ObservesAll}, Scripts.Written.{event_line, script_text}}
-use Rattle.dn_netgame.specs.{Texts.TraceLines.{trace_line, trace_lines}, Told.{IsNotLeftOut, AddsTraced, AddsScripted}}
+use Rattle.dn_game.specs.Observed.{Observing, ObservesAll}
+use Rattle.dn_game.specs.Scripts.{event_line, script_text}
+use Rattle.dn_netgame.specs.{Texts.{trace_line, trace_lines}, Told.{IsNotLeftOut, AddsTraced, AddsScripted}}
 
 -- the lines of events, each behind those before it
 module _ {L : Type 0} (observes : Observing L) (text : L → List ℕ) (P : Result Done Refusal → Type 0)

@@ -3,7 +3,7 @@ use Rattle.std.specs.Prelude.{◌≡◌, ◌≤◌, ◌<◌, ◌⊎◌, ℕ, Lis
 use Rattle.dn_demo.specs.Reading.{Recording, IsReadAs}
 use Rattle.dn_demo.specs.declared.demo.DemoFault.{DemoFault}
 use Rattle.dn_demo.specs.declared.demo.DemoFault.TheVariants.{Short, Version, NoPlayers, NoMarker, Memory}
-use Rattle.dn_netgame.specs.Texts.DemoLines.{demo_lines}
+use Rattle.dn_netgame.specs.Texts.{demo_lines}
 
 -- the line of a fault; there is none for `Memory`
 abbrev pub IsFaultLine : DemoFault → List ℕ → Type 0

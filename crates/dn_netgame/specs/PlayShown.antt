@@ -1,5 +1,5 @@
--- What is printed of nodes that played over UDP.
-use Rattle.std.specs.Prelude.{◌≡◌, ◌⊎◌, ℕ, Bool, false, List, codes, Some, if◌then◌else◌}
+-- What is printed of nodes that played over UDP: of one, and of all the nodes of a game.
+use Rattle.std.specs.Prelude.{◌≡◌, ◌⊎◌, ℕ, Bool, false, List, codes, Some, if◌then◌else◌, ◌-◌, [], length}
 use Rattle.dn_setup.specs.Settings.{Settings}
 use Rattle.dn_world.specs.Physics.{Physics}
 use Rattle.dn_world.specs.Plane.{Spots, walking}
@@ -10,11 +10,12 @@ use Rattle.dn_machine.specs.Running.{on_quit}
 use Rattle.dn_lockstep.specs.declared.config.Config.{Config}
 use Rattle.dn_lockstep.specs.Opening.{limits_in}
 use Rattle.dn_node.specs.Contents.{Contents}
-use Rattle.dn_node.specs.Represents.{Represents}
-use Rattle.dn_netgame.specs.Turning.Giving.{Sends}
-use Rattle.dn_netgame.specs.Turning.Hearing.{Polls}
-use Rattle.dn_netgame.specs.Turning.Rounds.{Seat, Table, TakeRounds, rules_at}
-use Rattle.dn_netgame.specs.Texts.NodeLines.{node_line}
+use Rattle.dn_node.specs.Contents.{Represents}
+use Rattle.dn_netgame.specs.Turning.{Sends, Polls, Seat, Table, TakeRounds, rules_at, AreSeated}
+use Rattle.dn_netgame.specs.Texts.{node_line, node_lines}
+use Rattle.dn_node.specs.declared.node.Node.{Node}
+use Rattle.dn_game.specs.declared.config.GameConfig.{GameConfig}
+use Rattle.dn_game.specs.Opening.{config_of}
 
 -- ports of players that are bound here, and no call has failed
 abbrev pub new_ports : (base first last players : ℕ) → Ports
@@ -63,3 +64,24 @@ IsPlay config base seed count raw lines status =
     ((lines ≡ codes "socket fault\n") × (status ≡ 3))
     ⊎ ((n : Contents Spots) × HasEverPlayed config base seed count n
     × (lines ≡ (if raw then n.demo.bytes else node_line n false)) × (status ≡ 0))
+
+-- the seats of a game's new nodes
+abbrev pub new_seats : GameConfig → ℕ → ℕ → Seat
+new_seats config players place = new_seat (config_of config players place) config.settings
+
+-- these nodes have played `count` rounds with each other since they were new, over ports that are all bound
+-- here
+pub record HavePlayed (config : GameConfig) (players base seed count : ℕ) (nodes : List (Node Spots)) : Type 0
+  where
+    pub last : Table Ports
+    pub rounds : TakeRounds UdpSends UdpPolls failures walking seed players count
+        (new_seats config players, new_ports base 0 (players - 1) players) last
+    pub seated : AreSeated (λ spots. spots) walking nodes last.0
+    pub each : length nodes ≡ players
+
+-- the output and the exit status are those of such nodes, or of a socket that cannot be bound
+abbrev pub IsLoop : GameConfig → (players base seed count : ℕ) → List ℕ → ℕ → Type 0
+IsLoop config players base seed count lines status =
+    ((lines ≡ codes "socket fault\n") × (status ≡ 3))
+    ⊎ ((nodes : List (Node Spots)) × HavePlayed config players base seed count nodes
+    × (lines ≡ node_lines [] 0 nodes) × (status ≡ 0))

@@ -3,11 +3,11 @@ use Rattle.std.specs.Prelude.{◌≡◌, ◌≤◌, ◌⊎◌, ℕ, ◌+◌, ◌
 use Rattle.std.specs.Io.KnownBytes.{Appends, Consumes}
 use Rattle.dn_tic.specs.declared.command.Move.{Move}
 use Rattle.dn_demo.specs.Reading.{HasRows}
-use Rattle.dn_netgame.specs.Texts.RowLines.{lines_of_rows}
+use Rattle.dn_netgame.specs.Texts.{lines_of_rows}
 use Rattle.dn_netgame.specs.DemoShown.{IsDemo}
 use Rattle.dn_netgame.specs.Transfer.{TakesUpTo, AppendsFront}
-use Rattle.dn_netgame.specs.declared.fault.RunFault.{RunFault}
-use Rattle.dn_netgame.specs.declared.fault.RunFault.TheVariants.{Read, Write, Memory}
+use Rattle.dn_netgame.specs.declared.transfer.RunFault.{RunFault}
+use Rattle.dn_netgame.specs.declared.transfer.RunFault.TheVariants.{Read, Write, Memory}
 
 -- the lines are those of the rows that these bytes have
 abbrev pub AreRows : List ℕ → List ℕ → Type 0

@@ -8,8 +8,8 @@ use Rattle.dn_game.specs.declared.script.reading.ScriptFault.{ScriptFault}
 use Rattle.dn_game.specs.declared.script.reading.ScriptFault.TheVariants.{TooLong, Line, Memory}
 use Rattle.dn_game.specs.Opening.{rules_in}
 use Rattle.dn_game.specs.Played.{IsPlayed}
-use Rattle.dn_game.specs.Scripts.Script.{IsReadAs}
-use Rattle.dn_netgame.specs.Texts.ScriptLines.{bad_line}
+use Rattle.dn_game.specs.Scripts.{IsReadAs}
+use Rattle.dn_netgame.specs.Texts.{bad_line}
 use Rattle.dn_netgame.specs.Told.{Account}
 
 -- the lines and the exit status are those of a game of this many walkers that has played these events, told in

@@ -6,9 +6,8 @@ use Rattle.dn_machine.specs.declared.events.Event.{Event}
 use Rattle.dn_machine.specs.declared.events.Refusal.{Refusal}
 use Rattle.dn_game.specs.declared.played.Played.{Played}
 use Rattle.dn_game.specs.Observed.{Observing, ObservesAll}
-use Rattle.dn_game.specs.Scripts.Written.{event_line, script_text}
-use Rattle.dn_netgame.specs.Texts.GameLines.{game_lines}
-use Rattle.dn_netgame.specs.Texts.TraceLines.{trace_line, trace_lines}
+use Rattle.dn_game.specs.Scripts.{event_line, script_text}
+use Rattle.dn_netgame.specs.Texts.{game_lines, trace_line, trace_lines}
 
 -- the event of this answer was not left out for want of memory
 abbrev pub IsNotLeftOut : Result Done Refusal → Type 0

@@ -2,7 +2,7 @@
 use Rattle.std.specs.Prelude.{◌≡◌, ℕ, List, codes, Result, Ok, Err}
 use Rattle.dn_demo.specs.Reading.{Recording}
 use Rattle.dn_demo.specs.Recorded.{Recorded}
-use Rattle.dn_demo.specs.Upgraded.{IsUpgraded}
+use Rattle.dn_demo.specs.Recorded.{IsUpgraded}
 use Rattle.dn_demo.specs.declared.upgrading.UpgradeFault.{UpgradeFault}
 use Rattle.dn_demo.specs.declared.upgrading.UpgradeFault.TheVariants.{Limit, Full, Memory}
 use Rattle.dn_netgame.specs.DemoShown.{IsDemoOutput}

@@ -3,12 +3,11 @@
 ghost use Rattle.std.specs.{Prelude.◌≡◌, Prelude.ℕ, Prelude.◌+◌, Prelude.List, Prelude.Err, Prelude.IfOk, Prelude.IfErr, String.string_bytes};
 ghost use Rattle.dn_world.specs.Plane.{walking};
 ghost use Rattle.dn_demo.specs.Feeding.{Shows};
-ghost use Rattle.dn_netgame.specs.{DemoShown.demo_limit, DemoShown.IsDemo, Shown.ShowsOrFails, Transfer.TakesUpTo, declared.fault.RunFault.RunFault};
+ghost use Rattle.dn_netgame.specs.{DemoShown.demo_limit, DemoShown.IsDemo, Shown.ShowsOrFails, Transfer.TakesUpTo, declared.transfer.RunFault.RunFault};
 
-use crate::fault::RunFault;
-use crate::feeding::{fed_demo, feed_demo};
+use crate::input::{fed_demo, feed_demo};
 use crate::text::text_of_demo;
-use crate::transfer::print;
+use crate::transfer::{RunFault, print};
 use dn_demo::Feed;
 use dn_world::Walk;
 use std::alloc::Global;

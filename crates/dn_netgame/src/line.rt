@@ -4,7 +4,7 @@ mod hub;
 mod udp;
 
 ghost use Rattle.std.specs.Prelude.{◌≡◌, ℕ, List, Option, Result};
-ghost use Rattle.dn_netgame.specs.{declared.line.Datagram.Datagram, declared.line.LineFault.LineFault, Lines.Counts.Done, Lines.Counts.count_after};
+ghost use Rattle.dn_netgame.specs.{declared.line.Datagram.Datagram, declared.line.LineFault.LineFault, Lines.Done, Lines.count_after};
 
 use arrayvec::ArrayVec;
 pub use hub::{HubFault, MemoryHub};

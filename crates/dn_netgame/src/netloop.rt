@@ -4,16 +4,15 @@ ghost use Rattle.std.specs.{Prelude.◌≡◌, Prelude.◌++◌, Prelude.[], Pre
 ghost use Rattle.dn_demo.specs.Recorded.{IsLimit};
 ghost use Rattle.dn_lockstep.specs.Opening.{IsGame};
 ghost use Rattle.dn_netgame.specs.Lines.Udp.{IsBase};
-ghost use Rattle.dn_netgame.specs.Turning.Rounds.{LeadAll, TakeRounds};
-ghost use Rattle.dn_netgame.specs.Texts.GameLines.{node_lines};
-ghost use Rattle.dn_netgame.specs.{LoopShown.IsLoop, Shown.PrintsOrFails, declared.fault.RunFault.RunFault};
+ghost use Rattle.dn_netgame.specs.Turning.{LeadAll, TakeRounds};
+ghost use Rattle.dn_netgame.specs.Texts.{node_lines};
+ghost use Rattle.dn_netgame.specs.{PlayShown.IsLoop, Shown.PrintsOrFails, declared.transfer.RunFault.RunFault};
 
-use crate::fault::RunFault;
 use crate::games::new_walks;
 use crate::line::{Line, UdpLine};
 use crate::netplay::{NO_SOCKET, NetRounds, UNBOUND};
 use crate::text::push_node;
-use crate::transfer::print;
+use crate::transfer::{RunFault, print};
 use crate::turns::rounds;
 use dn_game::{GameConfig, GameFault, nodes_of};
 use dn_node::Node;

@@ -5,13 +5,12 @@ ghost use Rattle.dn_demo.specs.Recorded.{IsLimit};
 ghost use Rattle.dn_node.specs.Contents.{contents};
 ghost use Rattle.dn_lockstep.specs.Opening.{IsGame, IsKeyed};
 ghost use Rattle.dn_netgame.specs.Lines.Udp.{IsBase};
-ghost use Rattle.dn_netgame.specs.Turning.Rounds.{LeadAll};
-ghost use Rattle.dn_netgame.specs.{PlayShown.PlaysOut, PlayShown.HasEverPlayed, PlayShown.IsPlay, Shown.PrintsOrFails, declared.fault.RunFault.RunFault};
+ghost use Rattle.dn_netgame.specs.Turning.{LeadAll};
+ghost use Rattle.dn_netgame.specs.{PlayShown.PlaysOut, PlayShown.HasEverPlayed, PlayShown.IsPlay, Shown.PrintsOrFails, declared.transfer.RunFault.RunFault};
 
-use crate::fault::RunFault;
 use crate::line::{Line, UdpLine};
 use crate::text::push_node;
-use crate::transfer::print;
+use crate::transfer::{RunFault, print};
 use crate::turns::rounds;
 use dn_node::{Config, Node, NodeFault};
 use dn_world::{Walk, World};

@@ -4,15 +4,14 @@ ghost use Rattle.std.specs.{Prelude.◌≡◌, Prelude.◌≤◌, Prelude.ℕ, P
 ghost use Rattle.std.specs.{String.string_bytes, Io.KnownBytes.Appends};
 ghost use Rattle.dn_tic.specs.declared.command.Move.{Move};
 ghost use Rattle.dn_world.specs.Plane.{walking};
-ghost use Rattle.dn_demo.specs.{Feeding.Shows, Listed.told, Listed.AreListed, Listed.TellsFront};
-ghost use Rattle.dn_netgame.specs.Texts.RowLines.{lines_of_rows};
+ghost use Rattle.dn_demo.specs.Feeding.{Shows, told, AreListed, TellsFront};
+ghost use Rattle.dn_netgame.specs.Texts.{lines_of_rows};
 ghost use Rattle.dn_netgame.specs.{DemoShown.demo_limit, RowsShown.IsRowsShown, RowsShown.ListsUpTo, Shown.ShowsInput, Transfer.TakesUpTo};
 
 use crate::demo::text_of;
-use crate::fault::RunFault;
-use crate::feeding::{ENOUGH, PIECE};
+use crate::input::{ENOUGH, PIECE};
 use crate::text::push_row;
-use crate::transfer::{fill, put};
+use crate::transfer::{RunFault, fill, put};
 use dn_demo::Feed;
 use dn_tic::Move;
 use dn_world::Walk;

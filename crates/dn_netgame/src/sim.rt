@@ -3,14 +3,13 @@
 ghost use Rattle.std.specs.{Prelude.◌≡◌, Prelude.◌+◌, Prelude.Err, Prelude.IfOk, Prelude.IfErr, String.string_bytes};
 ghost use Rattle.dn_demo.specs.Recorded.{IsLimit};
 ghost use Rattle.dn_lockstep.specs.Opening.{IsGame};
-ghost use Rattle.dn_game.specs.Scripts.Script.{size_limit};
-ghost use Rattle.dn_netgame.specs.{Shown.ShowsOrFails, SimShown.ArePlayed, SimShown.IsFaultShown, SimShown.IsSim, Told.IsQuiet, declared.fault.RunFault.RunFault};
+ghost use Rattle.dn_game.specs.Scripts.{size_limit};
+ghost use Rattle.dn_netgame.specs.{Shown.ShowsOrFails, SimShown.ArePlayed, SimShown.IsFaultShown, SimShown.IsSim, Told.IsQuiet, declared.transfer.RunFault.RunFault};
 
-use crate::fault::RunFault;
 use crate::games::new_walks;
 use crate::telling::Teller;
 use crate::text::text_of_bad_line;
-use crate::transfer::{gather, print};
+use crate::transfer::{RunFault, gather, print};
 use dn_game::script::{MAX_SCRIPT, ScriptFault, read_script};
 use dn_game::{Event, GameConfig, GameFault, Nobody, play_observed};
 use std::alloc::{AllocError, Global};

@@ -1,18 +1,50 @@
-//! A storm: a game under events drawn from a seed, and the calm after it.
+//! A storm: a game under events drawn from a seed, and the calm after it: rounds in which every packet arrives.
 
-ghost use Rattle.std.specs.Prelude.{None};
+ghost use Rattle.std.specs.Prelude.{◌≡◌, IfOk, None};
+ghost use Rattle.dn_netgame.specs.StormShown.{no_keys, Calms, CalmsAfter, IsStorm};
 ghost use Rattle.dn_demo.specs.Recorded.{IsLimit};
 ghost use Rattle.dn_lockstep.specs.Opening.{IsGame};
-ghost use Rattle.dn_netgame.specs.{Shown.PrintsOrFails, StormShown.IsStorm, Told.IsQuiet};
+ghost use Rattle.dn_netgame.specs.Shown.{PrintsOrFails};
+ghost use Rattle.dn_netgame.specs.Told.{IsQuiet};
 
-use crate::calm::calm_after;
-use crate::fault::RunFault;
 use crate::games::storm_walks;
 use crate::telling::Teller;
-use crate::transfer::print;
-use dn_game::{GameConfig, Nobody};
-use std::alloc::Global;
+use crate::transfer::{RunFault, print};
+use dn_game::{GameConfig, Nobody, Played, RoundFault};
+use dn_tic::Keys;
+use dn_world::Walk;
+use std::alloc::{AllocError, Global};
 use std::io::Write;
+
+/// Keys of a round in which nobody presses any.
+fn no_keys() -> [Keys; 4]
+    ensures { result ≡ no_keys }
+{
+    let none = Keys::from_bits(0);
+    [none, none, none, none]
+}
+
+/// Plays `calm` rounds in which every packet arrives and nobody presses a key. Answers false where 2^32 packets
+/// were sent, so that no event can name the next: there the rounds end.
+fn calm_down(played: &mut Played<Walk>, calm: u32) -> Result<bool, AllocError>
+    ensures { IfOk result (λ calmed. Calms calm played.old played.new calmed) }
+{
+    match played.game.good_rounds(no_keys(), calm) {
+        Ok(()) => Ok(true),
+        Err(RoundFault::Memory) => Err(AllocError),
+        Err(RoundFault::Packets) => Ok(false),
+    }
+}
+
+/// Plays the calm that follows a storm, if one does, as `calm_down` does.
+fn calm_after(played: &mut Played<Walk>, calm: Option<u32>) -> Result<bool, AllocError>
+    ensures { IfOk result (λ calmed. CalmsAfter calm played.old played.new calmed) }
+{
+    match calm {
+        Some(calm) => calm_down(played, calm),
+        None => Ok(true),
+    }
+}
 
 /// Events of a schedule, and the calm after them: rounds in which every packet arrives and nobody presses a key.
 #[derive(Clone, Copy)]

@@ -3,11 +3,10 @@
 ghost use Rattle.std.specs.Prelude.{◌≡◌, ◌+◌, Err};
 ghost use Rattle.dn_demo.specs.Recorded.{IsLimit};
 ghost use Rattle.dn_netgame.specs.{DemoShown.demo_limit, UpgradeShown.IsUpgradedTo, UpgradeShown.IsUpgrade, Shown.PrintsOrFails, Shown.ShowsOrFails, Transfer.TakesSome};
-ghost use Rattle.dn_netgame.specs.{declared.fault.RunFault.RunFault};
+ghost use Rattle.dn_netgame.specs.{declared.transfer.RunFault.RunFault};
 
-use crate::fault::RunFault;
 use crate::input::{INPUT_LIMIT, read_demo};
-use crate::transfer::{gather, print};
+use crate::transfer::{RunFault, gather, print};
 use dn_demo::{Demo, UpgradeFault, upgrade};
 use std::alloc::Global;
 use std::io::{Read, Write};

@@ -2,7 +2,7 @@
 use Rattle.std.proofs.Common.{arith, ◌≡◌, ◌≢◌, ℕ, true, false, List, length, Option, Some, None, ap, sym, ◌∙◌}
 use Rattle.std.specs.Prelude.{Result, Ok}
 use Rattle.dn_tic.specs.declared.command.Move.{Move}
-use Rattle.dn_setup.specs.{Settings.Settings, Starts.start_of}
+use Rattle.dn_setup.specs.Settings.{Settings, start_of}
 use Rattle.dn_world.specs.Physics.{Physics}
 use Rattle.dn_machine.specs.{declared.answers.Heard.Heard, Flight.Flight, Hearing.on_packet, Limits.Limits}
 use Rattle.dn_machine.specs.{Worlds.{Rules, rules_within, opening, world_after}, Game.own_world}
@@ -14,11 +14,10 @@ use Rattle.dn_lockstep.specs.{Received.{heard_as, flight_from}, Rows.seats_of}
 use Rattle.dn_lockstep.specs.Hearing as lockstep_hears
 use Rattle.dn_lockstep.specs.Represents as lockstep_of
 use Rattle.dn_lockstep.specs.Steps as lockstep
-use Rattle.dn_lockstep.proofs.{Moving.known_by, Marked.marked_low}
-use Rattle.dn_node.specs.{Contents.{Contents, locked, whose}, Represents.Represents}
+use Rattle.dn_lockstep.proofs.Moving.{known_by, marked_low}
+use Rattle.dn_node.specs.Contents.{Contents, locked, whose, Represents}
 use Rattle.dn_node.specs.Steps.{Shows, IsAfter, HearsAny, HearsNear}
-use Rattle.dn_node.proofs.Beside.{Hears, GoesOn, Starts, is_start, heard_beside, KeepsEnds, heard_keeps}
-use Rattle.dn_node.proofs.Stepping.{beside_world, beside_marks}
+use Rattle.dn_node.proofs.Stepping.{Hears, GoesOn, Starts, is_start, heard_beside, KeepsEnds, heard_keeps, beside_world, beside_marks}
 
 -- the world before any row, of a node that has just started
 pub first_world : {S : Type 0} (rules : Rules S) (m : machine.Node) (settings : Settings)

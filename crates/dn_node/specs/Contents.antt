@@ -1,6 +1,12 @@
--- What a node holds: what its lockstep does, and its world.
-use Rattle.std.specs.Prelude.{ℕ, List, map, Option}
+-- What a node holds: what its lockstep does, and its world; and when it represents a node of the machine.
+use Rattle.std.specs.Prelude.{ℕ, List, map, Option, ◌≡◌, ◌<◌, true, Some}
+use Rattle.dn_machine.specs.Game.{own_world}
+use Rattle.dn_machine.specs.Node as machine
+use Rattle.dn_machine.specs.Node.{ends_of}
+use Rattle.dn_machine.specs.Worlds.{Rules, mark_in}
 use Rattle.dn_lockstep.specs.Contents as lockstep_of
+use Rattle.dn_lockstep.specs.Represents as lockstep_to
+use Rattle.dn_lockstep.specs.Represents.{marked_to}
 use Rattle.dn_node.specs.declared.node.Node.{Node}
 
 pub record Contents (W : Type 0) : Type 0 where
@@ -30,3 +36,18 @@ whose_of nodes = map (λ n. whose (contents n)) nodes
 -- a player's end as the node knows it
 abbrev pub end_in : {W : Type 0} → Contents W → ℕ → Option ℕ
 end_in n = lockstep_of.end_in (locked n)
+
+-- the marks that it keeps of a tic are those of its own world before the tic, of each player up to the known
+-- end
+abbrev pub HasOwnMarks : {S : Type 0} → Rules S → machine.Node → Type 0
+HasOwnMarks rules m =
+    (player tic : ℕ) → player < rules.players → tic < marked_to (machine.ran m) (ends_of m player)
+    → m.marks tic player ≡ mark_in rules.physics (own_world rules m tic) player
+
+pub record Represents {W S : Type 0} (state : W → S) (rules : Rules S) (me : ℕ) (n : Contents W)
+    (m : machine.Node) : Type 0 where
+  -- its lockstep does
+  pub lockstep : lockstep_to.Represents rules.limits me (locked n) m
+  -- its world is the one that its rows lead to, once it has started
+  pub world : m.played ≡ true → Some (state n.world) ≡ own_world rules m (machine.ran m)
+  pub marks : HasOwnMarks rules m

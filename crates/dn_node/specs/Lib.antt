@@ -1,4 +1,2 @@
 pub mod Contents
-pub mod Represents
 pub mod Steps
-pub mod Giving

@@ -1,11 +1,11 @@
 //! What holds of every node that has ended.
 
 ghost use Rattle.std.specs.Prelude.{◌≡◌, ℕ, true, length, Some, Ok, fold};
-ghost use Rattle.dn_setup.specs.{Settings.Settings, Starts.start_of};
+ghost use Rattle.dn_setup.specs.Settings.{Settings, start_of};
 ghost use Rattle.dn_demo.specs.{Layout.long_tics, Reading.IsReadAs, Reading.written_demo, Reading.state_after};
 ghost use Rattle.dn_machine.specs.{declared.answers.Cause.Cause, declared.answers.Phase.TheVariants.Ended, Limits.Limits, Worlds.rules_within, Node.demo_rows};
 ghost use Rattle.dn_machine.specs.Node as machine;
-ghost use Rattle.dn_node.specs.{Contents.Contents, Represents.Represents};
+ghost use Rattle.dn_node.specs.Contents.{Contents, Represents};
 ghost use Rattle.dn_lockstep.specs.Rows.{seats_of};
 
 use dn_world::World;

@@ -1,7 +1,7 @@
 //! One player's node, and what it tells of itself.
 
 ghost use Rattle.std.specs.Prelude.{◌≡◌, ◌<◌, true, is_some, nat_lt, if◌then◌else◌, Some, None, IfOk};
-ghost use Rattle.dn_lockstep.specs.{Opening.IsAdmitted, Opening.whose_in, Rings.count_of};
+ghost use Rattle.dn_lockstep.specs.{Opening.IsAdmitted, Opening.whose_in, Tables.count_of};
 
 mod stepping;
 
@@ -23,8 +23,8 @@ impl<W: World> Node<W> {
     ghost use Rattle.dn_setup.specs.Settings.{Settings as Choice};
     ghost use Rattle.dn_demo.specs.Recorded.{capacity};
     ghost use Rattle.dn_machine.specs.{Game.fresh, Node.known_end, Worlds.rules_of};
-    ghost use Rattle.dn_lockstep.specs.{Commands.last_held, Told.command_told};
-    ghost use Rattle.dn_node.specs.{Contents.contents, Contents.locked, Contents.whose, Contents.end_in, Represents.Represents, Steps.Tells};
+    ghost use Rattle.dn_lockstep.specs.Told.{last_held, command_told};
+    ghost use Rattle.dn_node.specs.{Contents.contents, Contents.locked, Contents.whose, Contents.end_in, Contents.Represents, Steps.Tells};
 
     /// A node with no history: player 0 gathers, the others listen. All memory that it needs is taken
     /// here; the world is given up where there is no node.

@@ -3,18 +3,19 @@ use Rattle.std.proofs.Common.{◌≡◌, ◌≢◌, ◌<◌, ◌⊎◌, ℕ, Boo
 use Rattle.std.specs.Prelude.{slice_get, Result, Ok, Err, if◌then◌else◌}
 use Rattle.std.proofs.lemmas.Bool.{cases_eq, eq-eqb, ne_eqb}
 use Rattle.dn_packet.specs.{declared.packet.Packet.Packet, declared.packet.PacketFault.PacketFault}
-use Rattle.dn_packet.proofs.Once.{only_packet}
+use Rattle.dn_packet.proofs.Readings.{only_packet}
 use Rattle.dn_setup.specs.{Settings.Settings, Settings.IsSettings, Setup.setup_packet, Setup.IsSetupReadAs, declared.setup.SetupFault.SetupFault, declared.setup.SetupFault.TheVariants.NotSetup}
 use Rattle.dn_setup.specs.{declared.setup.SetupFault.TheVariants.Version, declared.setup.SetupFault.TheVariants.Range}
 use Rattle.dn_machine.specs.{declared.answers.Heard.Heard, declared.events.Done.Done, declared.events.Event.TheVariants.Deliver, declared.events.Refusal.Refusal, Flight.Kind, Flight.SetUp, Flight.Play, Flight.Exit}
 use Rattle.dn_machine.specs.{Flight.Flight, Flight.packet_of, Flight.is_near, Flight.is_close, Flight.is_request_close, Game.Game, Game.applied, Game.refused, Game.refused_at, Game.delivered, Game.with_node}
 use Rattle.dn_machine.specs.{Hearing.on_packet, Node.Node, Node.put, Node.made, Worlds.Rules}
-use Rattle.dn_lockstep.specs.{Near.IsFairKind, Received.received, Received.IsTold}
-use Rattle.dn_lockstep.proofs.Nearby.{told_by, told_is, near_received}
+use Rattle.dn_lockstep.specs.Sent.{IsFairKind}
+use Rattle.dn_lockstep.specs.Received.{received, IsTold}
+use Rattle.dn_lockstep.proofs.Receiving.{told_by, told_is, near_received}
 use Rattle.dn_seal.specs.{declared.opened.Opened.Opened, declared.opened.SealFault.SealFault, declared.seal.Seal.Seal, Opening.IsOpenedAs}
-use Rattle.dn_open.specs.{OpenGames.IsEnvelope, OpenGames.IsGenuine, OpenGames.IsUnheard, OpenGames.answer_if, OpenGames.arrived_if, Arrivals.IsRead, Arrivals.is_alike, declared.arrived.Arrived.Arrived}
+use Rattle.dn_open.specs.{OpenGames.IsEnvelope, OpenGames.IsGenuine, OpenGames.IsUnheard, OpenGames.answer_if, OpenGames.arrived_if, Arrivals.IsRead, Arrivals.is_alike, declared.hearing.Arrived.Arrived}
 use Rattle.dn_open.specs.{Sealed.envelope_of, Sealed.opened_of, Sealed.sealing_of}
-use Rattle.dn_open.proofs.{Alikes.alike, Sealables.IsSealable, Sealables.opened_is}
+use Rattle.dn_open.proofs.{Sealables.alike, Sealables.IsSealable, Sealables.opened_is}
 
 -- a node that is put where it stands changes nothing
 put_same : {A : Type 0} (all : ℕ → A) (place : ℕ) → put all place (all place) ≡ all

@@ -8,14 +8,19 @@ use Rattle.std.proofs.lemmas.Int.{ints}
 use Rattle.std.proofs.lemmas.List.Elements.{All-from_get_or}
 use Rattle.dn_tic.specs.{declared.command.TicCmd.TicCmd, Command.IsCommand}
 use Rattle.dn_packet.specs.Text.{IsPacket}
-use Rattle.dn_setup.specs.{Settings.Settings, Settings.IsSettings, Setup.setup_packet, Starts.bit}
+use Rattle.dn_setup.specs.Settings.{Settings, IsSettings, bit}
+use Rattle.dn_setup.specs.Setup.{setup_packet}
 use Rattle.dn_machine.specs.{Worlds.Inputs, Worlds.Rules, Worlds.mark_in, Worlds.worlds_to, Worlds.command, Flight.Kind, Flight.SetUp, Flight.Play, Flight.Exit, Flight.Flight, Flight.packet_of, Flight.request_flag}
 use Rattle.dn_machine.specs.{Flight.request_byte, Flight.end_of, Game.Game, Node.blank, Node.has_left, Promise.inputs_of, Running.tic_limit, Runs.Runs, Limits.Limits, Limits.IsWindow}
 use Rattle.dn_machine.proofs.{Games.always, Invariant.IsPiece, Invariant.IsKept}
-use Rattle.dn_lockstep.specs.{Near.IsFair, Near.IsFairKind, Rings.is_stop, Marking.Marking, OneGame.beside, OneGame.AreOneGame, Session.Session, Opening.FitsPackets}
+use Rattle.dn_lockstep.specs.Sent.{IsFair, IsFairKind}
+use Rattle.dn_lockstep.specs.Tables.{is_stop}
+use Rattle.dn_lockstep.specs.Marking.{Marking}
+use Rattle.dn_lockstep.specs.OneGame.{beside, AreOneGame, Session}
+use Rattle.dn_lockstep.specs.Opening.{FitsPackets}
 use Rattle.dn_lockstep.proofs.Keeping.{none_stops}
-use Rattle.dn_open.specs.Playable.{IsPlayable, IsSmall}
-use Rattle.dn_open.proofs.{Commands.AreInputs, Commands.inputs_up_to, Commands.made_by-fits, Commands.made_by-goes_on, Deliveries.IsBetween, Deliveries.AreSealable, Sealables.IsSealable, Sends.IsSent}
+use Rattle.dn_open.specs.Sealed.{IsPlayable, IsSmall}
+use Rattle.dn_open.proofs.{Sends.AreInputs, Sends.inputs_up_to, Sends.made_by-fits, Sends.made_by-goes_on, Deliveries.IsBetween, Deliveries.AreSealable, Sealables.IsSealable, Sends.IsSent}
 use Rattle.dn_open.proofs.{Sends.always_sent}
 use Rattle.dn_lockstep.proofs.OneGame as one
 

@@ -5,12 +5,16 @@ use Rattle.std.proofs.lemmas.Bool.{cases_eq}
 use Rattle.std.specs.Int.{w16}
 use Rattle.dn_tic.specs.declared.input.Input.{Input}
 use Rattle.dn_setup.specs.Settings.{Settings}
-use Rattle.dn_machine.specs.{declared.events.Event.Event, declared.events.Event.TheVariants.Deliver, Building.on_build, Flight.Flight, Game.Game, Game.opening_game, Game.posted, Game.delivered, Game.on_event}
+use Rattle.dn_machine.specs.declared.events.Event.{Event}
+use Rattle.dn_machine.specs.declared.events.Event.TheVariants.{Deliver}
+use Rattle.dn_machine.specs.Sending.{on_build}
+use Rattle.dn_machine.specs.Flight.{Flight}
+use Rattle.dn_machine.specs.Game.{Game, opening_game, posted, delivered, on_event}
 use Rattle.dn_machine.specs.{Game.applied, Game.on_own_run, Hearing.on_packet, Node.Node, Node.put, Running.on_run, Running.on_quit, Runs.Next, Sending.on_send, Worlds.Rules, Runs.Leads, Runs.Runs, Limits.IsWindow}
 use Rattle.dn_machine.proofs.{Calls.build_cases, Put.put_at, Put.put_off, Games.goes_on}
-use Rattle.dn_open.specs.{OpenGames.IsInRange, Playable.IsPlayable, declared.open_event.OpenEvent.OpenEvent, declared.open_event.OpenEvent.TheVariants.Own, declared.open_event.OpenEvent.TheVariants.Arrive}
+use Rattle.dn_open.specs.{OpenGames.IsInRange, Sealed.IsPlayable, declared.open_event.OpenEvent.OpenEvent, declared.open_event.OpenEvent.TheVariants.Own, declared.open_event.OpenEvent.TheVariants.Arrive}
 use Rattle.dn_open.specs.{OpenGames.LeadsOpen, OpenGames.RunsOpen, OpenGames.StandFor}
-use Rattle.dn_open.proofs.{Commands.IsInput, Commands.AreInputs, Commands.inputs_more, Deliveries.AreFound, Deliveries.arrives, Fairness.always_sealable}
+use Rattle.dn_open.proofs.{Sends.IsInput, Sends.AreInputs, Sends.inputs_more, Deliveries.AreFound, Deliveries.arrives, Fairness.always_sealable}
 use Rattle.dn_lockstep.specs.Opening.{FitsPackets}
 use Rattle.dn_seal.specs.declared.seal.Seal.{Seal}
 

@@ -1,5 +1,6 @@
--- The locksteps of one game on an open network stay those of one game.
-use Rattle.std.proofs.Common.{◌≡◌, ◌<◌, ℕ, zero, suc, List, [], ◌∷◌, ◌++◌, length, refl, ap, sym, ◌∙◌, subst, Option, Some, None, inl, inr}
+-- The locksteps of one game on an open network stay those of one game, and what is answered to what comes
+-- is the answer of the delivery.
+use Rattle.std.proofs.Common.{◌≡◌, ◌<◌, ℕ, zero, suc, List, [], ◌∷◌, ◌++◌, length, refl, ap, sym, ◌∙◌, subst, Option, Some, None, inl, inr, Bool, true, false, arith}
 use Rattle.std.specs.Prelude.{Result, Ok, Err, IfSome, slice_get}
 use Rattle.std.specs.Option.{option_map}
 use Rattle.std.proofs.lemmas.Bool.{lt-ltb}
@@ -7,17 +8,110 @@ use Rattle.std.proofs.lemmas.Option.{none-some, same_Some}
 use Rattle.arrayvec.specs.ArrayVec.{ArrayVec}
 use Rattle.dn_packet.specs.{declared.packet.Packet.Packet, declared.packet.PacketFault.PacketFault, declared.packet.PacketFault.TheVariants.Short}
 use Rattle.dn_setup.specs.{Settings.Settings, declared.setup.SetupFault.SetupFault, declared.setup.SetupFault.TheVariants.NotSetup}
-use Rattle.dn_machine.specs.{declared.events.Event.TheVariants.Deliver, Flight.Flight, Flight.packet_of, Game.Game, Game.refused_at, Game.with_node, Limits.Limits, Node.put, Worlds.Rules}
-use Rattle.dn_machine.proofs.{EachEvent.after_deliver, Put.put_at}
-use Rattle.dn_lockstep.specs.{Contents.Contents, Marking.History, Marking.Marking, Near.IsFair, OneGame.beside, OneGame.AreOneGame, Session.Session, Session.with_lockstep, Session.given_on, Session.after_packet}
-use Rattle.dn_lockstep.specs.{Represents.Represents, Sent.sent_to, Steps.IsAfter, Steps.Tells}
-use Rattle.dn_lockstep.proofs.{Nearby.told_by, Nearby.told_is, OneGame.moves, OneGame.stays, OneGame.IsQuiet, OneGame.hear_quiet, OneGame.gave, OneGame.sent_between}
 use Rattle.dn_seal.specs.{declared.opened.Opened.Opened, declared.opened.SealFault.SealFault, Opening.IsOpenedAs, declared.seal.Seal.Seal}
-use Rattle.dn_seal.proofs.Deciding.{is_something}
-use Rattle.dn_open.specs.{Arrivals.IsRead, Arrivals.HearsSealed, Arrivals.SendsSealed, Arrivals.on_opened, declared.arrived.Arrived.Arrived, OpenGames.IsGenuine, OpenGames.arrived_if, Playable.IsSmall}
-use Rattle.dn_open.specs.{Sealed.sealing_of, Sealed.envelope_of, Sealed.IsSealedAs, Sealed.WasSealed}
-use Rattle.dn_open.proofs.{Deliveries.AreFound, Deliveries.AreSealable, Deliveries.arrives, Sealables.opened_is, Fairness.are_sealable}
+use Rattle.dn_seal.proofs.Openings.{is_something}
+use Rattle.dn_machine.specs.{declared.events.Event.TheVariants.Deliver, Flight.Flight, Flight.packet_of, Game.Game, Game.refused_at, Game.with_node, Limits.Limits, Node.put, Worlds.Rules}
+use Rattle.dn_machine.specs.{declared.answers.Heard.Heard, declared.events.Done.Done, declared.events.Refusal.Refusal, Hearing.on_packet}
+use Rattle.dn_machine.proofs.{EachEvent.after_deliver, Put.put_at}
 use Rattle.dn_machine.specs.Node as machine
+use Rattle.dn_lockstep.specs.Contents.{Contents}
+use Rattle.dn_lockstep.specs.Marking.{History, Marking}
+use Rattle.dn_lockstep.specs.Sent.{IsFair}
+use Rattle.dn_lockstep.specs.OneGame.{beside, AreOneGame, Session, with_lockstep, given_on}
+use Rattle.dn_lockstep.specs.OneGame.{after_packet}
+use Rattle.dn_lockstep.specs.Represents.{Represents}
+use Rattle.dn_lockstep.specs.Sent.{sent_to}
+use Rattle.dn_lockstep.specs.Steps.{IsAfter, Tells}
+use Rattle.dn_lockstep.specs.Told.{made}
+use Rattle.dn_lockstep.proofs.Receiving.{told_by, told_is, near_received}
+use Rattle.dn_lockstep.proofs.OneGame.{moves, stays, IsQuiet, hear_quiet, gave, sent_between, kept}
+use Rattle.dn_lockstep.proofs.Shown.{made_is}
+use Rattle.dn_open.specs.{Arrivals.IsRead, Arrivals.HearsSealed, Arrivals.SendsSealed, Arrivals.on_opened, declared.hearing.Arrived.Arrived, OpenGames.IsGenuine, OpenGames.arrived_if, Sealed.IsSmall}
+use Rattle.dn_open.specs.{Sealed.sealing_of, Sealed.envelope_of, Sealed.IsSealedAs, Sealed.WasSealed, Arrivals.HearsOpened, OpenGames.IsDeliveredAs, OpenGames.is_timely, Sealed.opened_of}
+use Rattle.dn_open.proofs.{Deliveries.AreFound, Deliveries.AreSealable, Deliveries.arrives, Sealables.opened_is, Fairness.are_sealable, Sealables.alike, Deliveries.IsBetween, Deliveries.delivers, Deliveries.near_if, Sealables.IsSealable}
+
+-- What is answered to what comes is the answer of the delivery.
+
+-- the contents of an envelope have one answer
+module _ {S : Type 0} (rules : Rules S) (game : Game) (count which : ℕ) (flight : Flight) where
+  heard_once : (a b : Heard) → ◌≡◌ {A = Result Done Refusal} (Ok (Done.Heard a)) (Ok (Done.Heard b)) → a ≡ b
+  heard_once a b e = grind arith
+
+  once : (timely : Bool) → timely ≡ true → timely ≡ false → ⊥
+  once timely on off = let clash = sym on ∙ off in absurd (cc)
+
+  pub delivered_once : (a b : Arrived) → IsDeliveredAs rules game count which flight a
+      → IsDeliveredAs rules game count which flight b → a ≡ b
+  delivered_once a b x y = grind (arith, heard_once, once, count)
+
+module _ (marking : Marking) (limits : Limits) (settings : Settings) {session : Session}
+    (game : AreOneGame marking limits settings session) where
+  -- what is made of the contents of an envelope of a packet that was given
+  module _ (which : ℕ) (flight : Flight) (there : slice_get game.last.flights which ≡ Some flight)
+      (small : IsSmall (session.locksteps flight.to)) where
+    abbrev old : Contents
+    old = session.locksteps flight.to
+
+    abbrev node : machine.Node
+    node = game.last.nodes flight.to
+
+    pub mine : flight.to < limits.players
+    mine = ((kept marking limits settings game).from_inputs.pieces which flight there).receiver
+
+    pub good : IsSealable flight × IsBetween limits.players flight
+    good = are_sealable marking limits settings game flight.to mine small which flight there
+
+    pub reads : IsRead (Ok (opened_of flight)) (Ok (packet_of flight)) (told_by flight.kind)
+    reads = ((good.0.fair.packet, refl), told_is flight flight.kind good.0.fair.kind)
+
+    -- what the machine's node makes of it
+    abbrev after : machine.Node × Arrived
+    after = on_opened limits flight.to node (Ok (opened_of flight)) (Ok (packet_of flight)) (told_by flight.kind)
+
+    abbrev IsDelivered : Arrived → Type 0
+    IsDelivered answer = IsDeliveredAs (beside marking limits) game.last (made old) which flight answer
+
+    count : made old ≡ machine.made flight.to node
+    count = grind (arith, mine, made_is)
+
+    pub delivered_as : IsDelivered after.1
+    delivered_as = go (is_timely (made old) flight) refl
+      where
+        here : (timely : Bool) → is_timely (made old) flight ≡ timely
+            → is_timely (machine.made flight.to node) flight ≡ timely
+        here timely is = ap (λ (k : ℕ). is_timely k flight) (sym count) ∙ is
+
+        go : (timely : Bool) → is_timely (made old) flight ≡ timely → IsDelivered after.1
+        go true close =
+            let near = near_if (machine.made flight.to node) flight (here true close) in
+            let told = (on_packet limits flight.to node flight).1 in
+            let heard = near_received limits flight.to node flight good.0.fair good.1.from good.1.apart near in
+            let step : after.1 ≡ Arrived.Heard told =
+            rw (here true close, alike flight) (ap (λ (x : machine.Node × Heard). Arrived.Heard x.1) heard) in
+            let applies = delivers (beside marking limits) game.last which flight there near (game.going flight.to) in
+            subst IsDelivered (sym step) (close, λ i. (applies i).1)
+        go false far =
+            let step : after.1 ≡ Arrived.Late = rw (here false far) refl in
+            subst IsDelivered (sym step) far
+
+pub letters_answered : (marking : Marking) (limits : Limits) (settings : Settings) (session : Session)
+    (which : ℕ) (flight : Flight) (new : Contents) (answer : Arrived)
+    → (game : AreOneGame marking limits settings session)
+    → slice_get session.given which ≡ Some flight
+    → HearsOpened (opened_of flight) (session.locksteps flight.to) new answer
+    → IsDeliveredAs (beside marking limits) game.last (made (session.locksteps flight.to)) which flight answer
+letters_answered marking limits settings session which flight new answer game at hears =
+    let there : slice_get game.last.flights which ≡ Some flight =
+    ap (λ (fs : List Flight). slice_get fs which) game.flights ∙ at in
+    let receiver = game.nodes flight.to (mine marking limits settings game which flight there hears.small) in
+    let step = hears.step (Ok (packet_of flight)) (told_by flight.kind)
+    (reads marking limits settings game which flight there hears.small) limits flight.to
+    (game.last.nodes flight.to) receiver in
+    subst (λ (told : Arrived).
+    IsDeliveredAs (beside marking limits) game.last (made (session.locksteps flight.to)) which flight told)
+    (sym step.answer) (delivered_as marking limits settings game which flight there hears.small)
+
+-- The locksteps stay those of one game.
 
 -- what bytes are opened as is read as something
 abbrev HasReading : Result Opened SealFault → Type 0

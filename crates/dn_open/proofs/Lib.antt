@@ -1,11 +1,7 @@
 pub mod Sealables
-pub mod Alikes
 pub mod Deliveries
-pub mod Commands
 pub mod Sends
 pub mod Fairness
 pub mod InPlace
-pub mod Giving
 pub mod Keeping
 pub mod Receiving
-pub mod Answered

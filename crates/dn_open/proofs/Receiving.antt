@@ -4,8 +4,8 @@ use Rattle.std.specs.Prelude.{Result, Ok, Err, if◌then◌else◌}
 use Rattle.std.proofs.lemmas.List.Elements.{All-from_get_or}
 use Rattle.dn_machine.specs.{declared.answers.Heard.Heard, Flight.is_close, Flight.is_request_close, Limits.Limits}
 use Rattle.dn_lockstep.specs.{Contents.Contents, Contents.whose, Hearing.HearsAny, Received.received, Represents.Represents, Steps.IsAfter, Told.made}
-use Rattle.dn_lockstep.proofs.Counting.{made_is}
-use Rattle.dn_open.specs.{Playable.IsSmall, Arrivals.AreTyped, Arrivals.HearsOpened, Arrivals.HearsSealed, Arrivals.IsRead, Arrivals.heard, Arrivals.is_alike, Arrivals.on_opened, declared.arrived.Arrived.Arrived}
+use Rattle.dn_lockstep.proofs.Shown.{made_is}
+use Rattle.dn_open.specs.{Sealed.IsSmall, Arrivals.AreTyped, Arrivals.HearsOpened, Arrivals.HearsSealed, Arrivals.IsRead, Arrivals.heard, Arrivals.is_alike, Arrivals.on_opened, declared.hearing.Arrived.Arrived}
 use Rattle.dn_open.specs.{Sealed.sealing_of}
 use Rattle.dn_seal.specs.{declared.seal.Seal.Seal, declared.opened.Opened.Opened, declared.opened.SealFault.SealFault, Opening.Sealing, Opening.IsOpenedAs}
 use Rattle.dn_packet.specs.{declared.packet.Packet.Packet, declared.packet.PacketFault.PacketFault}

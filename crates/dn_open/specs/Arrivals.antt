@@ -21,9 +21,8 @@ use Rattle.dn_seal.specs.declared.opened.Opened.{Opened}
 use Rattle.dn_seal.specs.declared.opened.SealFault.{SealFault}
 use Rattle.dn_seal.specs.declared.seal.Seal.{Seal}
 use Rattle.dn_seal.specs.Opening.{IsOpenedAs}
-use Rattle.dn_open.specs.Playable.{IsSmall}
-use Rattle.dn_open.specs.Sealed.{sealing_of, envelope_of}
-use Rattle.dn_open.specs.declared.arrived.Arrived.{Arrived}
+use Rattle.dn_open.specs.Sealed.{IsSmall, sealing_of, envelope_of}
+use Rattle.dn_open.specs.declared.hearing.Arrived.{Arrived}
 
 -- a datagram is heard, and this is the answer
 abbrev pub heard : Node × Heard → Node × Arrived

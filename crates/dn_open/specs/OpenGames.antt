@@ -21,7 +21,7 @@ use Rattle.dn_seal.specs.Opening.{IsOpenedAs}
 use Rattle.dn_seal.specs.declared.seal.Seal.{Seal}
 use Rattle.dn_open.specs.Sealed.{sealing_of, envelope_of, WasSealed}
 use Rattle.dn_open.specs.Arrivals.{on_opened, IsRead}
-use Rattle.dn_open.specs.declared.arrived.Arrived.{Arrived}
+use Rattle.dn_open.specs.declared.hearing.Arrived.{Arrived}
 use Rattle.dn_open.specs.declared.open_event.OpenEvent.{OpenEvent}
 use Rattle.dn_open.specs.declared.open_event.OpenEvent.TheVariants.{Own, Arrive}
 

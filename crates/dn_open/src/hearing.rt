@@ -1,12 +1,26 @@
-//! What a lockstep makes of the contents of an envelope.
+//! What a lockstep makes of the contents of an envelope, and what became of bytes that came in.
 
 ghost use Rattle.dn_lockstep.specs.Contents.{contents};
 ghost use Rattle.dn_open.specs.Arrivals.{HearsOpened, SparesSealed};
 
 use crate::alike::is_alike;
-use crate::arrived::Arrived;
-use dn_lockstep::{Lockstep, are_tics_near};
-use dn_seal::Opened;
+use dn_lockstep::{Heard, Lockstep, are_tics_near};
+use dn_seal::{Opened, SealFault};
+
+/// What a node makes of bytes that came in.
+#[derive(Clone, Copy, Debug, PartialEq, Eq)]
+pub enum Arrived {
+    /// They are not an envelope to it, for this fault, and changed nothing.
+    Unopened(SealFault),
+    /// The packet's first tic, or the tic that it asks for, is more than 64 from the number of commands that
+    /// the node has made, and the packet changed nothing.
+    Late,
+    /// The datagram contradicts its envelope, and changed nothing: it has another sender, another low byte of
+    /// the start or of the request, or a request if the envelope has none, or the other way round.
+    Unlike,
+    /// What the node made of the datagram in the envelope.
+    Heard(Heard),
+}
 
 /// Receives what was opened as an envelope to this player: the second half of `SealedLockstep::receive`, for a
 /// transport that carries the contents of envelopes under a tag of its own. An envelope with a tic that is more

@@ -4,15 +4,13 @@
 #![tactic(auto)]
 
 mod alike;
-mod arrived;
 mod hearing;
 mod laws;
 mod open_event;
 mod sealed;
 
 pub use alike::is_alike;
-pub use arrived::Arrived;
-pub use hearing::hear;
+pub use hearing::{Arrived, hear};
 pub use laws::{
     arrivals_are_answered, arrivals_keep_one_game, letters_are_answered, letters_keep_one_game,
     open_games_agree, open_windows_agree, sealed_packets_are_genuine, sealed_packets_are_heard,

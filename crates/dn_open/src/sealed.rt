@@ -4,12 +4,13 @@ ghost use Rattle.std.specs.Prelude.{◌≡◌, ◌≢◌, ℕ, ◌+◌, ℤ, fal
 ghost use Rattle.dn_tic.specs.declared.input.Input.TheVariants.{Pressed, Given};
 ghost use Rattle.dn_machine.specs.declared.answers.Made.TheVariants as made;
 ghost use Rattle.dn_machine.specs.declared.answers.Ran.TheVariants as ran;
-ghost use Rattle.dn_lockstep.specs.{Contents.contents, Near.IsFair, Sent.sent_to, Opening.IsAdmitted, Opening.IsAdmittedWithin, Opening.limits_in, Opening.limits_within, Opening.whose_in};
+ghost use Rattle.dn_lockstep.specs.Contents.{contents};
+ghost use Rattle.dn_lockstep.specs.Sent.{IsFair, sent_to};
+ghost use Rattle.dn_lockstep.specs.Opening.{IsAdmitted, IsAdmittedWithin, limits_in, limits_within, whose_in};
 ghost use Rattle.dn_lockstep.specs.{Opening.whose_within};
 ghost use Rattle.dn_seal.specs.Sealing.{sealing};
 
-use crate::arrived::Arrived;
-use crate::hearing::hear;
+use crate::hearing::{Arrived, hear};
 use arrayvec::ArrayVec;
 use dn_lockstep::{Config, Lockstep, NodeFault};
 use dn_machine::{Made, Ran};
@@ -30,9 +31,15 @@ pub struct SealedLockstep {
 
 impl SealedLockstep {
     ghost use Rattle.dn_setup.specs.Settings.{Settings as Choice};
-    ghost use Rattle.dn_machine.specs.{Building.on_build, Game.fresh, Running.on_run, Running.on_quit, Running.row_held};
-    ghost use Rattle.dn_lockstep.specs.{Commands.can_make, Contents.whose, Giving.gives, Represents.Represents, Runs.RunsBy, Runs.told_by, Steps.Steps, Steps.Tells, Told.command_told};
-    ghost use Rattle.dn_open.specs.{Arrivals.HearsSealed, Arrivals.SendsSealed, Arrivals.SparesSealed, Locked.locked, Locked.seal_of};
+    ghost use Rattle.dn_machine.specs.Sending.{on_build};
+    ghost use Rattle.dn_machine.specs.Game.{fresh};
+    ghost use Rattle.dn_machine.specs.Running.{on_run, on_quit, row_held};
+    ghost use Rattle.dn_lockstep.specs.Told.{can_make, command_told};
+    ghost use Rattle.dn_lockstep.specs.Contents.{whose};
+    ghost use Rattle.dn_lockstep.specs.Giving.{gives};
+    ghost use Rattle.dn_lockstep.specs.Represents.{Represents};
+    ghost use Rattle.dn_lockstep.specs.Steps.{RunsBy, told_by, Steps, Tells};
+    ghost use Rattle.dn_open.specs.{Arrivals.HearsSealed, Arrivals.SendsSealed, Arrivals.SparesSealed, Sealed.locked, Sealed.seal_of};
 
     /// A lockstep with no history, as `Lockstep::new` makes it, of the game with this seal.
     pub fn new(alloc: Global, config: Config, seal: Seal) -> Result<SealedLockstep, NodeFault>

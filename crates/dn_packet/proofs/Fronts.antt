@@ -4,7 +4,7 @@ use Rattle.std.proofs.{lemmas.List.{drop-drop, append_assoc}, lemmas.Grind.flat_
 use Rattle.std.specs.List.{flat_map}
 use Rattle.byteorder.specs.Endian.{little_number, little_bytes}
 use Rattle.dn_tic.specs.{Command.command_bytes, declared.command.TicCmd.TicCmd}
-use Rattle.dn_packet.specs.{declared.packet.Head.Head, declared.packet.Packet.Packet, Text.{words, weighted, sum_of, body_of, text, packet_with}, Written.IsWritten, Front.IsFront}
+use Rattle.dn_packet.specs.{declared.packet.Head.Head, declared.packet.Packet.Packet, Text.{words, weighted, sum_of, body_of, text, packet_with}, Written.{IsWritten, IsFront}}
 use Rattle.dn_packet.proofs.Pairs.{low_bits}
 
 -- the words of bytes, and of more behind whole words

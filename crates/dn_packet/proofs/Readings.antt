@@ -1,12 +1,45 @@
--- Every list of bytes is read as something.
-use Rattle.std.proofs.{Common.{rules, ◌≡◌, ◌<◌, ◌≤◌, ◌+◌, ◌*◌, ◌/◌, ◌^◌, ℕ, zero, suc, List, [], ◌∷◌, ◌++◌, length, drop, get_or, All, refl, ap, sym, ◌∙◌, arith, inl, inr, Ok, Err, w8}, lemmas.Bool.{cases_lt, cases_eq}}
-use Rattle.std.proofs.{lemmas.Int.of_z-to_z, lemmas.List.{length-drop, get_or_past}, lemmas.List.Elements.{All-nil, All-cons, All-drop}, lemmas.Nat.le_bytes_2}
+-- Every list of bytes is read as one thing, and as something.
 use Rattle.std.specs.{Int.{w16, cast_signed, cast_unsigned, from_le_bytes, to_le_bytes}, List.flat_map}
-use borrow.Author.Gap.{read_sfits}
 use Rattle.byteorder.specs.Endian.{little_number}
+use Rattle.std.proofs.{Common.{◌≡◌, ◌≢◌, ◌≤◌, ◌+◌, ◌*◌, ℕ, List, length, drop, refl, ap, sym, ◌∙◌, arith, Result, Ok, Err, rules, ◌<◌, ◌/◌, ◌^◌, zero, suc, [], ◌∷◌, ◌++◌, get_or, All, inl, inr, w8}, Math.Nat.mod-lt}
+use Rattle.std.proofs.lemmas.Bool.{cases_lt, cases_eq}
+use Rattle.std.proofs.{lemmas.Int.of_z-to_z, lemmas.List.{length-drop, get_or_past}, lemmas.List.Elements.{All-nil, All-cons, All-drop}, lemmas.Nat.le_bytes_2}
+use borrow.Author.Gap.{read_sfits}
 use Rattle.dn_tic.specs.{Command.{command_bytes, IsCommand}, declared.command.TicCmd.TicCmd}
-use Rattle.dn_packet.specs.{declared.packet.PacketFault.TheVariants.{Short, Many, Length, Sum}, Text.sum_of, Read.{AreBytes, Reading, told_count, told_sum}}
-use Rattle.dn_packet.proofs.Texts.{assembled, length-commands}
+use Rattle.dn_packet.specs.{declared.packet.Packet.Packet, declared.packet.PacketFault.PacketFault, declared.packet.PacketFault.TheVariants.{Short, Many, Length, Sum}, Text.{text, sum_of, IsPacket}}
+use Rattle.dn_packet.specs.Read.{IsReadAs, told_count, told_sum, AreBytes, Reading}
+use Rattle.dn_packet.proofs.Texts.{same_packet, text_length, assembled, length-commands}
+
+-- As one thing.
+
+-- bytes of another length than their count says are no packet, and have no other fault
+pub only_length : (bytes : List ℕ) → 8 ≤ length bytes → told_count bytes ≤ 12
+    → length bytes ≢ 8 + 8 * told_count bytes
+    → (read : Result Packet PacketFault) → IsReadAs bytes read → Err Length ≡ read
+only_length bytes long few other (Ok p) h = absurd (other (text_length p bytes h.1))
+only_length bytes long few other (Err Short) h = absurd (omega arith)
+only_length bytes long few other (Err Many) h = absurd (omega arith)
+only_length bytes long few other (Err Length) h = refl
+only_length bytes long few other (Err Sum) h = absurd (other h.1)
+
+-- a packet's text tells the number of its commands
+count_text : (p : Packet) (bytes : List ℕ) → bytes ≡ text p → told_count bytes ≡ length p.cmds.items
+count_text p bytes is = rw is refl
+
+-- a packet's text tells the sum of its body
+told_sum_text : (p : Packet) → IsPacket p → told_sum (text p) ≡ sum_of (drop 4 (text p))
+told_sum_text p valid = grind (arith, mod-lt)
+
+-- a packet's text is that packet, and has no fault
+pub only_packet : (bytes : List ℕ) (p : Packet) → IsPacket p → bytes ≡ text p
+    → (read : Result Packet PacketFault) → IsReadAs bytes read → Ok p ≡ read
+only_packet bytes p valid is (Ok q) h = ap Ok (same_packet p q valid h.0 (sym is ∙ h.1))
+only_packet bytes p valid is (Err Short) h = absurd (omega (arith, text_length p bytes is))
+only_packet bytes p valid is (Err Many) h = absurd (omega (arith, valid.count, count_text p bytes is))
+only_packet bytes p valid is (Err Length) h = absurd (h.2 (text_length p bytes is))
+only_packet bytes p valid is (Err Sum) h = grind (arith, told_sum_text)
+
+-- As something.
 
 -- two bytes as a number
 abbrev pair : ℕ → ℕ → ℕ

@@ -1,4 +1,3 @@
 pub mod OptionValues
 pub mod Keys
 pub mod More
-pub mod Subcommands

@@ -8,8 +8,19 @@ use Rattle.dn_greeting.specs.declared.greeting.Refusal.TheVariants.{Full, Taken,
 use Rattle.dn_host.specs.declared.ends.Ending.{Ending}
 use Rattle.dn_host.specs.declared.ends.Ending.TheVariants.{Ended, Refused, Hinted}
 use Rattle.dn_measure.specs.Ends.{session_lines, status_of}
-use Rattle.dn_measure.specs.declared.summary.Summary.{Summary}
-use Rattle.dn_program.specs.Status.{refused}
+use Rattle.dn_measure.specs.declared.measure.Summary.{Summary}
+
+-- the exit status of a command line that cannot be read
+abbrev pub misused : ℕ
+misused = 2
+
+-- the exit status where what was given was refused
+abbrev pub refused : ℕ
+refused = 1
+
+-- the exit status of a run that ended early
+abbrev pub broken_off : ℕ
+broken_off = 3
 
 -- why the host gives no seat, up to the end of the line
 abbrev pub reason : Refusal → List ℕ

@@ -1,16 +1,18 @@
 -- What comes of a line that is printed: with `--raw` it goes to standard error, and whether it arrives does not count.
-use Rattle.std.specs.Prelude.{◌≡◌, ◌⊎◌, ⊤, ℕ, Bool, true, false, if◌then◌else◌, Option, is_some, Result, Ok, Err}
+-- And what comes of telling why a command line was not read.
+use Rattle.std.specs.Prelude.{ℕ, ◌≡◌, ◌⊎◌, ⊤, Bool, true, false, if◌then◌else◌, Option, is_some, Result, Ok, Err}
 use Rattle.dn_host.specs.declared.ends.Ending.{Ending}
 use Rattle.dn_host.specs.declared.ends.Ending.TheVariants.{Ended, Refused, Hinted}
 use Rattle.dn_host.specs.declared.ends.HostFault.{HostFault}
 use Rattle.dn_host.specs.declared.ends.HostFault.TheVariants as host
 use Rattle.dn_host.specs.declared.ends.Outcome.{Outcome}
-use Rattle.dn_program.specs.Keys.Fault.{is_refusal}
-use Rattle.dn_program.specs.declared.key.fault.KeyFault.{KeyFault}
-use Rattle.dn_netgame.specs.declared.fault.RunFault.{RunFault}
-use Rattle.dn_netgame.specs.declared.fault.RunFault.TheVariants.{Read, Write, Memory}
-use Rattle.dn_program.specs.Endings.{ending_status}
-use Rattle.dn_program.specs.Status.{broken_off, refused}
+use Rattle.dn_program.specs.Keys.{is_refusal}
+use Rattle.dn_program.specs.declared.key.KeyFault.{KeyFault}
+use Rattle.dn_netgame.specs.declared.transfer.RunFault.{RunFault}
+use Rattle.dn_netgame.specs.declared.transfer.RunFault.TheVariants.{Read, Write, Memory}
+use Rattle.dn_program.specs.Endings.{ending_status, misused, refused, broken_off}
+use Rattle.clap.specs.declared.error.kind.ErrorKind.{ErrorKind}
+use Rattle.clap.specs.declared.error.kind.ErrorKind.TheVariants as kind
 
 -- this is the answer; or the line goes to standard output and could not be written
 abbrev pub Answers : {A : Type 0} → (raw : Bool) → A → Result A RunFault → Type 0
@@ -50,3 +52,10 @@ IsBrokenOff raw host.Terms result = Answers raw broken_off result
 abbrev pub IsSessionPrinted : (raw : Bool) → Result Outcome HostFault → Result ℕ RunFault → Type 0
 IsSessionPrinted raw (Ok outcome) result = IsEnded raw outcome result
 IsSessionPrinted raw (Err fault) result = IsBrokenOff raw fault result
+
+-- help and the version are what was asked for, and go to standard output; every other command line is wrong
+abbrev pub IsExplained : ErrorKind → Result ℕ RunFault → Type 0
+IsExplained kind.OutOfMemory result = result ≡ Err Memory
+IsExplained kind.DisplayHelp result = Answers false 0 result
+IsExplained kind.DisplayVersion result = Answers false 0 result
+IsExplained _ result = result ≡ Ok misused

@@ -5,15 +5,14 @@ use Rattle.clap.specs.declared.parser.matches.ArgMatches.{ArgMatches}
 use Rattle.dn_game.specs.declared.config.GameConfig.{GameConfig}
 use Rattle.dn_host.specs.declared.host.Hosting.{Hosting}
 use Rattle.dn_host.specs.declared.plan.Plan.{Plan}
-use Rattle.dn_host.specs.declared.udp.Udp.{Udp}
-use Rattle.dn_program.specs.Keys.Fault.{IsOfMaking}
-use Rattle.dn_program.specs.Keys.Files.{IsRead}
-use Rattle.dn_program.specs.declared.key.fault.KeyFault.{KeyFault}
-use Rattle.dn_netgame.specs.declared.fault.RunFault.{RunFault}
-use Rattle.dn_program.specs.OptionValues.Session.{IsPaceOf}
-use Rattle.dn_program.specs.declared.options.session.Pace.{Pace}
+use Rattle.dn_host.specs.declared.wire.Udp.{Udp}
+use Rattle.dn_program.specs.Keys.{IsOfMaking, IsRead}
+use Rattle.dn_program.specs.declared.key.KeyFault.{KeyFault}
+use Rattle.dn_netgame.specs.declared.transfer.RunFault.{RunFault}
+use Rattle.dn_program.specs.OptionValues.{IsPaceOf}
+use Rattle.dn_program.specs.declared.options.Pace.{Pace}
+use Rattle.dn_program.specs.Endings.{broken_off, misused}
 use Rattle.dn_program.specs.Printed.{Answers, key_status}
-use Rattle.dn_program.specs.Status.{broken_off, misused}
 
 -- how many commands a player makes ahead of its runs
 abbrev pub ahead : ℕ

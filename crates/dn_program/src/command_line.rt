@@ -1,10 +1,10 @@
 //! The command line, read and run.
 
 ghost use Rattle.clap.specs.Values.{kind_of};
-ghost use Rattle.dn_program.specs.Explained.{IsExplained};
+ghost use Rattle.dn_program.specs.Printed.{IsExplained};
 
+use crate::ends::{BROKEN_OFF, MISUSED};
 use crate::runs::run;
-use crate::status::{BROKEN_OFF, MISUSED};
 use crate::words::matches_of;
 use clap::Error;
 use clap::error::ErrorKind;

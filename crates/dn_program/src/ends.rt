@@ -4,12 +4,20 @@ ghost use Rattle.std.specs.{Prelude.◌≡◌, Prelude.IfOk, Prelude.is_some, St
 ghost use Rattle.dn_program.specs.{Endings.ending_lines, Endings.ending_status, Endings.hint_line, Endings.refusal_line, Printed.IsEnded, Printed.IsSessionPrinted, Printed.prints_demo};
 
 use crate::say::{say, say_line};
-use crate::status::{BROKEN_OFF, REFUSED};
 use dn_greeting::{Hint, Refusal};
 use dn_host::{Ending, HostFault, Outcome};
 use dn_measure::text_of_session;
 use dn_netgame::RunFault;
 use std::alloc::{AllocError, Global};
+
+/// The exit status of a command line that cannot be read.
+pub(crate) const MISUSED: u8 = 2;
+
+/// The exit status where what was given was refused.
+pub(crate) const REFUSED: u8 = 1;
+
+/// The exit status of a run that ended early.
+pub(crate) const BROKEN_OFF: u8 = 3;
 
 /// The line of a joiner that the host gave no seat, and of what comes of it.
 pub(crate) fn text_of_refusal(

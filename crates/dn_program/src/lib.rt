@@ -12,7 +12,6 @@ pub mod options;
 mod runs;
 mod say;
 mod screen;
-mod status;
 mod words;
 
 pub use command_line::finish;

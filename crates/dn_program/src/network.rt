@@ -2,15 +2,14 @@
 
 ghost use Rattle.std.specs.Prelude.{◌≡◌, codes};
 ghost use Rattle.clap.specs.Matches.{found_of, first_value};
-ghost use Rattle.dn_program.specs.{Joined.IsGuestOf, Joined.IsOwnPort, Printed.Answers, Printed.key_status, Sessions.IsHostingOf, Sessions.IsKeyRun, Sessions.IsPlanOf, Sessions.IsPrepared};
+ghost use Rattle.dn_program.specs.{OptionValues.IsGuestOf, OptionValues.IsOwnPort, Printed.Answers, Printed.key_status, Sessions.IsHostingOf, Sessions.IsKeyRun, Sessions.IsPlanOf, Sessions.IsPrepared};
 ghost use Rattle.dn_program.specs.{Sessions.IsSecretOf};
 
-use crate::ends::print_session;
+use crate::ends::{BROKEN_OFF, MISUSED, REFUSED, print_session};
 use crate::key::{KEY, KeyFault, make_key, read_key};
 use crate::options::Pace;
 use crate::say::say_line;
 use crate::screen::ErrorScreen;
-use crate::status::{BROKEN_OFF, MISUSED, REFUSED};
 use clap::ArgMatches;
 use dn_game::GameConfig;
 use dn_greeting::{Address, Terms};

@@ -3,10 +3,10 @@
 //! only of what may be left out, `me`, `players`, `port` and `key` of a session: of all else its parser has a default,
 //! and it refuses the rest.
 
-mod session;
-
-ghost use Rattle.std.specs.Prelude.{codes};
-ghost use Rattle.dn_program.specs.OptionValues.Given.{Finds, IsNumberOf, IsByteOf, IsFlagOf, IsSettingsOf, IsLimitOf, IsGameOf, IsStormOf, IsRoundsOf};
+ghost use Rattle.std.specs.Prelude.{codes, ◌≡◌};
+ghost use Rattle.dn_program.specs.OptionValues.{Finds, IsNumberOf, IsByteOf, IsFlagOf, IsSettingsOf, IsLimitOf, IsGameOf, IsStormOf, IsRoundsOf, IsPaceOf, IsPortOf};
+ghost use Rattle.std.specs.Option.{option_map};
+ghost use Rattle.clap.specs.Matches.{found_of, first_value};
 
 use clap::ArgMatches;
 use dn_demo::is_limit;
@@ -14,7 +14,6 @@ use dn_game::GameConfig;
 use dn_lockstep::is_game;
 use dn_netgame::line::is_base;
 use dn_setup::Settings;
-pub use session::{Pace, address, file, key, pace_of, players, port, rate};
 
 /// The value of an option.
 fn value(matches: &ArgMatches<'_>, name: &str) -> Option<u32>
@@ -125,4 +124,68 @@ pub fn script(matches: &ArgMatches<'_>) -> bool
     ensures { IsFlagOf matches.now (codes "script") result }
 {
     flag(matches, "script")
+}
+
+/// What a session is told beside its game.
+#[derive(Clone, Copy, Debug, PartialEq, Eq)]
+pub struct Pace {
+    /// What its key presses are drawn from.
+    pub seed: u64,
+    /// How many seconds it plays from the start of the game; 0 is until it is interrupted.
+    pub seconds: u32,
+}
+
+/// How one player's session goes.
+pub fn pace_of(matches: &ArgMatches<'_>) -> Option<Pace>
+    ensures { Finds (IsPaceOf matches.now) result }
+{
+    let seed = value(matches, "seed")?;
+    let seconds = value(matches, "seconds")?;
+    Some(Pace {
+        seed: u64::from(seed),
+        seconds,
+    })
+}
+
+/// The UDP port.
+pub fn port(matches: &ArgMatches<'_>) -> Option<u16>
+    ensures { Finds (IsPortOf matches.now) result }
+{
+    u16::try_from(value(matches, "port")?).ok()
+}
+
+/// How many tics a second are played.
+pub fn rate(matches: &ArgMatches<'_>) -> Option<u8>
+    ensures { Finds (IsByteOf matches.now (codes "rate")) result }
+{
+    byte(matches, "rate")
+}
+
+/// How many players a game has to have.
+pub fn players(matches: &ArgMatches<'_>) -> Option<u8>
+    ensures { Finds (IsByteOf matches.now (codes "players")) result }
+{
+    byte(matches, "players")
+}
+
+/// The file of the key.
+pub fn key<'a>(matches: &ArgMatches<'a>) -> Option<&'a str>
+    ensures { option_map (λ file. file.now) result ≡ first_value (found_of matches.now) (codes "key") }
+{
+    matches.get_str("key")
+}
+
+/// The file that a key is written to.
+pub fn file<'a>(matches: &ArgMatches<'a>) -> Option<&'a str>
+    ensures { option_map (λ file. file.now) result ≡ first_value (found_of matches.now) (codes "file") }
+{
+    matches.get_str("file")
+}
+
+/// The address of the host.
+pub fn address<'a>(matches: &ArgMatches<'a>) -> Option<&'a str>
+    ensures { option_map (λ address. address.now) result
+        ≡ first_value (found_of matches.now) (codes "address") }
+{
+    matches.get_str("address")
 }

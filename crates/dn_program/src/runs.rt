@@ -1,7 +1,7 @@
 //! What each subcommand runs, and the exit status.
 
+use crate::ends::MISUSED;
 use crate::network::{run_host, run_join, run_key};
-use crate::status::MISUSED;
 use clap::ArgMatches;
 use dn_game::Nobody;
 use dn_netgame::{

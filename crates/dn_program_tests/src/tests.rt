@@ -1,4 +1,7 @@
-//! Tests of the program: what its subcommands read and print, and its command line.
+//! Tests of the program: what its subcommands read and print, its runs and words that they do not show, what is made
+//! of a command line, and keys.
 
-mod netgame;
-mod program;
+mod keys;
+mod readings;
+mod runs;
+mod words;

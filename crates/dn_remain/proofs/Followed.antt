@@ -1,19 +1,51 @@
--- What is known of a game in which players may be given up, and that each event of the machine keeps it.
+-- What is known of a game in which players may be given up, with one node put in its place; and that each
+-- event of the machine keeps it.
 use Rattle.std.proofs.Common.{◌≡◌, ℕ, ◌+◌, ◌<◌, refl, ◌∙◌, ap, arith, inl, inr, List, [], ◌∷◌, ◌++◌, length, ltb}
 use Rattle.std.specs.Prelude.{Bool, Option, ◌&&◌, true, false, Some, None, slice_get}
 use Rattle.std.proofs.lemmas.Bool.{cases_eq, ltb-true, and_parts}
 use Rattle.std.proofs.lemmas.List.{length_push}
 use Rattle.dn_tic.specs.{declared.command.TicCmd.TicCmd, declared.input.Input.Input, Inputs.made_by, declared.input.Input.TheVariants.Pressed, declared.input.Input.TheVariants.Given}
-use Rattle.dn_machine.specs.{declared.answers.Phase.TheVariants.Playing, Node.ends_of, Node.made, Node.ran, Node.is_ended, Node.own_mark, Node.put, Game.Game, Game.with_node, Building.on_build, Worlds.Rules}
+use Rattle.dn_machine.specs.declared.answers.Phase.TheVariants.{Playing}
+use Rattle.dn_machine.specs.Node.{ends_of, made, ran, is_ended, own_mark, put}
+use Rattle.dn_machine.specs.Game.{Game, with_node}
+use Rattle.dn_machine.specs.Sending.{on_build}
+use Rattle.dn_machine.specs.Worlds.{Rules}
 use Rattle.dn_machine.specs.{declared.events.Event.Event, Flight.Flight, Game.own_marks, Game.refused_at, Game.refused, Game.delivered, Game.on_event, declared.events.Event.TheVariants.Build}
 use Rattle.dn_machine.specs.{declared.events.Event.TheVariants.Give, declared.events.Event.TheVariants.Send, declared.events.Event.TheVariants.Deliver, declared.events.Event.TheVariants.Run}
-use Rattle.dn_machine.specs.{declared.events.Event.TheVariants.Quit, declared.events.Event.TheVariants.Stop}
+use Rattle.dn_machine.specs.{declared.events.Event.TheVariants.Quit, declared.events.Event.TheVariants.Stop, Node.Node}
 use Rattle.dn_machine.proofs.{Calls.built, Calls.build_cases, Put.put_at, Put.put_off, Put.same_functions, Games.passes}
-use Rattle.dn_remain.specs.{Vanished.Steps.Make, Vanished.Commands.Holder, Vanished.Commands.seen, Seen.reached, Seen.end_seen, Seen.rows_to, Seen.holder_of, Seen.now_of, Vanished.Commands.Had, Wary.Report}
-use Rattle.dn_remain.specs.{Remaining.Telling, Remaining.Remaining, Remaining.is_barred_flight, Remaining.is_barred, Remaining.after_event}
-use Rattle.dn_remain.proofs.{Seeing.same_node, Seeing.length_rows, Known.Follows, Known.Went, Known.fit_self, Known.not_left, Following.stays, Following.steps, ButRuns.IsNoRun, Each.each_event, Known.known_so}
-use Rattle.dn_remain.proofs.{Hearing.hears, Running.runs, Running.quits, Sending.sends}
 use Rattle.dn_machine.specs.Node as machine
+use Rattle.dn_remain.specs.{Vanished.Steps.Make, Vanished.Commands.Holder, Vanished.Commands.seen, Wary.reached, Wary.end_seen, Wary.rows_to, Wary.holder_of, Wary.now_of, Vanished.Commands.Had, Wary.Report}
+use Rattle.dn_remain.specs.{Remaining.Telling, Remaining.Remaining, Remaining.is_barred_flight, Remaining.is_barred, Remaining.after_event, Wary.Wary, Remaining.wary_of, Remaining.with_wary}
+use Rattle.dn_remain.proofs.{Seeing.same_node, Seeing.length_rows, Known.Follows, Known.Went, Known.fit_self, Known.not_left, Following.stays, Following.steps, Each.IsNoRun, Each.each_event, Known.known_so}
+use Rattle.dn_remain.proofs.{Hearing.hears, Running.runs, Running.quits, Sending.sends}
+use Rattle.dn_remain.proofs.Vanished.Put.{own_put, twice_put}
+
+same_all : (a b : Remaining) → a.game ≡ b.game → a.gone ≡ b.gone → a.newest ≡ b.newest → a.reports ≡ b.reports
+    → a ≡ b
+same_all a b g o n r = λ i. record { game = g i; gone = o i; newest = n i; reports = r i }
+
+same_wary : (a b : Wary) → a.node ≡ b.node → a.gone ≡ b.gone → a.newest ≡ b.newest → a ≡ b
+same_wary a b g o n = λ i. record { node = g i; gone = o i; newest = n i }
+
+game_at : (game : Game) (f g : ℕ → Node) → f ≡ g → record game { nodes = f } ≡ record game { nodes = g }
+game_at game f g e = ap (λ (nodes : ℕ → Node). record game { nodes = nodes }) e
+
+-- a node in its own place
+pub own_place : (all : Remaining) (q : ℕ) → with_wary all q (wary_of all q) ≡ all
+own_place all q = same_all (with_wary all q (wary_of all q)) all
+    (game_at all.game _ all.game.nodes (own_put all.game.nodes q)) (own_put all.gone q) (own_put all.newest q) refl
+
+-- a node that was put there, and another after it
+pub there : (all : Remaining) (q : ℕ) (wary : Wary) → wary_of (with_wary all q wary) q ≡ wary
+there all q wary = same_wary (wary_of (with_wary all q wary) q) wary
+    (put_at all.game.nodes q q wary.node refl) (put_at all.gone q q wary.gone refl)
+    (put_at all.newest q q wary.newest refl)
+
+pub again : (all : Remaining) (q : ℕ) (one two : Wary) → with_wary (with_wary all q one) q two ≡ with_wary all q two
+again all q one two = same_all (with_wary (with_wary all q one) q two) (with_wary all q two)
+    (game_at all.game _ _ (twice_put all.game.nodes q one.node two.node)) (twice_put all.gone q one.gone two.gone)
+    (twice_put all.newest q one.newest two.newest) refl
 
 -- A build makes a command, or changes nothing.
 
@@ -69,7 +101,7 @@ module _ {S : Type 0} {known : ℕ → Holder TicCmd → Type 0} {rules : Rules 
               ) (inr (_, own_is)) (λ p n. inl (held_is p n)),
         )
 
-  pub builds : (input : Input) → Went known rules (with_node game q (on_build rules.limits q me input).0) gone
+  builds : (input : Input) → Went known rules (with_node game q (on_build rules.limits q me input).0) gone
   builds input = build_cases rules.limits q me (λ (n : machine.Node). Went known rules (with_node game q n) gone)
       input (λ full. (older, stays follows q me (fit_self follows q) refl)) (λ plays low. makes input plays low)
 

@@ -8,8 +8,8 @@ use Rattle.dn_machine.specs.{Node.ends_of, Node.made, Node.has_left, Node.put, G
 use Rattle.dn_machine.proofs.Put.{put_at, put_off, same_functions, view_put}
 use Rattle.dn_remain.specs.Vanished.Steps.{Act, Acts, Step, IsRun}
 use Rattle.dn_remain.specs.Vanished.Commands.{Holder, seen, past_seen, Had, AreHanded, Handed}
-use Rattle.dn_remain.specs.Seen.{end_seen, rows_to, holder_of, now_of, row_had}
-use Rattle.dn_remain.proofs.{Vanished.Put.at_put, Vanished.Put.at_both, Vanished.Put.own_put, Rows.rows_are, Vanished.Always.always, Vanished.Invariant.IsGrown, Seeing.length_rows, Known.IsTold, Known.IsEnd, Known.Follows, Known.told_later, Known.IsFit}
+use Rattle.dn_remain.specs.Wary.{end_seen, rows_to, holder_of, now_of, row_had}
+use Rattle.dn_remain.proofs.{Vanished.Put.at_put, Vanished.Put.at_both, Vanished.Put.own_put, Seeing.rows_are, Vanished.Always.always, Vanished.Invariant.IsGrown, Seeing.length_rows, Known.IsTold, Known.IsEnd, Known.Follows, Known.told_later, Known.IsFit}
 
 -- another node, which has given up these, in one place
 moved_set : (game : Game) (gone : ℕ → ℕ → Bool) (q : ℕ) (new : machine.Node) (set : ℕ → Bool)

@@ -1,11 +1,13 @@
--- What is known of a game whose nodes have a history.
+-- What is known of a game whose nodes have a history, and of one that opens.
 use Rattle.std.proofs.Common.{◌≡◌, ◌≢◌, ℕ, ◌<◌, ◌≤◌, inl, List, [], ◌∷◌, ◌++◌, length, get_or, take, drop, refl, arith}
 use Rattle.std.specs.Prelude.{◌⊎◌, Bool, true, false, Some, None, slice_get}
 use Rattle.std.proofs.lemmas.Bool.{and_right}
+use Rattle.std.proofs.lemmas.Option.{none-some}
 use Rattle.dn_tic.specs.declared.command.TicCmd.{TicCmd}
-use Rattle.dn_machine.specs.{Flight.Exit, Flight.Flight, Flight.end_of, Node.ends_of, Node.made, Node.is_ended, Node.has_left, Game.Game, Worlds.Rules, Limits.Limits}
+use Rattle.dn_setup.specs.Settings.{Settings}
+use Rattle.dn_machine.specs.{Flight.Exit, Flight.Flight, Flight.end_of, Node.ends_of, Node.made, Node.is_ended, Node.has_left, Game.Game, Worlds.Rules, Limits.Limits, Game.opening_game}
 use Rattle.dn_machine.specs.Node as machine
-use Rattle.dn_remain.specs.{Vanished.Node.Within, Vanished.Steps.IsRun, Seen.holder_of, Seen.now_of, Seen.row_had}
+use Rattle.dn_remain.specs.{Vanished.Node.Within, Vanished.Steps.IsRun, Wary.holder_of, Wary.now_of, Wary.row_had, Wary.rows_to}
 use Rattle.dn_remain.specs.Vanished.Commands.{Holder, past_seen, Had, AreHanded}
 
 -- a packet carries a piece of its sender's list, as somebody had it who had not given up the receiver: the sender
@@ -80,3 +82,12 @@ fit_self follows q =
 -- whose phase is not one of an end has not left
 pub not_left : (node : machine.Node) → is_ended node.phase ≡ false → has_left node ≡ false
 not_left node e = and_right node.played (is_ended node.phase) e
+
+-- nothing more is said of any state
+abbrev pub known : ℕ → Holder TicCmd → Type 0
+known r u = ⊥
+
+pub opens : {S : Type 0} (rules : Rules S) (settings : Settings)
+    → Follows known rules (opening_game settings) (λ node player. false) []
+unfolding opening_game rows_to
+opens rules settings = grind (arith, none-some)

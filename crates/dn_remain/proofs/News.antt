@@ -6,11 +6,11 @@ use Rattle.dn_tic.specs.declared.command.TicCmd.{TicCmd}
 use Rattle.dn_machine.specs.{declared.answers.Phase.Phase, Limits.Limits, Node.put, Node.got, Node.is_ended, Node.has_left, Worlds.Rules}
 use Rattle.dn_machine.specs.Node as machine
 use Rattle.dn_machine.proofs.Put.{put_at, slice_get_push}
-use Rattle.dn_remain.specs.{Vanished.Commands.Holder, Vanished.Commands.Had, Seen.reached, Seen.rows_to, Seen.now_of}
+use Rattle.dn_remain.specs.{Vanished.Commands.Holder, Vanished.Commands.Had}
 use Rattle.dn_remain.specs.Vanished.Steps as step
-use Rattle.dn_remain.specs.Wary.{Report, Wary, report_of, after_news, noted_gone, with_gone, is_in_game, with_report, report_to}
+use Rattle.dn_remain.specs.Wary.{Report, Wary, report_of, after_news, noted_gone, with_gone, is_in_game, with_report, report_to, reached, rows_to, now_of}
 use Rattle.dn_remain.specs.Remaining.{Telling, Remaining, wary_of, with_wary, with_telling}
-use Rattle.dn_remain.proofs.{Known.Follows, Known.not_left, Following.steps_set, Settling.settles, Cases.news_cases, Vanished.Put.at_put, Vanished.Put.own_put, Places.own_place, Places.there, Places.again, Followed.IsFollowed, Followed.AreFollowed, Followed.anchored, Followed.carried}
+use Rattle.dn_remain.proofs.{Known.Follows, Known.not_left, Following.steps_set, Settling.settles, Each.news_cases, Vanished.Put.at_put, Vanished.Put.own_put, Followed.own_place, Followed.there, Followed.again, Followed.IsFollowed, Followed.AreFollowed, Followed.anchored, Followed.carried}
 
 -- a report tells all that is seen of its sender
 told_is : (limits : Limits) (me : ℕ) (wary : Wary) (to : ℕ) (report : Report) → report_to limits me wary to ≡ Some report

@@ -3,14 +3,17 @@ use Rattle.std.proofs.Common.{◌≡◌, ℕ, ℤ, ◌+◌, ◌-◌, ◌<◌, po
 use Rattle.std.specs.Prelude.{nat_lt, Some, slice_get, Bool, true, false, Option, None, if◌then◌else◌}
 use Rattle.std.specs.List.{take_while}
 use Rattle.std.proofs.lemmas.{Bool.cases_lt, Bool.cond-true, Bool.cond-false, Bool.lt-ltb, Bool.le-ltb, List.get_or-take, List.Folds.length-prefix_len, List.Prefix.front_from_reads, Option.same_Some, Option.slice_get-get_or}
-use Rattle.dn_machine.specs.{Promise.IsPrefixOf, Worlds.Rules, Worlds.world_after, Running.is_over}
-use Rattle.dn_machine.proofs.{Demos.front_each, Demos.front_passes, Demos.front_short, Demos.none_is, Demos.seat_is, Demos.whole_has, Marks.lowest_none_each}
 use Rattle.dn_tic.specs.{declared.command.TicCmd.TicCmd, declared.command.Move.Move, Inputs.made_by}
-use Rattle.dn_machine.specs.Node.{Node, blank, held_at, made, own_mark, ran, is_whole, lacks, demo_rows}
 use Rattle.dn_setup.specs.Settings.{Settings}
-use Rattle.dn_remain.specs.{Vanished.Promise.Agree, Vanished.Promise.Fits, Vanished.Promise.lacks_at, Vanished.Commands.Holder, Vanished.Commands.seen, Vanished.Commands.past_seen, Seen.reached, Seen.end_seen, Seen.now_of, Seen.row_had, Remaining.Remaining, Promise.IsPair, Promise.AgreeInPairs}
-use Rattle.dn_remain.proofs.{Vanished.Always.always, Vanished.Fitting.fits, Vanished.Handing.handed, Vanished.Handing.same_held, Vanished.Promises.agree, Seeing.length_rows, Seeing.none_over, Rows.same_row, Followed.IsFollowed, Followed.anchored, MakerRows.mark_is, Marked.fronts_same, Marked.world_same, Reached.IsReached}
-use Rattle.dn_remain.proofs.Histories
+use Rattle.dn_machine.specs.{Promise.IsPrefixOf, Worlds.Rules, Worlds.world_after, Running.is_over}
+use Rattle.dn_machine.proofs.Demos.{front_each, front_passes, front_short, none_is, seat_is, whole_has}
+use Rattle.dn_machine.proofs.Truth.{lowest_none_each}
+use Rattle.dn_machine.specs.Node.{Node, blank, held_at, made, own_mark, ran, is_whole, lacks, demo_rows}
+use Rattle.dn_remain.specs.{Vanished.Promise.Agree, Vanished.Promise.Fits, Vanished.Promise.lacks_at, Vanished.Commands.Holder, Vanished.Commands.seen, Vanished.Commands.past_seen, Wary.reached, Wary.end_seen}
+use Rattle.dn_remain.specs.{Wary.now_of, Wary.row_had, Remaining.Remaining, Promise.IsPair, Promise.AgreeInPairs, Vanished.Node.Was, Remaining.Telling, Promise.FitsInPairs}
+use Rattle.dn_remain.proofs.{Vanished.Always.always, Vanished.Windows.fits, Vanished.Handing.handed, Vanished.Handing.same_held, Vanished.Always.agree, Seeing.length_rows, Seeing.none_over, Seeing.same_row}
+use Rattle.dn_remain.proofs.{Followed.IsFollowed, Followed.anchored, Checks.mark_is, Marked.fronts_same, Marked.world_same, Reached.IsReached, Vanished.Handing.was_seen}
+use Rattle.dn_remain.proofs.Known
 
 front_at : (test : List (Option Move) → Bool) (rows : List (List (Option Move))) (tic : ℕ)
     → tic < length (take_while test rows) → get_or (take_while test rows) tic [] ≡ get_or rows tic []
@@ -31,17 +34,17 @@ module _ {S : Type 0} (rules : Rules S) (settings : Settings) (all : Remaining) 
   abbrev demo : ℕ → List (List (Option Move))
   demo q = demo_rows rules.players (node q)
 
-  abbrev f : IsFollowed Histories.known rules all older
+  abbrev f : IsFollowed Known.known rules all older
   f = h.followed
 
-  pub agreed : Agree rules.players (past_seen past)
+  agreed : Agree rules.players (past_seen past)
   agreed = agree rules.players (past_seen past)
       (always rules.players rules.ahead (past_seen past) f.follows.run)
 
-  pub fitted : Fits rules.players rules.ahead (past_seen past)
+  fitted : Fits rules.players rules.ahead (past_seen past)
   fitted = fits rules.players rules.ahead (past_seen past) f.follows.run
 
-  pub long : (q : ℕ) → length ((now q).rows) ≡ ran (node q)
+  long : (q : ℕ) → length ((now q).rows) ≡ ran (node q)
   long q = length_rows (end_seen (node q)) (ran (node q))
 
   row_at : (q tic : ℕ) → tic < ran (node q) → slice_get (node q).rows tic
@@ -50,7 +53,7 @@ module _ {S : Type 0} (rules : Rules S) (settings : Settings) (all : Remaining) 
       ∙ ap (λ (r : List (Option Move)). Some r) (f.follows.rows q tic l)
 
   -- a row of a demo lacks nobody
-  pub whole_at : (q tic p : ℕ) → tic < length (demo q) → p < rules.players
+  whole_at : (q tic p : ℕ) → tic < length (demo q) → p < rules.players
       → lacks_at (seen (now q)) tic p ≡ false
   whole_at q tic p l m =
       let short = front_short (is_whole rules.players) (node q).rows in
@@ -117,7 +120,7 @@ module _ {S : Type 0} (rules : Rules S) (settings : Settings) (all : Remaining) 
       let i : tic < length ((now q).rows) = omega arith in
       let present : lacks_at (seen (now q)) tic p ≡ false =
       agreed.without q p tic (seen (now q)) (inl refl) its i ∙ over in
-      mark_is rules settings all.game all.gone older (anchored Histories.known rules all older h.followed)
+      mark_is rules settings all.game all.gone older (anchored Known.known rules all older h.followed)
       h.marked low q mine p its tic late (agreed.rows_held q p tic (seen (now q)) (inl refl) its i present)
       (omega arith) past f.follows.handed f.follows.run (λ x. inl refl) (now q) (inl refl) i present
       (λ back. refl) (inl open_from)
@@ -152,4 +155,77 @@ module _ {S : Type 0} (rules : Rules S) (settings : Settings) (all : Remaining) 
           | inr l ↦ inr (demo_begins r q l)
         ];
     begins = λ q p. handed past f.follows.handed q p (now q) (inl refl);
+  }
+
+-- Of each player at most twice the window is unread, and a demo has the room that it needs.
+module _ {S : Type 0} (rules : Rules S) (settings : Settings) (all : Remaining) (older : List (ℕ
+    → Holder TicCmd))
+    (h : IsReached rules settings all older) where
+  windows : Fits rules.players rules.ahead (past_seen (now_of all.game all.gone ∷ older))
+  windows = fitted rules settings all older h
+
+  ran_is : (q : ℕ) → length ((now_of all.game all.gone q).rows) ≡ ran (all.game.nodes q)
+  ran_is q = long rules settings all older h q
+
+  -- a tic of a demo was run with each player's command
+  least : (q p : ℕ) → p < rules.players
+      → length (demo_rows rules.players (all.game.nodes q)) ≤ made p (all.game.nodes p)
+  least q p l = elim (cases_lt (made p (all.game.nodes p)) (length (demo_rows rules.players
+      (all.game.nodes q)))) [
+        | inr m ↦ m
+        | inl m ↦
+            let a = front_short (is_whole rules.players) (all.game.nodes q).rows in
+            let b = ran_is q in
+            let c = (agreed rules settings all older h).rows_held q p (made p (all.game.nodes p))
+            (seen (now_of all.game all.gone q)) (inl refl) l (omega arith)
+            (whole_at rules settings all older h q (made p (all.game.nodes p)) p m l) in
+            let d = windows.held q p (seen (now_of all.game all.gone q)) (inl refl) in
+            absurd (omega arith)
+      ]
+
+  -- a report tells a state that its sender was in
+  report_was : (which : ℕ) (t : Telling) → slice_get all.reports which ≡ Some t
+      → Was (past_seen (now_of all.game all.gone ∷ older)) t.from (seen t.report)
+  report_was which t e = grind (arith, was_seen)
+
+  pub pairs_fit : FitsInPairs rules.limits all
+  pairs_fit = record {
+    run = λ q p l none.
+        let a = ran_is q in
+        let b = windows.run q p (seen (now_of all.game all.gone q)) (inl refl) l none in
+        omega arith;
+    unread = λ q p l.
+        let a = ran_is q in
+        let b = windows.unread q p (seen (now_of all.game all.gone q)) l (inl refl) in
+        omega arith;
+    held = λ q p. windows.held q p (seen (now_of all.game all.gone q)) (inl refl);
+    own = λ p.
+        let a = ran_is p in
+        let b = windows.own p (seen (now_of all.game all.gone p)) (inl refl) in
+        omega arith;
+    close = λ q p l e g. windows.close q p p (seen (now_of all.game all.gone p)) l e (inl refl) g;
+    overrun = λ q r p l e g.
+        let a = ran_is q in
+        let b = windows.overrun q r p (seen (now_of all.game all.gone r)) l e (inl refl) g in
+        omega arith;
+    sent = λ which flight e here.
+        let told = h.followed.follows.flights which flight e in
+        let a = ran_is flight.to in
+        let b = windows.overrun flight.to told.by flight.from (seen told.state) told.receiver here
+        (was_seen (now_of all.game all.gone ∷ older) told.by told.state told.had) told.open_to in
+        let c = told.reaches in
+        omega arith;
+    told = λ which p t e here.
+        let a = ran_is t.to in
+        let k = h.told which t e in
+        let b = windows.overrun t.to t.from p (seen t.report) k.0 here (report_was which t e) k.1 in
+        omega arith;
+    untold = λ which p t e l here none.
+        let k = h.told which t e in
+        windows.unended t.to t.from p (seen t.report) k.0 l here (report_was which t e) k.1 none;
+    unheard = λ q r p k l e. windows.unheard q r p (seen (now_of all.game all.gone r)) k.one k.other l k.apart e
+        k.here (inl refl) k.there;
+    room = λ q. (h.marked q).room;
+    least = least;
+    most = λ q. (h.marked q).most;
   }

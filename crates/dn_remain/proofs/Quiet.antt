@@ -1,14 +1,45 @@
--- A game in which nobody was given up is one of the machine's.
-use Rattle.std.proofs.Common.{◌≡◌, ℕ, refl, sym, ◌∙◌, ap, subst, inl, List, [], ◌∷◌, ◌++◌}
-use Rattle.std.specs.Prelude.{Bool, true, false, Option}
+-- A game in which nobody was given up is one of the machine's, and a game of the machine is one in which
+-- nobody is given up.
+use Rattle.std.proofs.Common.{◌≡◌, ℕ, refl, sym, ◌∙◌, ap, subst, inl, List, [], ◌∷◌, ◌++◌, arith, inr, map}
+use Rattle.std.specs.Prelude.{Bool, true, false, Option, Some, None}
 use Rattle.std.proofs.lemmas.Bool.{both_ways, cond-false}
 use Rattle.dn_setup.specs.Settings.{Settings}
-use Rattle.dn_machine.specs.{declared.events.Event.Event, Game.Game, Game.opening_game, Game.with_node, Limits.Limits, Node.Node, Node.put, Runs.Runs, Worlds.Rules}
+use Rattle.dn_machine.specs.{declared.events.Event.Event, Game.Game, Game.opening_game, Game.with_node, Limits.Limits, Node.Node, Node.put, Runs.Runs, Worlds.Rules, Flight.Flight, Runs.Leads}
 use Rattle.dn_machine.proofs.{Games.goes_on, Put.put_at, Put.same_functions}
-use Rattle.dn_remain.specs.{Vanished.Decisions.on_decision, Vanished.Decisions.longest, Vanished.Decisions.told, Seen.holder_of, Remaining.Remaining, Remaining.opening_remaining, Remaining.wary_of, Remaining.with_wary, declared.events.RemainEvent.RemainEvent}
-use Rattle.dn_remain.specs.Wary.{Report, Wary, settled, or_fresh, with_gone, with_report, on_give_up, on_report}
-use Rattle.dn_remain.specs.RunsRemain.{NextRemain, LeadsRemain, RunsRemain, NobodyGivenUp}
-use Rattle.dn_remain.proofs.{ButRuns.next_is, Each.each_remain, Vanished.Put.at_put, Vanished.Put.own_put, Cases.news_cases, Cases.give_up_cases, Cases.report_cases}
+use Rattle.dn_remain.specs.{Vanished.Commands.on_decision, Vanished.Commands.longest, Vanished.Commands.told, Remaining.Remaining, Remaining.opening_remaining, Remaining.wary_of}
+use Rattle.dn_remain.specs.{Remaining.with_wary, declared.events.RemainEvent.RemainEvent, Remaining.is_barred_flight, Remaining.is_barred, declared.events.RemainEvent.TheVariants.Own}
+use Rattle.dn_remain.specs.Wary.{Report, Wary, settled, or_fresh, with_gone, with_report, on_give_up, on_report, holder_of}
+use Rattle.dn_remain.specs.Remaining.{NextRemain, LeadsRemain, RunsRemain, NobodyGivenUp}
+use Rattle.dn_remain.proofs.{Vanished.Put.at_put, Vanished.Put.own_put}
+use Rattle.dn_remain.proofs.Each.{is_next, next_is, each_remain, news_cases, give_up_cases, report_cases}
+
+-- nothing is barred where nobody is given up
+open_flight : (all : Remaining) → NobodyGivenUp all → (o : Option Flight) → is_barred_flight all o ≡ false
+open_flight all nobody None = refl
+open_flight all nobody (Some flight) = grind (arith, nobody flight.to flight.from)
+
+open_event : (all : Remaining) → NobodyGivenUp all → (event : Event) → is_barred all event ≡ false
+open_event all nobody event = grind (arith, open_flight)
+
+module _ {S : Type 0} (rules : Rules S) where
+  own_leads : (own : List Event) (all : Remaining) (last : Game) → NobodyGivenUp all → Leads rules all.game own last
+      → LeadsRemain rules all (map Own own) (record all { game = last })
+  own_leads [] all last nobody is = ap (λ (g : Game). record all { game = g }) is
+  own_leads (event ∷ own) all last nobody way = (
+    record all { game = way.0 },
+    inr (open_event all nobody event, way.0, is_next rules all nobody event way.0 way.1, refl),
+    own_leads own (record all { game = way.0 }) last nobody way.2,
+  )
+
+  pub is_quiet : (settings : Settings) (own : List Event) (game : Game) → Runs rules settings own game
+      → (all : Remaining) × RunsRemain rules settings (map Own own) all × NobodyGivenUp all × (all.game ≡ game)
+  unfolding opening_remaining
+  is_quiet settings own game runs = (
+    record (opening_remaining settings) { game = game },
+    own_leads own (opening_remaining settings) game (λ node player. refl) runs,
+    (λ node player. refl),
+    refl,
+  )
 
 -- a node in its own place
 same_game : (game : Game) (q : ℕ) → with_node game q (game.nodes q) ≡ game

@@ -4,22 +4,95 @@ use Rattle.std.specs.Prelude.{◌⊎◌, Bool, false, Option, Some, None, slice_
 use Rattle.std.proofs.lemmas.Bool.{ltb-true, and_parts, both_ways, cond-false, cases_eq, true≢false}
 use Rattle.std.proofs.lemmas.Option.{none-some}
 use Rattle.dn_tic.specs.{declared.command.TicCmd.TicCmd, declared.input.Input.Input}
-use Rattle.dn_machine.specs.{declared.events.Event.Event, Building.on_build, Flight.Flight, Node.Node, Node.put, Worlds.Rules, Running.on_run_but, Game.Game, Game.with_node, Game.own_marks, Game.posted, Game.refused_at}
-use Rattle.dn_machine.specs.{Game.refused, Game.delivered, Game.on_event, Limits.Limits, Node.got, declared.answers.Phase.TheVariants.Listening, declared.answers.Phase.TheVariants.Gathering}
-use Rattle.dn_machine.specs.{declared.answers.Phase.TheVariants.Ended, declared.answers.Cause.Cause, Game.opening_game}
-use Rattle.dn_machine.proofs.{Games.passes, Put.put_off, Put.put_at}
-use Rattle.dn_remain.specs.{Vanished.Commands.Holder, Vanished.Commands.seen, Vanished.Commands.past_seen, Seen.now_of, Remaining.Remaining, Remaining.wary_of, RunsRemain.NextRemain}
-use Rattle.dn_remain.specs.{declared.events.RemainEvent.RemainEvent, Seen.end_seen, Remaining.with_wary, Remaining.after_event, Wary.Report, Wary.Wary, Wary.can_settle, Wary.after_news, Wary.with_gone, Wary.with_report}
-use Rattle.dn_remain.specs.{Wary.on_give_up, Wary.on_report, Vanished.Commands.Had, Remaining.opening_remaining, RunsRemain.LeadsRemain, RunsRemain.RunsRemain}
-use Rattle.dn_remain.proofs.{Vanished.Always.always, Alike.IsAlike, Alike.alike_sent, Alike.alike_quit, Alike.alike_heard, Alike.alike_give_up, Alike.alike_report, ButRuns.IsNoRun, Each.each_event, Each.each_remain}
-use Rattle.dn_remain.proofs.{Followed.IsFollowed, Followed.named, Answering.settled_at, Cases.give_up_cases, Cases.report_cases, Places.there, Seeing.reached_some, Vanished.Handing.was_seen, Vanished.Invariant.IsKept}
-use Rattle.dn_remain.proofs.{Followed.AreFollowed, Followed.anchored, Marked.IsMarked, Marked.alike_keeps, Marked.build_keeps, RunMarks.run_keeps, Settings.AreSet, Told.AreTold}
 use Rattle.dn_setup.specs.Settings.{Settings}
+use Rattle.dn_machine.specs.declared.events.Event.{Event}
+use Rattle.dn_machine.specs.Sending.{on_build}
+use Rattle.dn_machine.specs.Flight.{Flight}
+use Rattle.dn_machine.specs.Node.{Node, put}
+use Rattle.dn_machine.specs.Worlds.{Rules}
+use Rattle.dn_machine.specs.Running.{on_run_but}
+use Rattle.dn_machine.specs.Game.{Game, with_node, own_marks, posted}
+use Rattle.dn_machine.specs.{Game.refused_at, Game.refused, Game.delivered, Game.on_event, Limits.Limits, Node.got, declared.answers.Phase.TheVariants.Listening, declared.answers.Phase.TheVariants.Gathering}
+use Rattle.dn_machine.specs.{declared.answers.Phase.TheVariants.Ended, declared.answers.Cause.Cause, Game.opening_game}
+use Rattle.dn_machine.proofs.{Games.passes}
 use Rattle.dn_machine.specs.Node as machine
-use Rattle.dn_remain.proofs.Histories
-use Rattle.dn_remain.proofs.Remains
+use Rattle.dn_machine.proofs.Put.{slice_get_push, put_off, put_at}
+use Rattle.dn_remain.specs.{Vanished.Commands.Holder, Vanished.Commands.seen, Vanished.Commands.past_seen, Wary.now_of, Remaining.Remaining, Remaining.wary_of, Remaining.NextRemain}
+use Rattle.dn_remain.specs.{declared.events.RemainEvent.RemainEvent, Wary.end_seen, Remaining.with_wary, Remaining.after_event, Wary.Report, Wary.Wary, Wary.can_settle, Wary.after_news, Wary.with_gone}
+use Rattle.dn_remain.specs.{Wary.with_report, Wary.on_give_up, Wary.on_report, Vanished.Commands.Had, Remaining.opening_remaining, Remaining.LeadsRemain, Remaining.RunsRemain, Wary.report_to}
+use Rattle.dn_remain.specs.{Remaining.Telling}
+use Rattle.dn_remain.proofs.{Vanished.Always.always, Marked.IsAlike, Marked.alike_sent, Marked.alike_quit, Marked.alike_heard, Marked.alike_give_up, Marked.alike_report, Each.IsNoRun, Each.each_event}
+use Rattle.dn_remain.proofs.{Each.each_remain, Followed.IsFollowed, Followed.named, Answering.settled_at, Each.give_up_cases, Each.report_cases, Followed.there, Seeing.reached_some, Vanished.Handing.was_seen}
+use Rattle.dn_remain.proofs.{Vanished.Invariant.IsKept, Followed.AreFollowed, Followed.anchored, Marked.IsMarked, Marked.alike_keeps, Marked.build_keeps, RunMarks.run_keeps, Settings.AreSet, Followed.own_place}
+use Rattle.dn_remain.proofs.{Followed.owns, News.tells, News.news_there, News.here, News.noted, News.gives, News.keeps}
+use Rattle.dn_remain.proofs.Known
 use Rattle.dn_remain.proofs.Settings
-use Rattle.dn_remain.proofs.Told
+
+-- A report is told to a player of the game whom its sender has not given up.
+abbrev pub AreTold : ℕ → List Telling → Type 0
+AreTold players reports = (which : ℕ) (t : Telling) → slice_get reports which ≡ Some t
+    → (t.to < players) × (t.report.gone t.to ≡ false)
+
+told_open : (limits : Limits) (me : ℕ) (wary : Wary) (to : ℕ) (report : Report)
+    → report_to limits me wary to ≡ Some report → report.gone to ≡ false
+told_open limits me wary to report h = grind arith
+
+module _ {S : Type 0} (rules : Rules S) (all : Remaining) (h : AreTold rules.players all.reports) where
+  pub told_after : (event : RemainEvent) (next : Remaining) → NextRemain rules all event next
+      → AreTold rules.players next.reports
+  told_after = each_remain rules all (λ r. AreTold rules.players r.reports) h (λ event goes. h) (λ node player none. h)
+      (λ node to low report is which t e.
+      elim (slice_get_push all.reports (record { from = node; to = to; report = report }) which t e) [
+        | inl old ↦ h which t old
+        | inr new ↦ subst (λ (s : Telling). (s.to < rules.players) × (s.report.gone s.to ≡ false)) (sym new)
+            (low, told_open rules.limits node (wary_of all node) to report is)
+      ]) (λ which t e none. h)
+
+-- Every list of events in which players may be given up leads to a game whose nodes have a history.
+module _ {S : Type 0} (known : ℕ → Holder TicCmd → Type 0) (rules : Rules S) where
+  module _ (all : Remaining) (older : List (ℕ → Holder TicCmd)) (f : IsFollowed known rules all older) where
+    stays : (q : ℕ) → AreFollowed known rules (with_wary all q (wary_of all q))
+    stays q = subst (λ (r : Remaining). AreFollowed known rules r) (sym (own_place all q)) (older, f)
+
+    keeps_give_up : (q player : ℕ) → q < rules.players
+        → AreFollowed known rules (with_wary all q (on_give_up rules.limits q (wary_of all q) player).0)
+    keeps_give_up q player mine = give_up_cases rules.limits q (wary_of all q) (λ (w : Wary). AreFollowed known rules (with_wary all q w))
+        player (stays q)
+        (λ phase low apart new. news_there known rules all q (with_gone rules.limits (wary_of all q) player) mine
+        (noted known rules all older f q mine phase player).left (gives known rules all older f q mine phase player low apart))
+
+    hears_report : (t : Telling) → t.to < rules.players → Had (now_of all.game all.gone ∷ older) t.from t.report
+        → AreFollowed known rules (with_wary all t.to (on_report rules.limits t.to (wary_of all t.to) t.from t.report).0)
+    hears_report t mine had = report_cases rules.limits t.to (wary_of all t.to)
+        (λ (w : Wary). AreFollowed known rules (with_wary all t.to w)) t.from t.report (stays t.to)
+        (λ phase from_open to_open newer. news_there known rules all t.to (with_report (wary_of all t.to) t.from t.report) mine
+        (here known rules all older f t.to mine phase) (keeps known rules all older f t.to mine phase t.from t.report had))
+
+    pub followed_after : (event : RemainEvent) (next : Remaining) → NextRemain rules all event next → AreFollowed known rules next
+    followed_after = each_remain rules all (λ r. AreFollowed known rules r) (older, f) (owns known rules all older f)
+        (λ node player none. keeps_give_up node player (named known rules all older f node none))
+        (λ node to low report is. tells known rules all older f node to report is)
+        (λ which t e none. hears_report t (named known rules all older f t.to none) (f.reports which t e))
+
+  followed_to : (events : List RemainEvent) (all last : Remaining) → AreFollowed known rules all → LeadsRemain rules all events last
+      → AreFollowed known rules last
+  followed_to [] all last have same = subst (λ (r : Remaining). AreFollowed known rules r) (sym same) have
+  followed_to (event ∷ events) all last have way =
+      followed_to events way.0 last (followed_after all have.0 have.1 event way.0 way.1) way.2
+
+pub followed_at_first : {S : Type 0} (rules : Rules S) (settings : Settings)
+    → IsFollowed Known.known rules (opening_remaining settings) []
+unfolding opening_remaining
+followed_at_first rules settings = record {
+  follows = Known.opens rules settings;
+  newest = λ q r report h. absurd (none-some report h);
+  reports = λ which t h. absurd (none-some t h);
+}
+
+pub follow_all : {S : Type 0} (rules : Rules S) (settings : Settings) (events : List RemainEvent) (all : Remaining)
+    → RunsRemain rules settings events all → AreFollowed Known.known rules all
+follow_all rules settings events all run =
+    followed_to Known.known rules events (opening_remaining settings) all ([], followed_at_first rules settings) run
 
 -- Each event changes one node at most: by a build, a run, or a call that leaves what it made and ran.
 
@@ -126,7 +199,7 @@ module _ {S : Type 0} (rules : Rules S) (all next : Remaining) (h : AreSettled r
 
 pub record IsReached {S : Type 0} (rules : Rules S) (settings : Settings) (all : Remaining)
     (older : List (ℕ → Holder TicCmd)) : Type 0 where
-  pub followed : IsFollowed Histories.known rules all older
+  pub followed : IsFollowed Known.known rules all older
   pub set : AreSet settings all.game
   pub marked : (x : ℕ) → IsMarked rules settings x (all.game.nodes x)
   pub settled : AreSettled rules.limits all
@@ -143,7 +216,7 @@ module _ {S : Type 0} (rules : Rules S) (settings : Settings) where
     now = grind (arith, anchored)
 
     pub later : AreFollowed (Had (now_of all.game all.gone ∷ older)) rules next
-    later = Remains.by_event (Had (now_of all.game all.gone ∷ older)) rules all older now event next step
+    later = followed_after (Had (now_of all.game all.gone ∷ older)) rules all older now event next step
 
     kept : IsKept rules.players (past_seen (now_of next.game next.gone ∷ later.0))
     kept = always rules.players rules.ahead (past_seen
@@ -193,13 +266,13 @@ module _ {S : Type 0} (rules : Rules S) (settings : Settings) where
       set = Settings.by_event settings rules all next h.set event step;
       marked = marked_on;
       settled = settled_on rules all next h.settled ends event step;
-      told = Told.by_event rules all h.told event next step;
+      told = told_after rules all h.told event next step;
     }
 
   pub opens : IsReached rules settings (opening_remaining settings) []
   unfolding opening_remaining opening_game
   opens = record {
-    followed = Remains.opens rules settings;
+    followed = followed_at_first rules settings;
     set = Settings.opens settings rules;
     marked = grind (arith, not_ended);
     settled = λ q can p given. absurd (true≢false (sym given));

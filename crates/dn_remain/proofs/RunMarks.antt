@@ -12,8 +12,8 @@ use Rattle.dn_machine.specs.Node as machine
 use Rattle.dn_machine.specs.Running.{tic_limit, full_at, is_absent, row_held, marks_kept, on_run_but, is_over}
 use Rattle.dn_machine.proofs.{Calls.ended_by, Calls.ran_on, Demos.front_short, Demos.front_stops, Demos.whole_more, Put.put_at, Put.put_off}
 use Rattle.dn_remain.specs.Vanished.Commands.{Holder, Had, seen, past_seen}
-use Rattle.dn_remain.proofs.{Vanished.Windows.roomy, ButRuns.run_but_cases, Checks.none_off, Known.Follows, Marked.IsMarked, Marked.world_same, Running.absent_is, Seeing.length_rows, Seeing.none_over, Seeing.over_before}
-use Rattle.dn_remain.specs.Seen.{end_seen, now_of}
+use Rattle.dn_remain.proofs.{Vanished.Windows.roomy, Each.run_but_cases, Checks.none_off, Known.Follows, Marked.IsMarked, Marked.world_same, Running.absent_is, Seeing.length_rows, Seeing.none_over, Seeing.over_before}
+use Rattle.dn_remain.specs.Wary.{end_seen, now_of}
 
 -- where all pass, the front is the whole
 all_front : {A : Type 0} (test : A → Bool) (xs : List A) (d : A)

@@ -6,9 +6,10 @@ use Rattle.dn_tic.specs.{declared.command.TicCmd.TicCmd, declared.command.Move.M
 use Rattle.dn_machine.specs.{declared.answers.Cause.Cause, declared.answers.Phase.TheVariants.Playing, declared.answers.Phase.TheVariants.Ended, Node.ends_of, Node.got, Node.held_at, Node.is_ended, Node.lowest, Game.Game, Game.with_node, Worlds.Rules}
 use Rattle.dn_machine.specs.Node as machine
 use Rattle.dn_machine.specs.Running.{is_absent, is_awaited, row_held, on_quit, on_run_but, is_over}
-use Rattle.dn_machine.proofs.{Calls.ran_on, Calls.quit_cases, Marks.lowest_none_each, Truth.row_of_same}
-use Rattle.dn_remain.specs.{Vanished.Steps.Run, Vanished.Steps.Leave, Vanished.Commands.Holder, Vanished.Commands.seen, Vanished.Commands.past_seen, Seen.end_seen, Seen.rows_to, Seen.holder_of, Seen.now_of, Seen.row_had}
-use Rattle.dn_remain.proofs.{Vanished.Invariant.IsKept, Vanished.Always.always, Vanished.Mild.cases_Option, Seeing.same_node, Seeing.same_holder, Seeing.length_rows, Seeing.reached_cases, ButRuns.run_but_cases, Known.Follows, Known.IsFit, Known.Went, Known.fit_self, Known.not_left, Following.stays, Following.steps}
+use Rattle.dn_machine.proofs.Calls.{ran_on, quit_cases}
+use Rattle.dn_machine.proofs.Truth.{lowest_none_each, row_of_same}
+use Rattle.dn_remain.specs.{Vanished.Steps.Run, Vanished.Steps.Leave, Vanished.Commands.Holder, Vanished.Commands.seen, Vanished.Commands.past_seen, Wary.end_seen, Wary.rows_to, Wary.holder_of, Wary.now_of, Wary.row_had}
+use Rattle.dn_remain.proofs.{Vanished.Invariant.IsKept, Vanished.Always.always, Vanished.Stepping.cases_Option, Seeing.same_node, Seeing.same_holder, Seeing.length_rows, Seeing.reached_cases, Each.run_but_cases, Known.Follows, Known.IsFit, Known.Went, Known.fit_self, Known.not_left, Following.stays, Following.steps}
 
 module _ {S : Type 0} {known : ℕ → Holder TicCmd → Type 0} {rules : Rules S} {game : Game} {gone : ℕ → ℕ → Bool}
     {older : List (ℕ → Holder TicCmd)} (follows : Follows known rules game gone older) (q : ℕ) (mine : q < rules.players) where

@@ -7,7 +7,7 @@ use Rattle.dn_setup.specs.Settings.{Settings}
 use Rattle.dn_machine.specs.{Flight.Kind, Flight.Play, Flight.Exit, Flight.Flight, Limits.Limits, Node.ends_of, Node.made, Node.has_left, Game.Game, Game.with_node, Game.posted, Worlds.Rules, Sending.first_sent}
 use Rattle.dn_machine.specs.{Sending.last_sent, Sending.left_kind, Sending.set_up_flight, Sending.commands_flight, Sending.request_to, Sending.after_sent, Sending.on_send}
 use Rattle.dn_machine.proofs.{Calls.send_cases, Put.slice_get_push, Put.put_at, Put.put_off, Put.same_functions}
-use Rattle.dn_remain.specs.{Vanished.Commands.Holder, Seen.reached, Seen.end_seen, Seen.rows_to, Seen.holder_of, Seen.now_of}
+use Rattle.dn_remain.specs.{Vanished.Commands.Holder, Wary.reached, Wary.end_seen, Wary.rows_to, Wary.holder_of, Wary.now_of}
 use Rattle.dn_remain.proofs.{Seeing.take_long, Seeing.same_holder, Known.IsTold, Known.Follows, Known.Went, Known.fit_self, Following.stays}
 use Rattle.dn_machine.specs.Node as machine
 

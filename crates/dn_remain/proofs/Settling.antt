@@ -9,10 +9,10 @@ use Rattle.dn_tic.specs.declared.command.TicCmd.{TicCmd}
 use Rattle.dn_machine.specs.{declared.peer.Peer.Peer, Game.Game, Game.with_node, Node.ends_of, Node.has_left, Node.put, Worlds.Rules, Running.is_over}
 use Rattle.dn_machine.specs.Node as machine
 use Rattle.dn_machine.proofs.Put.{same_functions}
-use Rattle.dn_remain.specs.{Vanished.Node.Node, Vanished.Reports.HasHeard, Vanished.Reports.decided, Vanished.Steps.Decide, Vanished.Decisions.longest, Vanished.Decisions.told, Vanished.Decisions.on_decision, Seen.reached, Seen.end_seen, Seen.holder_of, Seen.now_of, Wary.Report, Wary.or_fresh, Wary.settled}
+use Rattle.dn_remain.specs.{Vanished.Node.Node, Vanished.Node.HasHeard, Vanished.Node.decided, Vanished.Steps.Decide, Wary.reached, Wary.end_seen, Wary.holder_of, Wary.now_of, Wary.Report, Wary.or_fresh, Wary.settled}
 use Rattle.dn_remain.specs.Vanished.Calls.{is_heard, can_decide, report_or, AreTrue}
-use Rattle.dn_remain.specs.Vanished.Commands.{Holder, seen, past_seen, Had}
-use Rattle.dn_remain.proofs.{Vanished.Invariant.IsKept, Vanished.Always.always, Vanished.Deciding.old_ends, Vanished.Handing.was_seen, Vanished.Lists.counts, Vanished.Lists.own_below, Vanished.Lists.pieces, Vanished.Mild.cases_Option, Vanished.Tests.bounded, Vanished.Tests.every_at, Vanished.Tests.heard_from, Seeing.same_holder, Seeing.length_rows, Seeing.rows_alike, Seeing.reached_some, Known.Follows, Following.steps_set}
+use Rattle.dn_remain.specs.Vanished.Commands.{Holder, seen, past_seen, Had, longest, told, on_decision}
+use Rattle.dn_remain.proofs.{Vanished.Invariant.IsKept, Vanished.Always.always, Vanished.Deciding.old_ends, Vanished.Handing.was_seen, Vanished.Lists.counts, Vanished.Lists.own_below, Vanished.Lists.pieces, Vanished.Stepping.cases_Option, Vanished.Tests.bounded, Vanished.Tests.every_at, Vanished.Tests.heard_from, Seeing.same_holder, Seeing.length_rows, Seeing.rows_alike, Seeing.reached_some, Known.Follows, Following.steps_set}
 
 -- what is told, or nothing
 seen_or : (o : Option Report) → report_or (option_map seen o) ≡ seen (or_fresh o)

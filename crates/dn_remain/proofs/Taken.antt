@@ -6,10 +6,10 @@ use Rattle.dn_tic.specs.declared.command.TicCmd.{TicCmd}
 use Rattle.dn_machine.specs.{Game.with_node, Node.put, Node.ran, Node.has_left, Promise.IsPrefixOf, Worlds.Rules}
 use Rattle.dn_machine.specs.Node as machine
 use Rattle.dn_machine.proofs.Put.{put_at, put_off}
-use Rattle.dn_remain.specs.Vanished.Commands.{Holder, Had, seen, past_seen}
-use Rattle.dn_remain.specs.{Vanished.Decisions.longest, Vanished.Decisions.told, Vanished.Decisions.on_decision, Seen.end_seen, Seen.now_of, Wary.Report, Wary.Wary, Wary.or_fresh, Wary.can_settle, Wary.settled, Remaining.Remaining, Remaining.wary_of, Remaining.with_wary, Taking.CanBeTaken}
-use Rattle.dn_remain.proofs.{Vanished.Always.always, Vanished.Catching.begins, Vanished.Fitting.fits, Vanished.Handing.handed, Vanished.Invariant.IsKept, Vanished.Lists.own_below, Followed.IsFollowed, Followed.AreFollowed, Followed.anchored, Known.Follows, Places.there, Seeing.length_rows, Settling.settles}
-use Rattle.dn_remain.proofs.Histories
+use Rattle.dn_remain.specs.Vanished.Commands.{Holder, Had, seen, past_seen, longest, told, on_decision}
+use Rattle.dn_remain.specs.{Wary.end_seen, Wary.now_of, Wary.Report, Wary.Wary, Wary.or_fresh, Wary.can_settle, Wary.settled, Remaining.Remaining, Remaining.wary_of, Remaining.with_wary, Promise.CanBeTaken}
+use Rattle.dn_remain.proofs.{Vanished.Always.always, Vanished.Lists.begins, Vanished.Windows.fits, Vanished.Handing.handed, Vanished.Invariant.IsKept, Vanished.Lists.own_below, Followed.IsFollowed, Followed.AreFollowed, Followed.anchored, Known.Follows, Followed.there, Seeing.length_rows, Settling.settles}
+use Rattle.dn_remain.proofs.Known
 
 module _ {S : Type 0} (known : ℕ → Holder TicCmd → Type 0) (rules : Rules S) (all : Remaining)
     (older : List (ℕ → Holder TicCmd)) (f : IsFollowed known rules all older) (q : ℕ) (mine : q < rules.players)
@@ -80,8 +80,8 @@ module _ {S : Type 0} (known : ℕ → Holder TicCmd → Type 0) (rules : Rules 
 
 -- in the place of node `q` one that can decide
 pub taken_of : {S : Type 0} (rules : Rules S) (all : Remaining) (q : ℕ) (wary : Wary)
-    → AreFollowed Histories.known rules (with_wary all q wary) → q < rules.players → has_left wary.node ≡ false
+    → AreFollowed Known.known rules (with_wary all q wary) → q < rules.players → has_left wary.node ≡ false
     → can_settle rules.limits q wary ≡ true → CanBeTaken rules.limits (with_wary all q wary) q
-taken_of rules all q wary (older, f) mine here can = taken Histories.known rules (with_wary all q wary) older f
+taken_of rules all q wary (older, f) mine here can = taken Known.known rules (with_wary all q wary) older f
     q mine (ap (λ (n : machine.Node). has_left n) (put_at all.game.nodes q q wary.node refl) ∙ here)
     (ap (λ (w : Wary). can_settle rules.limits q w) (there all q wary) ∙ can)

@@ -1,8 +1,9 @@
--- What holds of a game after every list of events in which players may be given up: of any two nodes, or of two
--- of which neither has given up the other.
-use Rattle.std.specs.Prelude.{◌≡◌, ◌≢◌, ◌⊎◌, ℕ, ◌+◌, ◌-◌, ◌<◌, ◌≤◌, ℤ, pos, true, false, [], None, Some, nat_lt, if◌then◌else◌, get_or, length, take, slice_get}
-use Rattle.dn_setup.specs.Settings.{Settings}
+-- What holds of a game after every list of events in which players may be given up: of any two nodes, or of
+-- two of which neither has given up the other. And what a decision brings.
+use Rattle.std.specs.Prelude.{◌≡◌, ◌≢◌, ◌⊎◌, ℕ, ◌+◌, ◌-◌, ◌<◌, ◌≤◌, ℤ, pos, true, false, [], None, Some, nat_lt, if◌then◌else◌, get_or, length, take, slice_get, List}
 use Rattle.dn_tic.specs.Inputs.{made_by}
+use Rattle.dn_tic.specs.declared.command.TicCmd.{TicCmd}
+use Rattle.dn_setup.specs.Settings.{Settings}
 use Rattle.dn_machine.specs.declared.answers.Cause.TheVariants as Cause
 use Rattle.dn_machine.specs.declared.answers.Heard.TheVariants.{Dropped}
 use Rattle.dn_machine.specs.declared.answers.Phase.TheVariants.{Ended}
@@ -16,9 +17,9 @@ use Rattle.dn_machine.specs.Running.{tic_limit, on_run, on_run_but, is_over}
 use Rattle.dn_machine.specs.Worlds.{Rules, world_after}
 use Rattle.dn_remain.specs.Vanished.Node.{Within}
 use Rattle.dn_remain.specs.declared.events.Reported.TheVariants as Reported
-use Rattle.dn_remain.specs.Seen.{end_seen, holder_of, row_had}
-use Rattle.dn_remain.specs.Wary.{Report, on_report, undecided}
+use Rattle.dn_remain.specs.Wary.{end_seen, holder_of, row_had, Report, on_report, undecided, Wary, report_of, or_fresh}
 use Rattle.dn_remain.specs.Remaining.{Telling, Remaining, wary_of, heard_of}
+use Rattle.dn_remain.specs.Vanished.Commands.{on_decision}
 
 -- two players of the game, of whom neither has given up the other; one of them may have left
 pub record IsPair (limits : Limits) (all : Remaining) (q r : ℕ) : Type 0 where
@@ -163,3 +164,27 @@ pub record SteadyInPairs (limits : Limits) (all : Remaining) : Type 0 where
   pub waits : (q p : ℕ) (marks : ℕ → ℤ) → q < limits.players
       → (on_run_but limits (all.gone q) (all.game.nodes q) marks).1 ≡ Waiting p → all.gone q p ≡ true
       → (r : ℕ) × (undecided limits q (wary_of all q) ≡ Some r)
+
+-- What a decision brings to a node, where its reports let it decide: what whoever takes the end, and the
+-- commands before it, may count on.
+
+-- the commands of a player after a decision by the newest reports: of one who is given up, all that count
+abbrev pub commands_decided : Limits → ℕ → Wary → ℕ → List TicCmd
+commands_decided limits me wary player =
+    (on_decision limits.players me (report_of wary) (λ from. or_fresh (wary.newest from))).held player
+
+-- of each player whom node `q` has given up, what it decides can be taken
+pub record CanBeTaken (limits : Limits) (all : Remaining) (q : ℕ) : Type 0 where
+  -- what it has are the first of the commands that are decided
+  pub front : (p : ℕ) → all.gone q p ≡ true
+      → IsPrefixOf ((all.game.nodes q).held p) (commands_decided limits q (wary_of all q) p)
+  -- and these are the first of those that the player made
+  pub made : (p : ℕ) → all.gone q p ≡ true
+      → IsPrefixOf (commands_decided limits q (wary_of all q) p) ((all.game.nodes p).held p)
+  -- at most twice the window of them is not run
+  pub room : (p : ℕ) → all.gone q p ≡ true
+      → length (commands_decided limits q (wary_of all q) p)
+      ≤ ran (all.game.nodes q) + (limits.ahead + limits.ahead)
+  -- an end that it knows, with all commands before it, is the same
+  pub known : (p end : ℕ) → all.gone q p ≡ true → end_seen (all.game.nodes q) p ≡ Some end
+      → length (commands_decided limits q (wary_of all q) p) ≡ end

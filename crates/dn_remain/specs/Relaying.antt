@@ -9,8 +9,7 @@ use Rattle.dn_machine.specs.Runs.{Path}
 use Rattle.dn_machine.specs.Worlds.{Rules}
 use Rattle.dn_remain.specs.Vanished.Node.{Within}
 use Rattle.dn_remain.specs.Wary.{Report}
-use Rattle.dn_remain.specs.Remaining.{Remaining, opening_remaining}
-use Rattle.dn_remain.specs.RunsRemain.{NextRemain}
+use Rattle.dn_remain.specs.Remaining.{Remaining, opening_remaining, NextRemain}
 use Rattle.dn_remain.specs.declared.events.RemainEvent.{RemainEvent}
 
 -- whom another has given up, as far as its newest report tells

@@ -1,7 +1,5 @@
 pub mod Node
-pub mod Reports
 pub mod Steps
 pub mod Calls
 pub mod Promise
 pub mod Commands
-pub mod Decisions

@@ -1,20 +1,59 @@
--- A node that may give up players: what it does when it is told to, and when a report comes.
-use Rattle.std.specs.Prelude.{ℕ, Bool, true, false, not, ◌||◌, nat_lt, ◌==◌, if◌then◌else◌, Option, Some, None}
+-- A node that may give up players: what `dn_remain::vanish` sees of it, and what it does.
+use Rattle.std.specs.Prelude.{ℕ, Bool, true, false, not, ◌||◌, nat_lt, ◌==◌, if◌then◌else◌, Option, Some, None, zero, suc, List, [], ◌∷◌, ◌++◌, nat_le, get_or}
 use Rattle.std.specs.Option.{option_map, is_some}
 use Rattle.dn_tic.specs.declared.command.TicCmd.{TicCmd}
+use Rattle.dn_tic.specs.declared.command.Move.{Move}
 use Rattle.dn_machine.specs.declared.answers.Phase.{Phase}
 use Rattle.dn_machine.specs.declared.answers.Phase.TheVariants.{Listening, Gathering, Playing, Ended}
 use Rattle.dn_machine.specs.Drops as drops
-use Rattle.dn_machine.specs.Limits.{Limits}
-use Rattle.dn_machine.specs.Node.{Node, put, lowest, has_left}
+use Rattle.dn_machine.specs.Limits.{Limits, row_of}
+use Rattle.dn_machine.specs.Node.{Node, put, lowest, has_left, blank, ends_of, got, ran}
 use Rattle.dn_machine.specs.Hearing.{on_gathering}
+use Rattle.dn_machine.specs.Game.{Game}
+use Rattle.dn_machine.specs.Running.{is_over}
 use Rattle.dn_remain.specs.Vanished.Node as counted
 use Rattle.dn_remain.specs.Vanished.Calls.{is_heard, can_decide, is_newer}
-use Rattle.dn_remain.specs.Vanished.Commands.{Holder, fresh_holder, seen}
-use Rattle.dn_remain.specs.Vanished.Decisions.{on_decision}
-use Rattle.dn_remain.specs.Seen.{holder_of}
+use Rattle.dn_remain.specs.Vanished.Commands.{Holder, fresh_holder, seen, on_decision}
 use Rattle.dn_remain.specs.declared.events.GivenUp.{GivenUp}
 use Rattle.dn_remain.specs.declared.events.Reported.{Reported}
+
+-- What `dn_remain::vanish` sees of a node of the machine.
+
+-- an end counts once all commands before it are there
+abbrev pub reached : ℕ → Option ℕ → Option ℕ
+reached got None = None
+reached got (Some end) = if nat_le end got then Some end else None
+
+abbrev pub end_seen : Node → ℕ → Option ℕ
+end_seen node player = reached (got node player) (ends_of node player)
+
+-- whom the rows lack, of the tics up to this one
+unfoldable pub rows_to : (ℕ → Option ℕ) → ℕ → List (ℕ → Bool)
+rows_to ends zero = []
+rows_to ends (suc tic) = rows_to ends tic ++ (λ player. is_over (ends player) tic) ∷ []
+
+-- what is seen of a node that has given up these
+abbrev pub holder_of : Node → (ℕ → Bool) → Holder TicCmd
+holder_of node gone =
+    record {
+      held = node.held;
+      ends = end_seen node;
+      gone = gone;
+      left = has_left node;
+      rows = rows_to (end_seen node) (ran node);
+    }
+
+-- the nodes of a game, as they are seen, by whom each has given up
+abbrev pub now_of : Game → (ℕ → ℕ → Bool) → ℕ → Holder TicCmd
+now_of game gone node = holder_of (game.nodes node) (gone node)
+
+-- the row of what is seen for a tic: the moves of the players whose ends are not over
+abbrev pub row_had : Limits → Holder TicCmd → ℕ → List (Option Move)
+row_had limits holder tic =
+    row_of limits.players
+    (λ player. if is_over (holder.ends player) tic then None else Some (get_or (holder.held player) tic blank))
+
+-- A node that may give up players: what it does when it is told to, and when a report comes.
 
 -- what a node tells of itself in a report: all that it has when it tells it. A decision looks at its set, at
 -- whether it has left, and at its commands

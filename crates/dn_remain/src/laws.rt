@@ -1,23 +1,24 @@
 //! What holds of every game.
 
-ghost use Rattle.std.specs.Prelude.{◌≡◌, ◌<◌, ℕ, ℤ, Bool, None, List, [], ◌∷◌, true, false, Some, get_or, map};
+ghost use Rattle.std.specs.Prelude.{◌≡◌, ◌<◌, ℕ, ℤ, Bool, None, List, [], ◌∷◌, true, false, Some, get_or, map, ◌≢◌, slice_get};
 ghost use Rattle.dn_tic.specs.declared.command.TicCmd.{TicCmd};
 ghost use Rattle.dn_setup.specs.Settings.{Settings};
 ghost use Rattle.dn_machine.specs.Drops as drops;
 ghost use Rattle.dn_machine.specs.{declared.events.Event.Event, Game.Game, Limits.Limits, Limits.IsWindow, Limits.vanilla_limits, Node.Node, Node.ends_of, Node.got, Node.held_at, Node.lacks};
 ghost use Rattle.dn_machine.specs.{Node.lowest, Node.ran, Running.is_awaited, Running.is_off, Running.on_run_but, declared.answers.Phase.TheVariants.Playing};
 ghost use Rattle.dn_machine.specs.{declared.answers.Ran.TheVariants.Inconsistent, Promise.Agree, Promise.Fits, Promise.Steady, Runs.Runs, Worlds.rules_of, Worlds.rules_within, Worlds.world_after};
-ghost use Rattle.dn_remain.specs.{Vanished.Calls.is_newer, Vanished.Commands.AreHanded, Vanished.Commands.Holder, Vanished.Commands.past_seen, Vanished.Commands.seen, Vanished.Steps.IsRun};
-ghost use Rattle.dn_remain.specs.{Seen.end_seen, Seen.now_of, Wary.Report, Wary.Wary, Wary.is_in_game, Wary.newest_seen, Wary.on_give_up, Wary.on_report, Wary.undecided, Remaining.Remaining};
-ghost use Rattle.dn_remain.specs.{RunsRemain.NobodyGivenUp, RunsRemain.RunsRemain, Promise.AgreeInPairs, Promise.FitsInPairs, Promise.IsPair, Promise.SteadyInPairs, declared.events.GivenUp.GivenUp, Relaying.RelayEvent, Relaying.Own as plain, Relaying.RunsRelayed};
-ghost use Rattle.dn_remain.specs.{declared.events.Reported.Reported, declared.events.RemainEvent.RemainEvent, declared.events.RemainEvent.TheVariants.Own};
+ghost use Rattle.dn_remain.specs.{Vanished.Calls.is_newer, Vanished.Commands.AreHanded, Vanished.Commands.Holder, Vanished.Commands.past_seen, Vanished.Commands.seen, Vanished.Steps.IsRun, Wary.can_settle};
+ghost use Rattle.dn_remain.specs.{Wary.end_seen, Wary.now_of, Wary.Report, Wary.Wary, Wary.is_in_game, Wary.newest_seen, Wary.on_give_up, Wary.on_report, Wary.undecided, Remaining.Remaining, Wary.with_gone};
+ghost use Rattle.dn_remain.specs.{Remaining.NobodyGivenUp, Remaining.RunsRemain, Promise.AgreeInPairs, Promise.FitsInPairs, Promise.IsPair, Promise.SteadyInPairs, declared.events.GivenUp.GivenUp, Relaying.RelayEvent, Relaying.Own as plain, Relaying.RunsRelayed};
+ghost use Rattle.dn_remain.specs.{declared.events.Reported.Reported, declared.events.RemainEvent.RemainEvent, declared.events.RemainEvent.TheVariants.Own, Wary.with_report, Remaining.Telling};
+ghost use Rattle.dn_remain.specs.{Remaining.wary_of, Remaining.with_wary, Promise.CanBeTaken};
 
 use dn_world::World;
 
 /// After every list of events, in any window, what the nodes have is a history of `dn_remain::vanish` in which nobody
 /// is given up: its counts are a run of steps, and its lists are handed on. So all laws of `dn_remain::vanish` hold of
 /// them.
-#[tactic(auto, using(crate::proofs::Own::is_quiet, crate::proofs::Remains::follow_all))]
+#[tactic(auto, using(crate::proofs::Quiet::is_quiet, crate::proofs::Reached::follow_all))]
 pub fn games_are_histories<W: World>()
     ensures { (limits : Limits) (settings : Settings) (events : List Event) (game : Game)
         → Runs (rules_within W.physics limits) settings events game
@@ -28,7 +29,7 @@ pub fn games_are_histories<W: World>()
 
 /// The same of every list of events in which players may be given up: a give-up, a report that comes and a
 /// decision are steps too.
-#[tactic(auto, using(crate::proofs::Remains::follow_all))]
+#[tactic(auto, using(crate::proofs::Reached::follow_all))]
 pub fn remaining_games_are_histories<W: World>()
     ensures { (limits : Limits) (settings : Settings) (events : List RemainEvent) (all : Remaining)
         → RunsRemain (rules_within W.physics limits) settings events all
@@ -45,7 +46,7 @@ pub fn remaining_games_are_histories<W: World>()
 /// commands overwrites none that is still needed; no demo has more rows than it has room for; and every node
 /// that has started has the key player's settings. In windows up to twelve, where twice as many commands are
 /// kept, no consistency check fails besides, and what is dropped is dropped for a reason.
-#[tactic(auto, using(crate::proofs::Fitted::pairs_fit, crate::proofs::Promises::pairs_agree, crate::proofs::Reached::reached_by, crate::proofs::Steady::pairs_steady))]
+#[tactic(auto, using(crate::proofs::Promises::pairs_fit, crate::proofs::Promises::pairs_agree, crate::proofs::Reached::reached_by, crate::proofs::Steady::pairs_steady))]
 pub fn those_who_remain_agree<W: World>()
     ensures agree { (limits : Limits) (settings : Settings) (events : List RemainEvent) (all : Remaining)
         → RunsRemain (rules_within W.physics limits) settings events all
@@ -61,7 +62,7 @@ pub fn those_who_remain_agree<W: World>()
 {}
 
 /// And the same where nodes give each other packets with commands of third players that they have.
-#[tactic(auto, using(crate::proofs::Fitted::pairs_fit, crate::proofs::Promises::pairs_agree, crate::proofs::Relayed::as_relayed, crate::proofs::Relayed::reached_by, crate::proofs::Steady::pairs_steady))]
+#[tactic(auto, using(crate::proofs::Promises::pairs_fit, crate::proofs::Promises::pairs_agree, crate::proofs::Relayed::as_relayed, crate::proofs::Relayed::reached_by, crate::proofs::Steady::pairs_steady))]
 pub fn relayed_games_agree<W: World>()
     ensures agree { (limits : Limits) (settings : Settings) (events : List RelayEvent) (all : Remaining)
         → RunsRelayed (rules_within W.physics limits) settings events all
@@ -105,7 +106,7 @@ pub fn quiet_games_agree<W: World>()
 {}
 
 /// And every game of the machine is such a game: nothing that could happen before is lost.
-#[tactic(auto, using(crate::proofs::Own::is_quiet))]
+#[tactic(auto, using(crate::proofs::Quiet::is_quiet))]
 pub fn games_are_quiet_games<W: World>()
     ensures { (limits : Limits) (settings : Settings) (own : List Event) (game : Game)
         → Runs (rules_within W.physics limits) settings own game
@@ -198,4 +199,23 @@ pub fn answers_are_true()
         → is_in_game wary.node.phase ≡ true → wary.gone from ≡ false → report.gone me ≡ false
         → is_newer limits.players (newest_seen wary from) (seen report) ≡ false
         → on_report limits me wary from report ≡ (wary, Reported.Stale) }
+{}
+
+/// Where a node can decide, once it has given up a player or a report has come, what it decides can be taken:
+/// of each player whom it has given up, the commands that it has are the first of those that are decided; these
+/// are the first that the player made, at most twice the window of them is not run, and an end that the node
+/// knows is the same.
+pub fn decisions_can_be_taken<W: World>()
+    ensures given_up { (limits : Limits) (settings : Settings) (events : List RemainEvent) (all : Remaining)
+        (q player : ℕ) → RunsRemain (rules_within W.physics limits) settings events all → q < limits.players
+        → player < limits.players → player ≢ q → is_in_game (all.game.nodes q).phase ≡ true
+        → can_settle limits q (with_gone limits (wary_of all q) player) ≡ true
+        → CanBeTaken limits (with_wary all q (with_gone limits (wary_of all q) player)) q }
+    ensures heard { (limits : Limits) (settings : Settings) (events : List RemainEvent) (all : Remaining)
+        (which : ℕ) (telling : Telling) → RunsRemain (rules_within W.physics limits) settings events all
+        → slice_get all.reports which ≡ Some telling → is_in_game (all.game.nodes telling.to).phase ≡ true
+        → can_settle limits telling.to (with_report (wary_of all telling.to) telling.from telling.report) ≡ true
+        → CanBeTaken limits
+        (with_wary all telling.to (with_report (wary_of all telling.to) telling.from telling.report))
+        telling.to }
 {}

@@ -12,15 +12,14 @@
 //! games in which somebody was given up, that those who remain go on.
 #![tactic(auto)]
 
-mod decisions;
 mod events;
 mod laws;
 pub mod vanish;
 
-pub use decisions::decisions_can_be_taken;
 pub use events::{GivenUp, RemainEvent, Reported};
 pub use laws::{
-    a_game_goes_on, a_game_starts, a_wide_game_goes_on, answers_are_true, games_are_histories,
-    games_are_quiet_games, marks_are_compared, quiet_games_agree, quiet_games_are_games,
-    relayed_games_agree, remaining_games_are_histories, those_who_remain_agree,
+    a_game_goes_on, a_game_starts, a_wide_game_goes_on, answers_are_true, decisions_can_be_taken,
+    games_are_histories, games_are_quiet_games, marks_are_compared, quiet_games_agree,
+    quiet_games_are_games, relayed_games_agree, remaining_games_are_histories,
+    those_who_remain_agree,
 };

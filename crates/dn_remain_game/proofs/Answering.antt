@@ -8,11 +8,11 @@ use Rattle.dn_machine.specs.{declared.events.Done.Done, declared.events.Event.Ev
 use Rattle.dn_machine.specs.{declared.events.Event.TheVariants.Deliver, declared.events.Event.TheVariants.Run, declared.events.Event.TheVariants.Quit, declared.events.Event.TheVariants.Stop}
 use Rattle.dn_machine.specs.{declared.events.Refusal.Refusal, Game.Game, Game.applied, Game.applied_if, Game.on_event, Game.refused, Game.refused_at, Runs.is_send, Worlds.Rules, Worlds.rules_within}
 use Rattle.dn_remain.specs.{Remaining.Remaining, Remaining.Telling, Remaining.after_event, Remaining.after_hearing, Remaining.after_run, Remaining.is_barred, Remaining.opening_remaining, Remaining.unless}
-use Rattle.dn_remain.specs.{Remaining.wary_of, Remaining.with_telling, Remaining.with_wary, RunsRemain.LeadsRemain, RunsRemain.NextOwn, RunsRemain.NextRemain, Wary.Report, Wary.on_give_up, Wary.on_report}
+use Rattle.dn_remain.specs.{Remaining.wary_of, Remaining.with_telling, Remaining.with_wary, Remaining.LeadsRemain, Remaining.NextOwn, Remaining.NextRemain, Wary.Report, Wary.on_give_up, Wary.on_report}
 use Rattle.dn_remain.specs.{Wary.report_to, declared.events.RemainEvent.RemainEvent, declared.events.RemainEvent.TheVariants.Own, declared.events.RemainEvent.TheVariants.GiveUp}
 use Rattle.dn_remain.specs.{declared.events.RemainEvent.TheVariants.Tell, declared.events.RemainEvent.TheVariants.Hear}
 use Rattle.dn_remain_game.specs.{declared.happened.Happened.Happened, Applied.Answers, Applied.IsApplied, Applied.Plays, Applied.TellsReached, Contents.Contents, Events.applied_remain, Events.applied_remain_if}
-use Rattle.dn_remain_game.specs.{Events.asks_room, Events.heard_at, Events.on_own, Events.own_unless, Events.refused_telling, Events.told_report, Promised.IsCarriedOn, Represents.Represents}
+use Rattle.dn_remain_game.specs.{Events.asks_room, Events.heard_at, Events.on_own, Events.own_unless, Events.refused_telling, Events.told_report, Promised.IsCarriedOn, Applied.Represents}
 use Rattle.dn_game.proofs.Answering.{follows, plays_more}
 
 -- what is counted by a test, with one more

@@ -8,10 +8,10 @@ use Rattle.dn_machine.specs.{Limits.Limits, Node.Node, Worlds.Rules, Worlds.rule
 use Rattle.dn_lockstep.specs.Told.{HasStarted}
 use Rattle.dn_lockstep.proofs.{Moving.known_by, Shown.starts}
 use Rattle.dn_remain.specs.{Remaining.Remaining, Remaining.opening_remaining, declared.events.RemainEvent.RemainEvent}
-use Rattle.dn_remain_game.specs.{declared.lived.Lived.Lived, Contents.Contents, Frame.KeepGiven, Frame.KeepWorlds, Fresh.worlds_of, Living.living, Represents.Represents, declared.played.Played.Played}
+use Rattle.dn_remain_game.specs.{declared.lived.Lived.Lived, Contents.Contents, Contents.KeepGiven, Contents.KeepWorlds, Contents.worlds_of, Living.living, Applied.Represents, declared.playing.Played.Played}
 use Rattle.dn_remain_game.specs.{declared.happened.Happened.Happened, Applied.IsApplied, Applied.TellsReached, Contents.contents, Promised.AppliesOne, Promised.HasPlayed, Promised.IsCarriedOn, Promised.IsPlayed}
 use Rattle.dn_remain_game.specs.{Room.StaysWithin}
-use Rattle.dn_game.proofs.Places.{there_is}
+use Rattle.dn_game.proofs.Standing.{there_is}
 use Rattle.dn_setup.specs.Settings.{Settings}
 use Rattle.dn_world.specs.Physics.{Physics}
 use Rattle.dn_remain_game.proofs.{Answering.counts_more, Answering.plays_leads, Applying.applied_keeps, Promising.promised}

@@ -1,21 +1,41 @@
 -- A node that gives up a player or hears a report starts and begins its world, or leaves its world as it is.
-use Rattle.std.proofs.Common.{◌≡◌, ◌≢◌, ℕ, Bool, true, false, Some, None, refl, ap, sym, ◌∙◌}
-use Rattle.std.proofs.lemmas.Bool.{cond_both}
-use Rattle.dn_survivor.specs.{declared.report.Report.Report as Told, declared.answers.GivenUp.GivenUp, declared.answers.Reported.Reported}
-use Rattle.dn_setup.specs.{Gathered.all_noted, Settings.Settings, Starts.start_of}
+use Rattle.std.proofs.Common.{◌≡◌, ◌≢◌, ℕ, Bool, true, false, Some, None, refl, ap, sym, ◌∙◌, ◌<◌, ◌≤◌, inl, inr, arith}
+use Rattle.std.proofs.lemmas.Bool.{cond_both, cases_lt, le-ltb}
+use Rattle.dn_setup.specs.Gathered.{all_noted}
+use Rattle.dn_setup.specs.Settings.{Settings, start_of}
 use Rattle.dn_world.specs.Physics.{Physics}
 use Rattle.dn_machine.specs.{declared.answers.Heard.Heard, declared.answers.Phase.Phase, declared.answers.Phase.TheVariants.Listening, declared.answers.Phase.TheVariants.Gathering}
 use Rattle.dn_machine.specs.{declared.answers.Phase.TheVariants.Playing, declared.answers.Phase.TheVariants.Ended, Limits.Limits, Node.Node, Node.put, Node.ran, Worlds.rules_within}
+use Rattle.dn_remain.specs.{Vanished.Commands.on_decision, Wary.Report, Wary.Wary, Wary.after_news, Wary.noted_gone, Wary.on_give_up, Wary.on_report, Wary.or_fresh, Wary.report_of, Wary.settled, Wary.with_gone, Wary.with_report}
+use Rattle.dn_remain.proofs.Each.{give_up_cases, news_cases, report_cases}
+use Rattle.dn_remain.specs.declared.events.GivenUp as remain_given
 use Rattle.dn_lockstep.specs.{Phases.is_waiting, Rows.seats_of}
 use Rattle.dn_lockstep.proofs.Moving.{known_by}
-use Rattle.dn_remain.specs.{Vanished.Decisions.on_decision, Wary.Report, Wary.Wary, Wary.after_news, Wary.noted_gone, Wary.on_give_up, Wary.on_report, Wary.or_fresh, Wary.report_of, Wary.settled, Wary.with_gone}
-use Rattle.dn_remain.specs.{Wary.with_report}
-use Rattle.dn_remain.proofs.Cases.{give_up_cases, news_cases, report_cases}
-use Rattle.dn_survivor.proofs.Waries.{gave_up, heard}
-use Rattle.dn_remain_game.specs.Living.{GivesUp, HasWorld, Hears, KeepsWorld, Living, Represents}
-use Rattle.dn_remain_game.proofs.{Beside.IsBeside, Beside.stays, Keeping.keeps, Keeping.keeps_till_start, Beside.begins, Beside.beside}
 use Rattle.dn_lockstep.specs.Represents as lockstep_to
+use Rattle.dn_survivor.specs.{declared.report.Report.Report as Told, declared.answers.GivenUp.GivenUp, declared.answers.Reported.Reported}
+use Rattle.dn_survivor.proofs.Waries.{gave_up, heard}
 use Rattle.dn_survivor.specs.Calls as survivor
+use Rattle.dn_remain_game.specs.Living.{GivesUp, HasWorld, Hears, KeepsWorld, Living, Represents}
+use Rattle.dn_remain_game.proofs.{Stepping.IsBeside, Stepping.stays, Stepping.keeps, Stepping.keeps_till_start, Stepping.begins, Stepping.beside}
+
+-- A number that is no player's is given up as any other that is none.
+stranger : (limits : Limits) (me : ℕ) (wary : Wary) (player : ℕ) → limits.players ≤ player
+    → on_give_up limits me wary player ≡ (wary, remain_given.GivenUp.NotAPlayer)
+unfolding on_give_up
+stranger limits me wary player past = let off = le-ltb player limits.players past in rw off refl
+
+pub narrowed : (limits : Limits) (me : ℕ) (wary : Wary) (player small : ℕ) → limits.players ≤ 4
+    → (player < 256 → small ≡ player) → (256 ≤ player → small ≡ 255)
+    → on_give_up limits me wary small ≡ on_give_up limits me wary player
+narrowed limits me wary player small few low high = elim (cases_lt player 256) [
+  | inl below ↦ ap (on_give_up limits me wary) (low below)
+  | inr past ↦
+      let is = high past in
+      stranger limits me wary small (omega (arith, is, few))
+      ∙ sym (stranger limits me wary player (omega (arith, past, few)))
+]
+
+-- Giving up, and hearing.
 
 -- a node that gathered starts, or goes on beside its world
 data Gives (m after : Node) : Type 0 where

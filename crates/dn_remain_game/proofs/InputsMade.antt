@@ -7,19 +7,23 @@ use Rattle.dn_setup.specs.Settings.{Settings}
 use Rattle.dn_tic.specs.{declared.input.Input.Input, declared.input.Input.TheVariants.Pressed, declared.input.Input.TheVariants.Given}
 use Rattle.dn_machine.specs.{declared.answers.Made.Made, declared.answers.Ran.Ran, declared.events.Done.Done, declared.events.Event.Event, declared.events.Event.TheVariants.Build, declared.events.Event.TheVariants.Give}
 use Rattle.dn_machine.specs.{declared.events.Event.TheVariants.Send, declared.events.Event.TheVariants.Deliver, declared.events.Event.TheVariants.Run, declared.events.Event.TheVariants.Quit}
-use Rattle.dn_machine.specs.{declared.events.Event.TheVariants.Stop, declared.events.Refusal.Refusal, Building.on_build, Building.on_build_in, Flight.Flight, Game.delivered, Game.opening_game, Game.own_marks}
+use Rattle.dn_machine.specs.declared.events.Event.TheVariants.{Stop}
+use Rattle.dn_machine.specs.declared.events.Refusal.{Refusal}
+use Rattle.dn_machine.specs.Sending.{on_build, on_build_in}
+use Rattle.dn_machine.specs.Flight.{Flight}
+use Rattle.dn_machine.specs.Game.{delivered, opening_game, own_marks}
 use Rattle.dn_machine.specs.{Game.posted, Game.with_node, Hearing.on_packet, Node.Node, Node.lowest, Node.put, Node.ran, Promise.inputs_of, Running.first_off_but, Running.full_at, Running.is_awaited, Running.on_quit}
 use Rattle.dn_machine.specs.{Running.on_run_but, Running.on_run_but_in, Running.on_run_playing, Running.row_held, Sending.on_send, Worlds.Rules, Limits.Limits, declared.answers.Phase.Phase}
 use Rattle.dn_machine.specs.{declared.answers.Phase.TheVariants.Listening, declared.answers.Phase.TheVariants.Gathering, declared.answers.Phase.TheVariants.Playing, declared.answers.Phase.TheVariants.Ended}
 use Rattle.dn_machine.proofs.{Calls.quit_cases, Calls.send_cases, Put.put_at, Put.put_off, Put.view_kept}
-use Rattle.dn_lockstep.specs.Session.{taken_on}
+use Rattle.dn_lockstep.specs.OneGame.{taken_on}
 use Rattle.dn_lockstep.proofs.OneGame.{hear_quiet}
 use Rattle.dn_remain.specs.{Remaining.Remaining, Remaining.Telling, Remaining.is_barred, Remaining.opening_remaining, Remaining.wary_of, Wary.Report, Wary.on_give_up, Wary.on_report, Wary.report_to}
 use Rattle.dn_remain.specs.{declared.events.RemainEvent.RemainEvent, declared.events.RemainEvent.TheVariants.Own, declared.events.RemainEvent.TheVariants.GiveUp, declared.events.RemainEvent.TheVariants.Tell}
 use Rattle.dn_remain.specs.{declared.events.RemainEvent.TheVariants.Hear}
-use Rattle.dn_survivor.proofs.Quiet.{give_up_quiet, report_quiet}
+use Rattle.dn_survivor.proofs.Steps.{give_up_quiet, report_quiet}
 use Rattle.dn_remain_game.specs.{declared.happened.Happened.Happened, Applied.Answers, Applied.Plays, Events.applied_remain, Events.applied_remain_if, Events.heard_at, Events.on_remain, Events.own_unless}
-use Rattle.dn_remain_game.specs.{Events.refused_remain, Events.told_report, InputsMade.input_by, InputsMade.inputs_by, InputsMade.inputs_made}
+use Rattle.dn_remain_game.specs.{Events.refused_remain, Events.told_report, Events.input_by, Events.inputs_by, Events.inputs_made}
 
 -- what a build, a quit and a run do to the inputs of a node
 module _ (limits : Limits) (me : ℕ) (m : Node) where

@@ -1,15 +1,9 @@
-pub mod Beside
-pub mod Keeping
 pub mod Stepping
 pub mod Giving
 pub mod Standing
-pub mod NodeSteps
-pub mod Refusing
-pub mod Narrowing
 pub mod Answering
 pub mod Sending
 pub mod Reporting
-pub mod ReportsTold
 pub mod Applying
 pub mod Unstopped
 pub mod InputsMade

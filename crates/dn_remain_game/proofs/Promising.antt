@@ -7,25 +7,25 @@ use Rattle.std.proofs.lemmas.Option.{same_Some, slice_get_within}
 use Rattle.dn_setup.specs.Settings.{Settings}
 use Rattle.dn_machine.specs.{declared.events.Event.Event, declared.events.Refusal.Refusal, Game.opening_game, Limits.Limits, Node.put, Worlds.Rules, Game.refused_at, Node.ran, Promise.inputs_of, Worlds.Inputs}
 use Rattle.dn_machine.specs.{Worlds.rules_within, Worlds.world, Worlds.world_after}
-use Rattle.dn_remain.specs.{Remaining.Remaining, Remaining.Telling, Remaining.is_barred, Remaining.opening_remaining, Remaining.wary_of, RunsRemain.NobodyGivenUp, Wary.Report, Wary.Wary, Wary.on_report, Wary.report_to}
+use Rattle.dn_remain.specs.{Remaining.Remaining, Remaining.Telling, Remaining.is_barred, Remaining.opening_remaining, Remaining.wary_of, Remaining.NobodyGivenUp, Wary.Report, Wary.Wary, Wary.on_report, Wary.report_to}
 use Rattle.dn_remain.specs.{Wary.with_report, declared.events.RemainEvent.RemainEvent, declared.events.RemainEvent.TheVariants.Own, declared.events.RemainEvent.TheVariants.GiveUp}
 use Rattle.dn_remain.specs.{declared.events.RemainEvent.TheVariants.Tell, declared.events.RemainEvent.TheVariants.Hear, Remaining.after_hearing, Remaining.unless, Remaining.with_telling, Remaining.with_wary}
-use Rattle.dn_remain.specs.{RunsRemain.LeadsRemain, RunsRemain.NextOwn, RunsRemain.NextRemain, RunsRemain.RunsRemain, Wary.on_give_up, Wary.with_gone, Relaying.Own as plain, Vanished.Commands.Holder}
-use Rattle.dn_remain.proofs.{Cases.report_cases, Vanished.Put.own_put, Cases.give_up_cases, Relayed.as_relayed, Fitted.pairs_fit, Promises.pairs_agree, Quiet.quiet, Reached.IsReached as IsKnown, Reached.reached_by}
+use Rattle.dn_remain.specs.{Remaining.LeadsRemain, Remaining.NextOwn, Remaining.NextRemain, Remaining.RunsRemain, Wary.on_give_up, Wary.with_gone, Relaying.Own as plain, Vanished.Commands.Holder}
+use Rattle.dn_remain.proofs.{Each.report_cases, Vanished.Put.own_put, Each.give_up_cases, Relayed.as_relayed, Promises.pairs_fit, Promises.pairs_agree, Quiet.quiet, Reached.IsReached as IsKnown, Reached.reached_by}
 use Rattle.dn_remain.proofs.{Steady.pairs_steady}
 use Rattle.dn_survivor.proofs.Waries.{news_gone}
 use Rattle.dn_remain_game.specs.{declared.happened.Happened.Happened, Applied.Answers, Applied.Plays, Events.applied_remain, Events.applied_remain_if, Events.heard_at, Events.on_remain, Events.own_unless}
 use Rattle.dn_remain_game.specs.{Events.refused_remain, Events.told_report, Promised.GivesUpNobody, declared.lived.Lived.Lived, Contents.Contents, Living.living, Promised.AreAgreedInGame, Promised.AreSurvivors}
-use Rattle.dn_remain_game.specs.{Promised.IsPromised, Promised.session_of, Represents.Represents}
+use Rattle.dn_remain_game.specs.{Promised.IsPromised, Promised.session_of, Applied.Represents}
 use Rattle.dn_machine.proofs.{Put.put_at, Put.put_off, Games.always, Invariant.IsKept}
-use Rattle.dn_remain_game.proofs.{Keeping.window_of, SteadyAnswers.steady_answers, Unstopped.marking_of, Unstopped.unstopped, Unstopped.unstopped_runs, InputsMade.inputs_played}
+use Rattle.dn_remain_game.proofs.{Stepping.window_of, SteadyAnswers.steady_answers, Unstopped.marking_of, Unstopped.unstopped, Unstopped.unstopped_runs, InputsMade.inputs_played}
 use Rattle.dn_lockstep.specs.{OneGame.beside, Told.HasStarted}
 use Rattle.dn_world.specs.Physics.{Physics}
 use Rattle.dn_lockstep.proofs.Shown.{started}
 use Rattle.dn_tic.specs.declared.command.TicCmd.{TicCmd}
 use Rattle.dn_survivor.specs.{Agreed.IsPair, OneGame.AreRemaining, Surviving.Surviving, Surviving.has_given_up}
-use Rattle.dn_game.specs.Represents.{IsCarried}
-use Rattle.dn_game.proofs.Places.{all_at, there_is}
+use Rattle.dn_game.specs.Contents.{IsCarried}
+use Rattle.dn_game.proofs.Standing.{all_at, there_is}
 use Rattle.dn_machine.proofs.Promises
 use Rattle.dn_remain.specs.Promise as pairs
 use Rattle.dn_survivor.specs.Represents as survivor_to

@@ -4,18 +4,59 @@ use Rattle.std.specs.Prelude.{◌⊎◌, slice_get, slice_index_or}
 use Rattle.std.specs.Option.{option_map}
 use Rattle.std.proofs.lemmas.List.{length-map, map_push}
 use Rattle.std.proofs.lemmas.Option.{slice_get-map, slice_get_read, slice_get_within}
-use Rattle.dn_remain_game.proofs.{Keeping.window_of, Answering.plays_leads, Keeping.keep_all, Keeping.keep_others, Standing.node_at, Standing.places_wary, Standing.with_posts}
-use Rattle.dn_survivor.specs.{declared.report.Report.Report as Told, OfOthers.Represents.AreTold, OfOthers.Represents.Tells, OneGame.AreTelling, Session.Given, Telling.report_for, declared.answers.Reported.Reported}
 use Rattle.dn_setup.specs.Settings.{Settings}
 use Rattle.dn_world.specs.Physics.{Physics}
 use Rattle.dn_machine.specs.{declared.events.Refusal.Refusal, Limits.Limits, Worlds.Rules, Worlds.rules_within, Game.refused_at}
 use Rattle.dn_remain.specs.{Remaining.Remaining, Remaining.Telling as Exact, Remaining.wary_of, Wary.Report, Wary.on_report, Wary.report_to, declared.events.RemainEvent.RemainEvent}
+use Rattle.dn_remain.specs.{declared.events.RemainEvent.TheVariants.Own, declared.events.RemainEvent.TheVariants.GiveUp, declared.events.RemainEvent.TheVariants.Tell}
+use Rattle.dn_remain.specs.{declared.events.RemainEvent.TheVariants.Hear}
 use Rattle.dn_remain.proofs.Relayed.{as_relayed}
-use Rattle.dn_survivor.proofs.{Decided.told_can, Tellings.as_many, Tellings.telling_at, Tellings.telling_more, Tellings.told_apart}
-use Rattle.dn_remain_game.specs.{declared.happened.Happened.Happened, declared.lived.Lived.Lived, declared.under_way.Telling.Telling, Applied.IsAfter, Applied.IsReached, Contents.Contents, Events.heard_at}
-use Rattle.dn_remain_game.specs.{Events.refused_telling, Events.told_report, Living.Hears, Living.living, Represents.Represents, Represents.given_of}
+use Rattle.dn_survivor.specs.{declared.report.Report.Report as Told, OfOthers.AreTold, OfOthers.Tells, OneGame.AreTelling, OneGame.Given, Telling.report_for, declared.answers.Reported.Reported}
+use Rattle.dn_survivor.proofs.{Decided.told_can, Reports.as_many, Reports.telling_at, Reports.telling_more, Reports.told_apart}
 use Rattle.dn_survivor.proofs.Reports as telling
+use Rattle.dn_remain_game.proofs.{Stepping.window_of, Answering.plays_leads, Stepping.keep_all, Stepping.keep_others, Standing.node_at, Standing.places_wary, Standing.with_posts}
+use Rattle.dn_remain_game.specs.{declared.happened.Happened.Happened, declared.lived.Lived.Lived, declared.under_way.Telling.Telling, Applied.IsAfter, Applied.IsReached, Contents.Contents, Events.heard_at}
+use Rattle.dn_remain_game.specs.{Events.refused_telling, Events.told_report, Living.Hears, Living.living, Applied.Represents, Applied.given_of, Survivors.HasTold, Survivors.TellsReport, Survivors.told_with}
 use Rattle.dn_remain_game.specs.Living as node_to
+
+-- The reports that were told, after an event.
+
+-- a node was asked for a report, and gave none or one
+module _ {W : Type 0} (old new : Contents W) (node to : ℕ) (n : Lived W) (below : node < length old.nodes)
+    (read : n ≡ slice_index_or old.nodes node n) where
+  abbrev after : Option Told → List Telling × Happened
+  after given = told_with old.reports node to given
+
+  pub tells_nothing : None ≡ report_for (living n).survivor to → new.reports ≡ old.reports
+      → TellsReport old new node to (Ok Happened.Untold)
+  tells_nothing none same = (
+    n,
+    slice_get_read old.nodes (length old.nodes) node n refl below read,
+    (λ i. (same i, Happened.Untold)) ∙ ap after none,
+  )
+
+  pub tells_report : (report : Told) → Some report ≡ report_for (living n).survivor to
+      → new.reports ≡ old.reports ++ record { from = node; to = to; report = report } ∷ []
+      → (which : ℕ) → which ≡ length old.reports → TellsReport old new node to (Ok (Happened.Told which))
+  tells_report report some more which last = (
+    n,
+    slice_get_read old.nodes (length old.nodes) node n refl below read,
+    (λ i. (more i, Happened.Told (last i))) ∙ ap after some,
+  )
+
+-- a refused event tells nothing
+pub refused_tells : {W : Type 0} (g : Contents W) (event : RemainEvent) (refusal : Refusal)
+    → HasTold g g event (Err refusal)
+refused_tells g (Own event) refusal = refl
+refused_tells g (GiveUp node player) refusal = refl
+refused_tells g (Tell node to) refusal = refl
+refused_tells g (Hear which) refusal = refl
+
+-- by the event that it is
+pub told_by : {W : Type 0} (old new : Contents W) (event named : RemainEvent) (answer : Result Happened Refusal)
+    → event ≡ named → HasTold old new named answer → HasTold old new event answer
+told_by old new event named answer same has =
+    subst (λ (e : RemainEvent). HasTold old new e answer) (sym same) has
 
 module _ {W S : Type 0} (state : W → S) (rules : Rules S) (g : Contents W) (all : Remaining)
     (r : Represents state rules g all) (node to : ℕ) (n : Lived W) (below : node < length g.nodes)

@@ -10,9 +10,9 @@ use Rattle.dn_machine.specs.{declared.answers.Heard.Heard, declared.events.Refus
 use Rattle.dn_survivor.specs.{declared.report.Report.Report, Calls.GivesUp, Calls.GivesUpUnless, Calls.HearsReport, Calls.HearsReportUnless, Calls.refused_give_up, Calls.refused_report, Surviving.Surviving}
 use Rattle.dn_survivor.specs.{Surviving.has_given_up, declared.answers.GivenUp.GivenUp, declared.answers.Reported.Reported}
 use Rattle.dn_lockstep.specs.{Contents.whose, Hearing.HearsAny, Hearing.Spares}
-use Rattle.dn_game.proofs.{Whose.keep_limits, Framing.slice_get-set_other}
-use Rattle.dn_remain_game.specs.{declared.lived.Lived.Lived, Fresh.AreLimited, Kept.whose_of, Living.StaysWhose, Living.living, declared.game.Game.Game, Room.KeepsPosts, Room.room_after, Room.room_for, Room.room_of}
-use Rattle.dn_remain_game.specs.{Contents.Contents, Kept.KeepsOthers, Kept.changed_by, declared.under_way.Telling.Telling, Contents.contents, Rest.KeepsRest, Rest.KeepsRestOf, Room.StaysWithin}
+use Rattle.dn_game.proofs.Framing.{keep_limits, slice_get-set_other}
+use Rattle.dn_remain_game.specs.{declared.lived.Lived.Lived, Contents.AreLimited, Kept.whose_of, Living.StaysWhose, Living.living, declared.game.Game.Game, Room.KeepsPosts, Room.room_after, Room.room_for, Room.room_of}
+use Rattle.dn_remain_game.specs.{Contents.Contents, Kept.KeepsOthers, Kept.changed_by, declared.under_way.Telling.Telling, Contents.contents, Kept.KeepsRest, Kept.KeepsRestOf, Room.StaysWithin}
 use Rattle.dn_remain.specs.declared.events.RemainEvent.{RemainEvent}
 use Rattle.dn_game.specs.declared.flight.Flight.{Flight}
 use Rattle.dn_machine.specs.Drops as drops

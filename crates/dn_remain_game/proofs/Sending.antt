@@ -9,15 +9,18 @@ use Rattle.arrayvec.specs.ArrayVec.{ArrayVec}
 use Rattle.dn_machine.specs.{declared.answers.Heard.Heard, declared.events.Done.Done, declared.events.Event.TheVariants.Send, declared.events.Event.TheVariants.Deliver, Flight.is_near, Flight.packet_of, Game.delivered}
 use Rattle.dn_machine.specs.{Game.posted, Game.refused_flight, Game.with_node, Hearing.on_packet, Limits.Limits, Node.made, Sending.on_send, Worlds.Rules, Worlds.rules_within}
 use Rattle.dn_world.specs.Physics.{Physics}
-use Rattle.dn_lockstep.specs.{declared.lockstep.aiming.Aim.Aim, Giving.Gives, Near.IsFair, Sent.sent_to, Sent.aim_of, Sent.bytes_of}
+use Rattle.dn_lockstep.specs.declared.lockstep.aiming.Aim.{Aim}
+use Rattle.dn_lockstep.specs.Giving.{Gives}
+use Rattle.dn_lockstep.specs.Sent.{IsFair, sent_to, aim_of, bytes_of}
 use Rattle.dn_lockstep.proofs.OneGame.{sent_between}
 use Rattle.dn_remain.specs.Remaining.{Remaining, is_barred, is_barred_flight, wary_of}
 use Rattle.dn_survivor.specs.Surviving.{has_given_up}
-use Rattle.dn_remain_game.specs.{declared.lived.Lived.Lived, Applied.IsAfter, Contents.Contents, Events.in_game, Events.own_unless, Frame.KeepWorlds, Living.HearsNear, Living.IsGiven, Living.Living, Living.Steps}
-use Rattle.dn_remain_game.specs.{Living.Tells, Living.living, Living.on_node, Represents.Represents}
-use Rattle.dn_game.specs.{declared.flight.Flight.Flight, Represents.IsCarried, Represents.flight_of}
-use Rattle.dn_remain_game.proofs.{Keeping.keep_others, Keeping.keeps_same, Standing.flight_at, Standing.made_at, Standing.node_at, Standing.places, Standing.places_same, Standing.with_posts}
-use Rattle.dn_game.proofs.Refusing.{near_unless}
+use Rattle.dn_remain_game.specs.{declared.lived.Lived.Lived, Applied.IsAfter, Contents.Contents, Events.in_game, Events.own_unless, Contents.KeepWorlds, Living.HearsNear, Living.IsGiven, Living.Living, Living.Steps}
+use Rattle.dn_remain_game.specs.{Living.Tells, Living.living, Living.on_node, Applied.Represents}
+use Rattle.dn_game.specs.declared.flight.Flight.{Flight}
+use Rattle.dn_game.specs.Contents.{IsCarried, flight_of}
+use Rattle.dn_remain_game.proofs.{Stepping.keep_others, Stepping.keeps_same, Standing.flight_at, Standing.made_at, Standing.node_at, Standing.places, Standing.places_same, Standing.with_posts}
+use Rattle.dn_game.proofs.Applying.{near_unless}
 use Rattle.dn_machine.specs.Drops as drops
 use Rattle.dn_machine.specs.Flight as exact
 use Rattle.dn_machine.specs.Node as machine

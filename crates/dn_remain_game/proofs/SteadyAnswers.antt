@@ -11,13 +11,13 @@ use Rattle.dn_machine.specs.{Game.own_marks, Game.posted, Game.refused, Game.ref
 use Rattle.dn_machine.proofs.Put.{put_at}
 use Rattle.dn_remain.specs.{declared.events.RemainEvent.RemainEvent, declared.events.RemainEvent.TheVariants.Own, declared.events.RemainEvent.TheVariants.GiveUp, declared.events.RemainEvent.TheVariants.Tell}
 use Rattle.dn_remain.specs.{declared.events.RemainEvent.TheVariants.Hear, Promise.SteadyInPairs, Remaining.Remaining, Remaining.Telling, Remaining.is_barred, Remaining.is_barred_flight, Remaining.opening_remaining}
-use Rattle.dn_remain.specs.{Remaining.wary_of, RunsRemain.LeadsRemain, RunsRemain.NextRemain, RunsRemain.RunsRemain, Wary.Report, Wary.on_give_up, Wary.on_report, Wary.report_to}
+use Rattle.dn_remain.specs.{Remaining.wary_of, Remaining.LeadsRemain, Remaining.NextRemain, Remaining.RunsRemain, Wary.Report, Wary.on_give_up, Wary.on_report, Wary.report_to}
 use Rattle.dn_remain.proofs.{Reached.reached_by, Steady.pairs_steady}
 use Rattle.dn_survivor.specs.Represents.{given_up_is}
 use Rattle.dn_remain_game.specs.{declared.happened.Happened.Happened, Applied.Answers, Applied.Plays, Events.applied_remain, Events.applied_remain_if, Events.heard_at, Events.on_own, Events.own_unless, Events.refused_remain}
 use Rattle.dn_remain_game.specs.{Events.told_report, Promised.IsSteady}
 use Rattle.dn_remain_game.proofs.Answering.{answers_next, applied_next}
-use Rattle.dn_survivor.proofs.NodeAnswers.{is_dropped, is_excluded, never_improper, not_out, taken_given, taken_reported}
+use Rattle.dn_survivor.proofs.Heard.{is_dropped, is_excluded, never_improper, not_out, taken_given, taken_reported}
 use Rattle.dn_machine.specs.declared.answers.Cause.TheVariants as Cause
 use Rattle.dn_machine.specs.Drops as drops
 use Rattle.dn_remain.specs.declared.events.GivenUp as remain_given

@@ -16,7 +16,7 @@ use Rattle.dn_machine.specs.{Worlds.world_after}
 use Rattle.dn_machine.proofs.Put.{same_functions}
 use Rattle.dn_lockstep.specs.{Marking.History, Marking.Marking, Marking.free, OneGame.beside}
 use Rattle.dn_remain.specs.{Remaining.Remaining, Remaining.Telling, Remaining.after_event, Remaining.after_give_up, Remaining.after_hearing, Remaining.after_run, Remaining.after_telling, Remaining.is_barred}
-use Rattle.dn_remain.specs.{Remaining.opening_remaining, Remaining.unless, Remaining.wary_of, Remaining.with_telling, Remaining.with_wary, RunsRemain.LeadsRemain, RunsRemain.NextRemain, RunsRemain.RunsRemain}
+use Rattle.dn_remain.specs.{Remaining.opening_remaining, Remaining.unless, Remaining.wary_of, Remaining.with_telling, Remaining.with_wary, Remaining.LeadsRemain, Remaining.NextRemain, Remaining.RunsRemain}
 use Rattle.dn_remain.specs.{Wary.Report, Wary.on_give_up, Wary.on_report, Wary.report_to, declared.events.RemainEvent.RemainEvent, declared.events.RemainEvent.TheVariants.Own}
 use Rattle.dn_remain.specs.{declared.events.RemainEvent.TheVariants.GiveUp, declared.events.RemainEvent.TheVariants.Tell, declared.events.RemainEvent.TheVariants.Hear}
 

@@ -1,5 +1,5 @@
--- An event on a game is a step of the game that it represents.
-use Rattle.std.specs.Prelude.{◌≡◌, ◌<◌, ◌⊎◌, List, IsTrue, length, None, Result, Ok, Err}
+-- When a game represents one of `dn_remain`, and what an event on it is there.
+use Rattle.std.specs.Prelude.{◌≡◌, ◌<◌, ◌⊎◌, List, IsTrue, length, None, Result, Ok, Err, ℕ, false, map, All, slice_get, slice_index_or, Some}
 use Rattle.dn_setup.specs.Settings.{Settings}
 use Rattle.dn_world.specs.Physics.{Physics}
 use Rattle.dn_machine.specs.declared.events.Done.{Done}
@@ -8,16 +8,43 @@ use Rattle.dn_machine.specs.declared.events.Refusal.{Refusal}
 use Rattle.dn_machine.specs.Limits.{Limits}
 use Rattle.dn_machine.specs.Runs.{is_send}
 use Rattle.dn_machine.specs.Worlds.{Rules, rules_within}
-use Rattle.dn_remain.specs.Remaining.{Remaining, is_barred, opening_remaining}
+use Rattle.dn_remain.specs.Remaining.{Remaining, is_barred, opening_remaining, wary_of}
 use Rattle.dn_remain.specs.declared.events.RemainEvent.{RemainEvent}
 use Rattle.dn_remain.specs.declared.events.RemainEvent.TheVariants.{Own, GiveUp, Tell, Hear}
+use Rattle.dn_survivor.specs.OneGame.{AreTelling, Given}
 use Rattle.dn_game.specs.Applied.{IsLeftOut, IsWithin}
 use Rattle.dn_game.specs.Played.{PlaysBy}
+use Rattle.dn_game.specs.Contents.{IsCarried, IsVanilla, flight_of}
 use Rattle.dn_remain_game.specs.declared.happened.Happened.{Happened}
-use Rattle.dn_remain_game.specs.Contents.{Contents}
+use Rattle.dn_remain_game.specs.Contents.{Contents, KeepWorlds}
 use Rattle.dn_remain_game.specs.Events.{applied_remain, asks_room, in_game, on_own, own_unless, refused_remain}
-use Rattle.dn_remain_game.specs.Frame.{KeepWorlds}
-use Rattle.dn_remain_game.specs.Represents.{Represents}
+use Rattle.dn_remain_game.specs.declared.lived.Lived.{Lived}
+use Rattle.dn_remain_game.specs.declared.under_way.Telling.{Telling}
+use Rattle.dn_remain_game.specs.Living as node_to
+use Rattle.dn_remain_game.specs.Living.{living}
+
+-- When a game represents one of `dn_remain`.
+
+-- a report that was told, as its sender gave it
+abbrev pub given_of : Telling → Given
+given_of telling = record { from = telling.from; to = telling.to; report = telling.report }
+
+pub record Represents {W S : Type 0} (state : W → S) (rules : Rules S) (g : Contents W) (all : Remaining) :
+    Type 0 where
+  pub players : length g.nodes ≡ rules.players
+  pub vanilla : IsVanilla rules.limits
+  -- each node represents the node of its number, whom that one has given up, and what it was told
+  pub nodes : (i : ℕ) (n : Lived W) → slice_get g.nodes i ≡ Some n
+      → node_to.Represents state rules i (living n) (wary_of all i)
+  -- the same have stopped
+  pub stopped : (i : ℕ) → slice_index_or g.stopped i false ≡ all.game.stopped i
+  -- the packets are those of the flights, in the same order
+  pub flights : g.flights ≡ map flight_of all.game.flights
+  pub carried : All (IsCarried rules.players) all.game.flights
+  -- and each report tells what its sender had then
+  pub reports : AreTelling rules.limits (map given_of g.reports) all.reports
+
+-- An event on a game is a step of the game that it represents.
 
 -- whatever game it represents, this holds of that one
 abbrev pub Tells : {W S : Type 0} → (W → S) → Physics S → Contents W → (Rules S → Remaining → Type 0) → Type 0

@@ -1,21 +1,26 @@
--- What an event does to a game in which players may be given up, and what is answered.
-use Rattle.std.specs.Prelude.{ℕ, Bool, true, false, length, Option, Some, None, slice_get, Result, Ok, Err}
+-- What an event does to a game in which players may be given up, and what is answered; and the inputs that
+-- count.
+use Rattle.std.specs.Prelude.{ℕ, Bool, true, false, length, Option, Some, None, slice_get, Result, Ok, Err, ◌==◌, List, [], ◌∷◌, if◌then◌else◌}
+use Rattle.dn_tic.specs.declared.input.Input.{Input}
+use Rattle.dn_tic.specs.declared.input.Input.TheVariants.{Pressed, Given}
 use Rattle.dn_machine.specs.declared.answers.Heard.{Heard}
 use Rattle.dn_machine.specs.declared.events.Done.{Done}
 use Rattle.dn_machine.specs.declared.events.Event.{Event}
-use Rattle.dn_machine.specs.declared.events.Event.TheVariants.{Send, Deliver, Run}
+use Rattle.dn_machine.specs.declared.events.Event.TheVariants.{Send, Deliver, Run, Build, Give}
 use Rattle.dn_machine.specs.declared.events.Refusal.{Refusal}
 use Rattle.dn_machine.specs.Drops as drops
 use Rattle.dn_machine.specs.Game.{Game, on_event, own_marks, refused, refused_at, with_node}
 use Rattle.dn_machine.specs.Limits.{Limits}
 use Rattle.dn_machine.specs.Running.{on_run_but}
 use Rattle.dn_machine.specs.Runs.{is_send}
-use Rattle.dn_machine.specs.Worlds.{Rules}
+use Rattle.dn_machine.specs.Worlds.{Rules, Inputs}
+use Rattle.dn_machine.specs.declared.answers.Made.{Made}
 use Rattle.dn_remain.specs.Remaining.{Remaining, Telling, is_barred, wary_of, with_telling, with_wary}
 use Rattle.dn_remain.specs.Wary.{Report, on_give_up, on_report, report_to}
 use Rattle.dn_remain.specs.declared.events.RemainEvent.{RemainEvent}
 use Rattle.dn_remain.specs.declared.events.RemainEvent.TheVariants.{Own, GiveUp, Tell, Hear}
 use Rattle.dn_survivor.specs.Represents.{given_up_is, reported_is}
+use Rattle.dn_game.specs.Promised.{inputs_of_all}
 use Rattle.dn_remain_game.specs.declared.happened.Happened.{Happened}
 
 -- an event of the machine that is not barred; a run compares no mark of one whom its node has given up
@@ -96,3 +101,21 @@ asks_room (Own event) = is_send event
 asks_room (GiveUp node player) = false
 asks_room (Tell node to) = true
 asks_room (Hear which) = false
+
+-- The inputs that count: those of the builds that made a command.
+
+-- the input, if this is the answer of a build that made a command
+abbrev pub input_by : Input → Result Happened Refusal → List Input
+input_by input (Ok (Happened.Own (Done.Built (Made.Made tic)))) = input ∷ []
+input_by input answer = []
+
+-- the input of a player's build, if that is the event and it made a command
+abbrev pub inputs_by : RemainEvent → Result Happened Refusal → Inputs
+inputs_by (Own (Build node keys)) answer player = if player == node then input_by (Pressed keys) answer else []
+inputs_by (Own (Give node command)) answer player =
+    if player == node then input_by (Given command) answer else []
+inputs_by event answer player = []
+
+-- the inputs of each player's builds that made a command, in order
+abbrev pub inputs_made : List RemainEvent → List (Result Happened Refusal) → Inputs
+inputs_made = inputs_of_all inputs_by

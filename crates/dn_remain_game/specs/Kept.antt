@@ -1,16 +1,19 @@
 -- What an event leaves as it is.
-use Rattle.std.specs.Prelude.{◌≡◌, ◌≢◌, ℕ, List, Option, Some, None, map, slice_get}
+use Rattle.std.specs.Prelude.{◌≡◌, ◌≢◌, ℕ, List, Option, Some, None, map, slice_get, Result}
 use Rattle.std.specs.Option.{option_map}
 use Rattle.dn_machine.specs.declared.events.Event.{Event}
 use Rattle.dn_machine.specs.declared.events.Event.TheVariants.{Build, Give, Send, Deliver, Run, Quit, Stop}
+use Rattle.dn_machine.specs.declared.events.Refusal.{Refusal}
 use Rattle.dn_remain.specs.declared.events.RemainEvent.{RemainEvent}
 use Rattle.dn_remain.specs.declared.events.RemainEvent.TheVariants.{Own, GiveUp, Tell, Hear}
 use Rattle.dn_lockstep.specs.Contents.{Whose, whose}
-use Rattle.dn_remain_game.specs.declared.lived.Lived.{Lived}
 use Rattle.dn_game.specs.declared.flight.Flight.{Flight}
+use Rattle.dn_remain_game.specs.declared.lived.Lived.{Lived}
 use Rattle.dn_remain_game.specs.declared.under_way.Telling.{Telling}
-use Rattle.dn_remain_game.specs.Contents.{Contents}
+use Rattle.dn_remain_game.specs.Contents.{Contents, contents}
 use Rattle.dn_remain_game.specs.Living.{living}
+use Rattle.dn_remain_game.specs.declared.game.Game.{Game}
+use Rattle.dn_remain_game.specs.Room.{KeepsPosts, StaysWithin, room_after, room_of}
 
 -- the node that an event of the machine may change: a delivery changes the receiver of its packet, and who stops
 -- stays as it is
@@ -41,3 +44,21 @@ whose_of nodes = map (λ n. whose (living n).survivor.lockstep) nodes
 -- each node is whose it was, so its demo has the limit that it had, which is how many bytes it has memory for
 abbrev pub KeepsWhose : {W : Type 0} → Contents W → Contents W → Type 0
 KeepsWhose old new = whose_of new.nodes ≡ whose_of old.nodes
+
+-- What stays of a game as it was.
+
+-- after a step that sends and tells nothing: what was sent and told, whose the nodes are, and each node but the one
+-- that may change
+pub record KeepsRest {W : Type 0} (changed : Option ℕ) (old new : Game W) : Type 0 where
+  pub posts : KeepsPosts old new
+  pub whose : KeepsWhose (contents old) (contents new)
+  pub others : KeepsOthers changed (contents old) (contents new)
+
+-- after an event: memory within its bound, with what the event asks for, whose the nodes are, and each node but the
+-- one that it changes
+pub record KeepsRestOf {W A : Type 0} (old new : Game W) (event : RemainEvent) (answer : Result A Refusal) :
+    Type 0 where
+  pub room : StaysWithin old new
+  pub taken : room_of new ≡ room_after old event answer
+  pub whose : KeepsWhose (contents old) (contents new)
+  pub others : KeepsOthers (changed_by (contents old) event) (contents old) (contents new)

@@ -1,14 +1,8 @@
 pub mod Living
 pub mod Contents
-pub mod Frame
 pub mod Kept
-pub mod Represents
 pub mod Events
 pub mod Applied
 pub mod Room
-pub mod Rest
-pub mod Told
 pub mod Survivors
-pub mod Fresh
-pub mod InputsMade
 pub mod Promised

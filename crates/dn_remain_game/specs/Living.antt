@@ -13,7 +13,7 @@ use Rattle.dn_tic.specs.declared.input.Input.{Input}
 use Rattle.dn_world.specs.Physics.{Physics}
 use Rattle.dn_machine.specs.declared.answers.Heard.{Heard}
 use Rattle.dn_machine.specs.declared.answers.Made.{Made}
-use Rattle.dn_machine.specs.Building.{on_build}
+use Rattle.dn_machine.specs.Sending.{on_build}
 use Rattle.dn_machine.specs.Flight.{Flight, packet_of, is_near}
 use Rattle.dn_machine.specs.Game.{own_world}
 use Rattle.dn_machine.specs.Hearing.{on_packet}
@@ -22,12 +22,12 @@ use Rattle.dn_machine.specs.Node.{Node, ran}
 use Rattle.dn_machine.specs.Worlds.{Rules, rules_within}
 use Rattle.dn_lockstep.specs.declared.lockstep.aiming.Aim.{Aim}
 use Rattle.dn_lockstep.specs.Contents.{whose}
-use Rattle.dn_lockstep.specs.Near.{IsFair}
+use Rattle.dn_lockstep.specs.Sent.{IsFair}
 use Rattle.dn_lockstep.specs.Received.{received, IsTold}
 use Rattle.dn_lockstep.specs.Sent.{aim_of, bytes_of}
 use Rattle.dn_lockstep.specs.Settling.{is_no_peer}
 use Rattle.dn_lockstep.specs.Told.{HasStarted, made}
-use Rattle.dn_survivor.specs.OfOthers.Represents as others
+use Rattle.dn_survivor.specs.OfOthers as others
 use Rattle.dn_remain.specs.Wary.{Report as Held, Wary, can_settle, is_in_game, on_give_up, on_report, with_gone, with_report}
 use Rattle.dn_survivor.specs.declared.answers.GivenUp.{GivenUp}
 use Rattle.dn_survivor.specs.declared.answers.Reported.{Reported}

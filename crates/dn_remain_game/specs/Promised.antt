@@ -19,19 +19,16 @@ use Rattle.dn_remain.specs.declared.events.RemainEvent.TheVariants.{GiveUp}
 use Rattle.dn_lockstep.specs.declared.lockstep.settling.Settled.{Settled}
 use Rattle.dn_survivor.specs.declared.answers.GivenUp.{GivenUp}
 use Rattle.dn_survivor.specs.declared.answers.Reported.{Reported}
-use Rattle.dn_survivor.specs.Agreed.{AreAgreedInPairs, FitInPairs, IsPair}
-use Rattle.dn_survivor.specs.Demos.{DemosAgreeInPairs}
-use Rattle.dn_survivor.specs.Session.{Session}
+use Rattle.dn_survivor.specs.Agreed.{AreAgreedInPairs, FitInPairs, IsPair, DemosAgreeInPairs}
+use Rattle.dn_survivor.specs.OneGame.{Session}
 use Rattle.dn_survivor.specs.Surviving.{Surviving, has_given_up}
 use Rattle.dn_remain_game.specs.declared.happened.Happened.{Happened}
 use Rattle.dn_remain_game.specs.declared.lived.Lived.{Lived}
-use Rattle.dn_remain_game.specs.declared.played.Played.{Played}
-use Rattle.dn_remain_game.specs.Applied.{IsReached, TellsReached}
-use Rattle.dn_remain_game.specs.Contents.{Contents, contents}
-use Rattle.dn_remain_game.specs.Frame.{KeepWorlds}
-use Rattle.dn_remain_game.specs.InputsMade.{inputs_made}
+use Rattle.dn_remain_game.specs.declared.playing.Played.{Played}
+use Rattle.dn_remain_game.specs.Applied.{IsReached, TellsReached, given_of}
+use Rattle.dn_remain_game.specs.Contents.{Contents, contents, KeepWorlds}
+use Rattle.dn_remain_game.specs.Events.{inputs_made}
 use Rattle.dn_remain_game.specs.Living.{living}
-use Rattle.dn_remain_game.specs.Represents.{given_of}
 use Rattle.dn_remain_game.specs.Room.{StaysWithin}
 
 -- whatever events led to a game, with their answers, they and this one lead to the next

@@ -9,7 +9,7 @@ ghost use Rattle.dn_remain.specs.{Remaining.opening_remaining, declared.events.R
 ghost use Rattle.dn_survivor.specs.{Surviving.has_given_up, declared.answers.Reported.Reported};
 ghost use Rattle.dn_game.specs.declared.flight.Flight.{Flight};
 ghost use Rattle.dn_remain_game.specs.{Applied.IsReached, Contents.Contents, declared.happened.Happened.Happened, declared.lived.Lived.Lived};
-ghost use Rattle.dn_remain_game.specs.{declared.under_way.Telling.Telling, Events.applied_remain, Living.living, Promised.IsPromised, Represents.Represents};
+ghost use Rattle.dn_remain_game.specs.{declared.under_way.Telling.Telling, Events.applied_remain, Living.living, Promised.IsPromised, Applied.Represents};
 
 use dn_world::World;
 

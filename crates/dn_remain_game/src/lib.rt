@@ -10,7 +10,6 @@ mod game;
 mod happened;
 mod laws;
 mod lived;
-mod played;
 mod playing;
 mod under_way;
 
@@ -23,6 +22,5 @@ pub use game::Game;
 pub use happened::Happened;
 pub use laws::reached_remaining_games_agree;
 pub use lived::Lived;
-pub use played::Played;
-pub use playing::play_remaining;
+pub use playing::{Played, play_remaining};
 pub use under_way::Telling;

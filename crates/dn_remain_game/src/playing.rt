@@ -2,14 +2,24 @@
 
 ghost use Rattle.std.specs.Prelude.{◌≡◌, ◌+◌, ◌<◌, ◌^◌, length, IfOk};
 ghost use Rattle.dn_game.specs.Opening.{IsAdmitted, rules_in};
-ghost use Rattle.dn_remain_game.specs.{Contents.contents, Frame.KeepGiven, Fresh.AreLimited, Promised.HasPlayed, Room.IsWithinTwice};
+ghost use Rattle.dn_remain_game.specs.{Contents.contents, Contents.KeepGiven, Contents.AreLimited, Promised.HasPlayed, Room.IsWithinTwice};
 
 use crate::game::Game;
-use crate::played::Played;
 use dn_game::{GameConfig, GameFault};
 use dn_remain::RemainEvent;
 use dn_world::World;
 use std::alloc::Global;
+
+/// A game that was played, how many of its events were applied, and how many were refused.
+#[derive(Drop)]
+pub struct Played<W> {
+    /// The game that the events left.
+    pub game: Game<W>,
+    /// How many events were not refused, whether or not they changed anything.
+    pub done: usize,
+    /// How many events were refused.
+    pub refused: usize,
+}
 
 impl<W: World> Played<W> {
     ghost use Rattle.dn_remain_game.specs.{Kept.KeepsWhose, Promised.AppliesOne};

@@ -6,7 +6,7 @@ ghost use Rattle.dn_ring.specs.Ring.{empty, put, get, since, ring_of};
 
 /// One more command is one more of the list; the command of a tic, and the commands from a tic on, are those
 /// of the list, but for tics that lie further behind than there are places.
-#[tactic(auto, using(crate::proofs::Keeping::kept_of_lists))]
+#[tactic(auto, using(crate::proofs::Slots::kept_of_lists))]
 pub fn rings_keep_the_last()
     ensures none { (places : ℕ) → empty ≡ ring_of places [] }
     ensures more { (places : ℕ) (commands : List TicCmd) (command : TicCmd)

@@ -117,6 +117,7 @@ impl<const PLACES: usize> RingBuffer<PLACES> {
 
     /// The command in a slot. That of tic t, which is there, stands in slot `t % PLACES`; a slot that was never
     /// taken has the command of eight zero bytes.
+    #[tactic(auto, using(crate::proofs::Slots::get_slot))]
     pub fn slot(&self, place: usize) -> TicCmd
         requires { place < PLACES }
         ensures taken { (tic : ℕ) → tic < self.now.count → self.now.count ≤ tic + PLACES → place ≡ tic % PLACES

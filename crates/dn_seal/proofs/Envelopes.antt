@@ -3,7 +3,7 @@ use Rattle.std.proofs.{Common.{◌≡◌, ◌<◌, ◌≤◌, ◌+◌, ◌-◌, 
 use Rattle.std.proofs.Math.Seq.{take-append_seam, drop-append_seam}
 use Rattle.std.specs.{Prelude.{slice_index, IfSome}, Int.{w32, to_le_bytes, from_le_bytes}}
 use Rattle.sha2.specs.Sha256.{sha256, digest_bytes}
-use Rattle.dn_seal.specs.{Hmac.{hmac, tag_of}, Envelope.{Letter, ask_bytes, head_bytes, body_bytes, envelope}, Keys.suite_byte, Opening.{told_game, told_body, told_tag, told_tic, ask_in}}
+use Rattle.dn_seal.specs.{Hmac.{hmac, tag_of, suite_byte}, Envelope.{Letter, ask_bytes, head_bytes, body_bytes, envelope}, Opening.{told_game, told_body, told_tag, told_tic, ask_in}}
 
 length-sha256 : (m : List ℕ) → length (sha256 m) ≡ 32
 unfolding sha256 digest_bytes

@@ -1,4 +1,2 @@
-pub mod Turning
 pub mod Envelopes
 pub mod Openings
-pub mod Deciding

@@ -1,9 +1,8 @@
 -- The envelope of a datagram.
 use Rattle.std.specs.Prelude.{ℕ, ◌<◌, ◌≤◌, ◌^◌, List, [], ◌∷◌, ◌++◌, length, take, Option, Some, None, IfSome}
 use Rattle.std.specs.Int.{w32, to_le_bytes}
-use Rattle.dn_seal.specs.declared.suite.Suite.{Suite}
-use Rattle.dn_seal.specs.Hmac.{tag_of}
-use Rattle.dn_seal.specs.Keys.{suite_byte}
+use Rattle.dn_seal.specs.declared.seal.Suite.{Suite}
+use Rattle.dn_seal.specs.Hmac.{tag_of, suite_byte}
 
 -- what an envelope says: by which suite it is sealed, of which game it is, from which player to which, and the
 -- exact tics of the datagram's first command and of its request

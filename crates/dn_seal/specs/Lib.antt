@@ -1,6 +1,4 @@
 pub mod Hmac
-pub mod Keys
 pub mod Envelope
 pub mod Opening
-pub mod Begun
 pub mod Sealing

@@ -5,9 +5,8 @@ use Rattle.dn_seal.specs.declared.opened.Opened.{Opened}
 use Rattle.dn_seal.specs.declared.opened.SealFault.{SealFault}
 use Rattle.dn_seal.specs.declared.opened.SealFault.TheVariants.{Short, Long, Suite, Kind, Game, Receiver, Tag, Request}
 use Rattle.dn_seal.specs.declared.seal.Seal.{Seal}
-use Rattle.dn_seal.specs.Hmac.{tag_of}
+use Rattle.dn_seal.specs.Hmac.{tag_of, suite_byte}
 use Rattle.dn_seal.specs.Envelope.{Letter, IsLetter, envelope}
-use Rattle.dn_seal.specs.Keys.{suite_byte}
 
 -- what a player seals and opens by: what all players of the game have in common, and the player's own number
 pub record Sealing : Type 0 where

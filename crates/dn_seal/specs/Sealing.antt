@@ -2,8 +2,8 @@
 use Rattle.std.specs.Prelude.{ℕ, List, ◌∷◌, take}
 use Rattle.dn_seal.specs.declared.seal.Seal.{Seal}
 use Rattle.dn_seal.specs.declared.sealer.Sealer.{Sealer}
-use Rattle.dn_seal.specs.declared.suite.Suite.{Suite}
-use Rattle.dn_seal.specs.Keys.{game_key, suite_byte}
+use Rattle.dn_seal.specs.declared.seal.Suite.{Suite}
+use Rattle.dn_seal.specs.Hmac.{game_key, suite_byte}
 use Rattle.dn_seal.specs.Opening.{Sealing}
 
 -- what the players of a game seal by, of this suite, secret and number

@@ -7,13 +7,10 @@ mod mac;
 mod opened;
 mod seal;
 mod sealer;
-mod suite;
-mod tag;
 
 pub use appending::append;
 pub use laws::every_list_is_opened;
 pub use mac::hmac;
 pub use opened::{Opened, SealFault};
-pub use seal::Seal;
+pub use seal::{Seal, Suite};
 pub use sealer::{MAX_ENVELOPE, OVERHEAD, Sealer, ask_bytes, ask_in, tic_at};
-pub use suite::Suite;

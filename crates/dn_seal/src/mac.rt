@@ -1,7 +1,7 @@
-//! HMAC-SHA-256 (RFC 2104).
+//! HMAC-SHA-256 (RFC 2104), and comparing tags.
 
-ghost use Rattle.std.specs.Prelude.{◌≡◌, ℕ, List};
-ghost use Rattle.dn_seal.specs.{Begun.HasTaken, Hmac.hmac, Hmac.key_block, Hmac.turned};
+ghost use Rattle.std.specs.Prelude.{◌≡◌, ℕ, List, ◌↔◌, IsTrue};
+ghost use Rattle.dn_seal.specs.Hmac.{HasTaken, hmac, key_block, turned};
 
 use sha2::{Digest, Sha256};
 
@@ -49,6 +49,7 @@ pub(crate) fn begun(key: &[u8], pad: u8) -> Sha256
 }
 
 /// The code of a message under the key that two hashers were begun with.
+#[tactic(auto, unfolding(crate::specs::Hmac::hmac))]
 pub(crate) fn finished(mut inner: Sha256, mut outer: Sha256, message: &[u8]) -> [u8; 32]
     ensures { (key : List ℕ) → HasTaken 0x36 key inner → HasTaken 0x5c key outer
         → result ≡ hmac key message.now }
@@ -63,4 +64,16 @@ pub fn hmac(key: &[u8], message: &[u8]) -> [u8; 32]
     ensures { result ≡ hmac key.now message.now }
 {
     finished(begun(key, INNER), begun(key, OUTER), message)
+}
+
+/// Whether two tags are equal. It looks at all bytes, whichever differ, so that no early exit tells where they
+/// do. No proof speaks of the time that the compiled code takes.
+pub(crate) fn is_same(one: &[u8; 16], other: &[u8; 16]) -> bool
+    ensures { IsTrue result ↔ (one.now ≡ other.now) }
+{
+    let mut differing = 0;
+    'bytes: for i in 0..16 {
+        differing |= one[i] ^ other[i];
+    }
+    differing == 0
 }

@@ -1,12 +1,42 @@
-//! What the players of a game have in common.
+//! What the players of a game have in common: a secret or none, a key and a number.
 
 ghost use Rattle.std.specs.Prelude.{◌≡◌, replicate};
-ghost use Rattle.dn_seal.specs.{Keys.game_key, Keys.no_secret, declared.suite.Suite.TheVariants.Secret, declared.suite.Suite.TheVariants.Open};
+ghost use Rattle.dn_seal.specs.Hmac.{suite_byte, label};
+ghost use Rattle.dn_seal.specs.{Hmac.game_key, Hmac.no_secret, declared.seal.Suite.TheVariants.Secret, declared.seal.Suite.TheVariants.Open};
 
 use crate::appending::append;
 use crate::mac::hmac;
-use crate::suite::{Suite, label};
 use arrayvec::ArrayVec;
+
+/// Whether the players of a game share a secret. The first byte of an envelope says so.
+#[derive(Clone, Copy, Debug, PartialEq, Eq)]
+pub enum Suite {
+    /// They do, and nobody else can make a tag of the game.
+    Secret,
+    /// They do not. Anybody can make a tag: it finds accidents and strays, and no forger.
+    Open,
+}
+
+/// The first byte of an envelope.
+pub(crate) fn suite_byte(suite: Suite) -> u8
+    ensures { result ≡ suite_byte suite }
+{
+    match suite {
+        Suite::Secret => 1,
+        Suite::Open => 2,
+    }
+}
+
+/// The text that a key is derived of.
+#[tactic(auto, unfolding(crate::specs::Hmac::label))]
+pub(crate) fn label(suite: Suite) -> [u8; 19]
+    ensures { result ≡ label suite }
+{
+    match suite {
+        Suite::Secret => *b"zirmegat game key 1",
+        Suite::Open => *b"zirmegat game key 2",
+    }
+}
 
 /// What an open game's players share.
 const NO_SECRET: [u8; 32] = [0; 32];

@@ -2,16 +2,14 @@
 
 ghost use Rattle.std.specs.{Prelude.◌≡◌, Prelude.◌<◌, Prelude.◌≤◌, Prelude.◌^◌, Prelude.◌+◌, Prelude.◌++◌, Prelude.ℕ, Prelude.length, Prelude.drop, Prelude.take, Prelude.if◌then◌else◌};
 ghost use Rattle.std.specs.{Prelude.Option, Prelude.Some, Prelude.None, Prelude.Result, Prelude.IsTrue, Prelude.◌↔◌, Int.w32, Int.from_le_bytes};
-ghost use Rattle.dn_seal.specs.{Begun.HasTaken, Begun.HasTaken-prop, Hmac.tag_of, Keys.no_secret, Envelope.Letter, Envelope.body_bytes, Envelope.envelope, Envelope.ask_bytes, Opening.IsOpenedAs};
+ghost use Rattle.dn_seal.specs.{Hmac.HasTaken, Hmac.HasTaken-prop, Hmac.tag_of, Hmac.no_secret, Envelope.Letter, Envelope.body_bytes, Envelope.envelope, Envelope.ask_bytes, Opening.IsOpenedAs};
 ghost use Rattle.dn_seal.specs.{Opening.told_game, Opening.told_body, Opening.told_tag, Opening.ask_in, declared.opened.Opened.Opened, declared.opened.SealFault.SealFault};
-ghost use Rattle.dn_seal.specs.{declared.suite.Suite.TheVariants.Secret, declared.suite.Suite.TheVariants.Open};
+ghost use Rattle.dn_seal.specs.declared.seal.Suite.TheVariants.{Secret, Open};
 
 use crate::appending::append;
-use crate::mac::{INNER, OUTER, begun, finished};
+use crate::mac::{INNER, OUTER, begun, finished, is_same};
 use crate::opened::{Opened, SealFault};
-use crate::seal::Seal;
-use crate::suite::suite_byte;
-use crate::tag::is_same;
+use crate::seal::{Seal, suite_byte};
 use arrayvec::ArrayVec;
 use sha2::Sha256;
 

@@ -1,1 +1,1 @@
-mod Tellings
+pub mod Tellings

@@ -2,7 +2,7 @@
 use Rattle.std.proofs.{Common.{◌≡◌, ◌<◌, ◌≤◌, ◌%◌, ◌/◌, ◌==◌, ℕ, zero, suc, Bool, true, false, refl, arith, inl, inr, Ok, Err}, lemmas.Bool.{cases_lt, cases_eq}}
 use Rattle.std.specs.Prelude.{bit_and}
 use Rattle.dn_packet.specs.declared.packet.Packet.{Packet}
-use Rattle.dn_setup.specs.{declared.setup.SetupFault.TheVariants.{NotSetup, Version, Range}, Settings.{Settings, choice}, Starts.bit, Setup.{HasSetup, Carries, Told, version}}
+use Rattle.dn_setup.specs.{declared.setup.SetupFault.TheVariants.{NotSetup, Version, Range}, Settings.{Settings, choice, bit}, Setup.{HasSetup, Carries, Told, version}}
 
 -- a bit is 0 or 1, and a number below 2 is a bit
 bit_small : (b : Bool) → bit b ≤ 1

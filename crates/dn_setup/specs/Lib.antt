@@ -1,4 +1,3 @@
 pub mod Settings
-pub mod Starts
 pub mod Setup
 pub mod Gathered

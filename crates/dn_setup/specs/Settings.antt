@@ -1,7 +1,8 @@
--- A choice of game.
-use Rattle.std.specs.Prelude.{◌≡◌, ◌≤◌, ℕ, Bool, Result, Ok, Err}
+-- A choice of game, and what a game of some settings starts from.
+use Rattle.std.specs.Prelude.{◌≡◌, ◌≤◌, ℕ, Bool, Result, Ok, Err, if◌then◌else◌}
 use Rattle.dn_setup.specs.declared.settings.SettingsFault.{SettingsFault}
 use Rattle.dn_setup.specs.declared.settings.SettingsFault.TheVariants.{Skill, Deathmatch, Episode, Map}
+use Rattle.dn_setup.specs.declared.settings.Start.{Start}
 
 -- a choice of game
 pub record Settings : Type 0 where
@@ -54,3 +55,20 @@ IsCheckedAs s (Err Skill) = ¬ IsSkill s.skill
 IsCheckedAs s (Err Deathmatch) = IsSkill s.skill × ¬ IsDeathmatch s.deathmatch
 IsCheckedAs s (Err Episode) = IsSkill s.skill × IsDeathmatch s.deathmatch × ¬ IsEpisode s.episode
 IsCheckedAs s (Err Map) = IsSkill s.skill × IsDeathmatch s.deathmatch × IsEpisode s.episode × ¬ IsMap s.map
+
+-- 1 for true and 0 for false
+abbrev pub bit : Bool → ℕ
+bit b = if b then 1 else 0
+
+-- the seven bytes of a demo's header; no choice has fast monsters
+abbrev pub start_of : Settings → Start
+start_of s =
+    record {
+      skill = s.skill;
+      episode = s.episode;
+      map = s.map;
+      deathmatch = s.deathmatch;
+      respawn = bit s.respawn;
+      fast = 0;
+      no_monsters = bit s.no_monsters;
+    }

@@ -2,8 +2,7 @@
 use Rattle.std.specs.Prelude.{◌≡◌, ◌≢◌, ℕ, ◌+◌, ◌*◌, [], Result, Ok, Err, IsBitSet}
 use Rattle.dn_packet.specs.declared.packet.Packet.{Packet}
 use Rattle.dn_packet.specs.Flags as flag
-use Rattle.dn_setup.specs.Settings.{Settings, IsSettings}
-use Rattle.dn_setup.specs.Starts.{bit}
+use Rattle.dn_setup.specs.Settings.{Settings, IsSettings, bit}
 use Rattle.dn_setup.specs.declared.setup.SetupFault.{SetupFault}
 use Rattle.dn_setup.specs.declared.setup.SetupFault.TheVariants.{NotSetup, Version, Range}
 

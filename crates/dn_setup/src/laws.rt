@@ -13,6 +13,7 @@ pub fn settings_found_again()
 {}
 
 /// Every packet is read as settings or as a fault.
+#[tactic(auto, using(crate::proofs::Tellings::is_told))]
 pub fn every_packet_is_told()
     ensures { (packet : Packet) → Told packet }
 {}

@@ -1,8 +1,7 @@
-//! The key player's choice of game.
+//! The key player's choice of game, and what a game starts from.
 
 ghost use Rattle.std.specs.Prelude.{◌≡◌};
 
-use crate::start::Start;
 use std::marker::Model;
 use thiserror::Error;
 
@@ -56,7 +55,7 @@ impl Model for Settings {
 impl Settings {
     ghost use Rattle.std.specs.Prelude.{Result};
     ghost use Rattle.dn_setup.specs.{Settings.Settings, Settings.IsSkill, Settings.IsDeathmatch, Settings.IsEpisode, Settings.IsMap, Settings.IsSettings, Settings.IsCheckedAs, Settings.choice};
-    ghost use Rattle.dn_setup.specs.{Starts.start_of, declared.settings.SettingsFault.SettingsFault};
+    ghost use Rattle.dn_setup.specs.{Settings.start_of, declared.settings.SettingsFault.SettingsFault};
 
     /// Skill 0 to 4, deathmatch 0 to 2, episode 1 to 3, map 1 to 32.
     pub fn new(
@@ -154,4 +153,23 @@ impl Settings {
             no_monsters: u8::from(self.no_monsters),
         }
     }
+}
+
+/// What a game starts from: seven bytes, as a demo's header has them.
+#[derive(Clone, Copy, Debug, PartialEq, Eq, Default)]
+pub struct Start {
+    /// How hard the monsters are, from 0.
+    pub skill: u8,
+    /// The episode, from 1.
+    pub episode: u8,
+    /// The map, from 1.
+    pub map: u8,
+    /// 0 for a cooperative game, and else the rules of deathmatch.
+    pub deathmatch: u8,
+    /// 1 where monsters come back after they died.
+    pub respawn: u8,
+    /// 1 where monsters are fast.
+    pub fast: u8,
+    /// 1 where there are no monsters.
+    pub no_monsters: u8,
 }

@@ -8,20 +8,25 @@ use Rattle.std.proofs.lemmas.List.Folds.{list_any-append}
 use Rattle.std.specs.Option.{unwrap_or}
 use Rattle.std.proofs.lemmas.Bool.{cases_Bool, both_ways, cond-true, cond-false}
 use Rattle.dn_machine.specs.{Limits.Limits, Node.ends_of, Node.is_ended, Settling.settled_one, declared.answers.Phase.Phase, Node.got, Node.ran, Settling.settled_to}
-use Rattle.dn_lockstep.specs.{Contents.Contents, Steps.IsAfter, Steps.Steps, declared.lockstep.settling.Settled.Settled, Phases.is_listening, Rings.is_stop, Settling.has_gap, Settling.is_no_peer, Settling.is_other_end}
+use Rattle.dn_lockstep.specs.Contents.{Contents}
+use Rattle.dn_lockstep.specs.Steps.{IsAfter, Steps}
+use Rattle.dn_lockstep.specs.declared.lockstep.settling.Settled.{Settled}
+use Rattle.dn_lockstep.specs.Phases.{is_listening}
+use Rattle.dn_lockstep.specs.Tables.{is_stop}
+use Rattle.dn_lockstep.specs.Settling.{has_gap, is_no_peer, is_other_end}
 use Rattle.dn_lockstep.specs.{Settling.missing, Settling.on_settle}
-use Rattle.dn_survivor.specs.{declared.others.Others.Others, declared.answers.Ends.Ends, Ending.settled_below, Ending.settled_with, Ending.end_by, Ending.settled_by, Represents.CanTakeAll, OfOthers.Keeping.commands_of}
-use Rattle.dn_survivor.specs.{OfOthers.Keeping.first_of, OfOthers.Keeping.has, OfOthers.Keeping.nodes_of, OfOthers.Keeping.own_of, OfOthers.Keeping.told_of}
+use Rattle.dn_survivor.specs.{declared.others.Others.Others, declared.answers.Ends.Ends, Calls.settled_below, Calls.settled_with, Calls.end_by, Calls.settled_by, Represents.CanTakeAll, OfOthers.commands_of}
+use Rattle.dn_survivor.specs.{OfOthers.first_of, OfOthers.has, OfOthers.nodes_of, OfOthers.own_of, OfOthers.told_of}
 use Rattle.dn_tic.specs.declared.command.TicCmd.{TicCmd}
 use Rattle.dn_machine.proofs.Put.{put_off}
-use Rattle.dn_lockstep.proofs.Turns.{in_turn}
-use Rattle.dn_remain.specs.{Vanished.Calls.can_decide, Vanished.Commands.Holder, Vanished.Commands.fresh_holder, Vanished.Commands.seen, Vanished.Decisions.on_decision, Vanished.Reports.decided_end}
-use Rattle.dn_remain.specs.{Taking.commands_decided, Wary.Report, Wary.Wary, Wary.can_settle, Wary.is_in_game, Wary.or_fresh, Wary.report_of, Wary.settled}
-use Rattle.dn_survivor.proofs.OfOthers.Catching.{Suffices, suffices}
+use Rattle.dn_lockstep.proofs.Wholes.{in_turn}
+use Rattle.dn_remain.specs.{Vanished.Calls.can_decide, Vanished.Commands.Holder, Vanished.Commands.fresh_holder, Vanished.Commands.seen, Vanished.Commands.on_decision, Vanished.Node.decided_end}
+use Rattle.dn_remain.specs.{Promise.commands_decided, Wary.Report, Wary.Wary, Wary.can_settle, Wary.is_in_game, Wary.or_fresh, Wary.report_of, Wary.settled}
+use Rattle.dn_survivor.proofs.OfOthers.{Suffices, suffices}
 use Rattle.dn_machine.specs.Node as machine
 use Rattle.dn_lockstep.proofs.Wholes as wholes
-use Rattle.dn_survivor.specs.OfOthers.Represents as others
-use Rattle.dn_survivor.proofs.OfOthers.Agreeing as agreeing
+use Rattle.dn_survivor.specs.OfOthers as others
+use Rattle.dn_survivor.proofs.OfOthers as agreeing
 
 -- One end that is settled by what is kept of the others.
 

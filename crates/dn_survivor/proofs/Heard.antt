@@ -1,18 +1,49 @@
--- What is answered in a game of survivors.
+-- What is answered in a game of survivors: what a survivor answers for its node, and in a game.
 use Rattle.std.proofs.Common.{◌≡◌, ◌<◌, ℕ, true, false, sym, ◌∙◌, inl, inr, arith}
 use Rattle.std.specs.Prelude.{◌⊎◌, Some, slice_get}
 use Rattle.std.proofs.lemmas.Bool.{both_ways, cond-false}
 use Rattle.dn_setup.specs.Settings.{Settings}
 use Rattle.dn_machine.specs.{declared.answers.Heard.Heard, Flight.Flight, Flight.is_near, Limits.Limits}
 use Rattle.dn_machine.specs.Drops as drops
+use Rattle.dn_remain.specs.{Remaining.wary_of, Remaining.heard_of}
+use Rattle.dn_remain.specs.Wary.{Report, on_give_up, on_report, Wary}
+use Rattle.dn_remain.specs.declared.events.GivenUp as remain_given
+use Rattle.dn_remain.specs.declared.events.Reported as remain_reported
 use Rattle.dn_lockstep.specs.{Hearing.HearsNear, Marking.Marking, Sent.bytes_of, Told.made, declared.lockstep.settling.Settled.Settled}
-use Rattle.dn_remain.specs.{Remaining.wary_of, Remaining.heard_of, Wary.on_give_up, Wary.on_report}
-use Rattle.dn_survivor.specs.{Calls.GivesUp, Calls.HearsReport, OneGame.AreRemaining, Represents.reported_is, Session.Given, Session.Session, Surviving.Surviving, Surviving.has_given_up, declared.answers.GivenUp.GivenUp}
-use Rattle.dn_survivor.specs.{declared.answers.Reported.Reported}
-use Rattle.dn_survivor.proofs.NodeAnswers.{is_dropped, is_excluded, never_improper, not_out, taken_given, taken_reported}
+use Rattle.dn_survivor.specs.{Calls.GivesUp, Calls.HearsReport, OneGame.AreRemaining, Represents.reported_is, OneGame.Given, OneGame.Session, Surviving.Surviving, Surviving.has_given_up}
+use Rattle.dn_survivor.specs.{declared.answers.GivenUp.GivenUp, declared.answers.Reported.Reported, Represents.given_up_is}
 use Rattle.dn_survivor.proofs.OneGame as game_of
 use Rattle.dn_survivor.proofs.Pairs.{steady}
 
+-- What a survivor answers for its node: each end that the node decides is taken, and no report is improper.
+
+-- no answer of a node is that an end was not taken
+module _ (player : ℕ) (reason : Settled) where
+  pub taken_given : (answer : remain_given.GivenUp) → GivenUp.Untaken player reason ≡ given_up_is answer → ⊥
+  taken_given answer e = grind (arith, e)
+
+  pub taken_reported : (answer : remain_reported.Reported) → Reported.Untaken player reason ≡ reported_is answer → ⊥
+  taken_reported answer e = grind (arith, e)
+
+-- nor that a report is improper
+pub never_improper : (answer : remain_reported.Reported) → Reported.Improper ≡ reported_is answer → ⊥
+never_improper answer e = grind (arith, e)
+
+pub is_excluded : (answer : remain_reported.Reported) → Reported.Excluded ≡ reported_is answer
+    → answer ≡ remain_reported.Reported.Excluded
+is_excluded answer e = grind (arith, e)
+
+pub is_dropped : (answer : remain_reported.Reported) (number : ℕ) → Reported.Dropped number ≡ reported_is answer
+    → answer ≡ remain_reported.Reported.Dropped number
+is_dropped answer number e = grind (arith, e)
+
+-- a receiver whom its sender has not given up is not told that it is
+pub not_out : (limits : Limits) (me : ℕ) (wary : Wary) (from : ℕ) (report : Report) → report.gone me ≡ false
+    → (on_report limits me wary from report).1 ≡ remain_reported.Reported.Excluded → ⊥
+unfolding on_report
+not_out limits me wary from report free e = grind (arith, free, e)
+
+-- The answers in a game.
 module _ (marking : Marking) (limits : Limits) (settings : Settings) (session : Session)
     (game : AreRemaining marking limits settings session) where
   pub given_up_taken : (here : ℕ) → here < limits.players → (player other : ℕ) (new : Surviving) (reason : Settled)

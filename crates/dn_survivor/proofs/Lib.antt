@@ -6,14 +6,8 @@ pub mod Ends
 pub mod Waries
 pub mod Reports
 pub mod Steps
-pub mod Ended
 pub mod Refusing
 pub mod Decided
-pub mod Quiet
-pub mod Tellings
-pub mod NodeAnswers
 pub mod OneGame
-pub mod Moves
 pub mod Pairs
 pub mod Heard
-pub mod Lent

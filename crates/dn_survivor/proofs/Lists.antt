@@ -1,13 +1,53 @@
--- The last of a list, and what is told of several players.
-use Rattle.std.proofs.Common.{◌≡◌, ◌≢◌, ◌<◌, ◌≤◌, ◌+◌, ◌-◌, ℕ, zero, suc, List, [], ◌∷◌, ◌++◌, length, drop, get_or, refl, add-one, sym, ap, subst, ◌∙◌, arith, inl, inr, Option, Some, None}
+-- The last of a list, what is told of several players, and rows of the moves that inputs make.
+use Rattle.std.proofs.Common.{◌≡◌, ◌≢◌, ◌<◌, ◌≤◌, ◌+◌, ◌-◌, ℕ, zero, suc, List, [], ◌∷◌, ◌++◌, length, drop, get_or, refl, add-one, sym, ap, subst, ◌∙◌, arith, inl, inr, Option, Some, None, ℤ, Bool, false, cond, ltb}
 use Rattle.std.specs.Prelude.{All, ◌&&◌, nat_lt, nat_le, min, max, if◌then◌else◌}
-use Rattle.std.specs.List.{cons_option, filter_map, range_with_len}
-use Rattle.std.specs.Option.{option_to_list}
+use Rattle.std.specs.List.{cons_option, filter_map, range_with_len, take_while}
+use Rattle.std.specs.Option.{option_to_list, option_map}
 use Rattle.std.proofs.Math.Nat.{max-eq_left, max-eq_right}
 use Rattle.std.proofs.Math.Seq.{drop-cons}
 use Rattle.std.proofs.lemmas.{Bool.cases_eq, Bool.cases_lt, Bool.le-leb, Bool.lt-ltb, Bool.lt-leb, List.drop_all, List.Elements.All-append, Option.none-some}
+use Rattle.std.proofs.lemmas.Bool.{cond-true}
+use Rattle.std.proofs.lemmas.List.{get_or-take}
+use Rattle.std.proofs.lemmas.List.Folds.{length-prefix_len}
 use Rattle.dn_tic.specs.declared.command.TicCmd.{TicCmd}
-use Rattle.dn_machine.specs.Node.{blank}
+use Rattle.dn_tic.specs.{Pressed.pressed, Inputs.last_input, Inputs.made_of, Inputs.made_by, Command.used, declared.command.Move.Move, declared.input.Input.Input, declared.input.Input.TheVariants.Pressed}
+use Rattle.dn_tic.specs.{declared.input.Input.TheVariants.Given}
+use Rattle.dn_machine.specs.Node.{blank, lacks}
+use Rattle.dn_machine.specs.{Limits.row_of}
+use Rattle.dn_lockstep.proofs.DemosAgreeing.{seat_at}
+
+-- no move has a mark
+used_of : (input : Input) (inputs : List Input) (a b : ℤ)
+    → used (made_of input inputs a) ≡ used (made_of input inputs b)
+unfolding pressed used
+used_of (Pressed keys) inputs a b = refl
+used_of (Given command) inputs a b = refl
+
+pub used_same : (inputs : List Input) (a b : ℤ) → used (made_by inputs a) ≡ used (made_by inputs b)
+unfolding made_by
+used_same inputs a b = used_of (last_input inputs) inputs a b
+
+-- rows of commands whose moves are the same
+module _ (players : ℕ) (one other : ℕ → Option TicCmd)
+    (same : (p : ℕ) → p < players → option_map used (one p) ≡ option_map used (other p)) where
+  seat : (p : ℕ) → cond (ltb p players) (option_map used (one p)) None
+      ≡ cond (ltb p players) (option_map used (other p)) None
+  seat p = grind arith
+
+  pub row_alike : row_of players one ≡ row_of players other
+  unfolding row_of
+  row_alike = λ i. seat 0 i ∷ seat 1 i ∷ seat 2 i ∷ seat 3 i ∷ []
+
+-- of a player whom the row does not lack
+pub seat_there : (players : ℕ) (over : Bool) (c : TicCmd) (f : ℕ → Option TicCmd) (p : ℕ) → p < 4 → p < players
+    → f p ≡ (if over then None else Some c) → lacks (row_of players f) p ≡ false
+    → get_or (row_of players f) p None ≡ Some (used c)
+seat_there players over c f p four low is there = grind (arith, seat_at, cond-true, lt-ltb)
+
+-- a row of the front is the row of its place
+pub front_at : (test : List (Option Move) → Bool) (rows : List (List (Option Move))) (tic : ℕ)
+    → tic < length (take_while test rows) → get_or (take_while test rows) tic [] ≡ get_or rows tic []
+front_at test rows tic l = grind (arith, length-prefix_len, get_or-take)
 
 -- the element of a place, if it is one of the last
 abbrev pub if_last : ℕ → List TicCmd → ℕ → Option TicCmd

@@ -5,33 +5,51 @@ use Rattle.std.specs.Option.{option_map}
 use Rattle.std.proofs.lemmas.Bool.{cases_Bool, cases_lt, both_ways, cond-true, lt-ltb, le-ltb}
 use Rattle.std.proofs.lemmas.Option.{none-some}
 use Rattle.dn_tic.specs.{declared.command.Move.Move, declared.command.TicCmd.TicCmd, declared.input.Input.Input, declared.input.Input.TheVariants.Pressed, declared.input.Input.TheVariants.Given as Handed}
-use Rattle.dn_survivor.specs.{declared.report.Report.Report as Told, OfOthers.Keeping.nothing_kept, Relaying.MayRelay, Relaying.told_gone, Calls.GivesUp, Calls.HearsReport, Calls.sent_unless, OneGame.AreRemaining}
+use Rattle.dn_survivor.specs.{declared.report.Report.Report as Told, OfOthers.nothing_kept, Telling.MayRelay, Telling.told_gone, Calls.GivesUp, Calls.HearsReport, Calls.sent_unless, OneGame.AreRemaining}
 use Rattle.dn_survivor.specs.{OneGame.AreTelling, OneGame.IsGivenAs, OneGame.IsTelling, Represents.Represents, Represents.given_up_is, Represents.reported_is, Surviving.Surviving, Surviving.has_given_up}
-use Rattle.dn_survivor.specs.{Telling.report_for, declared.answers.GivenUp.GivenUp, declared.answers.Reported.Reported, Session.Given, Session.Session, Session.after_build, Session.after_packet, Session.after_relays}
-use Rattle.dn_survivor.specs.{Session.after_report, Session.opening_session, Session.with_survivor}
+use Rattle.dn_survivor.specs.{Telling.report_for, declared.answers.GivenUp.GivenUp, declared.answers.Reported.Reported, OneGame.Given, OneGame.Session, OneGame.after_build, OneGame.after_packet, OneGame.after_relays}
+use Rattle.dn_survivor.specs.{OneGame.after_report, OneGame.opening_session, OneGame.with_survivor}
 use Rattle.dn_setup.specs.Settings.{Settings}
-use Rattle.dn_machine.specs.{declared.answers.Heard.Heard, declared.answers.Made.Made, declared.answers.Ran.Ran, declared.events.Event.Event, declared.events.Refusal.Refusal, declared.peer.Peer.Peer, Building.on_build}
+use Rattle.dn_machine.specs.declared.answers.Heard.{Heard}
+use Rattle.dn_machine.specs.declared.answers.Made.{Made}
+use Rattle.dn_machine.specs.declared.answers.Ran.{Ran}
+use Rattle.dn_machine.specs.declared.events.Event.{Event}
+use Rattle.dn_machine.specs.declared.events.Refusal.{Refusal}
+use Rattle.dn_machine.specs.declared.peer.Peer.{Peer}
+use Rattle.dn_machine.specs.Sending.{on_build}
 use Rattle.dn_machine.specs.{Flight.Flight, Flight.is_near, Hearing.on_packet, Limits.Limits, Limits.IsWindow, Node.put, Node.is_ended, Progress.build_of, Running.is_over, Running.on_quit, Running.on_run_but}
 use Rattle.dn_machine.specs.{Worlds.Inputs, Worlds.Rules, Relaying.packet_of_one, Relaying.relayed, Relaying.with_relayed, declared.events.Event.TheVariants.Send, declared.events.Event.TheVariants.Deliver}
 use Rattle.dn_machine.specs.{declared.events.Event.TheVariants.Run, declared.events.Event.TheVariants.Quit, Game.fresh, Game.opening_game, Game.own_marks, Game.refused_at, Game.refused_flight, Game.refused, Game.applied}
 use Rattle.dn_machine.specs.{Game.applied_if, Game.delivered, Game.on_event}
-use Rattle.dn_machine.proofs.{Pairs.accepted_build, Put.put_at, Put.put_off}
-use Rattle.dn_lockstep.specs.{Contents.Contents, Contents.end_in, Hearing.HearsNear, Hearing.Spares, Marking.History, Marking.Marking, Near.IsFair, OneGame.beside, OneGame.world_told, Rows.is_gone, Runs.RunsBy}
-use Rattle.dn_lockstep.specs.{Runs.marks_in, Sent.bytes_of, Sent.sent_to, Session.given_on, Session.taken_on, Session.told_on, Steps.Steps, Steps.Tells, Steps.IsAfter, Told.made, Told.command_told}
-use Rattle.dn_lockstep.proofs.{Counting.got_is, Running.but_same, Running.but_tells, Running.kept_same, Shown.tells_held, OneGame.IsQuiet, OneGame.Rows, OneGame.build_inputs, OneGame.build_rows, OneGame.fair_on}
+use Rattle.dn_machine.proofs.GoingOn.{accepted_build}
+use Rattle.dn_machine.proofs.Put.{put_at, put_off}
+use Rattle.dn_lockstep.specs.Contents.{Contents, end_in}
+use Rattle.dn_lockstep.specs.Hearing.{HearsNear, Spares}
+use Rattle.dn_lockstep.specs.Marking.{History, Marking}
+use Rattle.dn_lockstep.specs.Sent.{IsFair}
+use Rattle.dn_lockstep.specs.OneGame.{beside, world_told}
+use Rattle.dn_lockstep.specs.Rows.{is_gone}
+use Rattle.dn_lockstep.specs.Steps.{RunsBy}
+use Rattle.dn_lockstep.specs.Steps.{marks_in, Steps, Tells, IsAfter}
+use Rattle.dn_lockstep.specs.Sent.{bytes_of, sent_to}
+use Rattle.dn_lockstep.specs.OneGame.{given_on, taken_on, told_on}
+use Rattle.dn_lockstep.specs.Told.{made, command_told}
+use Rattle.dn_lockstep.proofs.Shown.{got_is, tells_held}
+use Rattle.dn_lockstep.proofs.Running.{but_same, but_tells, kept_same}
+use Rattle.dn_lockstep.proofs.OneGame.{IsQuiet, Rows, build_inputs, build_rows, fair_on}
 use Rattle.dn_lockstep.proofs.{OneGame.hear_quiet, OneGame.not_past, OneGame.own_is, OneGame.quit_quiet, OneGame.send_quiet, OneGame.sent_between}
-use Rattle.dn_remain.specs.{Vanished.Commands.Holder, RunsRemain.NextRemain, Wary.Report, Wary.Wary, Wary.on_give_up, Wary.on_report, Wary.report_to, declared.events.RemainEvent.RemainEvent, Seen.now_of}
+use Rattle.dn_remain.specs.{Vanished.Commands.Holder, Remaining.NextRemain, Wary.Report, Wary.Wary, Wary.on_give_up, Wary.on_report, Wary.report_to, declared.events.RemainEvent.RemainEvent, Wary.now_of}
 use Rattle.dn_remain.specs.{Remaining.Remaining, Remaining.Telling, Remaining.wary_of, Remaining.with_wary, Remaining.with_telling, Remaining.unless, Remaining.after_event, Remaining.after_hearing, Remaining.after_run}
 use Rattle.dn_remain.specs.{Remaining.after_telling, Remaining.is_barred, Remaining.is_barred_flight, Remaining.opening_remaining, declared.events.RemainEvent.TheVariants.Own}
 use Rattle.dn_remain.specs.{declared.events.RemainEvent.TheVariants.GiveUp, declared.events.RemainEvent.TheVariants.Tell, declared.events.RemainEvent.TheVariants.Hear}
-use Rattle.dn_remain.proofs.{Relayed.goes_on_by, Relayed.reached_by, Known.IsTold, Places.there, Vanished.Put.at_put, Vanished.Put.own_put, Reached.IsReached}
-use Rattle.dn_survivor.proofs.{Decided.gone_can, Decided.told_can, Quiet.give_up_quiet, Quiet.report_quiet, Quiet.run_inputs, Tellings.telling_at, Tellings.telling_more, Tellings.told_apart}
+use Rattle.dn_remain.proofs.{Relayed.goes_on_by, Relayed.reached_by, Known.IsTold, Followed.there, Vanished.Put.at_put, Vanished.Put.own_put, Reached.IsReached}
+use Rattle.dn_survivor.proofs.{Decided.gone_can, Decided.told_can, Steps.give_up_quiet, Steps.report_quiet, Steps.run_inputs, Reports.telling_at, Reports.telling_more, Reports.told_apart}
 use Rattle.dn_machine.specs.Drops as drops
 use Rattle.dn_machine.specs.Node as machine
 use Rattle.dn_lockstep.specs.Represents as lockstep
-use Rattle.dn_survivor.specs.OfOthers.Represents as others
+use Rattle.dn_survivor.specs.OfOthers as others
 use Rattle.dn_remain.specs.Relaying as relaying
-use Rattle.dn_survivor.specs.Session as session_of
+use Rattle.dn_survivor.specs.OneGame as session_of
 use Rattle.dn_survivor.proofs.Reports as telling
 use Rattle.dn_survivor.proofs.Steps as steps
 use Rattle.dn_survivor.proofs.Waries as waries

@@ -6,17 +6,24 @@ use Rattle.std.specs.Option.{option_map}
 use Rattle.std.proofs.lemmas.Bool.{cases_Bool, cases_eq, cond-true, cond-false, lt-leb, ne_eqb}
 use Rattle.std.proofs.lemmas.Option.{none-some, same_Some, slice_get-get_or}
 use Rattle.dn_tic.specs.{Command.used, Inputs.made_by, declared.command.Move.Move, declared.command.TicCmd.TicCmd, declared.input.Input.Input}
-use Rattle.dn_setup.specs.{Settings.Settings, Starts.start_of}
+use Rattle.dn_setup.specs.Settings.{Settings, start_of}
 use Rattle.dn_demo.specs.{Layout.long_tics, Reading.IsReadAs, Reading.written_demo, Text.commands_of, Text.demo_text}
 use Rattle.dn_machine.specs.{Limits.Limits, Node.demo_rows, Node.ends_of, Node.has_left, Node.held_at, Node.is_ended, Node.is_whole, Node.lacks, Promise.IsPrefixOf, Running.is_over}
 use Rattle.dn_machine.proofs.Demos.{front_passes, front_short}
-use Rattle.dn_lockstep.specs.{Contents.Contents, Contents.end_in, Demos.recorded, Marking.Marking, Rows.seats_of, Told.HasStarted, Told.command_told, Told.got, Told.made}
-use Rattle.dn_lockstep.proofs.{Agreeing.own_marked, DemoTexts.AreFull, DemoTexts.recorded_in_text, DemosAgreeing.begun_or, DemosAgreeing.commands_prefix, DemosAgreeing.prefix_same, Replaying.read_back, Seats.seats_whole}
-use Rattle.dn_remain.specs.{Vanished.Commands.Holder, Promise.AgreeInPairs, Promise.FitsInPairs, Promise.SteadyInPairs, Remaining.wary_of, Seen.end_seen, Seen.reached, Wary.Report}
-use Rattle.dn_remain.proofs.{Fitted.pairs_fit, Marked.fronts_same, Promises.pairs_agree, Reached.IsReached, Seeing.reached_cases, Seeing.reached_some, Steady.pairs_steady}
-use Rattle.dn_survivor.specs.{OfOthers.Keeping.count_told, Agreed.AreAgreedInPairs, Agreed.FitInPairs, Agreed.IsPair, Agreed.move_told, Agreed.row_without, Demos.DemosAgreeInPairs, Demos.is_closed, Demos.rows_whole}
-use Rattle.dn_survivor.specs.{OneGame.AreRemaining, Represents.Represents, Session.Given, Session.Session, Surviving.Surviving, Surviving.end_settled, Surviving.has_given_up}
-use Rattle.dn_survivor.proofs.{Moves.front_at, Moves.row_alike, Moves.seat_there, Moves.used_same, OneGame.rules}
+use Rattle.dn_lockstep.specs.Contents.{Contents, end_in}
+use Rattle.dn_lockstep.specs.Agreed.{recorded}
+use Rattle.dn_lockstep.specs.Marking.{Marking}
+use Rattle.dn_lockstep.specs.Rows.{seats_of}
+use Rattle.dn_lockstep.specs.Told.{HasStarted, command_told, got, made}
+use Rattle.dn_lockstep.proofs.Agreeing.{own_marked}
+use Rattle.dn_lockstep.proofs.DemosAgreeing.{AreFull, recorded_in_text, begun_or, commands_prefix, prefix_same}
+use Rattle.dn_lockstep.proofs.Moving.{read_back}
+use Rattle.dn_lockstep.proofs.Seats.{seats_whole}
+use Rattle.dn_remain.specs.{Vanished.Commands.Holder, Promise.AgreeInPairs, Promise.FitsInPairs, Promise.SteadyInPairs, Remaining.wary_of, Wary.end_seen, Wary.reached, Wary.Report}
+use Rattle.dn_remain.proofs.{Promises.pairs_fit, Marked.fronts_same, Promises.pairs_agree, Reached.IsReached, Seeing.reached_cases, Seeing.reached_some, Steady.pairs_steady}
+use Rattle.dn_survivor.specs.{OfOthers.count_told, Agreed.AreAgreedInPairs, Agreed.FitInPairs, Agreed.IsPair, Agreed.move_told, Agreed.row_without, Agreed.DemosAgreeInPairs, Agreed.is_closed, Agreed.rows_whole}
+use Rattle.dn_survivor.specs.{OneGame.AreRemaining, Represents.Represents, OneGame.Given, OneGame.Session, Surviving.Surviving, Surviving.end_settled, Surviving.has_given_up}
+use Rattle.dn_survivor.proofs.{Lists.front_at, Lists.row_alike, Lists.seat_there, Lists.used_same, OneGame.rules}
 use Rattle.dn_machine.specs.Node as machine
 use Rattle.dn_lockstep.specs.Represents as lockstep
 use Rattle.dn_lockstep.proofs.Shown

@@ -6,14 +6,17 @@ use Rattle.std.proofs.lemmas.Bool.{both_ways, cases_Bool, cond_both, eq-eqb, le-
 use Rattle.std.proofs.lemmas.List.{get_or-set_other}
 use Rattle.std.proofs.lemmas.Option.{same_Some}
 use Rattle.dn_tic.specs.declared.command.TicCmd.{TicCmd}
-use Rattle.dn_survivor.specs.{declared.report.Report.Report, declared.others.Others.Others, OfOthers.Hearing.reported_as, OfOthers.Hearing.with_newest, declared.answers.Ends.Ends, declared.answers.GivenUp.GivenUp}
-use Rattle.dn_survivor.specs.{declared.answers.Reported.Reported, Surviving.Surviving, Surviving.has_given_up, OfOthers.Keeping.commands_of, OfOthers.Keeping.first_of, OfOthers.Keeping.has, OfOthers.Keeping.nodes_of}
-use Rattle.dn_survivor.specs.{OfOthers.Keeping.own_of, OfOthers.Keeping.told_of, Calls.GivesUp, Calls.GivesUpUnless, Calls.HearsReport, Calls.HearsReportUnless, Calls.given_up_as, Calls.refused_give_up}
-use Rattle.dn_survivor.specs.{Calls.refused_report, Calls.reported_by, Calls.unkept, Calls.with_gone, Ending.IsRefusal, Ending.decided_by, Ending.end_by, Ending.ends_with, Ending.settled_below, Ending.settled_by}
+use Rattle.dn_survivor.specs.{declared.report.Report.Report, declared.others.Others.Others, OfOthers.reported_as, OfOthers.with_newest, declared.answers.Ends.Ends, declared.answers.GivenUp.GivenUp}
+use Rattle.dn_survivor.specs.{declared.answers.Reported.Reported, Surviving.Surviving, Surviving.has_given_up, OfOthers.commands_of, OfOthers.first_of, OfOthers.has, OfOthers.nodes_of}
+use Rattle.dn_survivor.specs.{OfOthers.own_of, OfOthers.told_of, Calls.GivesUp, Calls.GivesUpUnless, Calls.HearsReport, Calls.HearsReportUnless, Calls.given_up_as, Calls.refused_give_up}
+use Rattle.dn_survivor.specs.{Calls.refused_report, Calls.reported_by, Calls.unkept, Calls.with_gone, Calls.IsRefusal, Calls.decided_by, Calls.end_by, Calls.ends_with, Calls.settled_below, Calls.settled_by}
 use Rattle.dn_machine.specs.{declared.answers.Phase.Phase, Limits.Limits, Node.ends_of, Node.got, Node.is_ended, Node.ran, declared.answers.Phase.TheVariants.Gathering, declared.answers.Phase.TheVariants.Playing}
-use Rattle.dn_lockstep.specs.{declared.lockstep.settling.Settled.Settled, Phases.is_listening, Rings.is_stop, Settling.has_gap, Settling.is_no_peer, Settling.is_other_end, Settling.missing, Settling.on_excuse}
+use Rattle.dn_lockstep.specs.declared.lockstep.settling.Settled.{Settled}
+use Rattle.dn_lockstep.specs.Phases.{is_listening}
+use Rattle.dn_lockstep.specs.Tables.{is_stop}
+use Rattle.dn_lockstep.specs.Settling.{has_gap, is_no_peer, is_other_end, missing, on_excuse}
 use Rattle.dn_lockstep.specs.{Settling.on_settle, Settling.refused_end, Settling.settled_unless}
-use Rattle.dn_remain.specs.{Vanished.Calls.can_decide, Vanished.Reports.share, Wary.is_in_game, Wary.noted_gone}
+use Rattle.dn_remain.specs.{Vanished.Calls.can_decide, Vanished.Node.share, Wary.is_in_game, Wary.noted_gone}
 use Rattle.dn_remain.proofs.Vanished.Put.{highest_bounds}
 use Rattle.dn_survivor.proofs.{Ends.in_game, Waries.excused, Waries.still_in}
 use Rattle.dn_machine.specs.Drops as drops

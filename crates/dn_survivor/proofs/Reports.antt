@@ -1,21 +1,65 @@
--- The report that a survivor gives tells what its node has.
-use Rattle.std.proofs.Common.{◌≡◌, ◌≢◌, ◌<◌, ◌≤◌, ◌+◌, ◌-◌, ℕ, zero, suc, Bool, false, List, [], ◌∷◌, length, add-one, refl, sym, ap, subst, ◌∙◌, arith, inl, inr, Some, None}
-use Rattle.std.specs.Prelude.{All, ◌&&◌, ◌||◌, ◌==◌, not, min, if◌then◌else◌}
+-- The report that a survivor gives tells what its node has, and those that were given are those that were
+-- told.
+use Rattle.std.proofs.Common.{◌≡◌, ◌≢◌, ◌<◌, ◌≤◌, ◌+◌, ◌-◌, ℕ, zero, suc, Bool, false, List, [], ◌∷◌, length, add-one, refl, sym, ap, subst, ◌∙◌, arith, inl, inr, Some, None, ◌++◌}
+use Rattle.std.specs.Prelude.{All, ◌&&◌, ◌||◌, ◌==◌, not, min, if◌then◌else◌, slice_get}
 use Rattle.std.specs.List.{filter_map, range_with_len}
 use Rattle.std.specs.Option.{option_or}
 use Rattle.std.proofs.lemmas.Bool.{cases_Bool, cases_eq, cases_lt, eq-eqb, ne_eqb, lt-ltb}
+use Rattle.std.proofs.lemmas.Option.{none-some}
 use Rattle.dn_ring.specs.Ring.{Ring}
-use Rattle.dn_survivor.specs.{declared.report.Tail.Tail, ReportBytes.Text.AreInOrder, ReportBytes.Text.AreTold, ReportBytes.Text.IsTail, OfOthers.Hearing.tells_either, OfOthers.Keeping.count_told, OfOthers.Keeping.has}
-use Rattle.dn_survivor.specs.{OfOthers.Keeping.last_told, OfOthers.Represents.Tells, Represents.Represents, Surviving.Surviving, Telling.last_in, Telling.report_for, Telling.report_in, Telling.tails_in, Telling.told_in}
 use Rattle.dn_machine.specs.{Limits.Limits, Node.got, Node.is_ended, Node.lowest}
-use Rattle.dn_lockstep.specs.{Contents.Contents, Rings.count_of, Rings.ring_of, Settling.is_no_peer, Told.command_told}
-use Rattle.dn_lockstep.proofs.Keeping.{get_within}
-use Rattle.dn_remain.specs.{Vanished.Decisions.last_of, Wary.Wary, Wary.has_gone, Wary.report_of, Wary.report_to}
-use Rattle.dn_survivor.proofs.Lists.{if_last, lasts, one_less, picks_few, two_less}
 use Rattle.dn_machine.specs.Node as machine
+use Rattle.dn_remain.specs.{Vanished.Commands.last_of, Wary.Wary, Wary.has_gone, Wary.report_of, Wary.report_to, Remaining.Telling, Wary.Report}
+use Rattle.dn_lockstep.specs.Contents.{Contents}
+use Rattle.dn_lockstep.specs.Tables.{count_of, ring_of}
+use Rattle.dn_lockstep.specs.Settling.{is_no_peer}
+use Rattle.dn_lockstep.specs.Told.{command_told}
+use Rattle.dn_lockstep.proofs.Keeping.{get_within}
 use Rattle.dn_lockstep.specs.Represents as lockstep
-use Rattle.dn_survivor.specs.OfOthers.Represents as others
+use Rattle.dn_survivor.specs.{declared.report.Tail.Tail, ReportBytes.AreInOrder, ReportBytes.AreTold, ReportBytes.IsTail, OfOthers.tells_either, OfOthers.count_told}
+use Rattle.dn_survivor.specs.{OfOthers.has, OfOthers.last_told, OfOthers.Tells, Represents.Represents, Surviving.Surviving, Telling.last_in, Telling.report_for, Telling.report_in}
+use Rattle.dn_survivor.specs.{Telling.tails_in, Telling.told_in, OneGame.AreTelling, OneGame.IsTelling, OneGame.Given}
+use Rattle.dn_survivor.proofs.Lists.{if_last, lasts, one_less, picks_few, two_less}
+use Rattle.dn_survivor.specs.OfOthers as others
 use Rattle.dn_survivor.specs.Surviving as now
+
+-- The reports that were given are those that were told, one for one.
+
+-- a report that was given is one that was told
+pub telling_at : (limits : Limits) (reports : List Given) (tellings : List Telling) → AreTelling limits reports tellings
+    → (which : ℕ) (given : Given) → slice_get reports which ≡ Some given
+    → (t : Telling) × (slice_get tellings which ≡ Some t) × IsTelling limits given t
+telling_at limits [] [] h which given at = absurd (none-some given at)
+telling_at limits [] (t ∷ tellings) h which given at = absurd h
+telling_at limits (g ∷ reports) [] h which given at = absurd h
+telling_at limits (g ∷ reports) (t ∷ tellings) h zero given at = grind arith
+telling_at limits (g ∷ reports) (t ∷ tellings) h (suc which) given at =
+    telling_at limits reports tellings h.1 which given at
+
+-- and one more is
+pub telling_more : (limits : Limits) (reports : List Given) (tellings : List Telling) (given : Given) (t : Telling)
+    → AreTelling limits reports tellings → IsTelling limits given t
+    → AreTelling limits (reports ++ given ∷ []) (tellings ++ t ∷ [])
+telling_more limits [] [] given t h is = (is, tt)
+telling_more limits [] (u ∷ tellings) given t h is = absurd h
+telling_more limits (g ∷ reports) [] given t h is = absurd h
+telling_more limits (g ∷ reports) (u ∷ tellings) given t h is =
+    (h.0, telling_more limits reports tellings given t h.1 is)
+
+-- and there are as many
+pub as_many : (limits : Limits) (reports : List Given) (tellings : List Telling)
+    → AreTelling limits reports tellings → length reports ≡ length tellings
+as_many limits [] [] h = refl
+as_many limits [] (t ∷ tellings) h = absurd h
+as_many limits (g ∷ reports) [] h = absurd h
+as_many limits (g ∷ reports) (t ∷ tellings) h = ap suc (as_many limits reports tellings h.1)
+
+-- no report is for its sender
+pub told_apart : (limits : Limits) (me : ℕ) (wary : Wary) (to : ℕ) (told : Report)
+    → report_to limits me wary to ≡ Some told → me ≢ to
+told_apart limits me wary to told is e = grind (arith, is, e)
+
+-- The report.
 
 -- tests that are alike find the same number
 pub lowest_alike : (bound : ℕ) (f g : ℕ → Bool) → ((i : ℕ) → i < bound → f i ≡ g i) → lowest bound f ≡ lowest bound g

@@ -2,8 +2,8 @@
 use Rattle.std.proofs.Common.{◌≡◌, ◌≢◌, ◌<◌, ◌≤◌, ℕ, Bool, true, false, refl, ap, subst, ◌∙◌, arith, inl, inr, Option, Some, None}
 use Rattle.std.specs.Prelude.{not, if◌then◌else◌}
 use Rattle.std.proofs.lemmas.Bool.{cases_Bool, cond_both, true≢false}
-use Rattle.dn_survivor.specs.{declared.report.Report.Report as Told, declared.others.Others.Others, OfOthers.Keeping.has, OfOthers.Hearing.reported_as, OfOthers.Hearing.with_newest, OfOthers.Represents.Tells}
-use Rattle.dn_survivor.specs.{declared.answers.Ends.Ends, declared.answers.GivenUp.GivenUp, declared.answers.Reported.Reported, Ending.decided_by, Surviving.Surviving, Calls.GivesUp, Calls.GivesUpUnless}
+use Rattle.dn_survivor.specs.{declared.report.Report.Report as Told, declared.others.Others.Others, OfOthers.has, OfOthers.reported_as, OfOthers.with_newest, OfOthers.Tells}
+use Rattle.dn_survivor.specs.{declared.answers.Ends.Ends, declared.answers.GivenUp.GivenUp, declared.answers.Reported.Reported, Calls.decided_by, Surviving.Surviving, Calls.GivesUp, Calls.GivesUpUnless}
 use Rattle.dn_survivor.specs.{Calls.HearsReport, Calls.given_up_as, Calls.given_up_by, Calls.heard_by, Calls.refused_give_up, Calls.refused_report, Calls.reported_by, Represents.CanTakeAll, Represents.Represents}
 use Rattle.dn_survivor.specs.{Represents.given_up_is, Represents.reported_is}
 use Rattle.dn_machine.specs.{declared.answers.Phase.Phase, Limits.Limits, Node.put}
@@ -15,9 +15,8 @@ use Rattle.dn_survivor.proofs.Ends.{decides, tests}
 use Rattle.dn_machine.specs.Node as machine
 use Rattle.dn_lockstep.specs.Represents as lockstep
 use Rattle.dn_survivor.specs.declared.others.hearing.Reported as noted
-use Rattle.dn_survivor.specs.OfOthers.Represents as others
-use Rattle.dn_survivor.proofs.OfOthers.Agreeing as agreeing
-use Rattle.dn_survivor.proofs.OfOthers.Keeping as keeping
+use Rattle.dn_survivor.specs.OfOthers as others
+use Rattle.dn_survivor.proofs.OfOthers as of_others
 use Rattle.dn_remain.specs.declared.events.GivenUp as remain_given
 use Rattle.dn_remain.specs.declared.events.Reported as remain_reported
 use Rattle.dn_survivor.specs.Calls as call
@@ -120,7 +119,7 @@ module _ (limits : Limits) (me : ℕ) (old new : Surviving) (wary : Wary) (r : R
       peers p h = grind (arith, put_off)
 
       kept : others.Represents limits.players limits.places me (call.with_gone old.others player) given.gone given.newest
-      kept = keeping.given_up limits.players limits.places me old.others wary.gone wary.newest r.others player
+      kept = of_others.given_up limits.players limits.places me old.others wary.gone wary.newest r.others player
           (let low = below player peer in let few = r.few in omega arith)
 
       after : given_up_by limits me old.others player wary.node
@@ -188,7 +187,7 @@ module _ (limits : Limits) (me : ℕ) (old new : Surviving) (wary : Wary) (r : R
         else noted.Reported.Kept)))
     noted_as =
         (λ i. reported_as (r.node.whose.players i) (r.node.whose.number i) old.others from report)
-        ∙ agreeing.reported limits.players limits.places me old.others wary.gone wary.newest r.others from holder
+        ∙ of_others.reported limits.players limits.places me old.others wary.gone wary.newest r.others from holder
         report player tells r.player
 
     peer : is_no_peer old.lockstep.players old.lockstep.me from ≡ false
@@ -199,7 +198,7 @@ module _ (limits : Limits) (me : ℕ) (old new : Surviving) (wary : Wary) (r : R
 
     newest : others.Represents limits.players limits.places me (with_newest old.others from report) told_now.gone
         told_now.newest
-    newest = keeping.heard limits.players limits.places me old.others wary.gone wary.newest r.others from holder report
+    newest = of_others.heard limits.players limits.places me old.others wary.gone wary.newest r.others from holder report
         (let few = r.few in omega (arith, player, few)) tells
 
     hears : is_in_game wary.node.phase ≡ true

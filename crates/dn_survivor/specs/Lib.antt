@@ -2,12 +2,8 @@ pub mod OfOthers
 pub mod ReportBytes
 pub mod Surviving
 pub mod Lending
-pub mod Ending
 pub mod Calls
 pub mod Telling
 pub mod Represents
-pub mod Session
 pub mod OneGame
 pub mod Agreed
-pub mod Demos
-pub mod Relaying

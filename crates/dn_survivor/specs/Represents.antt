@@ -5,11 +5,11 @@ use Rattle.dn_tic.specs.declared.command.TicCmd.{TicCmd}
 use Rattle.dn_machine.specs.Limits.{Limits}
 use Rattle.dn_machine.specs.Node.{Node, ends_of, ran}
 use Rattle.dn_lockstep.specs.Represents as lockstep
-use Rattle.dn_lockstep.specs.Rings.{is_stop}
+use Rattle.dn_lockstep.specs.Tables.{is_stop}
 use Rattle.dn_lockstep.specs.Settling.{is_no_peer, is_other_end}
-use Rattle.dn_survivor.specs.OfOthers.Represents as others
-use Rattle.dn_survivor.specs.OfOthers.Represents.{AreWithin}
-use Rattle.dn_remain.specs.Taking.{commands_decided}
+use Rattle.dn_survivor.specs.OfOthers as others
+use Rattle.dn_survivor.specs.OfOthers.{AreWithin}
+use Rattle.dn_remain.specs.Promise.{commands_decided}
 use Rattle.dn_remain.specs.Wary.{Wary, report_of}
 use Rattle.dn_remain.specs.declared.events.GivenUp as remain_given
 use Rattle.dn_remain.specs.declared.events.Reported as remain_reported

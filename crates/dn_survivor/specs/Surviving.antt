@@ -4,9 +4,9 @@ use Rattle.std.specs.Option.{is_some}
 use Rattle.dn_machine.specs.Node.{is_ended, lowest}
 use Rattle.dn_lockstep.specs.Contents.{Contents, contents, end_in}
 use Rattle.dn_lockstep.specs.Told.{got}
-use Rattle.dn_survivor.specs.OfOthers.Keeping.{has}
+use Rattle.dn_survivor.specs.OfOthers.{has}
 use Rattle.dn_survivor.specs.declared.others.Others.{Others}
-use Rattle.dn_remain.specs.Seen.{reached}
+use Rattle.dn_remain.specs.Wary.{reached}
 use Rattle.dn_survivor.specs.declared.survivor.Survivor.{Survivor}
 
 pub record Surviving : Type 0 where

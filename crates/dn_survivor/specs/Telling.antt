@@ -1,14 +1,15 @@
--- The report that a survivor gives to another.
-use Rattle.std.specs.Prelude.{ℕ, ◌-◌, min, not, ◌||◌, ◌==◌, if◌then◌else◌, List, Option, Some, None}
+-- What a survivor gives to another: its report, and of third players the commands that it hands on.
+use Rattle.std.specs.Prelude.{ℕ, ◌-◌, min, not, ◌||◌, ◌==◌, if◌then◌else◌, List, Option, Some, None, ◌≡◌, ◌<◌, Bool, true, false}
 use Rattle.std.specs.List.{filter_map, range_with_len}
 use Rattle.dn_tic.specs.declared.command.TicCmd.{TicCmd}
-use Rattle.dn_survivor.specs.declared.report.Report.{Report}
-use Rattle.dn_survivor.specs.declared.report.Tail.{Tail}
 use Rattle.dn_lockstep.specs.Contents.{Contents}
-use Rattle.dn_lockstep.specs.Rings.{count_of}
+use Rattle.dn_lockstep.specs.Tables.{count_of}
 use Rattle.dn_lockstep.specs.Settling.{is_no_peer}
 use Rattle.dn_lockstep.specs.Told.{command_told}
+use Rattle.dn_survivor.specs.declared.report.Report.{Report}
+use Rattle.dn_survivor.specs.declared.report.Tail.{Tail}
 use Rattle.dn_survivor.specs.Surviving.{Surviving, has_given_up, has_gone, has_left}
+use Rattle.dn_survivor.specs.OfOthers.{has, newest_of}
 
 -- the last commands of a player: of the last twenty-four, for which a report has room, those that the lockstep
 -- keeps
@@ -46,3 +47,15 @@ report_for now to =
     || (has_given_up now to || not (has_left now || has_gone now))
     then None
     else Some (report_in now to)
+
+-- When a survivor may hand on to another the commands that it has of third players.
+
+-- whom another has given up, as far as its newest report tells
+abbrev pub told_gone : Option Report → ℕ → Bool
+told_gone None player = false
+told_gone (Some report) player = has report.gone player
+
+-- it has not given up the other, nor anybody whom it does not know the other to have given up
+pub record MayRelay (now : Surviving) (to : ℕ) : Type 0 where
+  pub stays : has_given_up now to ≡ false
+  pub within : (player : ℕ) → player < 4 → has_given_up now player ≡ true → told_gone (newest_of now.others to) player ≡ true

@@ -6,8 +6,8 @@ ghost use Rattle.dn_machine.specs.{declared.answers.Heard.Heard, Flight.Flight, 
 ghost use Rattle.dn_machine.specs.Drops as drops;
 ghost use Rattle.dn_lockstep.specs.{Hearing.HearsNear, Marking.Marking, OneGame.beside, Sent.bytes_of, Settling.is_no_peer, Told.made, declared.lockstep.settling.Settled.Settled};
 ghost use Rattle.dn_remain.specs.Promise.{AgreeInPairs, FitsInPairs, SteadyInPairs};
-ghost use Rattle.dn_survivor.specs.{Agreed.AreAgreedInPairs, Agreed.FitInPairs, Calls.GivesUp, Calls.HearsReport, Calls.undecided_in, Calls.unsettled_in, Demos.DemosAgreeInPairs};
-ghost use Rattle.dn_survivor.specs.{OneGame.AreRemaining, Session.Given, Session.Session, Surviving.Surviving, Surviving.has_given_up, declared.answers.GivenUp.GivenUp};
+ghost use Rattle.dn_survivor.specs.{Agreed.AreAgreedInPairs, Agreed.FitInPairs, Calls.GivesUp, Calls.HearsReport, Calls.undecided_in, Calls.unsettled_in, Agreed.DemosAgreeInPairs};
+ghost use Rattle.dn_survivor.specs.{OneGame.AreRemaining, OneGame.Given, OneGame.Session, Surviving.Surviving, Surviving.has_given_up, declared.answers.GivenUp.GivenUp};
 ghost use Rattle.dn_survivor.specs.{declared.answers.Reported.Reported};
 
 /// The survivors of one game agree in what their readers return, and in the rows that were returned to their

@@ -1,7 +1,7 @@
 //! What a survivor answers.
 
 ghost use Rattle.std.specs.Prelude.{◌≡◌, ◌≢◌};
-ghost use Rattle.dn_survivor.specs.{Calls.given_up_as, Calls.reported_by, Calls.unkept, Ending.ends_with, declared.answers.Ends.TheVariants.Awaited};
+ghost use Rattle.dn_survivor.specs.{Calls.given_up_as, Calls.reported_by, Calls.unkept, Calls.ends_with, declared.answers.Ends.TheVariants.Awaited};
 ghost use Rattle.dn_survivor.specs.declared.answers.GivenUp.TheVariants as GivenUp;
 ghost use Rattle.dn_survivor.specs.declared.answers.Reported.TheVariants as Reported;
 

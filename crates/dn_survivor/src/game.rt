@@ -6,18 +6,29 @@ ghost use Rattle.dn_tic.specs.{declared.command.Move.Move, declared.input.Input.
 ghost use Rattle.dn_setup.specs.Settings.{Settings};
 ghost use Rattle.dn_survivor.specs.declared.report.Report.{Report};
 ghost use Rattle.dn_machine.specs.Drops as drops;
-ghost use Rattle.dn_machine.specs.{declared.answers.Heard.Heard, declared.answers.Made.Made, declared.answers.Ran.Ran, Building.on_build, Flight.Flight, Flight.is_near, Game.fresh, Limits.Limits};
+ghost use Rattle.dn_machine.specs.declared.answers.Heard.{Heard};
+ghost use Rattle.dn_machine.specs.declared.answers.Made.{Made};
+ghost use Rattle.dn_machine.specs.declared.answers.Ran.{Ran};
+ghost use Rattle.dn_machine.specs.Sending.{on_build};
+ghost use Rattle.dn_machine.specs.Flight.{Flight, is_near};
+ghost use Rattle.dn_machine.specs.Game.{fresh};
+ghost use Rattle.dn_machine.specs.Limits.{Limits};
 ghost use Rattle.dn_machine.specs.{Limits.IsWindow, Running.is_over, Running.on_quit, Running.on_run_but};
-ghost use Rattle.dn_lockstep.specs.{Contents.end_in, Hearing.HearsNear, Hearing.Spares, Marking.Marking, Near.IsFair, OneGame.world_told, Runs.RunsBy, Sent.bytes_of, Sent.sent_to, Steps.Steps};
+ghost use Rattle.dn_lockstep.specs.Contents.{end_in};
+ghost use Rattle.dn_lockstep.specs.Hearing.{HearsNear, Spares};
+ghost use Rattle.dn_lockstep.specs.Marking.{Marking};
+ghost use Rattle.dn_lockstep.specs.Sent.{IsFair, bytes_of, sent_to};
+ghost use Rattle.dn_lockstep.specs.OneGame.{world_told};
+ghost use Rattle.dn_lockstep.specs.Steps.{RunsBy, Steps};
 ghost use Rattle.std.specs.{Prelude.◌∷◌, Prelude.[]};
 ghost use Rattle.dn_tic.specs.declared.command.TicCmd.{TicCmd};
 ghost use Rattle.dn_machine.specs.Relaying.{packet_of_one};
-ghost use Rattle.dn_survivor.specs.{Relaying.MayRelay, Session.after_relays};
+ghost use Rattle.dn_survivor.specs.{Telling.MayRelay, OneGame.after_relays};
 ghost use Rattle.dn_lockstep.specs.{Steps.Tells, Told.made, Told.command_told};
 ghost use Rattle.dn_lockstep.specs.Represents as lockstep;
-ghost use Rattle.dn_survivor.specs.OfOthers.Keeping.{nothing_kept};
-ghost use Rattle.dn_survivor.specs.{Calls.GivesUp, Calls.HearsReport, Calls.sent_unless, OneGame.AreRemaining, OneGame.IsGivenAs, Session.Given, Session.Session, Session.after_build};
-ghost use Rattle.dn_survivor.specs.{Session.after_packet, Session.after_report, Session.after_run, Session.opening_session, Session.with_survivor, Surviving.Surviving, Surviving.has_given_up};
+ghost use Rattle.dn_survivor.specs.OfOthers.{nothing_kept};
+ghost use Rattle.dn_survivor.specs.{Calls.GivesUp, Calls.HearsReport, Calls.sent_unless, OneGame.AreRemaining, OneGame.IsGivenAs, OneGame.Given, OneGame.Session, OneGame.after_build};
+ghost use Rattle.dn_survivor.specs.{OneGame.after_packet, OneGame.after_report, OneGame.after_run, OneGame.opening_session, OneGame.with_survivor, Surviving.Surviving, Surviving.has_given_up};
 ghost use Rattle.dn_survivor.specs.{Telling.report_for, declared.answers.GivenUp.GivenUp, declared.answers.Reported.Reported};
 
 /// New survivors of the same limits, one for each player, of which player 0's has these settings, are those of

@@ -1,17 +1,24 @@
 //! The calls of a survivor are those of a node of `dn_remain`; why an end is refused, and what a give-up does.
 
-ghost use Rattle.std.specs.Prelude.{◌≡◌, ◌≢◌, ◌<◌, ◌≤◌, ◌⊎◌, ℕ, ℤ, true, false, List, Option};
+ghost use Rattle.std.specs.Prelude.{◌≡◌, ◌≢◌, ◌<◌, ◌≤◌, ◌⊎◌, ℕ, ℤ, true, false, List, Option, Some, slice_get};
 ghost use Rattle.dn_tic.specs.declared.command.Move.{Move};
+ghost use Rattle.dn_setup.specs.Settings.{Settings};
 ghost use Rattle.dn_survivor.specs.declared.report.Report.{Report};
-ghost use Rattle.dn_machine.specs.{declared.answers.Ran.Ran, declared.answers.Phase.TheVariants.Gathering, declared.answers.Phase.TheVariants.Playing, Limits.Limits, Running.on_run_but};
+ghost use Rattle.dn_machine.specs.{declared.answers.Ran.Ran, declared.answers.Phase.TheVariants.Gathering, declared.answers.Phase.TheVariants.Playing, Limits.Limits, Running.on_run_but, Limits.IsWindow};
 ghost use Rattle.dn_machine.specs.Node as machine;
+ghost use Rattle.dn_machine.specs.{Worlds.rules_within};
 ghost use Rattle.dn_lockstep.specs.Represents as lockstep;
-ghost use Rattle.dn_lockstep.specs.{Runs.RunsBy, Runs.marks_in, Runs.row_told, Settling.is_no_peer, declared.lockstep.settling.Settled.Settled};
-ghost use Rattle.dn_survivor.specs.{OfOthers.Keeping.nothing_kept, OfOthers.Represents.AreTold, OfOthers.Represents.Tells};
+ghost use Rattle.dn_lockstep.specs.Steps.{RunsBy, marks_in, row_told};
+ghost use Rattle.dn_lockstep.specs.Settling.{is_no_peer};
+ghost use Rattle.dn_lockstep.specs.declared.lockstep.settling.Settled.{Settled};
+ghost use Rattle.dn_survivor.specs.{OfOthers.nothing_kept, OfOthers.AreTold, OfOthers.Tells};
 ghost use Rattle.dn_remain.specs.{Wary.Report as Held, Wary.Wary, Wary.can_settle, Wary.is_in_game, Wary.on_give_up, Wary.on_report, Wary.report_to, Wary.undecided, Wary.with_gone, Wary.with_report};
-ghost use Rattle.dn_survivor.specs.{Calls.GivesUp, Calls.HearsReport, Calls.undecided_in, Ending.IsRefusal, Represents.CanTakeAll, Represents.Represents, Represents.given_up_is};
+ghost use Rattle.dn_remain.specs.{Remaining.Remaining, Remaining.Telling, Remaining.wary_of, Remaining.RunsRemain, declared.events.RemainEvent.RemainEvent};
+ghost use Rattle.dn_survivor.specs.{Calls.GivesUp, Calls.HearsReport, Calls.undecided_in, Calls.IsRefusal, Represents.CanTakeAll, Represents.Represents, Represents.given_up_is};
 ghost use Rattle.dn_survivor.specs.{Represents.nobody_gone, Represents.reported_is, Surviving.Surviving, Surviving.has_given_up, Telling.report_for, declared.answers.GivenUp.GivenUp};
 ghost use Rattle.dn_survivor.specs.{declared.answers.Reported.Reported};
+
+use dn_world::World;
 
 /// A new survivor represents a node that has given up nobody and heard no report. And where one represents a
 /// node, and what that node decides in a game can be taken, each call does what the node does, and answers the
@@ -97,4 +104,23 @@ pub fn give_ups_may_start()
         → has_given_up old me ≡ false → GivesUp player old new answer
         → (new.lockstep.phase ≡ old.lockstep.phase)
         ⊎ ((old.lockstep.phase ≡ Gathering) × (new.lockstep.phase ≡ Playing)) }
+{}
+
+/// What `calls_are_wary` asks of a decision holds in every game of `dn_remain`, in any window up to twelve
+/// where twice as many commands are kept: once a node has given up a player, or a report has come, what it
+/// decides, if it can, can be taken.
+pub fn decisions_can_be_settled<W: World>()
+    ensures given_up { (limits : Limits) (settings : Settings) (events : List RemainEvent) (all : Remaining)
+        (q player : ℕ) → IsWindow limits
+        → RunsRemain (rules_within W.physics limits) settings events all
+        → q < limits.players → player < limits.players → player ≢ q
+        → is_in_game (all.game.nodes q).phase ≡ true
+        → can_settle limits q (with_gone limits (wary_of all q) player) ≡ true
+        → CanTakeAll limits q (with_gone limits (wary_of all q) player) }
+    ensures heard { (limits : Limits) (settings : Settings) (events : List RemainEvent) (all : Remaining)
+        (which : ℕ) (telling : Telling) → IsWindow limits
+        → RunsRemain (rules_within W.physics limits) settings events all
+        → slice_get all.reports which ≡ Some telling → is_in_game (all.game.nodes telling.to).phase ≡ true
+        → can_settle limits telling.to (with_report (wary_of all telling.to) telling.from telling.report) ≡ true
+        → CanTakeAll limits telling.to (with_report (wary_of all telling.to) telling.from telling.report) }
 {}

@@ -11,10 +11,7 @@
 mod agreeing;
 mod answers;
 mod deciding;
-mod decisions;
 mod game;
-mod giving;
-mod hearing;
 mod laws;
 mod lending;
 pub mod others;
@@ -27,7 +24,8 @@ pub use agreeing::{
     decisions_are_taken, given_reports_are_heard, survivors_agree, unsettled_ends_lack_a_report,
 };
 pub use answers::{GivenUp, Reported};
-pub use decisions::decisions_can_be_settled;
 pub use game::{remaining_game_goes_on, remaining_game_opens};
-pub use laws::{calls_are_wary, ends_are_refused_for_reasons, give_ups_may_start};
+pub use laws::{
+    calls_are_wary, decisions_can_be_settled, ends_are_refused_for_reasons, give_ups_may_start,
+};
 pub use survivor::Survivor;

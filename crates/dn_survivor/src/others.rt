@@ -13,7 +13,6 @@ mod deciding;
 mod ending;
 mod hearing;
 mod laws;
-mod sets;
 
 use crate::report::Report;
 pub use hearing::Reported;
@@ -30,7 +29,7 @@ pub struct Others {
 
 impl Others {
     ghost use Rattle.std.specs.Prelude.{◌≡◌, ◌<◌, true, slice_set};
-    ghost use Rattle.dn_survivor.specs.OfOthers.Keeping.{nothing_kept};
+    ghost use Rattle.dn_survivor.specs.OfOthers.{nothing_kept};
 
     /// Nobody is given up, and nothing was told.
     pub fn new() -> Others

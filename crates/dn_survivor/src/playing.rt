@@ -11,7 +11,9 @@ use dn_tic::Move;
 impl Survivor {
     ghost use Rattle.std.specs.{Prelude.◌≡◌, Prelude.◌≢◌, Prelude.◌≤◌, Prelude.ℕ, Prelude.◌+◌, Prelude.ℤ, Prelude.true, Prelude.false, Prelude.None, Prelude.IfSome, Prelude.length, Option.option_map};
     ghost use Rattle.dn_machine.specs.Running.{on_run_but};
-    ghost use Rattle.dn_lockstep.specs.{Giving.IsSentTo, Giving.IsSilent, Near.IsFair, Runs.FillsIn, Runs.RunsBy, Runs.RunsOne, Runs.TellsNoRow, Runs.WaitsAsItWas, Runs.told_by, Sent.sent_to, Sent.bytes_of, Steps.Steps, Steps.Tells};
+    ghost use Rattle.dn_lockstep.specs.Giving.{IsSentTo, IsSilent};
+    ghost use Rattle.dn_lockstep.specs.Sent.{IsFair, sent_to, bytes_of};
+    ghost use Rattle.dn_lockstep.specs.Steps.{FillsIn, RunsBy, RunsOne, TellsNoRow, WaitsAsItWas, told_by, Steps, Tells};
     ghost use Rattle.dn_survivor.specs.{Calls.sent_unless, Surviving.surviving, Surviving.has_given_up};
 
     /// As `Lockstep::run_into`, but no mark is compared of players who are given up.

@@ -19,7 +19,7 @@ impl Survivor {
     ghost use Rattle.dn_setup.specs.Settings.{Settings as Choice};
     ghost use Rattle.dn_machine.specs.Game.{fresh};
     ghost use Rattle.dn_lockstep.specs.{Contents.contents, Contents.whose, Represents.Represents, Settling.is_no_peer};
-    ghost use Rattle.dn_survivor.specs.OfOthers.Keeping.{nothing_kept};
+    ghost use Rattle.dn_survivor.specs.OfOthers.{nothing_kept};
     ghost use Rattle.dn_remain.specs.Wary.{is_in_game};
     ghost use Rattle.dn_survivor.specs.{Surviving.surviving, Surviving.has_given_up, Surviving.has_gone, Surviving.has_left, Surviving.has_settled, Surviving.is_unsettled, Calls.undecided_in};
     ghost use Rattle.dn_survivor.specs.{Calls.unsettled_in};

@@ -36,7 +36,7 @@ fn set_of(set: [bool; 4]) -> [bool; 4]
 }
 
 impl Survivor {
-    ghost use Rattle.dn_survivor.specs.ReportBytes.Text.{AreTold, IsReport, IsTail};
+    ghost use Rattle.dn_survivor.specs.ReportBytes.{AreTold, IsReport, IsTail};
     ghost use Rattle.dn_survivor.specs.{Surviving.surviving, Telling.last_in, Telling.report_for, Telling.tails_in, Telling.told_in};
 
     /// The last commands of a player, as many as the lockstep keeps.

@@ -59,6 +59,7 @@ impl Builder {
     }
 
     /// The command of these keys, with this consistency mark.
+    #[tactic(auto, using(crate::proofs::Making::pressed_made))]
     pub fn build(&mut self, keys: Keys, mark: i16) -> TicCmd
         ensures command { (inputs : List Input) → self.old ≡ hold_of inputs
             → result ≡ made_by (inputs ++ Pressed keys ∷ []) mark }
@@ -79,6 +80,7 @@ impl Builder {
     }
 
     /// The given command, with this consistency mark. It counts as a build in which no key was down.
+    #[tactic(auto, using(crate::proofs::Making::given_made))]
     pub fn give(&mut self, command: Command, mark: i16) -> TicCmd
         ensures command { (inputs : List Input) → result ≡ made_by (inputs ++ Given command ∷ []) mark }
         ensures least { negsuc 126 ≤ℤ result.forward }

@@ -1,7 +1,7 @@
 //! The keys of a player, and which of them are down.
 
 ghost use Rattle.std.specs.Prelude.{◌≡◌, ◌<◌, ◌%◌, ◌^◌};
-ghost use Rattle.dn_tic.specs.Keys.{place_of, is_down};
+ghost use Rattle.dn_tic.specs.Pressed.{place_of, is_down};
 
 use std::marker::Model;
 

@@ -5,19 +5,19 @@ ghost use Rattle.dn_tic.specs.{declared.command.TicCmd.TicCmd, Command.command_b
 ghost use Rattle.dn_tic.specs.{Pressed.pressed, Inputs.hold_of, Inputs.made_by, Tics.exact_tic};
 
 /// Eight bytes are those of one command.
-#[tactic(auto, using(crate::proofs::SameBytes::one_command))]
+#[tactic(auto, using(crate::proofs::Bytes::one_command))]
 pub fn one_command()
     ensures { (c d : TicCmd) → IsCommand c → IsCommand d → command_bytes c ≡ command_bytes d → c ≡ d }
 {}
 
 /// A tic at most 64 from `made` is found again by its low byte.
-#[tactic(auto, using(crate::proofs::Near::exact_near))]
+#[tactic(auto, using(crate::proofs::Bytes::exact_near))]
 pub fn near_tics()
     ensures { (made tic : ℕ) → tic ≤ made + 64 → made ≤ tic + 64 → exact_tic made (tic % 256) ≡ Some tic }
 {}
 
 /// A pressed command goes forward by -50 to 50.
-#[tactic(auto, using(crate::proofs::Pressing::forward_low, crate::proofs::Pressing::forward_high))]
+#[tactic(auto, using(crate::proofs::Making::forward_low, crate::proofs::Making::forward_high))]
 pub fn pressed_forward()
     ensures low { (states : List ℕ) (mark : ℤ) → negsuc 49 ≤ℤ (pressed states mark).forward }
     ensures high { (states : List ℕ) (mark : ℤ) → (pressed states mark).forward ≤ℤ pos 50 }

@@ -1,8 +1,7 @@
 //! What the keys of one build give: moves, a turn and buttons.
 
 ghost use Rattle.std.specs.{Prelude.◌≡◌, Prelude.◌≤◌, Prelude.◌≤ℤ◌, Prelude.◌+ℤ◌, Prelude.pos, Prelude.negsuc, List.position, List.position_or_len};
-ghost use Rattle.dn_tic.specs.{Keys.is_down, Pressed.opposed, Pressed.forward_amount, Pressed.side_amount, Pressed.turn_amount, Pressed.strafed, Pressed.turned, Pressed.buttons_of, Pressed.weapons};
-ghost use Rattle.dn_tic.specs.{Pressed.weapon_buttons, Pressed.clamped};
+ghost use Rattle.dn_tic.specs.Pressed.{is_down, opposed, forward_amount, side_amount, turn_amount, strafed, turned, buttons_of, weapons, weapon_buttons, clamped};
 
 use crate::keys::{Key, Keys};
 
@@ -98,7 +97,7 @@ pub(crate) fn turn(keys: Keys, hold: u8) -> i16
 }
 
 /// The place of the lowest weapon key that is down, and their number where none is.
-#[tactic(auto, using(crate::proofs::Weapons::lowest_weapon))]
+#[tactic(auto, using(crate::proofs::Making::lowest_weapon))]
 fn lowest_weapon(keys: Keys) -> u8
     ensures { result ≡ position_or_len (is_down keys) weapons }
 {

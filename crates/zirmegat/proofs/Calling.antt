@@ -4,10 +4,12 @@ use Rattle.std.specs.Prelude.{Bool, true, Option, Some, None, if◌then◌else�
 use Rattle.std.specs.Option.{option_map}
 use Rattle.dn_tic.specs.{declared.command.Move.Move, declared.input.Input.Input}
 use Rattle.dn_machine.specs.{declared.answers.Made.Made, declared.answers.Ran.Ran}
-use Rattle.dn_lockstep.specs.{declared.lockstep.Lockstep.Lockstep, Contents.Contents, Contents.contents, Runs.told_by}
+use Rattle.dn_lockstep.specs.declared.lockstep.Lockstep.{Lockstep}
+use Rattle.dn_lockstep.specs.Contents.{Contents, contents}
+use Rattle.dn_lockstep.specs.Steps.{told_by}
 use Rattle.dn_link.specs.declared.link.Link.{Link}
 use Rattle.zirmegat.specs.{declared.answers.MoveAnswer.MoveAnswer, declared.answers.RanAnswer.RanAnswer, declared.handle.LockstepHandle.LockstepHandle, declared.link_handle.LinkHandle.LinkHandle, Answers.ran_told}
-use Rattle.zirmegat.specs.{Answers.row_told_over, Asking.Answers, Calls.lockstep_of, Calls.Calls, Going.Builds, Lends.with_node, Lends.with_link, Links.BuildsOf, Links.Joined, Links.joined_of, Links.link_of}
+use Rattle.zirmegat.specs.{Answers.row_told_over, Calls.Answers, Calls.lockstep_of, Calls.Calls, Going.Builds, Lends.with_node, Lends.with_link, Links.BuildsOf, Links.Joined, Links.joined_of, Links.link_of}
 
 -- a handle that held something is called as what it held
 pub calls_held : {A : Type 0} {old new : Option A} (Step : A → A → Type 0) (Empty : Type 0) (n k : A)

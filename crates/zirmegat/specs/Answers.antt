@@ -7,7 +7,7 @@ use Rattle.dn_machine.specs.declared.answers.Made.{Made}
 use Rattle.dn_machine.specs.declared.answers.Heard.{Heard}
 use Rattle.dn_machine.specs.declared.answers.Ran.{Ran}
 use Rattle.dn_setup.specs.Settings.{Settings}
-use Rattle.dn_setup.specs.Starts.{bit}
+use Rattle.dn_setup.specs.Settings.{bit}
 use Rattle.dn_lockstep.specs.declared.lockstep.aiming.Aim.{Aim}
 use Rattle.zirmegat.specs.declared.read_answers.AimAnswer.{AimAnswer}
 use Rattle.zirmegat.specs.declared.config.KnownSettings.{KnownSettings}
@@ -17,6 +17,9 @@ use Rattle.zirmegat.specs.declared.answers.HeardAnswer.{HeardAnswer}
 use Rattle.zirmegat.specs.declared.answers.RanAnswer.{RanAnswer}
 use Rattle.zirmegat.specs.declared.read_answers.Number.{Number}
 use Rattle.zirmegat.specs.declared.answers.MoveAnswer.{MoveAnswer}
+use Rattle.dn_survivor.specs.declared.answers.GivenUp.{GivenUp}
+use Rattle.zirmegat.specs.declared.give_up_answers.GiveUpAnswer.{GiveUpAnswer}
+use Rattle.zirmegat.specs.Codes.{settled_code}
 
 -- a phase with a cause and the marks that a cause tells
 abbrev pub phase_at : ℕ → ℕ → ℤ → ℤ → ℕ → PhaseAnswer
@@ -100,3 +103,14 @@ settings_told None =
       known = 0;
       settings = record { skill = 0; deathmatch = 0; no_monsters = 0; respawn = 0; episode = 0; map = 0 };
     }
+
+abbrev pub give_up_at : ℕ → GiveUpAnswer
+give_up_at code = record { code = code; reason = 0; player = 0 }
+
+abbrev pub give_up_told : GivenUp → GiveUpAnswer
+give_up_told GivenUp.Waiting = give_up_at 0
+give_up_told GivenUp.Decided = give_up_at 1
+give_up_told (GivenUp.Untaken player reason) = record { code = 2; reason = settled_code reason; player = player }
+give_up_told GivenUp.Already = give_up_at 3
+give_up_told GivenUp.NotAPlayer = give_up_at 4
+give_up_told GivenUp.NotPlaying = give_up_at 5

@@ -5,7 +5,7 @@ use Rattle.dn_packet.specs.declared.packet.PacketFault.{PacketFault}
 use Rattle.dn_demo.specs.declared.demo.DemoFault.{DemoFault}
 use Rattle.dn_lockstep.specs.declared.config.NodeFault.{NodeFault}
 use Rattle.dn_lockstep.specs.declared.lockstep.settling.Settled.{Settled}
-use Rattle.dn_link.specs.declared.notice.fault.ReportDatagramFault.{ReportDatagramFault}
+use Rattle.dn_link.specs.declared.notice.ReportDatagramFault.{ReportDatagramFault}
 use Rattle.dn_survivor.specs.declared.answers.Reported.{Reported}
 use Rattle.dn_link.specs.declared.bundle.BundleFault.{BundleFault}
 

@@ -3,12 +3,12 @@ use Rattle.std.specs.Prelude.{◌≡◌, ◌<◌, ℕ, Bool, true, nat_lt, Optio
 use Rattle.dn_tic.specs.declared.command.TicCmd.{TicCmd}
 use Rattle.dn_tic.specs.declared.input.Command.{Command}
 use Rattle.dn_tic.specs.declared.input.Input.{Input}
-use Rattle.dn_lockstep.specs.Commands.{last_held, makes, can_make}
+use Rattle.dn_lockstep.specs.Told.{last_held, makes, can_make}
 use Rattle.dn_lockstep.specs.Contents.{Contents, end_in}
-use Rattle.dn_lockstep.specs.Rings.{count_of}
+use Rattle.dn_lockstep.specs.Tables.{count_of}
 use Rattle.dn_lockstep.specs.Steps.{Tells}
-use Rattle.dn_setup.specs.Starts.{bit}
-use Rattle.zirmegat.specs.declared.commands.KnownCommand.{KnownCommand}
+use Rattle.dn_setup.specs.Settings.{bit}
+use Rattle.zirmegat.specs.declared.calls.KnownCommand.{KnownCommand}
 use Rattle.zirmegat.specs.declared.packets.CommandFields.{CommandFields}
 use Rattle.dn_lockstep.specs.Told as told
 use Rattle.zirmegat.specs.Fields.{command_told}

@@ -1,9 +1,9 @@
--- A demo that is fed in pieces, and then read.
+-- A demo that is fed in pieces, and then read; and what an upgrade answers.
 use Rattle.std.specs.Prelude.{◌≡◌, ◌<◌, ◌⊎◌, ℕ, Bool, List, [], ◌∷◌, ◌++◌, length, slice_get, slice_index_or, false, Option, Some, None, if◌then◌else◌, Result, Ok, Err}
 use Rattle.std.specs.Option.{option_map}
 use Rattle.dn_tic.specs.declared.command.Move.{Move}
-use Rattle.dn_setup.specs.Starts.{bit}
-use Rattle.dn_setup.specs.declared.start.Start.{Start}
+use Rattle.dn_setup.specs.Settings.{bit}
+use Rattle.dn_setup.specs.declared.settings.Start.{Start}
 use Rattle.dn_demo.specs.Reading.{Recording, IsReadAs}
 use Rattle.dn_demo.specs.declared.demo.DemoFault.{DemoFault}
 use Rattle.zirmegat.specs.declared.reader.DemoReader.{DemoReader}
@@ -12,6 +12,11 @@ use Rattle.zirmegat.specs.declared.demo_handle.DemoHandle.{DemoHandle}
 use Rattle.zirmegat.specs.declared.demo_answers.StartFields.{StartFields}
 use Rattle.zirmegat.specs.declared.demo_answers.DemoAnswer.{DemoAnswer}
 use Rattle.zirmegat.specs.Codes.{demo_code}
+use Rattle.dn_demo.specs.Recorded.{Recorded}
+use Rattle.dn_demo.specs.Recorded.{IsUpgraded}
+use Rattle.dn_demo.specs.declared.upgrading.UpgradeFault.{UpgradeFault}
+use Rattle.zirmegat.specs.declared.demos.UpgradeAnswer.{UpgradeAnswer}
+use Rattle.dn_packet.specs.Written.{IsWritten}
 
 -- what a reader has: the bytes that were fed and not yet read, and the demo that was read
 pub record Reading : Type 0 where
@@ -119,3 +124,28 @@ row_of tic None = None
 -- the moves of a tic, counted from 0
 abbrev pub row_by : ℕ → Reading → Option (List (Option Move))
 row_by tic r = row_of tic r.demo
+
+abbrev pub upgrade_code : UpgradeFault → ℕ
+upgrade_code UpgradeFault.Limit = 6
+upgrade_code UpgradeFault.Full = 7
+upgrade_code UpgradeFault.Memory = 5
+
+-- nothing is written, and this is why
+abbrev pub IsNotUpgraded : ℕ → List ℕ → List ℕ → UpgradeAnswer → Type 0
+IsNotUpgraded code old new answer = (answer ≡ record { code = code; length = 0 }) × (new ≡ old)
+
+-- all bytes of the upgrade are written
+abbrev pub IsToldOf : Result Recorded UpgradeFault → List ℕ → List ℕ → UpgradeAnswer → Type 0
+IsToldOf (Ok made) old new answer = (answer.code ≡ 0)
+    × IsWritten made.bytes old new answer.length
+IsToldOf (Err fault) old new answer = IsNotUpgraded (upgrade_code fault) old new answer
+
+-- the demo that the bytes are read as is upgraded within this many bytes
+abbrev pub UpgradesBy : Result Recording DemoFault → ℕ → List ℕ → List ℕ → UpgradeAnswer → Type 0
+UpgradesBy (Ok demo) limit old new answer =
+    (made : Result Recorded UpgradeFault) × IsUpgraded demo limit made × IsToldOf made old new answer
+UpgradesBy (Err fault) limit old new answer = IsNotUpgraded (demo_code fault) old new answer
+
+abbrev pub Upgrades : List ℕ → ℕ → List ℕ → List ℕ → UpgradeAnswer → Type 0
+Upgrades bytes limit old new answer =
+    (read : Result Recording DemoFault) × IsReadAs bytes read × UpgradesBy read limit old new answer

@@ -5,13 +5,13 @@ use Rattle.dn_machine.specs.declared.answers.Made.{Made}
 use Rattle.dn_machine.specs.declared.answers.Heard.{Heard}
 use Rattle.dn_machine.specs.declared.answers.Ran.{Ran}
 use Rattle.dn_tic.specs.declared.input.Input.{Input}
-use Rattle.dn_machine.specs.Building.{on_build}
+use Rattle.dn_machine.specs.Sending.{on_build}
 use Rattle.dn_machine.specs.Running.{on_run, on_run_but, on_quit}
 use Rattle.dn_lockstep.specs.Contents.{Contents}
 use Rattle.dn_lockstep.specs.Hearing.{HearsAny, HearsNear, Spares}
 use Rattle.dn_lockstep.specs.Giving.{IsSentTo, IsSilent}
-use Rattle.dn_lockstep.specs.Runs.{RunsBy}
-use Rattle.dn_lockstep.specs.Near.{IsFair}
+use Rattle.dn_lockstep.specs.Steps.{RunsBy}
+use Rattle.dn_lockstep.specs.Sent.{IsFair}
 use Rattle.dn_lockstep.specs.Sent.{sent_to}
 use Rattle.dn_lockstep.specs.Steps.{Steps, Tells}
 

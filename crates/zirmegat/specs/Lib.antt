@@ -3,12 +3,9 @@ pub mod Lends
 pub mod Codes
 pub mod Calls
 pub mod Answers
-pub mod Asking
 pub mod Opening
 pub mod Going
 pub mod Fields
 pub mod Commands
-pub mod Upgrading
 pub mod Demos
 pub mod Links
-pub mod Surviving

@@ -2,30 +2,30 @@
 use Rattle.std.specs.Prelude.{◌≡◌, ◌≤◌, ◌==◌, nat_abs, ℕ, ℤ, true, false, not, List, pos, replicate, Option, None, Some, IfSome, is_some, if◌then◌else◌}
 use Rattle.std.specs.Option.{option_map}
 use Rattle.arrayvec.specs.ArrayVec.{ArrayVec}
-use Rattle.dn_setup.specs.Starts.{bit}
+use Rattle.dn_setup.specs.Settings.{bit}
 use Rattle.dn_lockstep.specs.Contents.{Contents}
-use Rattle.dn_lockstep.specs.Near.{IsFair}
+use Rattle.dn_lockstep.specs.Sent.{IsFair}
 use Rattle.dn_lockstep.specs.Sent.{sent_to}
 use Rattle.dn_lockstep.specs.Steps.{Steps, Tells}
 use Rattle.dn_machine.specs.declared.answers.Made.{Made}
 use Rattle.dn_machine.specs.declared.answers.Made.TheVariants.{Full, NotPlaying}
 use Rattle.dn_machine.specs.declared.answers.Ran.{Ran}
-use Rattle.dn_machine.specs.Building.{on_build}
+use Rattle.dn_machine.specs.Sending.{on_build}
 use Rattle.dn_tic.specs.declared.input.Input.{Input}
 use Rattle.dn_tic.specs.declared.command.Move.{Move}
-use Rattle.dn_survivor.specs.OfOthers.Keeping.{nothing_kept}
+use Rattle.dn_survivor.specs.OfOthers.{nothing_kept}
 use Rattle.dn_survivor.specs.declared.answers.GivenUp.{GivenUp}
 use Rattle.dn_seal.specs.declared.seal.Seal.{Seal}
 use Rattle.dn_link.specs.declared.link.Link.{Link}
 use Rattle.dn_link.specs.declared.received.Received.{Received}
 use Rattle.dn_link.specs.declared.bundle.Identity.{Identity}
-use Rattle.dn_link.specs.declared.figures.Figures.{Figures}
+use Rattle.dn_link.specs.declared.tally.Figures.{Figures}
 use Rattle.dn_link.specs.declared.presence.Presence.{Presence}
-use Rattle.dn_link.specs.Figures.{figures_of}
+use Rattle.dn_link.specs.Linked.{figures_of}
 use Rattle.dn_link.specs.Linked.{IsWhole, Linked, Gives, Receives, forgotten, has_given_up, holds_back, is_peer, remains}
 use Rattle.dn_link.specs.Linking.{identity_of, linked, new_peer, seal_of}
 use Rattle.dn_link.specs.Pace.{Paces, after_input, after_tick, lean, still_owed}
-use Rattle.dn_link.specs.Paced.{PaceState}
+use Rattle.dn_link.specs.Pacing.{PaceState}
 use Rattle.dn_link.specs.Notices.{HearsNotice, is_notice, notice_for}
 use Rattle.dn_link.specs.Pacing.{new_pace, pace_of}
 use Rattle.dn_link.specs.Surviving.{GivesUpPeer}
@@ -38,7 +38,7 @@ use Rattle.zirmegat.specs.declared.link_handle.LinkHandle.{LinkHandle}
 use Rattle.zirmegat.specs.Answers.{made_told}
 use Rattle.zirmegat.specs.Going.{Builds, Runs, RunsBut}
 use Rattle.zirmegat.specs.Opening.{OpensWithin}
-use Rattle.zirmegat.specs.Asking.{IsPut}
+use Rattle.zirmegat.specs.Calls.{IsPut}
 use Rattle.zirmegat.specs.Codes.{bundle_code, notice_code, reported_code}
 
 -- a link, what it keeps for its pace, and what it has in common with the others of its game

@@ -2,7 +2,7 @@
 
 ghost use Rattle.std.specs.Prelude.{◌≤◌, length, take, drop};
 ghost use Rattle.dn_packet.specs.Written.{IsWritten};
-ghost use Rattle.zirmegat.specs.Asking.{IsPut};
+ghost use Rattle.zirmegat.specs.Calls.{IsPut};
 
 use arrayvec::ArrayVec;
 

@@ -1,21 +1,28 @@
-//! The calls that move a game on.
+//! The calls that move a game on; and whole commands: a node takes them from the caller, and tells those that it has.
 
-ghost use Rattle.std.specs.{Prelude.◌≡◌, Prelude.◌<◌, Prelude.◌≤◌, Prelude.◌%◌, Prelude.◌^◌, Prelude.length, Prelude.map, Prelude.Option, Prelude.None, Prelude.is_some, Option.option_map};
-ghost use Rattle.dn_tic.specs.declared.input.Input.TheVariants.{Pressed};
+ghost use Rattle.std.specs.{Prelude.◌≡◌, Prelude.◌<◌, Prelude.◌≤◌, Prelude.◌%◌, Prelude.◌^◌, Prelude.length, Prelude.map, Prelude.Option, Prelude.None, Prelude.is_some, Prelude.Bool, Option.option_map};
+ghost use Rattle.dn_tic.specs.declared.input.Input.TheVariants.{Pressed, Given};
 ghost use Rattle.dn_machine.specs.Drops as drops;
 ghost use Rattle.dn_machine.specs.declared.answers.Heard.TheVariants as Heard;
-ghost use Rattle.dn_lockstep.specs.{declared.lockstep.aiming.Aim.Aim as Aimed, Sent.sent_to, Sent.aim_of, Giving.gives, Runs.told_by, Steps.Tells};
-ghost use Rattle.zirmegat.specs.{Asking.Answers, Asking.AnswersMade, Asking.AnswersRan, Asking.AnswersQuit, Calls.lockstep_of, Calls.Calls, Calls.Reads, Answers.aim_told, Answers.heard_told};
-ghost use Rattle.zirmegat.specs.{Answers.ran_told, Answers.move_told, Answers.row_told_over, Going.Builds, Going.Sends, Going.Hears, Going.Runs, Going.Quits};
+ghost use Rattle.dn_lockstep.specs.declared.lockstep.aiming.Aim.{Aim as Aimed};
+ghost use Rattle.dn_lockstep.specs.Sent.{sent_to, aim_of};
+ghost use Rattle.dn_lockstep.specs.Giving.{gives};
+ghost use Rattle.dn_lockstep.specs.Steps.{told_by, Tells};
+ghost use Rattle.zirmegat.specs.{Calls.Answers, Calls.AnswersMade, Calls.AnswersRan, Calls.AnswersQuit, Calls.lockstep_of, Calls.Calls, Calls.Reads, Answers.aim_told, Answers.heard_told, Answers.ran_told, Answers.move_told, Answers.row_told_over};
+ghost use Rattle.zirmegat.specs.Going.{Builds, Sends, Hears, Runs, Quits};
+ghost use Rattle.dn_tic.specs.declared.command.TicCmd.{TicCmd as Cmd};
+ghost use Rattle.dn_setup.specs.Settings.{bit};
+ghost use Rattle.zirmegat.specs.Commands.{given_in, known_told, CanBuild, TellsCommand};
 
 use crate::answers::{HeardAnswer, MadeAnswer, MoveAnswer, RanAnswer, Row};
 use crate::ask::ask;
 use crate::handle::LockstepHandle;
+use crate::packets::CommandFields;
 use crate::read_answers::{AimAnswer, flag};
 use dn_lockstep::{Heard, Made, Ran};
 use dn_machine::Dropped;
 use dn_packet::MAX_DATAGRAM;
-use dn_tic::{Keys, Move};
+use dn_tic::{Command, Keys, Move, TicCmd};
 
 /// Builds the command of these keys for the next tic.
 #[unsafe(no_mangle)]
@@ -131,4 +138,74 @@ pub extern "C" fn zmg_lockstep_run(
         let ran = held.run_into(marks, &mut moves);
         tell_run(row, ran, &moves)
     }, RanAnswer::of(Ran::NotPlaying))
+}
+
+/// A command, where `known` is 1; and all 0 where there is none.
+#[repr(C)]
+#[derive(Clone, Copy, Debug, PartialEq, Eq)]
+pub struct KnownCommand {
+    /// 1 where there is a command, and else 0.
+    pub known: u32,
+    /// The command.
+    pub command: CommandFields,
+}
+
+impl KnownCommand {
+    pub(crate) fn of(command: Option<TicCmd>) -> KnownCommand
+        ensures { result ≡ known_told command }
+    {
+        KnownCommand {
+            known: flag(command.is_some()),
+            command: CommandFields::of(command),
+        }
+    }
+}
+
+/// What a caller chooses of a command. Its mark is the node's own.
+pub(crate) fn given(command: &CommandFields) -> Command
+    ensures { result ≡ given_in command.now }
+{
+    Command {
+        forward: command.forward,
+        side: command.side,
+        turn: command.turn,
+        chat: command.chat,
+        buttons: command.buttons,
+    }
+}
+
+/// Takes this command for the next tic, where `zmg_lockstep_build` would build one. Its mark is not read, and a
+/// forward of -128 counts as -127.
+#[unsafe(no_mangle)]
+pub extern "C" fn zmg_lockstep_give(
+    node: &mut LockstepHandle,
+    command: &CommandFields,
+) -> MadeAnswer
+    ensures { AnswersMade (Builds (Given (given_in command.now))) (lockstep_of node.old) (lockstep_of node.new) result }
+{
+    ask!(node, held => MadeAnswer::of(held.give(given(command))), MadeAnswer::of(Made::NotPlaying))
+}
+
+/// 1 where `zmg_lockstep_build` and `zmg_lockstep_give` would make a command now, and else 0.
+#[unsafe(no_mangle)]
+pub extern "C" fn zmg_lockstep_can_build(node: &mut LockstepHandle) -> u32
+    ensures { Reads (lockstep_of node.old) (lockstep_of node.new)
+        (λ n. (can : Bool) × (result ≡ bit can) × CanBuild n can) (result ≡ 0) }
+{
+    ask!(node, held => flag(held.can_build()), 0)
+}
+
+/// A player's command for a tic: one of the last that the node keeps of the player, and so that of the next tic
+/// to be run as soon as it is there.
+#[unsafe(no_mangle)]
+pub extern "C" fn zmg_lockstep_command(
+    node: &mut LockstepHandle,
+    player: u8,
+    tic: u32,
+) -> KnownCommand
+    ensures { Reads (lockstep_of node.old) (lockstep_of node.new)
+        (λ n. (command : Option Cmd) × (result ≡ known_told command) × TellsCommand n player tic command)
+        (result ≡ known_told None) }
+{
+    ask!(node, held => KnownCommand::of(held.command(player, tic)), KnownCommand::of(None))
 }

@@ -5,7 +5,7 @@ ghost use Rattle.dn_link.specs.declared.presence.Presence.TheVariants.{Different
 ghost use Rattle.zirmegat.specs.{Codes.bundle_code, Links.line_told, Links.no_host, Links.owed_told, Links.presence_at, Links.presence_told, Links.received_told, Links.unopened};
 
 use crate::answers::MadeAnswer;
-use crate::report_answers::{notice_code, reported_code};
+use crate::give_up_answers::{notice_code, reported_code};
 use dn_link::{BundleFault, Figures, Identity, Presence, Received};
 use dn_lockstep::Made;
 

@@ -1,20 +1,24 @@
-//! The calls that move the game of a link on.
+//! The calls that move the game of a link on, and those by which players who vanished are given up for good.
 
 ghost use Rattle.std.specs.Prelude.{◌≡◌, ◌<◌, ◌≤◌, ◌%◌, ◌^◌, length, None, pos, ⊤};
 ghost use Rattle.dn_tic.specs.declared.input.Input.TheVariants.{Pressed, Given};
-ghost use Rattle.zirmegat.specs.{Asking.Answers, Asking.AnswersMade, Asking.AnswersRan, Asking.AnswersPut, Asking.AnswersQuit, Calls.Calls, Commands.given_in, Going.Quits, Links.link_of, Links.Moves};
-ghost use Rattle.zirmegat.specs.{Links.BuildsOf, Links.CatchesUp, Links.Forgets, Links.GivesOut, Links.Leans, Links.RunsOf, Links.TakesBytes, Links.owed_told, Links.received_told, Links.unopened};
+ghost use Rattle.zirmegat.specs.{Calls.Answers, Calls.AnswersMade, Calls.AnswersRan, Calls.AnswersPut, Calls.AnswersQuit, Calls.Calls, Calls.Reads, Commands.given_in, Going.Quits, Links.link_of, Links.Moves, Links.BuildsOf, Links.CatchesUp, Links.Forgets, Links.GivesOut, Links.Leans, Links.RunsOf, Links.TakesBytes, Links.owed_told, Links.received_told, Links.unopened, Links.GivesReport, Links.GivesUpIn};
+ghost use Rattle.dn_setup.specs.Settings.{bit};
+ghost use Rattle.dn_survivor.specs.{Calls.undecided_in, declared.answers.GivenUp.TheVariants.NotPlaying};
+ghost use Rattle.dn_link.specs.{Surviving.reports_gone, Linked.has_given_up, Linked.surviving_of};
+ghost use Rattle.zirmegat.specs.Answers.{number_told, give_up_told};
 
 use crate::answers::{MadeAnswer, RanAnswer, Row};
 use crate::ask::ask;
 use crate::bytes;
-use crate::calls::tell_run;
-use crate::commands::given;
+use crate::calls::{given, tell_run};
+use crate::give_up_answers::GiveUpAnswer;
 use crate::link_answers::{ReceivedAnswer, owed_answer};
 use crate::link_handle::LinkHandle;
 use crate::packets::CommandFields;
-use crate::read_answers::flag;
+use crate::read_answers::{Number, flag};
 use dn_lockstep::{Made, Ran};
+use dn_survivor::GivenUp;
 use dn_tic::Keys;
 
 /// The room that a link's datagram needs at most.
@@ -108,4 +112,63 @@ pub extern "C" fn zmg_link_run(link: &mut LinkHandle, marks: &[i16; 4], row: &mu
         let ran = held.run_into(marks, &mut moves);
         tell_run(row, ran, &moves)
     }, RanAnswer::of(Ran::NotPlaying))
+}
+
+/// The room that a sealed report needs at most.
+const MAX_REPORT: usize = 425;
+
+/// Gives up a player who vanished, for good: no datagram goes to it, and nothing of it is taken. The others play
+/// on once all of them have given it up and have told each other what they have of it; until then a run that lacks a command of it waits.
+#[unsafe(no_mangle)]
+pub extern "C" fn zmg_link_give_up(link: &mut LinkHandle, player: u8) -> GiveUpAnswer
+    ensures { Answers give_up_told (give_up_told NotPlaying) (GivesUpIn player) (link_of link.old) (link_of link.new) result }
+{
+    ask!(link, held => GiveUpAnswer::of(held.give_up(player)), GiveUpAnswer::of(GivenUp::NotPlaying))
+}
+
+/// 1 where a player is given up, and else 0.
+#[unsafe(no_mangle)]
+pub extern "C" fn zmg_link_has_given_up(link: &mut LinkHandle, player: u8) -> u32
+    ensures { Reads (link_of link.old) (link_of link.new)
+        (λ n. result ≡ bit (has_given_up n.link player)) (result ≡ 0) }
+{
+    ask!(link, held => flag(held.has_given_up(player)), 0)
+}
+
+/// 1 where the newest report of another player, who is not given up, names a player as given up, and else 0.
+#[unsafe(no_mangle)]
+pub extern "C" fn zmg_link_reports_gone(link: &mut LinkHandle, teller: u8, player: u8) -> u32
+    ensures { Reads (link_of link.old) (link_of link.new)
+        (λ n. result ≡ bit (reports_gone n.link teller player)) (result ≡ 0) }
+{
+    ask!(link, held => flag(held.reports_gone(teller, player)), 0)
+}
+
+/// Of the players whose report is missing the one with the lowest number. Ask it while somebody is given up.
+#[unsafe(no_mangle)]
+pub extern "C" fn zmg_link_undecided(link: &mut LinkHandle) -> Number
+    ensures { Reads (link_of link.old) (link_of link.new)
+        (λ n. result ≡ number_told (undecided_in (surviving_of n.link))) (result ≡ number_told None) }
+{
+    match link.held() {
+        Some(held) => match held.undecided() {
+            Some(player) => Number::of(Some(u32::from(player))),
+            None => Number::of(None),
+        },
+        None => Number::of(None),
+    }
+}
+
+/// Writes the report to a player, sealed, to the front of a room, and answers how many bytes it has, and 0 where
+/// there is none. Where the room is below 425 bytes, it answers 0. The link stays as it is.
+#[unsafe(no_mangle)]
+pub extern "C" fn zmg_link_report(link: &mut LinkHandle, to: u8, out: &mut [u8]) -> usize
+    ensures given { 425 ≤ length out.old → Reads (link_of link.old) (link_of link.new)
+        (λ n. GivesReport to out.old out.new result n) ((result ≡ 0) × (out.new ≡ out.old)) }
+    ensures no_room { length out.old < 425 → (result ≡ 0) × (link.new ≡ link.old) × (out.new ≡ out.old) }
+{
+    if out.len() < MAX_REPORT {
+        return 0;
+    }
+    ask!(link, held => bytes::put(held.report_datagram(to), out), 0)
 }

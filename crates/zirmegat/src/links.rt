@@ -2,8 +2,10 @@
 
 ghost use Rattle.std.specs.Prelude.{◌≡◌, ◌≢◌, ℕ, None, IfOk, IsTrue, ◌↔◌};
 ghost use Rattle.dn_lockstep.specs.{Contents.whose, Opening.IsAdmittedWithin, Opening.whose_within};
-ghost use Rattle.dn_seal.specs.{Keys.no_secret, Sealing.sealed_with, declared.suite.Suite.TheVariants.Secret};
-ghost use Rattle.dn_survivor.specs.OfOthers.Keeping.{nothing_kept};
+ghost use Rattle.dn_seal.specs.Hmac.{no_secret};
+ghost use Rattle.dn_seal.specs.Sealing.{sealed_with};
+ghost use Rattle.dn_seal.specs.declared.seal.Suite.TheVariants.{Secret};
+ghost use Rattle.dn_survivor.specs.OfOthers.{nothing_kept};
 ghost use Rattle.dn_link.specs.{Linking.identity_of, Linking.linked, Linking.new_peer, Linking.seal_of, Pacing.new_pace, Pacing.pace_of};
 ghost use Rattle.zirmegat.specs.{Links.OpensLink, Links.link_of, Opening.IsFresh};
 

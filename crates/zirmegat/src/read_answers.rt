@@ -1,7 +1,7 @@
 //! What the calls that read a node answer, as plain numbers.
 
 ghost use Rattle.std.specs.Prelude.{◌≡◌};
-ghost use Rattle.dn_setup.specs.Starts.{bit};
+ghost use Rattle.dn_setup.specs.Settings.{bit};
 ghost use Rattle.zirmegat.specs.Answers.{phase_told, ended_told, number_told, aim_told};
 
 use dn_lockstep::{Aim, Cause, Phase};

@@ -1,7 +1,7 @@
 //! The calls that read a lockstep. For a handle that holds none they return 0.
 
 ghost use Rattle.std.specs.Prelude.{◌≡◌, pos, None, length, take, drop};
-ghost use Rattle.dn_lockstep.specs.Rings.{count_of};
+ghost use Rattle.dn_lockstep.specs.Tables.{count_of};
 ghost use Rattle.zirmegat.specs.{Calls.lockstep_of, Calls.Reads, Commands.got_of, Commands.end_of, Answers.phase_told, Answers.phase_at, Answers.number_told, Answers.settings_told};
 ghost use Rattle.dn_packet.specs.Written.{IsWritten};
 

@@ -3,7 +3,6 @@
 mod calls;
 mod memory;
 mod rounds;
-mod scripts;
 
 use dn_game::{Done, Event, Game, GameConfig, GameFault, Played, Refusal, play, storm};
 use dn_setup::{Settings, SettingsFault};

@@ -1,12 +1,32 @@
-//! Tests of nodes that step a world: where memory is refused, and each call once over a Walk, since a generic
-//! call is proved for all worlds at once. What the calls do is said by the scripts of `checks/scripts/node`.
+//! Tests of locksteps where memory is refused, and of nodes that step a world: where memory is refused, and each call
+//! once over a Walk, since a generic call is proved for all worlds at once. What the calls do is said by the scripts of
+//! `checks/scripts/node`.
 
 use super::{LIMIT, STILL, config_of, datagram};
+use dn_lockstep::Lockstep;
 use dn_node::{Heard, Made, Node, NodeFault, Phase, Ran};
 use dn_shared_tests::{granted, holds, must, same};
 use dn_tic::{Command, Keys, TicCmd};
 use dn_world::Walk;
 use std::process::Abort;
+
+/// Each request for memory may be refused: then the answer says so, and there is no other.
+#[test]
+fn refused_memory_makes_no_lockstep(ref rt: HostRuntime) {
+    let made = Lockstep::new(rt.alloc(), must!(rt; config_of((2, 0), false, LIMIT)));
+    if let Some(node) = granted!(rt; "Lockstep::new", made, NodeFault::Memory) {
+        same!(rt; node.phase(), Phase::Gathering);
+    }
+}
+
+/// The same in a window.
+#[test]
+fn refused_memory_makes_no_lockstep_in_a_window(ref rt: HostRuntime) {
+    let made = Lockstep::within(rt.alloc(), must!(rt; config_of((2, 0), false, LIMIT)), 12);
+    if let Some(node) = granted!(rt; "Lockstep::within", made, NodeFault::Memory) {
+        same!(rt; node.phase(), Phase::Gathering);
+    }
+}
 
 /// Each request for memory may be refused: then the answer says so, and there is no other.
 #[test]

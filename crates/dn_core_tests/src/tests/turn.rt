@@ -1,11 +1,11 @@
-//! Turns and rounds over a line of one's own.
+//! Turns and rounds over a line of one's own, and refused memory where lines are made.
 
 use super::input_of;
-use dn_netgame::line::{Datagram, Line, LineFault, MemoryHub};
+use dn_netgame::line::{Datagram, HubFault, Line, LineFault, MemoryHub, UdpLine};
 use dn_netgame::turns::{round_with, rounds, turn, turn_with};
 use dn_node::{Config, Node};
 use dn_setup::Settings;
-use dn_shared_tests::{holds, must, same};
+use dn_shared_tests::{granted, holds, must, same};
 use dn_tic::Keys;
 use dn_world::Walk;
 use std::alloc::Global;
@@ -81,4 +81,28 @@ fn turns_are_taken_over_a_line_of_ones_own(rt: HostRuntime) {
     holds!(rt; nodes[0].ran() >= 20);
     holds!(rt; nodes[1].ran() >= 20);
     same!(rt; line.hub.failed(), 0);
+}
+
+/// Each request for memory may be refused: then the answer says so, and there is no other.
+#[test]
+fn refused_memory_makes_no_hub(rt: HostRuntime) {
+    let rt = &rt;
+    let made = MemoryHub::new(rt.alloc(), 4);
+    if let Some(hub) = granted!(rt; "MemoryHub::new", made, HubFault::Memory) {
+        same!(rt; hub.failed(), 0);
+    }
+}
+
+/// Each request for memory may be refused: then there is no line, and the next is bound.
+#[test]
+fn refused_memory_binds_no_line(rt: HostRuntime) {
+    let rt = &rt;
+    for step in 0..200u16 {
+        let bound = UdpLine::bind(rt, rt.alloc(), 32_000 + 8 * step, 0, 3, 4);
+        if let Some(line) = granted!(rt; "UdpLine::bind", bound, LineFault::Bind) {
+            same!(rt; line.failed(), 0);
+            return;
+        }
+    }
+    holds!(rt; false, "no port is free");
 }

@@ -2,13 +2,13 @@
 
 ghost use Rattle.std.specs.{Prelude.◌≡◌, Prelude.◌≢◌, Prelude.false, Prelude.true, Prelude.Some, Prelude.Ok, Prelude.Err, Prelude.OnErr, Prelude.slice_get, Option.option_map};
 ghost use Rattle.dn_game.specs.{Arrived.Opening, Arrived.IsArrived, Arrived.SparesArrived, OpenPlayed.IsAppliedOpen, OpenPlayed.IsCarriedOnOpen, OpenPlayed.SparesOpen, OpenPlayed.arrival_answer};
-ghost use Rattle.dn_game.specs.{OpenPlayed.sends, Pool.HasGrown, Sealed.sealed};
+ghost use Rattle.dn_game.specs.{OpenPlayed.sends, Pool.HasGrown, Arrived.sealed};
 ghost use Rattle.dn_machine.specs.{declared.answers.Heard.TheVariants.Started, declared.events.Refusal.Refusal};
-ghost use Rattle.dn_open.specs.declared.arrived.Arrived.TheVariants as came;
+ghost use Rattle.dn_open.specs.declared.hearing.Arrived.TheVariants as came;
 ghost use Rattle.dn_open.specs.declared.open_event.OpenEvent.TheVariants.{Arrive};
 
 use super::Game;
-use crate::open_done::OpenDone;
+use crate::open_playing::OpenDone;
 use arrayvec::ArrayVec;
 use dn_lockstep::are_tics_near;
 use dn_machine::Refusal;

@@ -1,7 +1,7 @@
 //! How a game is made.
 
 ghost use Rattle.std.specs.{Prelude.◌≡◌, Prelude.length, Prelude.map, Prelude.All, Prelude.IfOk, Vec.vec_capacity};
-ghost use Rattle.dn_game.specs.{Opening.IsAdmitted, Opening.config_of, Opening.rules_in, Fresh.AreLimited, Fresh.EachIs, Fresh.worlds_of};
+ghost use Rattle.dn_game.specs.Opening.{IsAdmitted, config_of, rules_in, AreLimited, EachIs, worlds_of};
 
 use super::Game;
 use crate::config::{GameConfig, GameFault};
@@ -15,7 +15,7 @@ use std::alloc::Global;
 
 impl<W: World> Game<W> {
     ghost use Rattle.dn_machine.specs.Game.{opening_game};
-    ghost use Rattle.dn_game.specs.{Contents.contents, Represents.Represents, Room.room_of};
+    ghost use Rattle.dn_game.specs.{Contents.contents, Contents.Represents, Room.room_of};
 
     /// A game with a node for each world, in the players' order. The worlds are given up where there is
     /// no game.

@@ -1,7 +1,7 @@
 //! The lines of a script.
 
 ghost use Rattle.std.specs.Prelude.{◌≡◌, ◌↔◌, ◌++◌, IsTrue, MatchOption, codes};
-ghost use Rattle.dn_game.specs.Scripts.Lines.{HasNoSpace, IsSkipped, IsEventOf};
+ghost use Rattle.dn_game.specs.Scripts.{HasNoSpace, IsSkipped, IsEventOf};
 
 use crate::script::words;
 use dn_machine::Event;

@@ -2,7 +2,7 @@
 
 ghost use Rattle.std.specs.Prelude.{List, Result};
 ghost use Rattle.dn_machine.specs.declared.events.Event.{Event};
-ghost use Rattle.dn_game.specs.{declared.script.reading.ScriptFault.ScriptFault, Scripts.Script.IsReadAs, Scripts.Script.IsSameButMemory, Scripts.Script.answered};
+ghost use Rattle.dn_game.specs.{declared.script.reading.ScriptFault.ScriptFault, Scripts.IsReadAs, Scripts.IsSameButMemory, Scripts.answered};
 
 use crate::script::line;
 use dn_machine::Event;

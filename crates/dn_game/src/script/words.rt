@@ -1,7 +1,7 @@
 //! The words of a script's lines.
 
 ghost use Rattle.std.specs.Prelude.{◌≡◌, ◌<◌, ℕ, IfSome, MatchOption};
-ghost use Rattle.dn_game.specs.Scripts.Words.{IsNumber, AreKeys, place_in_letters};
+ghost use Rattle.dn_game.specs.Scripts.{IsNumber, AreKeys, place_in_letters};
 
 use dn_tic::Keys;
 

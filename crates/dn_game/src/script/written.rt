@@ -1,7 +1,9 @@
-//! Writing events as the lines of a script.
+//! Writing events as the lines of a script, and that these are read.
 
 ghost use Rattle.std.specs.{Prelude.◌≡◌, Prelude.◌++◌, Prelude.OnOk, String.string_bytes};
-ghost use Rattle.dn_game.specs.{Scripts.Words.letters, Scripts.Written.letters_down, Scripts.Written.keys_word, Scripts.Written.give_words, Scripts.Written.event_words, Scripts.Written.event_line};
+ghost use Rattle.dn_game.specs.Scripts.{letters, letters_down, keys_word, give_words, event_words, event_line, IsReadAs, size_limit, HasScriptLine, script_text};
+ghost use Rattle.std.specs.{Prelude.◌≤◌, Prelude.List, Prelude.length, Prelude.Ok, List.All};
+ghost use Rattle.dn_machine.specs.declared.events.Event.{Event};
 
 use crate::script::words::LETTERS;
 use dn_machine::Event;
@@ -32,7 +34,7 @@ fn push_keys(text: &mut String, keys: Keys) -> Result<(), AllocError>
 }
 
 /// A given command: its node and its fields.
-#[tactic(auto, unfolding(crate::specs::Scripts::Written::give_words))]
+#[tactic(auto, unfolding(crate::specs::Scripts::give_words))]
 fn push_give(text: &mut String, node: u32, command: Command) -> Result<(), AllocError>
     ensures { OnOk result (string_bytes text.new ≡ string_bytes text.old ++ give_words node command) }
 {
@@ -68,3 +70,10 @@ pub fn push_event_line(text: &mut String, event: Event) -> Result<(), AllocError
     push_event(text, event)?;
     text.push_str("\n")
 }
+
+/// What is written for a list of events is read as these events, if none of them gives a command, their
+/// numbers have at most nine digits, and the text is not too long.
+pub fn written_scripts_are_read()
+    ensures { (events : List Event) → All HasScriptLine events → length (script_text events) ≤ size_limit
+        → IsReadAs (script_text events) (Ok events) }
+{}

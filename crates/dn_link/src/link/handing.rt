@@ -3,7 +3,7 @@
 use super::Link;
 use crate::bundle::{Part, Relay};
 use crate::counting::held_of;
-use crate::history::Had;
+use crate::lag::Had;
 use crate::relaying::{relay_of, with_relay};
 use arrayvec::ArrayVec;
 
@@ -12,7 +12,7 @@ const MOST_HANDED: u8 = 24;
 
 impl Link {
     ghost use Rattle.std.specs.Prelude.{◌≡◌, ◌<◌, ◌≤◌, ◌||◌, All, length, not, slice_index, true, false, IfSome};
-    ghost use Rattle.dn_link.specs.{Linked.has_given_up, Linked.is_peer, Linked.remains, Linking.identity_of, Linking.linked, Linking.seal_of, Handing.HasTwoBehind, Handing.IsHandedFor, Handing.may_hand, Handing.shares_gone};
+    ghost use Rattle.dn_link.specs.{Linked.has_given_up, Linked.is_peer, Linked.remains, Linking.identity_of, Linking.linked, Linking.seal_of, Surviving.HasTwoBehind, Surviving.IsHandedFor, Surviving.may_hand, Surviving.shares_gone};
     ghost use Rattle.dn_link.specs.{Pacing.pace_of, Text.IsPart, Text.parts_bytes};
 
     /// Whether a player is not given up, or a peer has reported to have given it up too.

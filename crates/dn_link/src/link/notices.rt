@@ -20,7 +20,7 @@ pub(super) fn is_notice(bytes: &[u8]) -> bool
 
 impl Link {
     ghost use Rattle.std.specs.{Prelude.ℕ, Prelude.IfSome, Option.option_map};
-    ghost use Rattle.dn_survivor.specs.ReportBytes.Text.{IsReport};
+    ghost use Rattle.dn_survivor.specs.ReportBytes.{IsReport};
     ghost use Rattle.dn_survivor.specs.Telling.{report_for};
     ghost use Rattle.dn_survivor.specs.declared.answers.Reported.TheVariants as reported;
     ghost use Rattle.dn_link.specs.declared.received.Received.TheVariants as received;

@@ -7,13 +7,14 @@ use dn_tic::Input;
 impl Link {
     ghost use Rattle.std.specs.Prelude.{◌≡◌, None, Some};
     ghost use Rattle.dn_tic.specs.declared.input.Input.{Input as AnyInput};
-    ghost use Rattle.dn_machine.specs.{Building.on_build, declared.answers.Made.Made as AnyMade};
+    ghost use Rattle.dn_machine.specs.Sending.{on_build};
+    ghost use Rattle.dn_machine.specs.declared.answers.Made.{Made as AnyMade};
     ghost use Rattle.dn_machine.specs.declared.answers.Made.TheVariants as made;
     ghost use Rattle.dn_lockstep.specs.Steps.{Steps};
     ghost use Rattle.dn_link.specs.{Linking.identity_of, Linking.linked, Linking.seal_of, Pace.still_owed, Pacing.pace_of};
 
     /// Makes the command of this input.
-    #[tactic(auto, using(dn_survivor::proofs::Lent::lent_steps))]
+    #[tactic(auto, using(dn_survivor::proofs::Steps::lent_steps))]
     fn make(&mut self, input: Input) -> Made
         ensures step { Steps (linked self.old).node (linked self.new).node
             (λ limits me m. on_build limits me m input) (λ made. result ≡ made) }

@@ -2,7 +2,7 @@
 
 ghost use Rattle.std.specs.Prelude.{◌≡◌, ◌≢◌, ℕ, None};
 ghost use Rattle.dn_machine.specs.declared.answers.Ran.TheVariants as ran;
-ghost use Rattle.dn_lockstep.specs.Runs.{told_by};
+ghost use Rattle.dn_lockstep.specs.Steps.{told_by};
 
 use super::Link;
 use dn_machine::Ran;
@@ -22,8 +22,8 @@ fn told_by(answer: Ran, row: [Option<Move>; 4]) -> Option<[Option<Move>; 4]>
 impl Link {
     ghost use Rattle.std.specs.Prelude.{ℤ, ◌+◌};
     ghost use Rattle.dn_machine.specs.Running.{on_run, row_held};
-    ghost use Rattle.dn_lockstep.specs.{Runs.RunsBy, Steps.Tells};
-    ghost use Rattle.dn_link.specs.{Linked.IsWhole, Linking.identity_of, Linking.linked, Linking.seal_of, Pacing.pace_of, Running.RunsBut};
+    ghost use Rattle.dn_lockstep.specs.Steps.{RunsBy, Tells};
+    ghost use Rattle.dn_link.specs.{Linked.IsWhole, Linking.identity_of, Linking.linked, Linking.seal_of, Pacing.pace_of, Surviving.RunsBut};
 
     /// As `Lockstep::run`, but no mark is compared of players who are given up.
     #[tactic(auto, using(dn_lockstep::proofs::After::steps))]

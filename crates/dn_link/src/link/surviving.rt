@@ -10,7 +10,7 @@ use dn_survivor::{GivenUp, Reported};
 impl Link {
     ghost use Rattle.std.specs.Prelude.{◌<◌, ◌≢◌, true, IfSome};
     ghost use Rattle.dn_machine.specs.declared.answers.Phase.TheVariants.{Gathering};
-    ghost use Rattle.dn_survivor.specs.ReportBytes.Text.{IsReport};
+    ghost use Rattle.dn_survivor.specs.ReportBytes.{IsReport};
     ghost use Rattle.dn_survivor.specs.{Calls.HearsReport, Calls.undecided_in, Telling.report_for};
     ghost use Rattle.dn_survivor.specs.declared.answers.GivenUp.TheVariants as given_up;
     ghost use Rattle.dn_survivor.specs.declared.answers.Reported.TheVariants as reported;

@@ -1,11 +1,11 @@
 //! What a link reports for the screen.
 
 use super::Link;
-use crate::figures::Figures;
+use crate::tally::Figures;
 
 impl Link {
     ghost use Rattle.std.specs.Prelude.{◌<◌, ◌≤◌, if◌then◌else◌, None, Some, ◌≡◌};
-    ghost use Rattle.dn_link.specs.{Figures.acknowledged_by, Figures.figures_of, Figures.unacknowledged, Linked.is_peer, Linking.linked, Pacing.pace_of};
+    ghost use Rattle.dn_link.specs.{Linked.acknowledged_by, Linked.figures_of, Linked.unacknowledged, Linked.is_peer, Linking.linked, Pacing.pace_of};
     ghost use Rattle.dn_lockstep.specs.Told.{made as made_in};
     ghost use Rattle.dn_machine.specs.declared.answers.Made.TheVariants as made;
 

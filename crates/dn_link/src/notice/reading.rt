@@ -1,11 +1,11 @@
 //! Opening any bytes as a report.
 
 ghost use Rattle.std.specs.Prelude.{◌≡◌, ◌≤◌, ℕ, length, Result, Err, None, IfSome};
-ghost use Rattle.dn_survivor.specs.{declared.report.Report.Report, declared.report.ReportFault.ReportFault, ReportBytes.Read.IsReadAs};
+ghost use Rattle.dn_survivor.specs.{declared.report.Report.Report, declared.report.ReportFault.ReportFault, ReportBytes.IsReadAs};
 ghost use Rattle.dn_seal.specs.{Opening.IsFor, Sealing.sealing};
-ghost use Rattle.dn_link.specs.{declared.notice.fault.ReportDatagramFault.ReportDatagramFault, SealedReports.Opening.sealed_reports, SealedReports.Opening.IsOpenedAs, SealedReports.Opening.told_report};
+ghost use Rattle.dn_link.specs.{declared.notice.ReportDatagramFault.ReportDatagramFault, SealedReports.sealed_reports, SealedReports.IsOpenedAs, SealedReports.told_report};
 
-use crate::notice::fault::ReportDatagramFault;
+use crate::notice::ReportDatagramFault;
 use crate::notice::writing::{HEAD, KIND, MAX_SEALED_REPORT, TAG};
 use dn_seal::Sealer;
 use dn_survivor::report::{Report, ReportFault, decode};

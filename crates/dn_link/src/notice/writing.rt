@@ -2,7 +2,7 @@
 
 ghost use Rattle.std.specs.Prelude.{◌≡◌};
 ghost use Rattle.dn_seal.specs.Sealing.{sealing};
-ghost use Rattle.dn_link.specs.SealedReports.Text.{sealed_report_bytes};
+ghost use Rattle.dn_link.specs.SealedReports.{sealed_report_bytes};
 
 use arrayvec::ArrayVec;
 use dn_seal::{Sealer, append};

@@ -2,10 +2,10 @@
 
 ghost use Rattle.std.specs.{Prelude.◌≡◌, Prelude.◌<◌, Prelude.◌≤◌, Prelude.◌+◌, Prelude.◌-◌, Prelude.min, Prelude.nat_lt, Prelude.if◌then◌else◌, Prelude.IfSome, Prelude.is_some, Option.option_map};
 ghost use Rattle.dn_packet.specs.Flags.{exit};
-ghost use Rattle.dn_setup.specs.Starts.{bit};
+ghost use Rattle.dn_setup.specs.Settings.{bit};
 ghost use Rattle.dn_machine.specs.{declared.answers.Phase.TheVariants.Ended, declared.answers.Cause.Cause, Flight.Play, Flight.request_flag, Flight.request_byte, Sending.commands_flight};
 ghost use Rattle.dn_machine.specs.{Sending.first_sent, Sending.request_to, Sending.on_send_in};
-ghost use Rattle.dn_lockstep.specs.{Rings.count_of, Sent.sent_to, Sent.aim_of};
+ghost use Rattle.dn_lockstep.specs.{Tables.count_of, Sent.sent_to, Sent.aim_of};
 
 use super::Lockstep;
 use dn_machine::Phase;
@@ -122,7 +122,7 @@ impl Lockstep {
     }
 
     /// The numbers of a packet of commands.
-    #[tactic(auto, using(crate::proofs::Sending::aim_is, crate::proofs::Counting::made_is))]
+    #[tactic(auto, using(crate::proofs::Giving::aim_is, crate::proofs::Shown::made_is))]
     fn aim_of_commands(&self, to: u8) -> Aim
         requires { to < (contents self.now).players }
         ensures told { Tells (contents self.now)
@@ -142,7 +142,7 @@ impl Lockstep {
     /// The numbers of a packet that a node gives which has played and ended: it asks for no commands. It is an
     /// EXIT packet (`d_net.c`, D_QuitNetGame) where it carries the last command, so that the peers know all
     /// up to the node's end, and else one like those before.
-    #[tactic(auto, using(crate::proofs::Sending::aim_is, crate::proofs::Sending::left_flags, crate::proofs::Sending::exit_given, crate::proofs::Sending::none_given, crate::proofs::Counting::made_is))]
+    #[tactic(auto, using(crate::proofs::Giving::aim_is, crate::proofs::Giving::left_flags, crate::proofs::Giving::exit_given, crate::proofs::Giving::none_given, crate::proofs::Shown::made_is))]
     fn aim_of_exit(&self, to: u8) -> Option<Aim>
         requires below { to < (contents self.now).players }
         ensures told { (cause : Cause) → Tells (contents self.now)

@@ -9,11 +9,11 @@ use dn_machine::{Made, Phase};
 use dn_tic::{Command, Input, Keys};
 
 impl Lockstep {
-    ghost use Rattle.dn_lockstep.specs.{Contents.contents, Commands.Builds, Commands.makes, Commands.can_make, Steps.Tells};
+    ghost use Rattle.dn_lockstep.specs.{Contents.contents, Told.Builds, Told.makes, Told.can_make, Steps.Tells};
 
     /// Whether [`Lockstep::build`] and [`Lockstep::give`] would make a command now: it plays, and fewer of its
     /// commands wait to be run than its window allows.
-    #[tactic(auto, using(crate::proofs::Changing::makes_not, crate::proofs::Changing::makes_near, crate::proofs::Changing::not_playing, crate::proofs::Counting::made_is))]
+    #[tactic(auto, using(crate::proofs::Changing::makes_not, crate::proofs::Changing::makes_near, crate::proofs::Changing::not_playing, crate::proofs::Shown::made_is))]
     pub fn can_build(&self) -> bool
         ensures value { result ≡ can_make (contents self.now) }
         ensures told { Tells (contents self.now)

@@ -6,8 +6,7 @@ ghost use Rattle.dn_machine.specs.{declared.answers.Phase.TheVariants.Gathering,
 ghost use Rattle.dn_lockstep.specs.{Phases.hears_none, Received.on_read, Received.on_set_up, Received.on_player};
 
 use super::Lockstep;
-use crate::drops::{packet_drop, setup_drop};
-use crate::reading::has_flag;
+use crate::reading::{has_flag, packet_drop, setup_drop};
 use dn_machine::{Dropped, Heard, Phase};
 use dn_packet::{KILL, Packet, SETUP, decode_into};
 use dn_setup::from_packet;

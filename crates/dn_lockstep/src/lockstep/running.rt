@@ -3,7 +3,7 @@
 ghost use Rattle.std.specs.Prelude.{◌≡◌, ◌≢◌, ℕ, ℤ, None};
 ghost use Rattle.dn_machine.specs.{declared.answers.Phase.TheVariants.Playing, declared.answers.Ran.TheVariants.Waiting, declared.answers.Ran.TheVariants.NotPlaying, Node.lowest};
 ghost use Rattle.dn_machine.specs.declared.answers.Ran.TheVariants as Ran;
-ghost use Rattle.dn_lockstep.specs.{Rows.has, Rows.is_missing, Runs.told_by};
+ghost use Rattle.dn_lockstep.specs.{Rows.has, Rows.is_missing, Steps.told_by};
 
 use super::Lockstep;
 use crate::recording::write;
@@ -23,7 +23,7 @@ fn told_by(ran: Ran, row: [Option<Move>; 4]) -> Option<[Option<Move>; 4]>
 
 impl Lockstep {
     ghost use Rattle.dn_machine.specs.Running.{on_run, on_run_but, on_run_playing};
-    ghost use Rattle.dn_lockstep.specs.{Contents.contents, Runs.FillsIn, Runs.RunsBy, Runs.RunsOne, Runs.TellsNoRow, Runs.WaitsAsItWas};
+    ghost use Rattle.dn_lockstep.specs.{Contents.contents, Steps.FillsIn, Steps.RunsBy, Steps.RunsOne, Steps.TellsNoRow, Steps.WaitsAsItWas};
 
     /// Runs the next tic, as `run_into` does. Returns the row of moves too, if the tic was run.
     #[tactic(auto, using(crate::proofs::After::steps, crate::proofs::Running::no_row))]

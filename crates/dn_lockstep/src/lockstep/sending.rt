@@ -2,7 +2,7 @@
 
 ghost use Rattle.std.specs.{Prelude.◌≡◌, Prelude.◌≤◌, Prelude.length, Prelude.false, Prelude.Some, Prelude.None, Prelude.IfSome, Prelude.is_some, List.list_any, Option.option_map};
 ghost use Rattle.dn_packet.specs.{Text.IsPacket, Text.text, Written.IsWritten};
-ghost use Rattle.dn_lockstep.specs.{Rings.is_stop, Near.IsFair, Sent.sent_to, Sent.after_giving, Sent.aim_of, Sent.bytes_of};
+ghost use Rattle.dn_lockstep.specs.{Tables.is_stop, Sent.IsFair, Sent.sent_to, Sent.after_giving, Sent.aim_of, Sent.bytes_of};
 
 use super::Lockstep;
 use super::aiming::{Aim, request_byte};

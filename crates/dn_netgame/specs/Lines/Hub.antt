@@ -1,6 +1,6 @@
 -- A line in memory: what its queues do.
 use Rattle.std.specs.Prelude.{◌≡◌, ℕ, Bool, not, ◌&&◌, ◌==◌, nat_lt, if◌then◌else◌, List, [], ◌∷◌, ◌++◌, length, take, replicate, slice_index_or, slice_set, Option, Some, None, Result, Ok, Err}
-use Rattle.dn_netgame.specs.Lines.Counts.{Done, count_after}
+use Rattle.dn_netgame.specs.Lines.{Done, count_after}
 use Rattle.dn_netgame.specs.declared.line.Datagram.{Datagram}
 use Rattle.dn_netgame.specs.declared.line.LineFault.{LineFault}
 use Rattle.dn_netgame.specs.declared.line.LineFault.TheVariants.{Send, Poll}

@@ -1,6 +1,6 @@
 -- A line over UDP: what can be said of it without the network.
 use Rattle.std.specs.Prelude.{◌≡◌, ◌⊎◌, ℕ, ◌<◌, ◌≤◌, Bool, false, not, ◌&&◌, ◌==◌, nat_lt, nat_le, List, Option, Result, IsErr, IfErr, IfOk, IfSome}
-use Rattle.dn_netgame.specs.Lines.Counts.{Done, count_after}
+use Rattle.dn_netgame.specs.Lines.{Done, count_after}
 use Rattle.dn_netgame.specs.declared.line.Datagram.{Datagram}
 use Rattle.dn_netgame.specs.declared.line.LineFault.{LineFault}
 use Rattle.dn_netgame.specs.declared.line.LineFault.TheVariants.{Send, Poll}

@@ -1,15 +1,56 @@
-//! The lines of a demo: what it has, and where its players end.
+//! The lines of a demo and of its rows.
 
-ghost use Rattle.std.specs.{Prelude.◌≡◌, Prelude.◌++◌, Prelude.codes, Prelude.IfOk, Prelude.OnOk, String.string_bytes};
+ghost use Rattle.std.specs.{Prelude.◌≡◌, Prelude.◌++◌, Prelude.[], Prelude.◌∷◌, Prelude.None, Prelude.IsOk, Prelude.OnOk, Prelude.codes, Prelude.IfOk, String.string_bytes};
+ghost use Rattle.dn_netgame.specs.Texts.{move_line, step_line, row_lines, choice_fields, rule_fields, header_fields, size_line, player_line, seat_line, players_present, fed_lines};
 ghost use Rattle.dn_world.specs.Plane.{spot_at};
-ghost use Rattle.dn_netgame.specs.{Texts.DemoLines.choice_fields, Texts.DemoLines.rule_fields, Texts.DemoLines.header_fields, Texts.DemoLines.size_line, Texts.DemoLines.player_line, Texts.DemoLines.seat_line, Texts.DemoLines.players_present, Texts.DemoLines.fed_lines};
 ghost use Rattle.dn_measure.specs.Fields.{labelled};
 
 use dn_demo::Fed;
 use dn_measure::{push_fields, push_line};
 use dn_setup::Start;
+use dn_tic::Move;
 use dn_world::{Walk, World};
 use std::alloc::{AllocError, Global};
+
+#[tactic(auto, unfolding(crate::specs::Texts::move_line))]
+fn push_move(text: &mut String, tic: u64, player: u8, step: Move) -> Result<(), AllocError>
+    ensures { OnOk result (string_bytes text.new ≡ string_bytes text.old ++ move_line tic player step) }
+{
+    let fields = [
+        ("tic ", tic as i128),
+        (" player ", player as i128),
+        (" forward ", step.forward as i128),
+        (" side ", step.side as i128),
+        (" turn ", step.turn as i128),
+        (" buttons ", step.buttons as i128),
+    ];
+    push_line(text, &fields)
+}
+
+/// The line of who has a move, and nothing for another.
+fn push_step(text: &mut String, tic: u64, player: u8, step: Option<Move>) -> Result<(), AllocError>
+    ensures line { OnOk result (string_bytes text.new ≡ string_bytes text.old ++ step_line tic player step) }
+    ensures empty { step ≡ None → IsOk result }
+{
+    match step {
+        Some(step) => push_move(text, tic, player, step),
+        None => Ok(()),
+    }
+}
+
+/// Appends the lines of a demo's row, which is that of `tic`: one for each player who has a move, in the order
+/// of their numbers; a row in which nobody moves needs no memory. Err where memory is refused: what the text
+/// then holds is not said, and the caller is to throw it away.
+pub fn push_row(text: &mut String, tic: u64, row: [Option<Move>; 4]) -> Result<(), AllocError>
+    ensures lines { OnOk result (string_bytes text.new ≡ string_bytes text.old ++ row_lines tic 0 row) }
+    ensures empty { row ≡ None ∷ None ∷ None ∷ None ∷ [] → IsOk result }
+{
+    let [a, b, c, d] = row;
+    push_step(text, tic, 0, a)?;
+    push_step(text, tic, 1, b)?;
+    push_step(text, tic, 2, c)?;
+    push_step(text, tic, 3, d)
+}
 
 /// The numbers of the players who are present.
 fn push_present(text: &mut String, present: [bool; 4]) -> Result<(), AllocError>
@@ -35,7 +76,7 @@ fn push_players(text: &mut String, present: [bool; 4]) -> Result<(), AllocError>
     text.push_str("\n")
 }
 
-#[tactic(auto, unfolding(crate::specs::Texts::DemoLines::choice_fields))]
+#[tactic(auto, unfolding(crate::specs::Texts::choice_fields))]
 fn push_choice(text: &mut String, version: u8, start: &Start) -> Result<(), AllocError>
     ensures { OnOk result (string_bytes text.new ≡ string_bytes text.old ++ choice_fields version start.now) }
 {
@@ -48,7 +89,7 @@ fn push_choice(text: &mut String, version: u8, start: &Start) -> Result<(), Allo
     push_fields(text, &fields)
 }
 
-#[tactic(auto, unfolding(crate::specs::Texts::DemoLines::rule_fields))]
+#[tactic(auto, unfolding(crate::specs::Texts::rule_fields))]
 fn push_rules(text: &mut String, start: &Start, view: u8) -> Result<(), AllocError>
     ensures { OnOk result (string_bytes text.new ≡ string_bytes text.old ++ rule_fields start.now view) }
 {
@@ -62,7 +103,7 @@ fn push_rules(text: &mut String, start: &Start, view: u8) -> Result<(), AllocErr
     push_fields(text, &fields)
 }
 
-#[tactic(auto, unfolding(crate::specs::Texts::DemoLines::header_fields))]
+#[tactic(auto, unfolding(crate::specs::Texts::header_fields))]
 fn push_header(text: &mut String, version: u8, start: &Start, view: u8) -> Result<(), AllocError>
     ensures { OnOk result (string_bytes text.new ≡ string_bytes text.old ++ header_fields version start.now
         view) }
@@ -71,7 +112,7 @@ fn push_header(text: &mut String, version: u8, start: &Start, view: u8) -> Resul
     push_rules(text, start, view)
 }
 
-#[tactic(auto, unfolding(crate::specs::Texts::DemoLines::size_line))]
+#[tactic(auto, unfolding(crate::specs::Texts::size_line))]
 fn push_size(text: &mut String, tics: u64, cut: u64, after: u64) -> Result<(), AllocError>
     ensures { OnOk result (string_bytes text.new ≡ string_bytes text.old ++ size_line tics cut after) }
 {
@@ -83,7 +124,7 @@ fn push_size(text: &mut String, tics: u64, cut: u64, after: u64) -> Result<(), A
     push_line(text, &fields)
 }
 
-#[tactic(auto, unfolding(crate::specs::Texts::DemoLines::player_line))]
+#[tactic(auto, unfolding(crate::specs::Texts::player_line))]
 fn push_player(
     text: &mut String,
     player: u8,
@@ -106,7 +147,7 @@ fn push_player(
 }
 
 /// The line of who is in the world, and nothing for another.
-#[tactic(auto, using(crate::proofs::Texts::Seats::empty_seat, crate::proofs::Texts::Seats::taken_seat))]
+#[tactic(auto, using(crate::proofs::Texts::empty_seat, crate::proofs::Texts::taken_seat))]
 fn push_seat(text: &mut String, walk: &Walk, player: u8) -> Result<(), AllocError>
     ensures { OnOk result (string_bytes text.new
         ≡ string_bytes text.old ++ seat_line player (spot_at walk.now player)) }

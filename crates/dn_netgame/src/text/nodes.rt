@@ -2,7 +2,7 @@
 
 ghost use Rattle.std.specs.{Prelude.◌≡◌, Prelude.◌++◌, Prelude.codes, Prelude.OnOk, String.string_bytes};
 ghost use Rattle.dn_node.specs.Contents.{contents};
-ghost use Rattle.dn_netgame.specs.Texts.NodeLines.{phase_text, standing, progress, counts, demo_size, line_end, node_line};
+ghost use Rattle.dn_netgame.specs.Texts.{phase_text, standing, progress, counts, demo_size, line_end, node_line};
 
 use dn_measure::push_fields;
 use dn_node::{Cause, Node, Phase};
@@ -40,7 +40,7 @@ fn push_counts<W: World>(text: &mut String, node: &Node<W>) -> Result<(), AllocE
 }
 
 /// Whose node it is, and where it stands.
-#[tactic(auto, unfolding(crate::specs::Texts::NodeLines::standing))]
+#[tactic(auto, unfolding(crate::specs::Texts::standing))]
 fn push_standing<W: World>(text: &mut String, node: &Node<W>) -> Result<(), AllocError>
     ensures { OnOk result (string_bytes text.new ≡ string_bytes text.old ++ standing (contents node.now)) }
 {
@@ -49,7 +49,7 @@ fn push_standing<W: World>(text: &mut String, node: &Node<W>) -> Result<(), Allo
 }
 
 /// How many commands it made, how many tics it ran, and how many commands it has of each player.
-#[tactic(auto, unfolding(crate::specs::Texts::NodeLines::progress))]
+#[tactic(auto, unfolding(crate::specs::Texts::progress))]
 fn push_progress<W: World>(text: &mut String, node: &Node<W>) -> Result<(), AllocError>
     ensures { OnOk result (string_bytes text.new ≡ string_bytes text.old ++ progress (contents node.now)) }
 {
@@ -63,7 +63,7 @@ fn push_progress<W: World>(text: &mut String, node: &Node<W>) -> Result<(), Allo
 }
 
 /// How many bytes its demo has.
-#[tactic(auto, unfolding(crate::specs::Texts::NodeLines::demo_size))]
+#[tactic(auto, unfolding(crate::specs::Texts::demo_size))]
 fn push_demo_size<W: World>(text: &mut String, node: &Node<W>) -> Result<(), AllocError>
     ensures { OnOk result (string_bytes text.new ≡ string_bytes text.old ++ demo_size (contents node.now)) }
 {
@@ -79,7 +79,7 @@ fn line_end(stopped: bool) -> &'static str
 
 /// Appends the line of a node, which also tells whether its program has stopped. Err where memory is refused:
 /// what the text then holds is not said, and the caller is to throw it away.
-#[tactic(auto, unfolding(crate::specs::Texts::NodeLines::node_line))]
+#[tactic(auto, unfolding(crate::specs::Texts::node_line))]
 pub fn push_node<W: World>(
     text: &mut String,
     node: &Node<W>,

@@ -1,7 +1,7 @@
 //! The lines of a datagram: its fields, or why it is none.
 
 ghost use Rattle.std.specs.{Prelude.◌≡◌, Prelude.◌++◌, Prelude.IfOk, Prelude.OnOk, String.string_bytes};
-ghost use Rattle.dn_netgame.specs.Texts.PacketLines.{fault_line, packet_line, command_line, lines_of};
+ghost use Rattle.dn_netgame.specs.Texts.{fault_line, packet_line, command_line, lines_of};
 
 use dn_measure::push_line;
 use dn_packet::{Packet, PacketFault};
@@ -21,7 +21,7 @@ fn push_fault(text: &mut String, fault: PacketFault) -> Result<(), AllocError>
     text.push_str(words)
 }
 
-#[tactic(auto, unfolding(crate::specs::Texts::PacketLines::packet_line))]
+#[tactic(auto, unfolding(crate::specs::Texts::packet_line))]
 fn push_packet(text: &mut String, packet: &Packet) -> Result<(), AllocError>
     ensures { OnOk result (string_bytes text.new
         ≡ string_bytes text.old ++ packet_line packet.now) }
@@ -36,7 +36,7 @@ fn push_packet(text: &mut String, packet: &Packet) -> Result<(), AllocError>
     push_line(text, &fields)
 }
 
-#[tactic(auto, unfolding(crate::specs::Texts::PacketLines::command_line))]
+#[tactic(auto, unfolding(crate::specs::Texts::command_line))]
 fn push_command(text: &mut String, index: usize, command: TicCmd) -> Result<(), AllocError>
     ensures { OnOk result (string_bytes text.new
         ≡ string_bytes text.old ++ command_line index command) }

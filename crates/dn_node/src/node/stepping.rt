@@ -3,11 +3,11 @@
 ghost use Rattle.std.specs.{Prelude.◌≡◌, Prelude.◌≢◌, Prelude.◌<◌, Prelude.◌≤◌, Prelude.ℕ, Prelude.◌+◌, Prelude.length, Prelude.pos, Prelude.false, Prelude.get_or, Prelude.Some, Prelude.None};
 ghost use Rattle.std.specs.{Prelude.IfSome, Prelude.is_some, Option.option_map};
 ghost use Rattle.dn_tic.specs.{declared.input.Input.Input as AnyInput, declared.input.Input.TheVariants.Pressed, declared.input.Input.TheVariants.Given};
-ghost use Rattle.dn_setup.specs.{Settings.Settings, Starts.start_of};
+ghost use Rattle.dn_setup.specs.Settings.{Settings, start_of};
 ghost use Rattle.dn_machine.specs.declared.answers.Heard.TheVariants.{Started};
 ghost use Rattle.dn_machine.specs.declared.answers.Made.TheVariants as Made;
 ghost use Rattle.dn_machine.specs.declared.answers.Ran.TheVariants as Ran;
-ghost use Rattle.dn_lockstep.specs.{Near.IsFair, Rows.seats_of, Sent.sent_to, Sent.aim_of, Sent.bytes_of};
+ghost use Rattle.dn_lockstep.specs.{Sent.IsFair, Sent.sent_to, Sent.aim_of, Sent.bytes_of, Rows.seats_of};
 
 use super::Node;
 use arrayvec::ArrayVec;
@@ -17,9 +17,9 @@ use dn_tic::{Command, Keys};
 use dn_world::World;
 
 impl<W: World> Node<W> {
-    ghost use Rattle.dn_machine.specs.{Building.on_build, Game.on_own_run, Running.on_quit};
-    ghost use Rattle.dn_node.specs.{Contents.contents, Contents.locked, Giving.Reaches, Giving.Gives, Giving.IsSentTo, Steps.Steps, Steps.Tells, Steps.HearsAny, Steps.HearsNear};
-    ghost use Rattle.dn_lockstep.specs.{Giving.gives, Giving.IsSilent, Giving.aim_in, Giving.size_in, Commands.makes, Commands.can_make, Hearing.Spares};
+    ghost use Rattle.dn_machine.specs.{Sending.on_build, Game.on_own_run, Running.on_quit};
+    ghost use Rattle.dn_node.specs.{Contents.contents, Contents.locked, Steps.Reaches, Steps.Gives, Steps.IsSentTo, Steps.Steps, Steps.Tells, Steps.HearsAny, Steps.HearsNear};
+    ghost use Rattle.dn_lockstep.specs.{Giving.gives, Giving.IsSilent, Giving.aim_in, Giving.size_in, Told.makes, Told.can_make, Hearing.Spares};
 
     /// Whether [`Node::build`] and [`Node::give`] would make a command now.
     #[tactic(auto, using(crate::proofs::Stepping::tells))]

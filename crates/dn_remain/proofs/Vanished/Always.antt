@@ -1,15 +1,49 @@
--- The opening has what every step keeps, and so has every run.
+-- The opening has what every step keeps, and so has every run. What every step keeps says what is promised.
 use Rattle.std.proofs.Common.{◌≡◌, ℕ, ◌+◌, ◌<◌, ◌≤◌, refl, arith, inl, List, [], ◌∷◌, ◌++◌, sym, subst}
-use Rattle.std.specs.Prelude.{◌⊎◌, Bool, true, false, Some}
-use Rattle.std.proofs.lemmas.Bool.{both_ways, cases_lt}
+use Rattle.std.specs.Prelude.{◌⊎◌, Bool, true, false, Some, None}
+use Rattle.std.proofs.lemmas.Bool.{both_ways, cases_lt, lt-leb, leb-false}
 use Rattle.std.proofs.lemmas.Option.{same_Some, none-some}
 use Rattle.std.proofs.lemmas.List.{get_or_push, get_or_append_left, length_push}
 use Rattle.dn_machine.proofs.Put.{put_at, put_off}
 use Rattle.dn_machine.specs.{Running.is_over, Node.put}
-use Rattle.dn_remain.specs.{Vanished.Node.Node, Vanished.Node.ran, Vanished.Node.fresh, Vanished.Node.Was, Vanished.Reports.decided, Vanished.Steps.Act, Vanished.Steps.Make, Vanished.Steps.Take, Vanished.Steps.Learn}
-use Rattle.dn_remain.specs.{Vanished.Steps.Run, Vanished.Steps.GiveUp, Vanished.Steps.Leave, Vanished.Steps.Decide, Vanished.Steps.Acts, Vanished.Steps.Step, Vanished.Steps.IsRun}
-use Rattle.dn_remain.proofs.{Vanished.Invariant.IsGrown, Vanished.Invariant.IsSound, Vanished.Invariant.IsKept, Vanished.Mild.IsTold, Vanished.Mild.told_still, Vanished.Mild.told_of, Vanished.Mild.IsMild}
-use Rattle.dn_remain.proofs.{Vanished.Invariant.IsLater, Vanished.Views.later_self, Vanished.Stepping.IsGood, Vanished.Stepping.kept_after, Vanished.Mild.mild_good, Vanished.Deciding.decided_good}
+use Rattle.dn_remain.specs.{Vanished.Node.Node, Vanished.Node.ran, Vanished.Node.fresh, Vanished.Node.Was, Vanished.Node.decided, Vanished.Steps.Act, Vanished.Steps.Make, Vanished.Steps.Take}
+use Rattle.dn_remain.specs.{Vanished.Steps.Learn, Vanished.Steps.Run, Vanished.Steps.GiveUp, Vanished.Steps.Leave, Vanished.Steps.Decide, Vanished.Steps.Acts, Vanished.Steps.Step, Vanished.Steps.IsRun}
+use Rattle.dn_remain.specs.{Vanished.Promise.Agree, Vanished.Promise.Lasts, Vanished.Promise.lacks_at}
+use Rattle.dn_remain.proofs.{Vanished.Invariant.IsGrown, Vanished.Invariant.IsSound, Vanished.Invariant.IsKept, Vanished.Stepping.IsTold, Vanished.Stepping.told_still, Vanished.Stepping.told_of, Vanished.Stepping.IsMild}
+use Rattle.dn_remain.proofs.{Vanished.Invariant.IsLater, Vanished.Views.later_self, Vanished.Stepping.IsGood, Vanished.Stepping.kept_after, Vanished.Stepping.mild_good, Vanished.Deciding.decided_good}
+use Rattle.dn_remain.proofs.{Vanished.Stepping.cases_Option}
+
+module _ (players : ℕ) (history : List (ℕ → Node)) (kept : IsKept players history) where
+  ends_same : (x z p a b : ℕ) (u v : Node) → x < players → z < players → (x ≡ z → ⊥) → Was history x u
+      → Was history z v → u.gone z ≡ false → v.gone x ≡ false → u.ends p ≡ Some a → v.ends p ≡ Some b → a ≡ b
+  ends_same x z p a b u v l m n w y f g s t =
+      let c : v.got p ≤ a = kept.met x z u v l m n w y f g p a s in
+      let d : u.got p ≤ b = kept.met z x v u m l (λ e. n (sym e)) y w g f p b t in
+      let e : u.got p ≡ a = (kept.sound x u w).full p a s in
+      let h : v.got p ≡ b = (kept.sound z v y).full p b t in
+      omega arith
+
+  -- one knows the end, and the other ran the tic with the player
+  one_knows : (x z p tic a : ℕ) (u v : Node) → x < players → z < players → p < players → (x ≡ z → ⊥)
+      → Was history x u → Was history z v → u.gone z ≡ false → v.gone x ≡ false
+      → tic < ran v → u.ends p ≡ Some a → v.ends p ≡ None → is_over (u.ends p) tic ≡ is_over (v.ends p) tic
+  one_knows x z p tic a u v l m i n w y f g k s t = grind (arith, lt-leb)
+
+  within_same : (x z p tic : ℕ) (u v : Node) → x < players → z < players → p < players → (x ≡ z → ⊥)
+      → Was history x u → Was history z v → u.gone z ≡ false → v.gone x ≡ false
+      → tic < ran u → tic < ran v → is_over (u.ends p) tic ≡ is_over (v.ends p) tic
+  within_same x z p tic u v l m i n w y f g j k = grind (arith, cases_Option, one_knows, ends_same)
+
+  -- of whoever takes part there is a command
+  held : (x p tic : ℕ) (u : Node) → Was history x u → p < players → tic < ran u
+      → lacks_at u tic p ≡ false → tic < u.got p
+  held x p tic u w i l t = grind (arith, cases_Option, leb-false)
+
+  pub agree : Agree players history
+  agree = grind (arith, ends_same, within_same, held)
+
+  pub lasts : Lasts history
+  lasts = grind arith
 
 -- Each step that decides nothing is mild.
 
@@ -22,7 +56,7 @@ module _ (players : ℕ) (nodes : ℕ → Node) (older : List (ℕ → Node)) (q
   told = told_of players (nodes ∷ older) q (nodes q) sound
 
   -- it gives up another
-  pub gives_up : (p : ℕ) → (p ≡ q → ⊥) → IsMild players nodes q (record (nodes q) { gone = put (nodes q).gone p true })
+  gives_up : (p : ℕ) → (p ≡ q → ⊥) → IsMild players nodes q (record (nodes q) { gone = put (nodes q).gone p true })
   gives_up p n = grind (arith, put_off, sound, put_at, told, told_still)
 
   -- its counts, ends and given-up players stay
@@ -32,7 +66,7 @@ module _ (players : ℕ) (nodes : ℕ → Node) (older : List (ℕ → Node)) (q
   still left rows rows_told grown = grind (arith, sound, told)
 
   -- it leaves
-  pub leaves : IsMild players nodes q (record (nodes q) { left = true })
+  leaves : IsMild players nodes q (record (nodes q) { left = true })
   leaves = grind (arith, still, told_still, told, sound)
 
   -- a node that has not left has no end of its own
@@ -65,10 +99,10 @@ module _ (players : ℕ) (nodes : ℕ → Node) (older : List (ℕ → Node)) (q
       → IsMild players nodes q (record (nodes q) { got = put (nodes q).got p end })
   raises p end f m h k = grind (arith, sound, raised_got, held_there, told, told_still, raised_up)
 
-  pub makes : IsMild players nodes q (record (nodes q) { got = put (nodes q).got q ((nodes q).got q + 1) })
+  makes : IsMild players nodes q (record (nodes q) { got = put (nodes q).got q ((nodes q).got q + 1) })
   makes = raises q ((nodes q).got q + 1) sound.own (omega arith) (inl refl) (λ e s. absurd (no_own_end e s))
 
-  pub takes : (p end : ℕ) → (nodes q).gone p ≡ false → (nodes q).got p ≤ end → end ≤ (nodes p).got p
+  takes : (p end : ℕ) → (nodes q).gone p ≡ false → (nodes q).got p ≤ end → end ≤ (nodes p).got p
       → IsMild players nodes q (record (nodes q) { got = put (nodes q).got p end })
   takes p end f m n = grind (arith, raises, exit_end)
 
@@ -87,7 +121,7 @@ module _ (players : ℕ) (nodes : ℕ → Node) (older : List (ℕ → Node)) (q
       → put (nodes q).ends p (Some ((nodes p).got p)) r ≡ Some e → put (nodes q).got p ((nodes p).got p) r ≡ e
   learnt_full p m g r e s = grind (arith, learnt_new, sound)
 
-  pub learns : (p : ℕ) → (p ≡ q → ⊥) → (nodes q).gone p ≡ false → (nodes p).left ≡ true
+  learns : (p : ℕ) → (p ≡ q → ⊥) → (nodes q).gone p ≡ false → (nodes p).left ≡ true
       → IsMild players nodes q (record (nodes q) {
         got = put (nodes q).got p ((nodes p).got p);
         ends = put (nodes q).ends p (Some ((nodes p).got p));
@@ -95,7 +129,7 @@ module _ (players : ℕ) (nodes : ℕ → Node) (older : List (ℕ → Node)) (q
   learns p n f g = grind (arith, sound, raised_got, learnt_old, learnt_new, told, told_still, raised_up, learnt_full)
 
   -- it runs a tic
-  pub runs : ((p : ℕ) → p < players → is_over ((nodes q).ends p) (ran (nodes q)) ≡ false → ran (nodes q) < (nodes q).got p)
+  runs : ((p : ℕ) → p < players → is_over ((nodes q).ends p) (ran (nodes q)) ≡ false → ran (nodes q) < (nodes q).got p)
       → IsMild players nodes q
       (record (nodes q) { rows = (nodes q).rows ++ (λ p. is_over ((nodes q).ends p) (ran (nodes q))) ∷ [] })
   runs h = grind (arith, length_push, still, cases_lt, get_or_append_left, sound, get_or_push)

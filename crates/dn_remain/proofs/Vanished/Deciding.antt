@@ -4,12 +4,11 @@ use Rattle.std.specs.Prelude.{◌⊎◌, Bool, true, false, Some}
 use Rattle.std.proofs.lemmas.{Bool.both_ways, Bool.cases_eq, Bool.cases_Bool, Bool.eq-eqb, Bool.ne_eqb, Bool.cond-true, Bool.cond-false, Option.same_Some}
 use Rattle.dn_machine.proofs.Put.{put_at, put_off}
 use Rattle.dn_machine.specs.Node.{put}
-use Rattle.dn_remain.specs.Vanished.Node.{Node, Was, Same, Within}
-use Rattle.dn_remain.specs.Vanished.Reports.{Stands, HasHeard, share, decided_end, decided}
+use Rattle.dn_remain.specs.Vanished.Node.{Node, Was, Same, Within, Stands, HasHeard, share, decided_end, decided}
 use Rattle.dn_remain.proofs.{Vanished.Put.highest_bounds, Vanished.Put.highest_reached, Vanished.Stepping.IsGood, Vanished.Stepping.grows, Vanished.Stepping.stays}
 use Rattle.dn_remain.proofs.Vanished.Invariant.{IsBase, IsDecision, IsLater, HasSource, IsSound, IsMet, IsKept}
 use Rattle.dn_remain.proofs.Vanished.Views.{outside, stands_outside, both_within, base_same, base_kept, source_kept}
-use Rattle.dn_remain.proofs.Vanished.Mild.{IsTold, told_still, told_of, sound_by}
+use Rattle.dn_remain.proofs.Vanished.Stepping.{IsTold, told_still, told_of, sound_by}
 
 module _ (players : ℕ) (nodes : ℕ → Node) (older : List (ℕ → Node)) (q : ℕ) (l : q < players)
     (here : (nodes q).left ≡ false) (kept : IsKept players (nodes ∷ older)) (heard : ℕ → Node)

@@ -1,15 +1,16 @@
--- Where a command comes from, its maker had the rows that the one who has it has.
+-- Where a command comes from, its maker had the rows that the one who has it has. So the marks of two nodes
+-- agree.
 use Rattle.std.proofs.Common.{◌≡◌, ℕ, ◌<◌, ◌≤◌, sym, ◌∙◌, arith, inl, inr, List, ◌+◌, refl, ap, subst, [], ◌∷◌}
 use Rattle.std.specs.Prelude.{false, Some}
 use Rattle.std.proofs.lemmas.Bool.{lt-leb, both_ways, cases_eq, cases_Bool}
 use Rattle.dn_machine.specs.{Running.is_over, Node.put}
-use Rattle.dn_remain.specs.{Vanished.Node.Node, Vanished.Node.ran, Vanished.Node.Was, Vanished.Promise.lacks_at, Vanished.Node.fresh, Vanished.Reports.HasHeard, Vanished.Reports.decided_end, Vanished.Reports.decided}
-use Rattle.dn_remain.specs.{Vanished.Steps.Act, Vanished.Steps.Make, Vanished.Steps.Take, Vanished.Steps.Learn, Vanished.Steps.Run, Vanished.Steps.GiveUp, Vanished.Steps.Leave, Vanished.Steps.Decide}
-use Rattle.dn_remain.specs.{Vanished.Steps.Acts, Vanished.Steps.Step, Vanished.Steps.IsRun, Vanished.Steps.HandsOn}
-use Rattle.dn_remain.proofs.{Vanished.Invariant.IsDecision, Vanished.Invariant.IsKept, Vanished.Mild.cases_Option, Vanished.Views.outside, Vanished.Invariant.IsGrown, Vanished.Stepping.was_other}
-use Rattle.dn_remain.proofs.{Vanished.Stepping.each_was, Vanished.Always.always, Vanished.Behind.behind, Vanished.Behind.handed_behind, Vanished.Promises.agree, Vanished.Windows.IsRoomy, Vanished.Windows.roomy}
-use Rattle.dn_remain.proofs.{Vanished.Deciding.got_in, Vanished.Deciding.got_out, Vanished.Deciding.reached, Vanished.Deciding.not_q}
 use Rattle.dn_machine.proofs.Put.{put_at, put_off}
+use Rattle.dn_remain.specs.{Vanished.Node.Node, Vanished.Node.ran, Vanished.Node.Was, Vanished.Promise.lacks_at, Vanished.Node.fresh, Vanished.Node.HasHeard, Vanished.Node.decided_end}
+use Rattle.dn_remain.specs.{Vanished.Node.decided, Vanished.Steps.Act, Vanished.Steps.Make, Vanished.Steps.Take, Vanished.Steps.Learn, Vanished.Steps.Run, Vanished.Steps.GiveUp, Vanished.Steps.Leave}
+use Rattle.dn_remain.specs.{Vanished.Steps.Decide, Vanished.Steps.Acts, Vanished.Steps.Step, Vanished.Steps.IsRun, Vanished.Steps.HandsOn, Vanished.Promise.Marked}
+use Rattle.dn_remain.proofs.{Vanished.Invariant.IsDecision, Vanished.Invariant.IsKept, Vanished.Stepping.cases_Option, Vanished.Views.outside, Vanished.Invariant.IsGrown, Vanished.Stepping.was_other}
+use Rattle.dn_remain.proofs.{Vanished.Stepping.each_was, Vanished.Always.always, Vanished.Behind.behind, Vanished.Behind.handed_behind, Vanished.Always.agree, Vanished.Windows.IsRoomy, Vanished.Windows.roomy}
+use Rattle.dn_remain.proofs.{Vanished.Deciding.got_in, Vanished.Deciding.got_out, Vanished.Deciding.reached, Vanished.Deciding.not_q}
 
 -- Two nodes ran the same rows, where one has not given up the other, and that other had decided nothing without it.
 
@@ -58,7 +59,7 @@ module _ (players : ℕ) (history : List (ℕ → Node)) (kept : IsKept players 
     | inr s ↦ grind (arith, below_u, cases_Option, lt-leb, below_v)
   ]
 
-  pub rows_alike : (r tic : ℕ) → r < players → tic < ran u → tic < ran v → lacks_at u tic r ≡ lacks_at v tic r
+  rows_alike : (r tic : ℕ) → r < players → tic < ran u → tic < ran v → lacks_at u tic r ≡ lacks_at v tic r
   rows_alike r tic i j k = grind (arith, over_same)
 
 -- two nodes have the same in a row that both ran
@@ -90,8 +91,8 @@ module _ (players ahead : ℕ) (nodes : ℕ → Node) (older : List (ℕ → Nod
   old_row p tic back r maker m n f w e s b = marked.marked q p tic back r (nodes q) maker l m n f (inl refl) w e s b
 
   -- it made one command more
-  own_row : (end : ℕ) → AreRows (put (nodes q).got q end)
-  own_row end p tic back r maker m n f y e s b =
+  row_of_own : (end : ℕ) → AreRows (put (nodes q).got q end)
+  row_of_own end p tic back r maker m n f y e s b =
       let c = put_off (nodes q).got q p end (λ i. f (sym i)) in
       old_row p tic back r maker m n f y e (omega arith) b
 
@@ -161,7 +162,7 @@ module _ (players ahead : ℕ) (nodes : ℕ → Node) (older : List (ℕ → Nod
   at new next e h = subst (λ (n : Node). AreRows n.got) (sym e) h
 
   new_row : IsRun players ahead past → (act : Act) (new : Node) → Acts players ahead past q act new → AreRows new.got
-  new_row run Make new a = at _ new a.1 (own_row ((nodes q).got q + 1))
+  new_row run Make new a = at _ new a.1 (row_of_own ((nodes q).got q + 1))
   new_row run Take new a = at _ new a.8 (handed_row run a.0 a.1 a.2 a.3 a.4 a.5 a.7)
   new_row run Learn new a = at _ new a.5 (handed_row run a.0 ((nodes a.0).got a.0) (nodes a.0)
       (a.0, inl refl, inl refl) a.4 a.2 (omega arith))
@@ -213,9 +214,61 @@ steps players ahead low nodes older next run step kept kept' room marked =
 opens : (players : ℕ) → IsMarked players ((λ node. fresh) ∷ [])
 opens players = grind arith
 
-pub marks : (players ahead : ℕ) → ahead + ahead ≤ 12 → (history : List (ℕ → Node)) → IsRun players ahead history → IsMarked players history
+marks : (players ahead : ℕ) → ahead + ahead ≤ 12 → (history : List (ℕ → Node)) → IsRun players ahead history → IsMarked players history
 marks players ahead low [] run = absurd run
 marks players ahead low (nodes ∷ []) run = subst (λ (n : ℕ → Node). IsMarked players (n ∷ [])) (sym run) (opens players)
 marks players ahead low (next ∷ (nodes ∷ older)) run = steps players ahead low nodes older next run.1 run.0
     (always players ahead (nodes ∷ older) run.1) (always players ahead (next ∷ (nodes ∷ older)) run)
     (roomy players ahead (nodes ∷ older) run.1) (marks players ahead low (nodes ∷ older) run.1)
+
+-- of a player whom a node has not given up, it has nothing that was made after a decision without the node
+module _ (players ahead : ℕ) (history : List (ℕ → Node)) (run : IsRun players ahead history) where
+  apart : ahead ≤ 12 → (x p tic back r : ℕ) (u maker : Node) → x < players → p < players → r < players
+      → (x ≡ p → ⊥) → Was history x u → Was history p maker → u.gone p ≡ false → maker.got p ≡ tic
+      → back < ran maker → back < ran u → tic < u.got p → lacks_at u back r ≡ lacks_at maker back r
+  apart low x p tic back r u maker l m n f w y g e i j held =
+      let kept = always players ahead history run in
+      rows_alike players history kept x p u maker l m f w y g
+      (λ d decides below. elim (cases_Bool (d.gone x)) [
+        | inr o ↦ o
+        | inl t ↦ grind (arith, behind)
+      ]) r back n j i
+
+  own_row : (p back r : ℕ) (u maker : Node) → Was history p u → Was history p maker → back < ran maker
+      → back < ran u → lacks_at u back r ≡ lacks_at maker back r
+  own_row p back r u maker w y i j = grind (arith, always)
+
+  same : ahead ≤ 12 → (x p tic back r : ℕ) (u maker : Node) → x < players → p < players → r < players
+      → Was history x u → Was history p maker → u.gone p ≡ false → maker.got p ≡ tic → tic < ran maker + ahead
+      → tic < ran u → lacks_at u tic p ≡ false → back + 12 ≤ tic
+      → (back < ran maker) × (lacks_at u back r ≡ lacks_at maker back r)
+  same low x p tic back r u maker l m n w y g e a s t b =
+      let held : tic < u.got p =
+      (agree players history (always players ahead history run)).rows_held x p tic u w m s t in
+      let i : back < ran maker = omega arith in
+      let j : back < ran u = omega arith in (
+        i,
+        elim (cases_eq x p) [
+          | inr f ↦ apart low x p tic back r u maker l m n f w y g e i j held
+          | inl f ↦ own_row p back r u maker (subst (λ (k : ℕ). Was history k u) f w) y i j
+        ],
+      )
+
+  relayed : ahead + ahead ≤ 12 → (x p tic back r : ℕ) (u maker : Node) → x < players → p < players → r < players
+      → Was history x u → Was history p maker → maker.got p ≡ tic → tic < ran u → lacks_at u tic p ≡ false
+      → back + 12 ≤ tic → (back < ran maker) × (lacks_at u back r ≡ lacks_at maker back r)
+  relayed low x p tic back r u maker l m n w y e s t b =
+      let held : tic < u.got p =
+      (agree players history (always players ahead history run)).rows_held x p tic u w m s t in
+      let a : maker.got p ≤ ran maker + ahead = (roomy players ahead history run).own p maker y in
+      let i : back < ran maker = omega arith in
+      let j : back < ran u = omega arith in (
+        i,
+        elim (cases_eq x p) [
+          | inr f ↦ ((marks players ahead low history run).marked x p tic back r u maker l m n f w y e held b).same
+          | inl f ↦ own_row p back r u maker (subst (λ (k : ℕ). Was history k u) f w) y i j
+        ],
+      )
+
+  pub marked : ahead ≤ 12 → Marked players ahead history
+  marked low = record { same = same low; relayed = relayed }

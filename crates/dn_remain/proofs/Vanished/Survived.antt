@@ -3,8 +3,8 @@ use Rattle.std.proofs.Common.{◌≡◌, ℕ, ◌+◌, ◌<◌, refl, arith, inl
 use Rattle.std.specs.Prelude.{true, false, Some}
 use Rattle.std.proofs.lemmas.Bool.{true≢false}
 use Rattle.dn_machine.specs.{Running.is_over, Node.put}
-use Rattle.dn_remain.specs.Vanished.Node.{Node, fresh, ran, now}
-use Rattle.dn_remain.specs.{Vanished.Promise.lacks_at, Vanished.Reports.HasHeard, Vanished.Reports.highest, Vanished.Reports.decided}
+use Rattle.dn_remain.specs.Vanished.Node.{Node, fresh, ran, now, HasHeard, highest, decided}
+use Rattle.dn_remain.specs.{Vanished.Promise.lacks_at}
 use Rattle.dn_remain.specs.Vanished.Steps.{Act, Make, Take, Run, GiveUp, Decide, Acts, Step, IsRun}
 
 step : (nodes : ℕ → Node) (older : List (ℕ → Node)) (q : ℕ) (act : Act) (new : Node) → q < 3

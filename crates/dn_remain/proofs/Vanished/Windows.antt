@@ -1,13 +1,67 @@
--- How far counts may lie apart.
+-- How far counts may lie apart, how many commands a node has that it has not run, and what else fits. Every
+-- command was made by a step that might make it.
 use Rattle.std.proofs.Common.{◌≡◌, ℕ, ◌+◌, ◌<◌, ◌≤◌, refl, sym, ◌∙◌, ap, subst, arith, inl, inr, List, [], ◌∷◌}
-use Rattle.std.specs.Prelude.{false, None}
+use Rattle.std.specs.Prelude.{false, None, true}
 use Rattle.std.proofs.lemmas.{Bool.both_ways, List.length_push}
+use Rattle.std.proofs.lemmas.Bool.{cases_eq, cases_lt, cases_Bool}
 use Rattle.dn_machine.proofs.Put.{put_at, put_off}
 use Rattle.dn_machine.specs.Node.{put}
-use Rattle.dn_remain.specs.Vanished.Node.{Node, ran, fresh, now, Was}
-use Rattle.dn_remain.specs.Vanished.Reports.{HasHeard, decided}
-use Rattle.dn_remain.specs.Vanished.Steps.{Act, Acts, Step, IsRun, HandsOn}
-use Rattle.dn_remain.proofs.{Vanished.Invariant.IsKept, Vanished.Views.outside, Vanished.Views.stands_outside, Vanished.Stepping.was_q, Vanished.Stepping.was_other, Vanished.Mild.cases_Option, Vanished.Deciding.got_in, Vanished.Deciding.got_out, Vanished.Deciding.reached, Vanished.Always.always}
+use Rattle.dn_remain.specs.Vanished.Node.{Node, ran, fresh, now, Was, HasHeard, decided}
+use Rattle.dn_remain.specs.Vanished.Steps.{Act, Acts, Step, IsRun, HandsOn, Make, Take, Learn, Run, GiveUp, Leave, Decide}
+use Rattle.dn_remain.proofs.{Vanished.Invariant.IsKept, Vanished.Views.outside, Vanished.Views.stands_outside, Vanished.Stepping.was_q, Vanished.Stepping.was_other, Vanished.Stepping.cases_Option}
+use Rattle.dn_remain.proofs.{Vanished.Deciding.got_in, Vanished.Deciding.got_out, Vanished.Deciding.reached, Vanished.Always.always, Vanished.Put.at_put, Vanished.Stepping.each_was}
+use Rattle.dn_remain.specs.Vanished.Promise.{Fits}
+
+module _ (players ahead : ℕ) (nodes : ℕ → Node) (older : List (ℕ → Node)) (q : ℕ) (l : q < players)
+    (here : (nodes q).left ≡ false) (kept : IsKept players (nodes ∷ older)) (tic : ℕ)
+    (low : (nodes q).got q ≤ tic) where
+  -- a step after which its own count is no higher made nothing
+  none : {A : Type 0} (new : Node) → new.got q ≤ (nodes q).got q → tic < new.got q → A
+  none new h k = absurd (omega arith)
+
+  own : (new : Node) (f : ℕ → ℕ) (n : ℕ) → new.got ≡ f → f q ≡ n → new.got q ≡ n
+  own new f n e d = ap (λ (g : ℕ → ℕ). g q) e ∙ d
+
+  made_new : (act : Act) (new : Node) → Acts players ahead (nodes ∷ older) q act new → tic < new.got q
+      → ((nodes q).got q ≡ tic) × (tic < ran (nodes q) + ahead)
+  made_new Make new a k = grind (arith, own, put_at)
+  made_new Take new a k = none new
+      (elim (cases_eq q a.0) [
+        | inr n ↦ grind (arith, own, put_off)
+        | inl e ↦
+            let c : new.got q ≡ a.1 =
+            own new _ _ (ap (λ (n : Node). n.got) a.8) (put_at (nodes q).got a.0 q a.1 e) in
+            let d : a.2.got a.0 ≤ (nodes a.0).got a.0 = (kept.sound a.3.0 a.2 a.3.1).made a.0 in
+            let f : a.1 ≤ a.2.got a.0 = a.7 in
+            let g : (nodes q).got q ≡ (nodes a.0).got a.0 = ap (λ (i : ℕ). (nodes i).got i) e in
+            omega arith
+      ]) k
+  made_new Learn new a k = grind (arith, none, own, put_off)
+  made_new Run new a k = grind (arith, none)
+  made_new GiveUp new a k = grind (arith, none)
+  made_new Leave new a k = grind (arith, none)
+  made_new Decide new a k = grind (arith, none, got_out, own)
+
+pub made : (players ahead : ℕ) (history : List (ℕ → Node)) → IsRun players ahead history → (p tic : ℕ)
+    → tic < (now history p).got p
+    → (maker : Node) × Was history p maker × (maker.got p ≡ tic) × (tic < ran maker + ahead)
+made players ahead [] run p tic k = absurd run
+made players ahead (nodes ∷ []) run p tic k = grind arith
+made players ahead (next ∷ (nodes ∷ older)) run p tic k =
+    let step = run.0 in
+    let lift : (p : ℕ) → tic < (nodes p).got p → (maker : Node) × Was (next ∷ (nodes ∷ older)) p maker
+    × (maker.got p ≡ tic) × (tic < ran maker + ahead) =
+    λ p m. let before = made players ahead (nodes ∷ older) run.1 p tic m in (before.0, inr before.1, before.2, before.3) in
+    at_put (λ p n. tic < n.got p → (maker : Node) × Was (next ∷ (nodes ∷ older)) p maker × (maker.got p ≡ tic)
+    × (tic < ran maker + ahead)) nodes step.q step.new
+    (λ k. elim (cases_lt tic ((nodes step.q).got step.q)) [
+      | inl m ↦ lift step.q m
+      | inr m ↦
+          let d = made_new players ahead nodes older step.q step.player step.here
+          (always players ahead (nodes ∷ older) run.1) tic m step.act step.new step.acts k in
+          (nodes step.q, inr (inl refl), d.0, d.1)
+    ])
+    (λ p n. lift p) p (subst (λ (n : Node). tic < n.got p) (ap (λ (f : ℕ → Node). f p) step.next_is) k)
 
 pub record IsRoomy (players ahead : ℕ) (history : List (ℕ → Node)) : Type 0 where
   -- nobody made more commands beyond the tics run than the window allows
@@ -131,3 +185,73 @@ roomy players ahead (next ∷ (nodes ∷ older)) run = steps players ahead nodes
 pub now_was : (players ahead : ℕ) (history : List (ℕ → Node)) → IsRun players ahead history → (x : ℕ) → Was history x (now history x)
 now_was players ahead [] run x = absurd run
 now_was players ahead (nodes ∷ older) run x = inl refl
+
+-- a step after which a node has left changes no count
+module _ (players ahead : ℕ) (nodes : ℕ → Node) (older : List (ℕ → Node)) (q : ℕ) (here : (nodes q).left ≡ false)
+  where
+    changed : (new next : Node) → next ≡ new → new.left ≡ (nodes q).left → next.left ≡ true → ⊥
+    changed new next e same t = both_ways (nodes q).left here (sym same ∙ (sym (ap (λ (n : Node). n.left) e) ∙ t))
+
+    counted : (act : Act) (new : Node) → Acts players ahead (nodes ∷ older) q act new → new.left ≡ true → (p : ℕ)
+        → (new.got p ≡ (nodes q).got p) × (ran new ≡ ran (nodes q))
+    counted act new a t p = grind (arith, changed)
+
+unread_now : (players ahead : ℕ) (history : List (ℕ → Node)) → IsRun players ahead history → (x p : ℕ)
+    → x < players → (now history x).left ≡ false → (now history x).got p ≤ ran (now history x) + (ahead + ahead)
+unread_now players ahead history run x p l h =
+    let kept = always players ahead history run in
+    let room = roomy players ahead history run in
+    let here = now_was players ahead history run x in
+    let a = room.own x (now history x) here in
+    let b = room.near x x p (now history x) l h here (kept.sound x (now history x) here).own in
+    omega arith
+
+unread : (players ahead : ℕ) (history : List (ℕ → Node)) → IsRun players ahead history → (x p : ℕ) (u : Node)
+    → x < players → Was history x u → u.got p ≤ ran u + (ahead + ahead)
+unread players ahead [] run x p u l w = absurd run
+unread players ahead (nodes ∷ []) run x p u l w = grind arith
+unread players ahead (next ∷ (nodes ∷ older)) run x p u l w =
+    let step = run.0 in
+    let at : next step.q ≡ step.new =
+    ap (λ (f : ℕ → Node). f step.q) step.next_is ∙ put_at nodes step.q step.q step.new refl in
+    each_was nodes older step.q step.new (λ x u. x < players → u.got p ≤ ran u + (ahead + ahead))
+    (λ l. elim (cases_Bool step.new.left) [
+      | inr f ↦ subst (λ (n : Node). n.got p ≤ ran n + (ahead + ahead)) at
+          (unread_now players ahead (next ∷ (nodes ∷ older)) run step.q p l (ap (λ (n : Node). n.left) at ∙ f))
+      | inl t ↦
+          let c = counted players ahead nodes older step.q step.here step.act step.new step.acts t p in
+          let before = unread players ahead (nodes ∷ older) run.1 step.q p (nodes step.q) step.player (inl refl) in
+          omega (arith, c.0, c.1)
+    ])
+    (λ x u o l. unread players ahead (nodes ∷ older) run.1 x p u l o) x u
+    (subst (λ (s : ℕ → Node). Was (s ∷ nodes ∷ older) x u) step.next_is w) l
+
+pub fits : (players ahead : ℕ) (history : List (ℕ → Node)) → IsRun players ahead history
+    → Fits players ahead history
+fits players ahead history run =
+    let kept = always players ahead history run in
+    let room = roomy players ahead history run in
+    let here = now_was players ahead history run in
+    let lacking : (x r p : ℕ) (v : Node) → x < players → p < players → (now history x).left ≡ false
+    → Was history r v → v.gone x ≡ false → (now history x).ends p ≡ None
+    → v.got p ≤ (now history x).got p + (ahead + ahead) = λ x r p v l m h w o e.
+    let a = room.own x (now history x) (here x) in
+    let b = room.near x r p v l h w o in
+    let c : ran (now history x) ≤ (now history x).got p = (kept.sound x (now history x) (here x)).ahead p m e in
+    omega arith in
+    record {
+      held = λ x p u w. (kept.sound x u w).made p;
+      own = room.own;
+      run = λ x p u w l e. (kept.sound x u w).ahead p l e;
+      close = room.near;
+      unread = unread players ahead history run;
+      overrun = grind arith;
+      unheard = λ x r p v l m i n h g w o. elim (cases_Option ((now history x).ends p)) [
+        | inl e ↦ lacking x r p v l i h w o e
+        | inr e ↦
+            let a : v.got p ≤ e.0 = kept.met x r (now history x) v l m n (here x) w g o p e.0 e.1 in
+            let b : (now history x).got p ≡ e.0 = (kept.sound x (now history x) (here x)).full p e.0 e.1 in
+            omega arith
+      ];
+      unended = lacking;
+    }

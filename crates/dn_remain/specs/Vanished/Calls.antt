@@ -2,8 +2,7 @@
 -- Only players of the game are given up, so sets are compared below their number.
 use Rattle.std.specs.Prelude.{ℕ, zero, suc, Bool, true, false, not, nat_lt, ◌&&◌, ◌||◌, ◌==◌, if◌then◌else◌, List, ◌++◌, ◌≡◌, Option, Some, None}
 use Rattle.dn_machine.specs.Node.{put}
-use Rattle.dn_remain.specs.Vanished.Node.{Node, fresh, now, Was}
-use Rattle.dn_remain.specs.Vanished.Reports.{decided}
+use Rattle.dn_remain.specs.Vanished.Node.{Node, fresh, now, Was, decided}
 use Rattle.dn_remain.specs.Vanished.Steps.{IsRun}
 
 -- each number below the bound passes

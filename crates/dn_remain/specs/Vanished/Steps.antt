@@ -2,8 +2,7 @@
 use Rattle.std.specs.Prelude.{ℕ, ◌+◌, ◌<◌, ◌≤◌, true, false, List, [], ◌∷◌, ◌++◌, ◌≡◌, ◌⊎◌, Some}
 use Rattle.dn_machine.specs.Running.{is_over}
 use Rattle.dn_machine.specs.Node.{put}
-use Rattle.dn_remain.specs.Vanished.Node.{Node, ran, fresh, now, Was, Within}
-use Rattle.dn_remain.specs.Vanished.Reports.{HasHeard, decided}
+use Rattle.dn_remain.specs.Vanished.Node.{Node, ran, fresh, now, Was, Within, HasHeard, decided}
 
 -- it makes a command: never more ahead of the tics run than the window allows
 abbrev pub Makes : ℕ → ℕ → Node → Node → Type 0

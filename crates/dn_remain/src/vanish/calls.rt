@@ -1,7 +1,7 @@
 //! What the calls of a node do, and what its tests tell.
 
 ghost use Rattle.std.specs.Prelude.{◌≡◌, ℕ, ◌<◌, List, ◌++◌, true, false, Option, Some};
-ghost use Rattle.dn_remain.specs.{Vanished.Node.Node, Vanished.Node.now, Vanished.Node.Was, Vanished.Reports.HasHeard, Vanished.Reports.Stands, Vanished.Steps.IsRun, Vanished.Calls.AreTrue, Vanished.Calls.Keeper, Vanished.Calls.LeadsTo, Vanished.Calls.after_news, Vanished.Calls.can_decide};
+ghost use Rattle.dn_remain.specs.{Vanished.Node.Node, Vanished.Node.now, Vanished.Node.Was, Vanished.Node.HasHeard, Vanished.Node.Stands, Vanished.Steps.IsRun, Vanished.Calls.AreTrue, Vanished.Calls.Keeper, Vanished.Calls.LeadsTo, Vanished.Calls.after_news, Vanished.Calls.can_decide};
 ghost use Rattle.dn_remain.specs.{Vanished.Calls.on_give_up, Vanished.Calls.on_report, Vanished.Calls.report_or, Vanished.Promise.Steady};
 
 /// The two calls are steps: of a node whose newest reports are true, and of a true report, they lead on from
@@ -35,7 +35,7 @@ pub fn tests_are_exact()
 
 /// A node that has not decided lacks a report of a player whom it has not given up: either none came, or the
 /// newest does not stand for its set. After each call, one that lacks none has decided.
-#[tactic(auto, using(crate::proofs::Vanished::Undecided::lacking, crate::proofs::Vanished::Undecided::decided_now))]
+#[tactic(auto, using(crate::proofs::Vanished::Tests::lacking, crate::proofs::Vanished::Tests::decided_now))]
 pub fn undecided_lack_a_report()
     ensures lacks { (players q : ℕ) (node : Node) (newest : ℕ → Option Node)
         → can_decide players q node newest ≡ false
@@ -47,7 +47,7 @@ pub fn undecided_lack_a_report()
 {}
 
 /// Nothing is lost with a report that is refused as older than the newest.
-#[tactic(auto, using(crate::proofs::Vanished::Always::always, crate::proofs::Vanished::Undecided::steady))]
+#[tactic(auto, using(crate::proofs::Vanished::Always::always, crate::proofs::Vanished::Tests::steady))]
 pub fn refused_reports_tell_no_more()
     ensures { (players ahead : ℕ) (history : List (ℕ → Node)) → IsRun players ahead history
         → Steady players history }

@@ -3,7 +3,7 @@
 ghost use Rattle.std.specs.Prelude.{◌≡◌, ◌⊎◌, ℕ, ◌+◌, ◌-◌, ◌<◌, ◌≤◌, List, ◌∷◌, true, false, length, slice_get};
 ghost use Rattle.dn_machine.specs.{Node.put, Promise.IsPrefixOf};
 ghost use Rattle.dn_remain.specs.{Vanished.Commands.AreHanded, Vanished.Commands.Had, Vanished.Commands.Handed, Vanished.Commands.Holder, Vanished.Commands.demo, Vanished.Commands.holders, Vanished.Commands.past_seen};
-ghost use Rattle.dn_remain.specs.{Vanished.Commands.seen, Vanished.Decisions.HasHeardLists, Vanished.Decisions.IsReady, Vanished.Decisions.caught_up, Vanished.Decisions.on_decision, Vanished.Reports.decided, Vanished.Steps.IsRun, Vanished.Promise.lacks_at};
+ghost use Rattle.dn_remain.specs.{Vanished.Commands.seen, Vanished.Commands.HasHeardLists, Vanished.Commands.IsReady, Vanished.Commands.caught_up, Vanished.Commands.on_decision, Vanished.Node.decided, Vanished.Steps.IsRun, Vanished.Promise.lacks_at};
 
 /// Where lists are handed on piece by piece, each is a prefix of its maker's, whoever has given up whom. So any
 /// two nodes have the same command of a player for each tic for which both have one.
@@ -41,7 +41,7 @@ pub fn split_games_share_commands<C>()
 
 /// And of any two demos one is a prefix of the other, since a demo ends before the first row that lacks a
 /// player.
-#[tactic(auto, using(crate::proofs::Vanished::Demos::demos))]
+#[tactic(auto, using(crate::proofs::Vanished::Handing::demos))]
 pub fn demos_agree<C>()
     ensures { (players ahead : ℕ) (history : List (ℕ → Holder C)) (x z : ℕ) (u v : Holder C)
         → AreHanded history → IsRun players ahead (past_seen history) → Had history x u → Had history z v
@@ -50,7 +50,7 @@ pub fn demos_agree<C>()
 
 /// A decision on lists is the decision on their counts. Each list that it leaves is one that the node had or
 /// was told, and so it is handed on.
-#[tactic(auto, using(crate::proofs::Vanished::Lists::counts, crate::proofs::Vanished::Lists::pieces, crate::proofs::Vanished::Catching::hands_on))]
+#[tactic(auto, using(crate::proofs::Vanished::Lists::counts, crate::proofs::Vanished::Lists::pieces, crate::proofs::Vanished::Lists::hands_on))]
 pub fn decisions_on_lists<C>()
     ensures counted { (players q : ℕ) (holder : Holder C) (heard : ℕ → Holder C)
         → seen (on_decision players q holder heard) ≡ decided players q (seen holder) (λ r. seen (heard r)) }

@@ -2,13 +2,13 @@
 
 ghost use Rattle.std.specs.Prelude.{◌≡◌, ℕ, ◌+◌, ◌<◌, ◌≤◌, List, ◌∷◌, true, false, Some};
 ghost use Rattle.dn_machine.specs.Running.{is_over};
-ghost use Rattle.dn_remain.specs.{Vanished.Node.Node, Vanished.Node.Was, Vanished.Node.now, Vanished.Node.ran, Vanished.Reports.Stands, Vanished.Steps.Decide, Vanished.Steps.IsRun, Vanished.Steps.Step, Vanished.Promise.Agree, Vanished.Promise.Fits, Vanished.Promise.Lasts};
+ghost use Rattle.dn_remain.specs.{Vanished.Node.Node, Vanished.Node.Was, Vanished.Node.now, Vanished.Node.ran, Vanished.Node.Stands, Vanished.Steps.Decide, Vanished.Steps.IsRun, Vanished.Steps.Step, Vanished.Promise.Agree, Vanished.Promise.Fits, Vanished.Promise.Lasts};
 ghost use Rattle.dn_remain.specs.{Vanished.Promise.Marked, Vanished.Promise.lacks_at};
 
 /// After every list of steps, whichever packets and reports were lost, repeated, delayed or reordered: any two
 /// nodes that have not given up each other know the same ends, and ran the tics that both ran with the same
 /// players.
-#[tactic(auto, using(crate::proofs::Vanished::Always::always, crate::proofs::Vanished::Promises::agree))]
+#[tactic(auto, using(crate::proofs::Vanished::Always::always, crate::proofs::Vanished::Always::agree))]
 pub fn remaining_agree()
     ensures { (players ahead : ℕ) (history : List (ℕ → Node)) → IsRun players ahead history
         → Agree players history }
@@ -16,7 +16,7 @@ pub fn remaining_agree()
 
 /// And what a node has it keeps: a known end never changes, nobody comes back who was given up, and no row that
 /// was run is changed.
-#[tactic(auto, using(crate::proofs::Vanished::Always::always, crate::proofs::Vanished::Promises::lasts))]
+#[tactic(auto, using(crate::proofs::Vanished::Always::always, crate::proofs::Vanished::Always::lasts))]
 pub fn what_is_known_lasts()
     ensures { (players ahead : ℕ) (history : List (ℕ → Node)) → IsRun players ahead history → Lasts history }
 {}
@@ -33,7 +33,7 @@ pub fn the_given_up_are_frozen()
 /// And no count runs away. A node has at most twice the window of a player's commands that it has not run; what
 /// was made is at most the window ahead of the tics that its maker ran, and of what each other player had made
 /// who is not given up and has not left; and whatever packet or report may come to a node fits.
-#[tactic(auto, using(crate::proofs::Vanished::Fitting::fits))]
+#[tactic(auto, using(crate::proofs::Vanished::Windows::fits))]
 pub fn windows_fit()
     ensures { (players ahead : ℕ) (history : List (ℕ → Node)) → IsRun players ahead history
         → Fits players ahead history }
@@ -50,7 +50,7 @@ pub fn every_command_was_made()
 /// And no consistency check fails: of the tics up to twelve before a command, its maker had the rows that every
 /// node has which runs a tic with that command, and has not given up the maker; in windows of up to six also
 /// those nodes that have.
-#[tactic(auto, using(crate::proofs::Vanished::Marking::marked))]
+#[tactic(auto, using(crate::proofs::Vanished::Marks::marked))]
 pub fn marks_agree()
     ensures { (players ahead : ℕ) (history : List (ℕ → Node)) → ahead ≤ 12 → IsRun players ahead history
         → Marked players ahead history }

@@ -12,7 +12,7 @@ use dn_world::World;
 
 impl<W: World> Game<W> {
     ghost use Rattle.dn_remain_game.specs.{Contents.contents, Applied.IsAddressedOwn, Applied.IsApplied, Applied.IsAppliedOwn, Applied.Tells, Applied.TellsReached, Events.asks_room, Kept.KeepsOthers};
-    ghost use Rattle.dn_remain_game.specs.{Kept.KeepsWhose, Kept.changed_by, Rest.KeepsRestOf, Promised.IsCarriedOn, Survivors.AsksSurvivor, Told.HasTold, Room.IsFull, Room.LacksRoom};
+    ghost use Rattle.dn_remain_game.specs.{Kept.KeepsWhose, Kept.changed_by, Kept.KeepsRestOf, Promised.IsCarriedOn, Survivors.AsksSurvivor, Survivors.HasTold, Room.IsFull, Room.LacksRoom};
     ghost use Rattle.dn_remain_game.specs.{Room.StaysWithin, Room.room_after, Room.room_of};
 
     /// Applies an event of the game of `dn_machine` that is not refused but for want of memory.

@@ -21,8 +21,8 @@ fn narrow(player: u32) -> u8
 }
 
 impl<W: World> Game<W> {
-    ghost use Rattle.dn_remain_game.specs.{Contents.contents, Applied.Tells, Applied.TellsReached, Applied.IsAfter, Kept.KeepsOthers, Kept.KeepsWhose, Kept.changed_by, Rest.KeepsRest, Survivors.GivesUpAt};
-    ghost use Rattle.dn_remain_game.specs.{Survivors.HearsAt, Told.TellsReport, Room.IsFullOfReports, Room.StaysWithin, Room.room_after, Room.room_of};
+    ghost use Rattle.dn_remain_game.specs.{Contents.contents, Applied.Tells, Applied.TellsReached, Applied.IsAfter, Kept.KeepsOthers, Kept.KeepsWhose, Kept.changed_by, Kept.KeepsRest, Survivors.GivesUpAt};
+    ghost use Rattle.dn_remain_game.specs.{Survivors.HearsAt, Survivors.TellsReport, Room.IsFullOfReports, Room.StaysWithin, Room.room_after, Room.room_of};
 
     /// A node gives up a player.
     pub(super) fn give_up(&mut self, node: u32, player: u32) -> GivenUp

@@ -2,7 +2,7 @@
 
 ghost use Rattle.std.specs.Prelude.{◌≡◌, length, IfOk};
 ghost use Rattle.dn_game.specs.Opening.{IsAdmitted, rules_in};
-ghost use Rattle.dn_remain_game.specs.{Fresh.AreLimited, Fresh.worlds_of};
+ghost use Rattle.dn_remain_game.specs.{Contents.AreLimited, Contents.worlds_of};
 
 use super::Game;
 use dn_game::{GameConfig, GameFault, nodes_of};
@@ -11,7 +11,7 @@ use std::alloc::Global;
 
 impl<W: World> Game<W> {
     ghost use Rattle.dn_remain.specs.Remaining.{opening_remaining};
-    ghost use Rattle.dn_remain_game.specs.{Contents.contents, Represents.Represents, Room.IsWithinTwice, Room.room_of};
+    ghost use Rattle.dn_remain_game.specs.{Contents.contents, Applied.Represents, Room.IsWithinTwice, Room.room_of};
 
     /// A game with a node for each world, in the players' order. The worlds are given up where there is
     /// no game.

@@ -12,7 +12,7 @@ use dn_machine::{Done, Heard, Refusal};
 use dn_world::World;
 
 impl<W: World> Game<W> {
-    ghost use Rattle.dn_remain_game.specs.{Contents.contents, Applied.Tells, Applied.IsAfter, Kept.KeepsOthers, Kept.KeepsWhose, Kept.changed_by_own, Rest.KeepsRest, Room.IsFull, Room.StaysWithin};
+    ghost use Rattle.dn_remain_game.specs.{Contents.contents, Applied.Tells, Applied.IsAfter, Kept.KeepsOthers, Kept.KeepsWhose, Kept.changed_by_own, Kept.KeepsRest, Room.IsFull, Room.StaysWithin};
     ghost use Rattle.dn_remain_game.specs.{Room.room_after, Room.room_of};
 
     /// Asks a node for a packet, which joins those that were sent. Room for it is made first.

@@ -9,7 +9,7 @@ use dn_tic::{Command, Keys};
 use dn_world::World;
 
 impl<W: World> Game<W> {
-    ghost use Rattle.dn_remain_game.specs.{Contents.contents, Applied.DoesOwn, Rest.KeepsRest};
+    ghost use Rattle.dn_remain_game.specs.{Contents.contents, Applied.DoesOwn, Kept.KeepsRest};
     ghost use Rattle.dn_machine.specs.declared.events.Done.TheVariants as done;
 
     /// A node builds the command of these keys.

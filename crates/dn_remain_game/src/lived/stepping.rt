@@ -2,11 +2,13 @@
 
 ghost use Rattle.std.specs.Prelude.{◌≡◌, ◌≢◌, ◌<◌, ℕ, pos, true, false, get_or, Some, None, if◌then◌else◌, IfSome, is_some};
 ghost use Rattle.dn_tic.specs.declared.input.Input.TheVariants.{Pressed, Given};
-ghost use Rattle.dn_setup.specs.{Settings.Settings, Starts.start_of};
+ghost use Rattle.dn_setup.specs.Settings.{Settings, start_of};
 ghost use Rattle.dn_machine.specs.Drops as drops;
 ghost use Rattle.dn_machine.specs.declared.answers.Heard.TheVariants as heard;
 ghost use Rattle.dn_machine.specs.declared.answers.Phase.TheVariants as phase;
-ghost use Rattle.dn_lockstep.specs.{Giving.Gives, Near.IsFair, Rows.seats_of, Sent.sent_to};
+ghost use Rattle.dn_lockstep.specs.Giving.{Gives};
+ghost use Rattle.dn_lockstep.specs.Sent.{IsFair, sent_to};
+ghost use Rattle.dn_lockstep.specs.Rows.{seats_of};
 
 use super::Lived;
 use arrayvec::ArrayVec;

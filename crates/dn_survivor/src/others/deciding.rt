@@ -1,12 +1,25 @@
 //! Whether a node can decide.
 
 ghost use Rattle.std.specs.Prelude.{◌≡◌, ◌≤◌};
-ghost use Rattle.dn_remain.specs.Vanished.Calls.{is_report};
-ghost use Rattle.dn_survivor.specs.OfOthers.Keeping.{has, node_of};
+ghost use Rattle.dn_remain.specs.Vanished.Calls.{is_report, every, is_within_at};
+ghost use Rattle.dn_survivor.specs.OfOthers.{has, node_of};
 
 use crate::others::Others;
-use crate::others::sets::is_within;
 use crate::report::Report;
+
+/// Whether each of so many players that is in the one set is in the other.
+#[tactic(auto, using(crate::proofs::Lowest::every_false, crate::proofs::Lowest::every_more, crate::proofs::Lowest::nobody))]
+pub(crate) fn is_within(players: u8, one: &[bool; 4], other: &[bool; 4]) -> bool
+    requires { players ≤ 4 }
+    ensures { result ≡ every players (is_within_at (has one.now) (has other.now)) }
+{
+    for player in 0..usize::from(players) {
+        if one[player] && !other[player] {
+            return false;
+        }
+    }
+    true
+}
 
 /// Whether a report stands for a set: it has exactly this set, or is the last of one who had given up no
 /// others.
@@ -21,7 +34,7 @@ fn is_report(players: u8, gone: &[bool; 4], report: &Report) -> bool
 impl Others {
     ghost use Rattle.std.specs.Prelude.{◌≡◌, ◌<◌, ◌≤◌, ℕ, true, false, None, IfSome};
     ghost use Rattle.dn_remain.specs.Vanished.Calls.{is_heard, can_decide};
-    ghost use Rattle.dn_survivor.specs.OfOthers.Keeping.{nodes_of, own_of};
+    ghost use Rattle.dn_survivor.specs.OfOthers.{nodes_of, own_of};
 
     /// Whether nothing is wanted of a player, or its report is there.
     fn is_heard(&self, players: u8, me: u8, player: u8) -> bool

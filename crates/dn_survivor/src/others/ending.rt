@@ -1,7 +1,7 @@
 //! Where the commands of a player end who is given up, and the last of them.
 
 ghost use Rattle.std.specs.Prelude.{◌≡◌, ◌≤◌, max, length};
-ghost use Rattle.dn_survivor.specs.OfOthers.Keeping.{count_told, last_told};
+ghost use Rattle.dn_survivor.specs.OfOthers.{count_told, last_told};
 
 use crate::others::Others;
 use crate::report::Tail;
@@ -45,8 +45,8 @@ fn last_told(told: &[Tail], player: u8) -> &[TicCmd]
 
 impl Others {
     ghost use Rattle.std.specs.Prelude.{◌≡◌, ◌<◌, ◌≤◌, length};
-    ghost use Rattle.dn_remain.specs.Vanished.Reports.{share, decided_end};
-    ghost use Rattle.dn_survivor.specs.OfOthers.Keeping.{commands_of, first_of, last_by, own_of, teller_of, told_of};
+    ghost use Rattle.dn_remain.specs.Vanished.Node.{share, decided_end};
+    ghost use Rattle.dn_survivor.specs.OfOthers.{commands_of, first_of, last_by, own_of, teller_of, told_of};
 
     /// How many commands of a player count for one: for the node so many, for one who is given up none, and for
     /// any other those of whom its newest report tells.

@@ -2,10 +2,10 @@
 
 ghost use Rattle.std.specs.{Prelude.◌≡◌, Prelude.◌≤◌, Option.option_map};
 ghost use Rattle.dn_remain.specs.Vanished.Calls.{is_newer};
-ghost use Rattle.dn_survivor.specs.{OfOthers.Keeping.node_of, OfOthers.Hearing.tells_either};
+ghost use Rattle.dn_survivor.specs.{OfOthers.node_of, OfOthers.tells_either};
 
 use crate::others::Others;
-use crate::others::sets::is_within;
+use crate::others::deciding::is_within;
 use crate::report::{Report, Tail};
 
 /// What a node makes of a report.
@@ -50,7 +50,7 @@ fn is_newer(players: u8, kept: &Option<Report>, report: &Report) -> bool
 
 impl Others {
     ghost use Rattle.std.specs.Prelude.{◌≡◌, ◌<◌, ◌≤◌, ◌≢◌};
-    ghost use Rattle.dn_survivor.specs.{declared.others.hearing.Reported.TheVariants.Kept, OfOthers.Hearing.reported_as, OfOthers.Hearing.with_newest};
+    ghost use Rattle.dn_survivor.specs.{declared.others.hearing.Reported.TheVariants.Kept, OfOthers.reported_as, OfOthers.with_newest};
 
     /// A report of another player comes to a node.
     pub fn hear(&mut self, players: u8, me: u8, from: u8, report: Report) -> Reported

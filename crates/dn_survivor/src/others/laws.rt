@@ -7,14 +7,15 @@ ghost use Rattle.dn_tic.specs.declared.command.TicCmd.{TicCmd};
 ghost use Rattle.dn_machine.specs.{Node.put, Promise.IsPrefixOf};
 ghost use Rattle.dn_survivor.specs.declared.report.Report.{Report};
 ghost use Rattle.dn_remain.specs.{Vanished.Node.Node, Vanished.Calls.can_decide, Vanished.Calls.is_heard, Vanished.Calls.is_newer, Vanished.Commands.Holder, Vanished.Commands.fresh_holder, Vanished.Commands.seen};
-ghost use Rattle.dn_remain.specs.{Vanished.Decisions.on_decision, Vanished.Reports.decided_end};
+ghost use Rattle.dn_remain.specs.{Vanished.Commands.on_decision, Vanished.Node.decided_end};
 ghost use Rattle.dn_survivor.specs.{declared.others.hearing.Reported.TheVariants.Kept, declared.others.hearing.Reported.TheVariants.GivenUp, declared.others.hearing.Reported.TheVariants.Excluded};
-ghost use Rattle.dn_survivor.specs.{declared.others.hearing.Reported.TheVariants.Stale, declared.others.Others.Others, OfOthers.Keeping.commands_of, OfOthers.Keeping.first_of, OfOthers.Keeping.has, OfOthers.Keeping.nodes_of};
-ghost use Rattle.dn_survivor.specs.{OfOthers.Keeping.nothing_kept, OfOthers.Keeping.own_of, OfOthers.Keeping.told_of, OfOthers.Hearing.reported_as, OfOthers.Hearing.with_newest, OfOthers.Represents.AreWithin, OfOthers.Represents.Represents, OfOthers.Represents.Tells};
+ghost use Rattle.dn_survivor.specs.{declared.others.hearing.Reported.TheVariants.Stale, declared.others.Others.Others, OfOthers.commands_of, OfOthers.first_of, OfOthers.has, OfOthers.nodes_of};
+ghost use Rattle.dn_survivor.specs.OfOthers.{nothing_kept, own_of, told_of, reported_as, with_newest, AreWithin, Tells};
+ghost use Rattle.dn_survivor.specs.OfOthers.{Represents};
 
 /// The calls keep it so: what is kept at first represents what the node knows, and so it does after a player
 /// was given up, and after a report came that is kept.
-#[tactic(auto, using(crate::proofs::OfOthers::Keeping::first, crate::proofs::OfOthers::Keeping::given_up, crate::proofs::OfOthers::Keeping::heard))]
+#[tactic(auto, using(crate::proofs::OfOthers::first, crate::proofs::OfOthers::given_up, crate::proofs::OfOthers::heard))]
 pub fn calls_represent()
     ensures first { (players places me : ℕ) → players ≤ 4
         → Represents players places me nothing_kept (λ player. false) (λ player. None) }

@@ -3,8 +3,8 @@
 ghost use Rattle.std.specs.{Prelude.◌≡◌, Prelude.◌<◌, Prelude.◌≤◌, Prelude.◌+◌, Prelude.◌++◌, Prelude.◌*◌, Prelude.◌%◌, Prelude.◌/◌, Prelude.length, Prelude.drop, Prelude.All, Prelude.Result};
 ghost use Rattle.std.specs.{Prelude.None, Prelude.Some, Prelude.IfOk, Prelude.IfErr, Prelude.slice_index, List.flat_map};
 ghost use Rattle.dn_tic.specs.Command.{command_bytes, IsCommand};
-ghost use Rattle.dn_survivor.specs.{declared.report.Report.Report, declared.report.ReportFault.ReportFault, ReportBytes.Text.bit, ReportBytes.Text.number_of, ReportBytes.Text.tail_bytes, ReportBytes.Text.AreTold, ReportBytes.Text.IsTail, ReportBytes.Read.fault_at};
-ghost use Rattle.dn_survivor.specs.{ReportBytes.Read.told_count, ReportBytes.Read.told_number, ReportBytes.Read.HasFault, ReportBytes.Read.IsFirst, ReportBytes.Read.IsReadAs, ReportBytes.Read.next_after};
+ghost use Rattle.dn_survivor.specs.{declared.report.Report.Report, declared.report.ReportFault.ReportFault, ReportBytes.bit, ReportBytes.number_of, ReportBytes.tail_bytes, ReportBytes.AreTold, ReportBytes.IsTail, ReportBytes.fault_at};
+ghost use Rattle.dn_survivor.specs.{ReportBytes.told_count, ReportBytes.told_number, ReportBytes.HasFault, ReportBytes.IsFirst, ReportBytes.IsReadAs, ReportBytes.next_after};
 
 use crate::report::{MAX_TOLD, Report, ReportFault, TAIL_COMMANDS, Tail};
 use arrayvec::ArrayVec;
@@ -36,7 +36,7 @@ fn count_in(bytes: &[u8]) -> u32
 
 /// The first fault of bytes behind those of so many players, where the next may have this number or a higher
 /// one.
-#[tactic(auto, unfolding(crate::specs::ReportBytes::Read::fault_at))]
+#[tactic(auto, unfolding(crate::specs::ReportBytes::fault_at))]
 fn fault_in(before: usize, least: u8, bytes: &[u8]) -> Option<ReportFault>
     ensures first { result ≡ fault_at before least bytes.now }
     ensures none { result ≡ None → 1 ≤ length bytes.now → IsFirst before least bytes.now }

@@ -3,7 +3,7 @@
 ghost use Rattle.std.specs.{Prelude.◌≡◌, Prelude.◌≤◌, Prelude.◌+◌, Prelude.◌++◌, Prelude.◌*◌, Prelude.length, Prelude.All, List.flat_map};
 ghost use Rattle.dn_tic.specs.Command.{command_bytes};
 ghost use Rattle.dn_packet.specs.Written.{IsWritten};
-ghost use Rattle.dn_survivor.specs.ReportBytes.Text.{bit, first_byte, number_of, report_bytes, tail_bytes};
+ghost use Rattle.dn_survivor.specs.ReportBytes.{bit, first_byte, number_of, report_bytes, tail_bytes};
 
 use crate::report::{MAX_REPORT, Report, Tail};
 use arrayvec::ArrayVec;
@@ -50,7 +50,7 @@ fn bit_of(is_set: bool) -> u8
 impl Report {
     ghost use Rattle.std.specs.Prelude.{◌≡◌, ◌≤◌, length};
     ghost use Rattle.dn_packet.specs.Written.{IsWritten};
-    ghost use Rattle.dn_survivor.specs.ReportBytes.Text.{first_byte, report_bytes};
+    ghost use Rattle.dn_survivor.specs.ReportBytes.{first_byte, report_bytes};
 
     /// The byte of whom the sender has given up, and of whether it has left.
     fn first_byte(&self) -> u8

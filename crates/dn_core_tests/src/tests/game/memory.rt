@@ -1,7 +1,9 @@
-//! Tests of refused memory.
+//! Tests of refused memory, in games and while a script is read.
 
 use super::{applied, config, play_list, play_storm, send, small_game, walks};
-use dn_game::{Done, Event, Game, GameFault, OpenEvent, Refusal, play_open};
+use dn_game::{
+    Done, Event, Game, GameFault, OpenEvent, Refusal, ScriptFault, play_open, read_script,
+};
 use dn_node::Aim;
 use dn_seal::Seal;
 use dn_shared_tests::{finds_no_memory, granted, holds, list, must, same};
@@ -152,4 +154,21 @@ fn the_first_send_needs_room_in_both_lists(rt: HostRuntime) {
     }
     same!(rt; game.flights(), 1);
     same!(rt; game.pool().len(), 8);
+}
+
+/// Each request for memory may be refused: then the answer says so, and there is no other.
+#[test]
+fn refused_memory_is_told_of_a_script(rt: HostRuntime) {
+    let rt = &rt;
+    let nine = b"run 0\nrun 1\nrun 2\nrun 3\nrun 4\nrun 5\nrun 6\nrun 7\nrun 8";
+    let read = read_script(rt.alloc(), nine);
+    if let Some(events) = granted!(rt; "read_script", read, ScriptFault::Memory) {
+        same!(rt; events.len(), 9);
+    }
+    match read_script(rt.alloc(), b"run 0\nrun").err() {
+        Some(ScriptFault::Memory) => finds_no_memory(rt, "read_script before a bad line"),
+        fault => same!(rt; fault, Some(ScriptFault::Line(2))),
+    }
+    // No event comes before the bad line, so no memory is asked for.
+    same!(rt; read_script(rt.alloc(), b"#\nrun").err(), Some(ScriptFault::Line(2)));
 }

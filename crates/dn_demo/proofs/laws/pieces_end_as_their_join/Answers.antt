@@ -2,7 +2,7 @@
 use Rattle.std.proofs.Common.{◌≡◌, ℕ, List, [], ◌∷◌, ◌++◌, Result, Ok, Err, is_some, refl, sym, ap, ◌∙◌, subst, arith, append_assoc, append-nil}
 use Rattle.std.specs.List.{concat}
 use Rattle.dn_world.specs.Physics.{Physics}
-use Rattle.dn_demo.specs.{Layout.Layout, Places.EndsBehind, Reading.{Recording, IsReadAs}, Feeding.{Feeding, Shows, TakesAll}, Fed.{IsFedAs, PiecesEndAs, IsSameEnd, Summarizes, fault_of}, declared.fed.Fed.Fed, declared.fed.FeedFault.FeedFault}
+use Rattle.dn_demo.specs.{Layout.Layout, Places.EndsBehind, Reading.{Recording, IsReadAs}, Feeding.{Feeding, Shows, TakesAll, IsFedAs, PiecesEndAs, IsSameEnd, Summarizes, fault_of}, declared.fed.Fed.Fed, declared.fed.FeedFault.FeedFault}
 use Rattle.dn_demo.specs.{declared.fed.FeedFault.TheVariants.{Short, Version, NoPlayers, NoMarker}}
 use Rattle.dn_demo.proofs.OneReading.{same_demo, same_layout}
 use Rattle.dn_demo.proofs.laws.pieces_end_as_their_join.Goals as goal

@@ -1,5 +1,5 @@
 use Rattle.dn_demo.specs.Layout.{vanilla, long_tics}
-use Rattle.dn_demo.proofs.Layouts.{vanilla_sound, long_tics_sound, whole_told, long_told, move_told}
+use Rattle.dn_demo.proofs.Text.{vanilla_sound, long_tics_sound, whole_told, long_told, move_told}
 use Rattle.dn_demo.proofs.laws.spelt_moves_are_told.Goals as goal
 
 pub returns-clause-vanilla : goal.returns-clause-vanilla

@@ -1,8 +1,8 @@
 -- The rows that bytes have are those of the demo that they are read as.
 use Rattle.std.proofs.Common.{◌≡◌, ◌/◌, ℕ, List, Option, Ok, inl, inr, sym, ap, ◌∙◌, subst}
 use Rattle.dn_tic.specs.declared.command.Move.{Move}
-use Rattle.dn_demo.specs.{Layout.Layout, Rows.player_count, Places.seats_in, Places.rows_in, Places.EndsBehind, Places.HasCommands, Reading.Recording, Reading.HasRows, Reading.IsReadAs}
-use Rattle.dn_demo.proofs.{Markers.one_end, OneReading.same_layout, Listing.rows_of_listed}
+use Rattle.dn_demo.specs.{Layout.Layout, Text.player_count, Places.{seats_in, rows_in, EndsBehind, HasCommands}, Reading.{Recording, HasRows, IsReadAs}}
+use Rattle.dn_demo.proofs.{OneReading.{one_end, same_layout}, Listing.rows_of_listed}
 use Rattle.dn_demo.proofs.laws.told_rows_are_read.Goals as goal
 
 rows_of_demo : (bytes : List ℕ) (demo : Recording) → IsReadAs bytes (Ok demo) → HasRows bytes demo.rows

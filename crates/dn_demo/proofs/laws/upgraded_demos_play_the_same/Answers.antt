@@ -1,4 +1,4 @@
-use Rattle.dn_demo.proofs.{Writable.all_bytes, RecordedAnew.upgraded_read, RecordedAnew.upgraded_played}
+use Rattle.dn_demo.proofs.RecordedAnew.{all_bytes, upgraded_read, upgraded_played}
 use Rattle.dn_demo.proofs.laws.upgraded_demos_play_the_same.Goals as goal
 
 pub returns-clause-read : goal.returns-clause-read

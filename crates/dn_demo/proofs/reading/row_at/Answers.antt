@@ -1,6 +1,6 @@
 use Rattle.std.proofs.Common.{◌++◌, arith, rules}
 use Rattle.dn_demo.specs.Layout.{layout_of}
-use Rattle.dn_demo.proofs.Kept.{four_moves}
+use Rattle.dn_demo.proofs.Fronts.{four_moves}
 use Rattle.dn_demo.proofs.reading.row_at.Goals as goal
 
 pub returns : goal.returns

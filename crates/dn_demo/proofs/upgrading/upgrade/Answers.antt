@@ -2,8 +2,8 @@ use Rattle.std.proofs.lemmas.{Bool.Decides.nat_tests, Bool.le-leb}
 use Rattle.std.proofs.Common.{◌≡◌, ◌<◌, ◌*◌, ◌∙◌, false, true, length, nat_le, Some, sym, ap, arith, rules, take, length-append, List, Option}
 use Rattle.std.proofs.Math.Seq.{take-length}
 use Rattle.dn_tic.specs.declared.command.Move.{Move}
-use Rattle.dn_demo.specs.{Layout.{layout_of, long_tics, command_size}, Rows.player_count, Places.seats_in, Text.demo_text, Recorded.{Recorded, recorded_size}, Upgraded.upgraded_size}
-use Rattle.dn_demo.proofs.{Kept.row_kept, RecordedAnew.{one_more, length-none, row_fits, row_recordable}}
+use Rattle.dn_demo.specs.{Layout.{layout_of, long_tics, command_size}, Text.{player_count, demo_text}, Places.seats_in, Recorded.{Recorded, recorded_size, upgraded_size}}
+use Rattle.dn_demo.proofs.{Fronts.row_kept, RecordedAnew.{one_more, length-none, row_fits, row_recordable}}
 use Rattle.dn_demo.proofs.upgrading.upgrade.Goals as goal
 
 pub loop-tic-init : goal.loop-tic-init

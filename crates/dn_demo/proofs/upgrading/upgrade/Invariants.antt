@@ -1,5 +1,5 @@
 use Rattle.std.proofs.Common.{◌≡◌, ◌*◌, false, length, take}
-use Rattle.dn_demo.specs.{Layout.long_tics, Rows.player_count, Text.demo_text, Places.place, Places.seats_in, declared.recorder.Stage.TheVariants.Open}
+use Rattle.dn_demo.specs.{Layout.long_tics, Text.{player_count, demo_text}, Places.{place, seats_in}, declared.recorder.Stage.TheVariants.Open}
 use Rattle.dn_demo.proofs.upgrading.upgrade.Given as goal
 
 abbrev pub invariant-loop-tic : goal.invariant-loop-tic

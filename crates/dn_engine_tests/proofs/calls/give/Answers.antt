@@ -1,6 +1,6 @@
 use Rattle.std.proofs.Common.{◌≡◌, sym, subst}
 use Rattle.dn_tic.specs.declared.input.Input.TheVariants.{Given}
-use Rattle.dn_machine.specs.Building.{on_build}
+use Rattle.dn_machine.specs.Sending.{on_build}
 use Rattle.dn_lockstep.specs.Contents.{Contents, contents}
 use Rattle.dn_lockstep.specs.Steps.{Steps}
 use Rattle.dn_engine_tests.specs.Calls.{counting}

@@ -4,10 +4,10 @@ use Rattle.dn_lockstep.specs.Contents.{Contents, contents}
 use Rattle.dn_lockstep.specs.Hearing.{HearsNear}
 use Rattle.dn_lockstep.specs.OneGame.{AreOneGame}
 use Rattle.dn_lockstep.specs.Sent.{bytes_of}
-use Rattle.dn_lockstep.specs.Session.{with_lockstep}
+use Rattle.dn_lockstep.specs.OneGame.{with_lockstep}
 use Rattle.dn_lockstep.specs.Told.{made}
 use Rattle.dn_engine_tests.specs.Calls.{counting, IsFor, AreFor}
-use Rattle.dn_engine_tests.specs.declared.parcel.Parcel.{Parcel}
+use Rattle.dn_engine_tests.specs.declared.calls.Parcel.{Parcel}
 use Rattle.dn_engine_tests.proofs.calls.hand.Goals as goal
 
 pub returns-then-is_near-clause-one_game : goal.returns-then-is_near-clause-one_game

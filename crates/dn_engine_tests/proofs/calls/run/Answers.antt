@@ -1,7 +1,7 @@
 use Rattle.std.proofs.Common.{◌≡◌, ◌<◌, ℕ, zero, suc, ◌%◌, ℤ, pos, List, [], ◌∷◌, get_or, length, refl, ap, sym, ◌∙◌, subst, arith}
 use Rattle.dn_machine.specs.Running.{on_run}
 use Rattle.dn_lockstep.specs.Contents.{Contents, contents}
-use Rattle.dn_lockstep.specs.Runs.{RunsBy}
+use Rattle.dn_lockstep.specs.Steps.{RunsBy}
 use Rattle.dn_engine_tests.specs.Calls.{counting, marks_at}
 use Rattle.dn_engine_tests.proofs.calls.run.Goals as goal
 

@@ -6,9 +6,9 @@ use Rattle.arrayvec.specs.ArrayVec.{ArrayVec}
 use Rattle.dn_machine.specs.Flight.{Flight}
 use Rattle.dn_lockstep.specs.Contents.{Contents, contents}
 use Rattle.dn_lockstep.specs.Giving.{aim_in, size_in}
-use Rattle.dn_lockstep.specs.Near.{IsFair}
+use Rattle.dn_lockstep.specs.Sent.{IsFair}
 use Rattle.dn_lockstep.specs.Sent.{sent_to, aim_of, bytes_of}
-use Rattle.dn_lockstep.specs.Session.{given_on}
+use Rattle.dn_lockstep.specs.OneGame.{given_on}
 use Rattle.dn_lockstep.specs.Steps.{Steps, Tells}
 use Rattle.dn_lockstep.specs.declared.lockstep.aiming.Aim.{Aim}
 use Rattle.dn_lockstep.proofs.Giving.{no_flight, some_given}

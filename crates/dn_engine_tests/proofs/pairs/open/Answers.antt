@@ -5,7 +5,7 @@ use Rattle.dn_lockstep.specs.declared.config.Config.{Config}
 use Rattle.dn_lockstep.specs.Contents.{Contents, contents}
 use Rattle.dn_lockstep.specs.Opening.{CanBeAhead, IsAdmittedWithin, limits_within}
 use Rattle.dn_lockstep.specs.Represents.{Represents}
-use Rattle.dn_lockstep.specs.Session.{opening_session}
+use Rattle.dn_lockstep.specs.OneGame.{opening_session}
 use Rattle.dn_setup.specs.Settings.{Settings}
 use Rattle.dn_engine_tests.specs.Calls.{counting}
 use Rattle.dn_engine_tests.proofs.pairs.open.Goals as goal

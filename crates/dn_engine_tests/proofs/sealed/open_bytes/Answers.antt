@@ -1,7 +1,7 @@
 use Rattle.std.proofs.Common.{sym, subst}
 use Rattle.dn_lockstep.specs.Contents.{Contents}
 use Rattle.dn_open.specs.Arrivals.{HearsSealed}
-use Rattle.dn_open.specs.Locked.{locked, seal_of}
+use Rattle.dn_open.specs.Sealed.{locked, seal_of}
 use Rattle.dn_engine_tests.proofs.sealed.open_bytes.Goals as goal
 
 pub returns-clause-one_game : goal.returns-clause-one_game

@@ -1,11 +1,11 @@
 use Rattle.std.proofs.Common.{sym, subst}
 use Rattle.std.specs.Prelude.{IfSome}
 use Rattle.dn_lockstep.specs.Contents.{Contents}
-use Rattle.dn_lockstep.specs.Near.{IsFair}
+use Rattle.dn_lockstep.specs.Sent.{IsFair}
 use Rattle.dn_lockstep.specs.Sent.{sent_to}
 use Rattle.dn_lockstep.specs.Steps.{Tells}
 use Rattle.dn_open.specs.Arrivals.{SendsSealed}
-use Rattle.dn_open.specs.Locked.{locked, seal_of}
+use Rattle.dn_open.specs.Sealed.{locked, seal_of}
 use Rattle.dn_engine_tests.proofs.sealed.seal_packet.Goals as goal
 
 pub returns-clause-one_game : goal.returns-clause-one_game

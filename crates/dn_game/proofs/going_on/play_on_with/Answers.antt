@@ -1,8 +1,8 @@
 use Rattle.std.proofs.Common.{length, refl, subst}
 use Rattle.dn_demo.specs.Recorded.{capacity}
-use Rattle.dn_game.specs.{Contents.contents, Opening.rules_in, Played.Answers, Rounds.IsUnsent, RoundEvents.{answers_to, rounds_events}}
+use Rattle.dn_game.specs.{Contents.contents, Opening.rules_in, Played.Answers, Rounds.{IsUnsent, answers_to, rounds_events}}
 use Rattle.dn_tic.specs.Inputs.{input_of}
-use Rattle.dn_game.proofs.{Continuing.{has_played_on, same_round}, Answering.as_many, Rounding.keeps_all, Whose.limits_stay}
+use Rattle.dn_game.proofs.{Continuing.{has_played_on, same_round}, Answering.as_many, Rounding.keeps_all, Framing.limits_stay}
 use Rattle.dn_game.proofs.going_on.play_on_with.Goals as goal
 
 pub returns-in-Ok-good_rounds_with-clause-promised : goal.returns-in-Ok-good_rounds_with-clause-promised

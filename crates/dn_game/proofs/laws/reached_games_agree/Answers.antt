@@ -1,5 +1,5 @@
 use Rattle.std.proofs.Common.{refl}
-use Rattle.dn_game.proofs.{Headlines.have_agreed, Places.window_of, Agreeing.{promised, reached_promised, agreed}, SteadyAnswers.applied_steady}
+use Rattle.dn_game.proofs.{Headlines.have_agreed, Standing.window_of, Agreeing.{promised, reached_promised, agreed, applied_steady}}
 use Rattle.dn_machine.specs.Worlds.{rules_of}
 use Rattle.dn_machine.proofs.Games.{always}
 use Rattle.dn_game.proofs.laws.reached_games_agree.Goals as goal

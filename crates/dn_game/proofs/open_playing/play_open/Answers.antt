@@ -2,7 +2,7 @@ use Rattle.std.proofs.Common.{◌<◌, ◌∷◌, ◌++◌, [], length, take, ap
 use Rattle.std.proofs.lemmas.List.{take_all, take_more}
 use Rattle.dn_open.specs.declared.open_event.OpenEvent.{OpenEvent}
 use Rattle.dn_game.specs.{Contents.contents, Frame.{MovesNoWorldOpen, named_in_open}, Opening.rules_in}
-use Rattle.dn_game.proofs.{Agreeing.{few, short}, Answering.{as_many, none_played, step_played}, Giving.{keeps_more, named_stays, same_at}, Roomy.{none_within, stays}, OpenStanding.open_promised, Whose.limits_stay}
+use Rattle.dn_game.proofs.{Agreeing.{few, short}, Answering.{as_many, none_played, step_played}, Giving.{keeps_more, named_stays, same_at}, Rounding.{none_within, stays}, OpenStanding.open_promised, Framing.limits_stay}
 use Rattle.dn_game.proofs.open_playing.play_open.Goals as goal
 
 pub loop-event-init : goal.loop-event-init

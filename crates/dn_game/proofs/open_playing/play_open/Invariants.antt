@@ -1,5 +1,5 @@
 use Rattle.std.proofs.Common.{◌≡◌, ◌+◌, length, take}
-use Rattle.dn_game.specs.{Opening.rules_in, Contents.contents, Fresh.AreLimited, Given.KeepsGivenOpen, OpenPlayed.IsPlayedOpen, Pool.IsWithinTwice, Room.room_of}
+use Rattle.dn_game.specs.{Opening.{rules_in, AreLimited}, Contents.contents, Frame.KeepsGivenOpen, OpenPlayed.IsPlayedOpen, Pool.IsWithinTwice, Room.room_of}
 use Rattle.dn_game.proofs.open_playing.play_open.Given as goal
 
 abbrev pub invariant-loop-event : goal.invariant-loop-event

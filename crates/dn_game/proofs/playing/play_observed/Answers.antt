@@ -1,7 +1,7 @@
 use Rattle.std.proofs.Common.{[], ◌∷◌, ◌++◌, take, ap, refl, sym, ◌∙◌, arith}
 use Rattle.std.proofs.lemmas.List.{take_all, take_more, length-take-le}
 use Rattle.dn_machine.specs.declared.events.Event.{Event}
-use Rattle.dn_game.proofs.{Answering.{as_many, none_played, played_more}, Giving.{given_more, same_at}, Observed.{observes_more, played_observed}, Roomy.{none_within, stays}, Whose.limits_stay}
+use Rattle.dn_game.proofs.{Answering.{as_many, none_played, played_more}, Giving.{given_more, same_at}, Observed.{observes_more, played_observed}, Rounding.{none_within, stays}, Framing.limits_stay}
 use Rattle.dn_game.proofs.playing.play_observed.Goals as goal
 
 pub loop-event-init : goal.loop-event-init

@@ -3,10 +3,10 @@ use Rattle.std.proofs.Common.{◌≡◌, ◌≤◌, length, arith, ℕ, Bool, tr
 use Rattle.std.specs.Option.{option_map}
 use Rattle.rand_pcg.specs.Lcg.{Lcg}
 use Rattle.dn_machine.specs.{declared.events.Done.Done, declared.events.Event.Event, declared.events.Event.TheVariants.Stop, declared.events.Refusal.Refusal, Game.{Game, opening_game, applied}, Worlds.Rules}
-use Rattle.dn_game.specs.{Played.Answers, Schedule.{word, behind, behind_three, generator_of, event_of, scheduled}, Contents.contents, Stopped.AllStopped, Stormed.{Follows, IsStormed}, declared.played.Played.Played, Opening.rules_in}
+use Rattle.dn_game.specs.{Played.Answers, Schedule.{word, behind, behind_three, generator_of, event_of, scheduled, AllStopped}, Contents.contents, Stormed.{Follows, IsStormed}, declared.played.Played.Played, Opening.rules_in}
 use Rattle.dn_setup.specs.Settings.{Settings}
 use Rattle.dn_demo.specs.Recorded.{capacity}
-use Rattle.dn_game.proofs.{Answering.as_many, Observed.{follows_plays, stormed_more, observes_more, stormed_observed}, Giving.{given_more, same_at}, Roomy.{none_within, stays}, Whose.limits_stay}
+use Rattle.dn_game.proofs.{Answering.as_many, Observed.{follows_plays, stormed_more, observes_more, stormed_observed}, Giving.{given_more, same_at}, Rounding.{none_within, stays}, Framing.limits_stay}
 use Rattle.dn_game.proofs.{storming.storm_observed.Goals.{in-Some+in_ok-apply_observed, in_default}}
 use Rattle.dn_game.proofs.storming.storm_observed.Goals as goal
 

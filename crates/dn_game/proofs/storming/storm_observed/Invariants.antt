@@ -1,5 +1,5 @@
 use Rattle.std.proofs.Common.{◌≡◌, ◌+◌, length}
-use Rattle.dn_game.specs.{Opening.rules_in, Contents.contents, Fresh.AreLimited, Given.KeepsGiven, Observed.ObservesAll, Pool.IsWithinTwice, Room.room_of, Stormed.IsStormed}
+use Rattle.dn_game.specs.{Opening.{rules_in, AreLimited}, Contents.contents, Frame.KeepsGiven, Observed.ObservesAll, Pool.IsWithinTwice, Room.room_of, Stormed.IsStormed}
 use Rattle.dn_game.proofs.storming.storm_observed.Given as goal
 
 abbrev pub invariant-loop : goal.invariant-loop

@@ -1,4 +1,4 @@
-use Rattle.dn_greeting.proofs.{Hints.one_hint, Readings.only}
+use Rattle.dn_greeting.proofs.{Readings.one_hint, Readings.only}
 use Rattle.dn_greeting.specs.Rests.{answers, calls, refusals, retries}
 use Rattle.dn_greeting.proofs.laws.one_greeting.Goals as goal
 

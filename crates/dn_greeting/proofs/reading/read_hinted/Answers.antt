@@ -1,5 +1,5 @@
 use Rattle.std.proofs.Common.{sym, ◌∙◌, inl}
-use Rattle.dn_greeting.proofs.Hints.{one_hint}
+use Rattle.dn_greeting.proofs.Readings.{one_hint}
 use Rattle.dn_greeting.proofs.reading.read_hinted.Goals as goal
 
 pub returns-in-Some-clause-only : goal.returns-in-Some-clause-only

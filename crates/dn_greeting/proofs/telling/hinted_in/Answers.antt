@@ -1,5 +1,5 @@
 use Rattle.std.proofs.Common.{rules}
-use Rattle.dn_greeting.proofs.Hints.{hinted_back}
+use Rattle.dn_greeting.proofs.Readings.{hinted_back}
 use Rattle.dn_greeting.proofs.telling.hinted_in.Goals as goal
 
 pub returns : goal.returns

@@ -1,5 +1,6 @@
 use Rattle.std.proofs.Common.{◌≡◌, ◌++◌, ◌∷◌, [], List, ℕ, take, ap, ◌∙◌}
-use Rattle.dn_seal.specs.{Hmac.tag_of, Keys.suite_byte, Sealing.sealing}
+use Rattle.dn_seal.specs.Hmac.{tag_of, suite_byte}
+use Rattle.dn_seal.specs.Sealing.{sealing}
 use Rattle.dn_greeting.specs.Text.{body_bytes, head_bytes, kind_bytes}
 use Rattle.dn_greeting.proofs.writing.seal.Goals as goal
 

@@ -1,6 +1,6 @@
 -- What is told so often.
 use Rattle.std.proofs.Common.{◌≡◌, ℕ, zero, suc, ◌+◌, List, [], ◌∷◌, ◌++◌, replicate, refl, ap, ◌∙◌, append_assoc, arith, subst}
-use Rattle.dn_measure.specs.{declared.told.Told.Told, Measure.IsMeasureOf}
+use Rattle.dn_measure.specs.{declared.measure.Told.Told, Measure.IsMeasureOf}
 use Rattle.dn_host.proofs.counts.tell.Goals as goal
 
 replicate_more : {A : Type 0} (times : ℕ) (x : A) → replicate times x ++ x ∷ [] ≡ x ∷ replicate times x

@@ -1,5 +1,5 @@
 use Rattle.std.specs.Prelude.{ℕ, List, ◌++◌, replicate}
-use Rattle.dn_measure.specs.{declared.told.Told.Told, Measure.IsMeasureOf}
+use Rattle.dn_measure.specs.{declared.measure.Told.Told, Measure.IsMeasureOf}
 use Rattle.dn_host.proofs.counts.tell.Given as goal
 
 abbrev pub invariant-loop : goal.invariant-loop

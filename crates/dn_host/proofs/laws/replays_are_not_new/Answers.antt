@@ -2,7 +2,10 @@
 use Rattle.std.proofs.Common.{◌≡◌, ◌≤◌, ◌<◌, ◌+◌, ◌-◌, ℕ, Bool, true, false, Some, refl, inl, inr, arith}
 use Rattle.std.specs.Prelude.{nat_lt, nat_le}
 use Rattle.std.proofs.lemmas.Bool.{le-ltb, le-leb, lt-leb, and_right}
-use Rattle.dn_link.specs.{declared.bundle.Bundle.Bundle, Figures.figures_of, Line.LineState, Line.heard_on, Line.is_anew, Tally.TallyState, Tally.falls_back, Tally.was_seen}
+use Rattle.dn_link.specs.declared.bundle.Bundle.{Bundle}
+use Rattle.dn_link.specs.Linked.{figures_of}
+use Rattle.dn_link.specs.Line.{LineState, heard_on, is_anew}
+use Rattle.dn_link.specs.Tally.{TallyState, falls_back, was_seen}
 use Rattle.dn_host.specs.{declared.coming.Coming.TheVariants.Again, Coming.coming_in, Replays.IsOld}
 use Rattle.dn_host.proofs.laws.replays_are_not_new.Goals as goal
 

@@ -1,4 +1,4 @@
-use Rattle.dn_lockstep.specs.Session.{with_lockstep}
+use Rattle.dn_lockstep.specs.OneGame.{with_lockstep}
 use Rattle.dn_link.proofs.{Bringing.brings, Bringing.brings_on, Bringing.in_step_on, CatchingIn.brought}
 use Rattle.dn_link.proofs.caught_up.links_bring_all.Goals as goal
 

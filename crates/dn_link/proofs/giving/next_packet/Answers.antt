@@ -5,7 +5,7 @@ use Rattle.std.proofs.lemmas.Option.{same_Some}
 use Rattle.arrayvec.specs.ArrayVec.{ArrayVec}
 use Rattle.dn_machine.specs.{Flight.Flight, Limits.Limits}
 use Rattle.dn_lockstep.specs.{declared.lockstep.aiming.Aim.Aim, Contents.Contents, Represents.Represents, Sent.sent_to, Sent.aim_of, Sent.bytes_of, Steps.IsAfter, Contents.contents}
-use Rattle.dn_link.specs.Giving.{carried_of}
+use Rattle.dn_link.specs.Hearing.{carried_of}
 use Rattle.dn_lockstep.proofs.Giving.{some_given}
 use Rattle.dn_machine.specs.Node as machine
 use Rattle.dn_link.proofs.giving.next_packet.Goals as goal

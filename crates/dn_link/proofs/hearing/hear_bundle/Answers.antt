@@ -2,7 +2,7 @@ use Rattle.std.proofs.Common.{◌≡◌, ℕ, Bool, refl, subst, List}
 use Rattle.std.specs.List.{flat_map}
 use Rattle.dn_lockstep.specs.Contents.{Contents, contents}
 use Rattle.dn_link.specs.{declared.bundle.Part.Part, Hearing.HearsUntil, Packets.heard_of, Packets.takes_relay}
-use Rattle.dn_survivor.specs.OfOthers.Keeping.{has}
+use Rattle.dn_survivor.specs.OfOthers.{has}
 use Rattle.dn_link.proofs.hearing.hear_bundle.Goals as goal
 
 -- the same parts are heard

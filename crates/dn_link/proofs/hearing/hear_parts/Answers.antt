@@ -4,7 +4,7 @@ use Rattle.std.specs.List.{flat_map}
 use Rattle.dn_lockstep.specs.Contents.{Contents, contents}
 use Rattle.dn_link.specs.{declared.bundle.Part.Part, Hearing.HearsUntil, Packets.heard_of, Packets.takes_relay}
 use Rattle.dn_link.specs.declared.bundle.Relay as relay
-use Rattle.dn_survivor.specs.OfOthers.Keeping.{has}
+use Rattle.dn_survivor.specs.OfOthers.{has}
 use Rattle.dn_link.proofs.Hearings.{LeadsOn, parts_go_on, parts_stop}
 use Rattle.dn_link.proofs.hearing.hear_parts.Goals as goal
 

@@ -1,7 +1,7 @@
 use Rattle.std.proofs.Common.{length}
 use Rattle.std.specs.List.{flat_map}
 use Rattle.dn_lockstep.specs.Contents.{contents}
-use Rattle.dn_survivor.specs.OfOthers.Keeping.{has}
+use Rattle.dn_survivor.specs.OfOthers.{has}
 use Rattle.dn_link.specs.Packets.{heard_of, takes_relay}
 use Rattle.dn_link.proofs.Hearings.{LeadsOn}
 use Rattle.dn_link.proofs.hearing.hear_parts.Given as goal

@@ -1,6 +1,6 @@
 use Rattle.std.proofs.Common.{sym, refl}
 use Rattle.dn_link.specs.Text.{sealed_bytes}
-use Rattle.dn_link.proofs.Openings.{only_bundle}
+use Rattle.dn_link.proofs.Wholes.{only_bundle}
 use Rattle.dn_link.proofs.laws.bundles_are_read_back.Goals as goal
 
 pub returns : goal.returns

@@ -2,12 +2,19 @@
 use Rattle.std.proofs.Common.{◌≡◌, ◌<◌, ℕ, List, refl, ap, sym, ◌∙◌, subst, pos, false, get_or}
 use Rattle.std.specs.Prelude.{slice_index}
 use Rattle.dn_setup.specs.Settings.{Settings}
-use Rattle.dn_machine.specs.{Limits.Limits, Node.put, Building.on_build, Running.on_run, Running.on_quit, Running.is_over, declared.answers.Ran.Ran}
-use Rattle.dn_lockstep.specs.{Contents.Contents, Marking.Marking, OneGame.AreOneGame, Session.Session, Session.with_lockstep, Contents.end_in, OneGame.world_told, Session.after_build, Session.after_run, Runs.RunsBy}
-use Rattle.dn_lockstep.specs.{Runs.marks_in, Runs.with_row, Steps.Steps}
+use Rattle.dn_machine.specs.Limits.{Limits}
+use Rattle.dn_machine.specs.Node.{put}
+use Rattle.dn_machine.specs.Sending.{on_build}
+use Rattle.dn_machine.specs.Running.{on_run, on_quit, is_over}
+use Rattle.dn_machine.specs.declared.answers.Ran.{Ran}
+use Rattle.dn_lockstep.specs.Contents.{Contents, end_in}
+use Rattle.dn_lockstep.specs.Marking.{Marking}
+use Rattle.dn_lockstep.specs.OneGame.{AreOneGame, Session, with_lockstep, world_told, after_build, after_run}
+use Rattle.dn_lockstep.specs.Steps.{RunsBy}
+use Rattle.dn_lockstep.specs.Steps.{marks_in, with_row, Steps}
 use Rattle.dn_link.specs.{declared.presence.Presence.TheVariants.Left, Kept.Unacknowledged, Linked.Linked, Linked.forgotten, LinkedGame.AreLinked, LinkedGame.IsLater}
 use Rattle.dn_link.proofs.{Linking.SameBut, Linking.forgets, Linking.forgets_left, Linking.forgets_node, Linking.forgets_others, Relinking.AreGiven, Relinking.later_by, Relinking.relinked, Linking.at_most}
-use Rattle.dn_link.proofs.{Growing.HasAsMuch, Growing.as_much, Holding.build_holds, Holding.run_holds, Holding.quit_holds, Gives.gave_to, Linking.called, Linking.much_by, Receives.received}
+use Rattle.dn_link.proofs.{Growing.HasAsMuch, Growing.as_much, Growing.build_holds, Growing.run_holds, Growing.quit_holds, Gives.gave_to, Linking.called, Linking.much_by, Receives.received}
 use Rattle.dn_survivor.specs.declared.others.Others.{Others}
 use Rattle.dn_link.proofs.Linking as base
 use Rattle.dn_link.proofs.laws.linked_game_goes_on.Goals as goal

@@ -3,8 +3,8 @@ use Rattle.std.specs.List.{flat_map}
 use Rattle.std.proofs.lemmas.List.Elements.{All-nil}
 use Rattle.std.specs.Prelude.{Result, Ok, Err}
 use Rattle.dn_open.specs.Sealed.{sealing_of}
-use Rattle.dn_link.specs.{declared.bundle.Bundle.Bundle, declared.bundle.BundleFault.BundleFault, declared.bundle.Part.Part, Bundles.WasGiven, Packets.packets_of}
-use Rattle.dn_link.proofs.{Openings.only_bundle, Outgoing.bundled_on}
+use Rattle.dn_link.specs.{declared.bundle.Bundle.Bundle, declared.bundle.BundleFault.BundleFault, declared.bundle.Part.Part, LinkedGame.WasGiven, Packets.packets_of}
+use Rattle.dn_link.proofs.{Wholes.only_bundle, Linking.bundled_on}
 use Rattle.dn_link.proofs.laws.sealed_datagrams_are_genuine.Goals as goal
 
 pub returns : goal.returns

@@ -7,15 +7,20 @@ use Rattle.std.proofs.lemmas.Bool.{cases_lt, cond_both, lt-ltb, eq-eqb}
 use Rattle.std.proofs.lemmas.List.Elements.{All-head}
 use Rattle.dn_tic.specs.{Command.command_bytes, declared.command.TicCmd.TicCmd}
 use Rattle.dn_lockstep.proofs.Shown.{tells_held}
-use Rattle.dn_link.specs.{Relays.AreHandedOn, Relays.AreTold, Relays.Handed, Relays.handed_part, declared.bundle.Bundle.Bundle, declared.bundle.Carried.Carried, Ends.tells_end, declared.bundle.Counts.Counts}
+use Rattle.dn_link.specs.{Relays.AreHandedOn, Relays.AreTold, Relays.Handed, Relays.handed_part, declared.bundle.Bundle.Bundle, declared.bundle.Carried.Carried, Presence.tells_end, declared.bundle.Counts.Counts}
 use Rattle.dn_link.specs.{declared.bundle.Identity.Identity, declared.bundle.Part.Part, declared.bundle.Part.TheVariants.Whole, declared.bundle.Part.TheVariants.Run, declared.bundle.Part.TheVariants.Relay}
-use Rattle.dn_link.specs.{Bundles.IsEmpty, Counting.counts_of, Counting.with_end, Giving.SendsCarried, Giving.carried_of, Hearing.ByTest, Kept.going, Kept.taken_by, Linked.Linked, Linked.Gives, Linked.SendsReady}
-use Rattle.dn_link.specs.{Linked.holds_back, Linked.never_played, LinkedGame.AreLinked, Paced.PaceState, Packets.opened_from, Packets.packets_of, Packets.short_packets, Packing.ArePacked, Text.IsPart}
-use Rattle.dn_link.proofs.{Lefts.All-front, Lefts.All-back, Growing.has_is, Growing.has_none, Lefts.counts_reach, Lefts.tells_own, Unplayed.HasNothing, Unplayed.always_nothing}
+use Rattle.dn_link.specs.{LinkedGame.IsEmpty, Counting.counts_of, Counting.with_end, Hearing.SendsCarried, Hearing.carried_of, Hearing.ByTest, Kept.going, Kept.taken_by, Linked.Linked, Linked.Gives, Linked.SendsReady}
+use Rattle.dn_link.specs.{Linked.holds_back, Linked.never_played, LinkedGame.AreLinked, Pacing.PaceState, Packets.opened_from, Packets.packets_of, Packets.short_packets, Packing.ArePacked, Text.IsPart}
+use Rattle.dn_link.proofs.{Leaving.All-front, Leaving.All-back, Growing.has_is, Growing.has_none, Leaving.counts_reach, Leaving.tells_own, Unplayed.HasNothing, Unplayed.always_nothing}
 use Rattle.dn_setup.specs.Settings.{Settings}
 use Rattle.dn_machine.specs.{Flight.Flight, Limits.Limits, Node.is_ended}
 use Rattle.dn_machine.proofs.Calls.{send_cases}
-use Rattle.dn_lockstep.specs.{Contents.Contents, Marking.Marking, OneGame.beside, Rings.count_of, Represents.Represents, Sent.sent_to, Session.Session}
+use Rattle.dn_lockstep.specs.Contents.{Contents}
+use Rattle.dn_lockstep.specs.Marking.{Marking}
+use Rattle.dn_lockstep.specs.OneGame.{beside, Session}
+use Rattle.dn_lockstep.specs.Tables.{count_of}
+use Rattle.dn_lockstep.specs.Represents.{Represents}
+use Rattle.dn_lockstep.specs.Sent.{sent_to}
 use Rattle.dn_seal.specs.{declared.opened.Opened.Opened, declared.seal.Seal.Seal}
 use Rattle.dn_machine.specs.Node as machine
 use Rattle.dn_link.proofs.laws.unplayed_links_give_nothing.Goals as goal

@@ -1,7 +1,7 @@
 use Rattle.std.proofs.Common.{◌≡◌, ◌≤◌, rules, sym, ◌∙◌, arith, length}
 use Rattle.dn_seal.specs.{Sealing.sealing, Opening.IsTagged}
 use Rattle.dn_link.specs.Reading.{bundles}
-use Rattle.dn_link.proofs.Openings.{only_bundle, formless, datagram_is, eight_long}
+use Rattle.dn_link.proofs.Wholes.{only_bundle, formless, datagram_is, eight_long}
 use Rattle.dn_link.proofs.reading.open_bundle.Goals as goal
 
 opens : goal.returns-in-Some-clause-opens

@@ -1,5 +1,5 @@
 use Rattle.dn_lockstep.specs.Contents.{contents}
-use Rattle.dn_link.proofs.Relays.{SoFar}
+use Rattle.dn_link.proofs.Handing.{SoFar}
 use Rattle.dn_link.proofs.relaying.relay_of.Given as goal
 
 abbrev pub invariant-commands : goal.invariant-commands

@@ -1,11 +1,11 @@
 -- What was sealed in a game in which players may be given up.
 use Rattle.std.proofs.Common.{◌≡◌, ℕ, List, ap, arith, inl, inr}
 use Rattle.std.specs.Prelude.{Result, Ok, Err, slice_index}
-use Rattle.dn_survivor.specs.Session.{Session}
+use Rattle.dn_survivor.specs.OneGame.{Session}
 use Rattle.dn_seal.specs.declared.seal.Seal.{Seal}
-use Rattle.dn_link.specs.{declared.notice.fault.ReportDatagramFault.ReportDatagramFault, SealedReports.Opening.IsOpenedAs, declared.bundle.Bundle.Bundle, declared.bundle.BundleFault.BundleFault, Packets.packets_in}
+use Rattle.dn_link.specs.{declared.notice.ReportDatagramFault.ReportDatagramFault, SealedReports.IsOpenedAs, declared.bundle.Bundle.Bundle, declared.bundle.BundleFault.BundleFault, Packets.packets_in}
 use Rattle.dn_link.specs.{Reading.IsBundledAs, RemainingLinks.IsGenuineIn, RemainingLinks.KeepsGiven, RemainingLinks.WasSealedIn}
-use Rattle.dn_link.proofs.{SealedReports.Openings.one_opening, Outgoing.opened_later, Noticed.not_both, Openings.only_bundle}
+use Rattle.dn_link.proofs.{SealedReports.one_opening, Linking.opened_later, SealedReports.not_both, Wholes.only_bundle}
 use Rattle.dn_open.specs.Sealed.{sealing_of}
 use Rattle.dn_link.proofs.remaining.remaining_bytes_are_genuine.Goals as goal
 

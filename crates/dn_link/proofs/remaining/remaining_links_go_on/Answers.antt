@@ -10,14 +10,20 @@ use Rattle.dn_packet.specs.declared.packet.Packet.{Packet}
 use Rattle.dn_packet.proofs.Texts.{same_packet}
 use Rattle.dn_machine.specs.{Flight.Play, Flight.Exit, Flight.Flight, Flight.packet_of, Limits.Limits, Sending.commands_flight, Sending.last_sent, Sending.set_up_flight, Node.put}
 use Rattle.dn_machine.proofs.{Calls.send_cases, Put.put_at}
-use Rattle.dn_lockstep.specs.{declared.lockstep.aiming.Aim.Aim, Near.IsFair, Sent.aim_of, Sent.bytes_of, Sent.sent_to, Marking.Marking, Represents.Represents, Steps.Steps, Steps.Tells, Session.given_on, Told.command_told}
-use Rattle.dn_link.specs.{declared.bundle.Carried.Carried, Giving.carried_of, Relays.Handed, Relays.flights_of, declared.bundle.Identity.Identity, Giving.SendsCarried, Hearing.ByTest, Paced.PaceState}
+use Rattle.dn_lockstep.specs.declared.lockstep.aiming.Aim.{Aim}
+use Rattle.dn_lockstep.specs.Sent.{IsFair, aim_of, bytes_of, sent_to}
+use Rattle.dn_lockstep.specs.Marking.{Marking}
+use Rattle.dn_lockstep.specs.Represents.{Represents}
+use Rattle.dn_lockstep.specs.Steps.{Steps, Tells}
+use Rattle.dn_lockstep.specs.OneGame.{given_on}
+use Rattle.dn_lockstep.specs.Told.{command_told}
+use Rattle.dn_link.specs.{declared.bundle.Carried.Carried, Hearing.carried_of, Relays.Handed, Relays.flights_of, declared.bundle.Identity.Identity, Hearing.SendsCarried, Hearing.ByTest, Pacing.PaceState}
 use Rattle.dn_link.specs.{RemainingLinks.AreRemainingLinks, RemainingLinks.KeepsGiven, RemainingLinks.WasSealedIn, Linked.Gives, Linked.Linked, Linked.holds_back, Linked.is_peer, Linked.remains, Linked.surviving_of}
-use Rattle.dn_link.specs.{SealedReports.Text.sealed_report_bytes}
+use Rattle.dn_link.specs.{SealedReports.sealed_report_bytes}
 use Rattle.dn_lockstep.proofs.OneGame.{GoesBetween}
-use Rattle.dn_survivor.specs.{OneGame.AreRemaining, Session.Session, Session.after_packet, Session.after_relays, Relaying.MayRelay, declared.others.Others.Others, Surviving.Surviving, Surviving.has_given_up}
-use Rattle.dn_link.proofs.{Relays.gives_all, Outgoing.goes_given, Outgoing.stays_kept, Relinking.found_later, Relinking.found_on, RemainingCalls.built, RemainingCalls.forgot, RemainingCalls.gives_up}
-use Rattle.dn_link.proofs.{RemainingCalls.quits, RemainingCalls.reported, RemainingCalls.runs, RemainingCalls.same_link, RemainingCalls.told, Noticed.told_sealed, RemainingReceives.received}
+use Rattle.dn_survivor.specs.{OneGame.AreRemaining, OneGame.Session, OneGame.after_packet, OneGame.after_relays, Telling.MayRelay, declared.others.Others.Others, Surviving.Surviving, Surviving.has_given_up}
+use Rattle.dn_link.proofs.{Handing.gives_all, Linking.goes_given, Linking.stays_kept, Relinking.found_later, Relinking.found_on, RemainingCalls.built, RemainingCalls.forgot, RemainingCalls.gives_up}
+use Rattle.dn_link.proofs.{RemainingCalls.quits, RemainingCalls.reported, RemainingCalls.runs, RemainingCalls.same_link, RemainingCalls.told, SealedReports.told_sealed, RemainingReceives.received}
 use Rattle.dn_seal.specs.declared.seal.Seal.{Seal}
 use Rattle.dn_machine.specs.Node as machine
 use Rattle.dn_survivor.proofs.OneGame as one_game

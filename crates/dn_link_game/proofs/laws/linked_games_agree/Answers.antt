@@ -6,13 +6,17 @@ use Rattle.std.proofs.lemmas.Bool.{cases_lt, cond-true, lt-ltb, cases_eq}
 use Rattle.std.proofs.lemmas.Option.{same_Some, none-some, slice_get-get_or, slice_get_cases, slice_get_within}
 use Rattle.std.proofs.lemmas.List.{take_all}
 use Rattle.dn_tic.specs.{Command.used, Inputs.made_by, declared.command.Move.Move, declared.command.TicCmd.TicCmd}
-use Rattle.dn_setup.specs.{Settings.Settings, Starts.start_of}
+use Rattle.dn_setup.specs.Settings.{Settings, start_of}
 use Rattle.dn_machine.specs.{Limits.IsWindow, Limits.Limits, Limits.row_of, Headline.AnyTwo, Headline.Shown, Node.is_ended}
-use Rattle.dn_survivor.specs.{Agreed.AreAgreedInPairs, Session.Session, Agreed.FitInPairs, Agreed.IsPair, Demos.DemosAgreeInPairs, Demos.is_closed, Demos.rows_whole, Surviving.Surviving, Surviving.end_settled}
+use Rattle.dn_survivor.specs.{Agreed.AreAgreedInPairs, OneGame.Session, Agreed.FitInPairs, Agreed.IsPair, Agreed.DemosAgreeInPairs, Agreed.is_closed, Agreed.rows_whole, Surviving.Surviving, Surviving.end_settled}
 use Rattle.dn_survivor.specs.{Surviving.has_given_up}
 use Rattle.dn_world.specs.Physics.{Physics}
 use Rattle.dn_demo.specs.{Layout.long_tics, Text.demo_text}
-use Rattle.dn_lockstep.specs.{Contents.Contents, Demos.recorded, OneGame.world_told, Rows.seats_of, Told.HasStarted, Told.got, Told.made}
+use Rattle.dn_lockstep.specs.Contents.{Contents}
+use Rattle.dn_lockstep.specs.Agreed.{recorded}
+use Rattle.dn_lockstep.specs.OneGame.{world_told}
+use Rattle.dn_lockstep.specs.Rows.{seats_of}
+use Rattle.dn_lockstep.specs.Told.{HasStarted, got, made}
 use Rattle.dn_seal.specs.declared.seal.Seal.{Seal}
 use Rattle.dn_link.specs.{Linked.surviving_of, Linking.linked}
 use Rattle.dn_link_game.specs.{Games.IsLinkGame, Headline.HasPlayer, Headline.HaveAgreed, Headline.NobodyGone, Headline.Shows, Headline.Together, Playing.world_by, declared.game.LinkGame.LinkGame}

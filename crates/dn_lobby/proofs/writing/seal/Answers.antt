@@ -1,6 +1,6 @@
 use Rattle.std.proofs.Common.{◌≡◌, ◌++◌, ◌∷◌, [], List, ℕ, take, ap, ◌∙◌}
 use Rattle.dn_seal.specs.Hmac.{tag_of}
-use Rattle.dn_seal.specs.Keys.{suite_byte}
+use Rattle.dn_seal.specs.Hmac.{suite_byte}
 use Rattle.dn_seal.specs.Sealing.{sealing}
 use Rattle.dn_lobby.specs.Text.{body_bytes, head_bytes, kind_bytes}
 use Rattle.dn_lobby.proofs.writing.seal.Goals as goal

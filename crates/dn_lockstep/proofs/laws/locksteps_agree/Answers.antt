@@ -3,7 +3,7 @@ use Rattle.dn_machine.specs.Worlds.{Inputs}
 use Rattle.std.proofs.Common.{Option, length, List, ap, sym, ◌∙◌, subst, arith}
 use Rattle.dn_machine.proofs.Promises
 use Rattle.dn_machine.proofs.Put.{same_functions}
-use Rattle.dn_lockstep.specs.{Agreed.AreAgreed, Demos.rows_to, OneGame.beside}
+use Rattle.dn_lockstep.specs.{Agreed.{AreAgreed, rows_to}, OneGame.beside}
 use Rattle.dn_lockstep.proofs.{Agreeing.{agreed, rows_are, told_is}, OneGame.kept}
 use Rattle.dn_lockstep.proofs.laws.locksteps_agree.Goals as goal
 

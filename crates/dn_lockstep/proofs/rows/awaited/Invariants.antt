@@ -1,6 +1,6 @@
 use Rattle.std.proofs.Common.{◌≡◌, None}
 use Rattle.dn_machine.specs.Node.{lowest}
-use Rattle.dn_lockstep.specs.{Rings.ring_at, Peers.peer_at, Rows.is_missing}
+use Rattle.dn_lockstep.specs.{Tables.{ring_at, peer_at}, Rows.is_missing}
 use Rattle.dn_lockstep.proofs.rows.awaited.Given as goal
 
 abbrev pub invariant-loop-player : goal.invariant-loop-player

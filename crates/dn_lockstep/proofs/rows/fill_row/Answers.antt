@@ -2,9 +2,9 @@ use Rattle.std.proofs.Common.{rules, ◌≡◌, ◌<◌, ℕ, List, length, map,
 use Rattle.std.proofs.lemmas.List.Elements.{All-set, All-replicate}
 use Rattle.std.specs.Prelude.{IfSome}
 use Rattle.dn_tic.specs.declared.command.Move.{Move}
-use Rattle.dn_demo.specs.Rows.{IsMove, IsRecordable}
+use Rattle.dn_demo.specs.Text.{IsMove, IsRecordable}
 use Rattle.dn_machine.specs.Node.{is_whole, lacks}
-use Rattle.dn_lockstep.specs.{Peers.peer_at, Rings.ring_at, Rows.is_gone}
+use Rattle.dn_lockstep.specs.{Tables.{peer_at, ring_at}, Rows.is_gone}
 use Rattle.dn_lockstep.proofs.Lowest.{lowest_zero, some_found, some_past}
 use Rattle.dn_lockstep.proofs.Seats.{seat_more, seat_none, seat_free, own_gone, whole_below, seats_more, seats_set, whole_gone, here_all, used_recordable}
 use Rattle.dn_lockstep.proofs.rows.fill_row.Goals.{then-gone, else-gone}

@@ -1,8 +1,8 @@
 use Rattle.std.proofs.Common.{◌≡◌, ◌<◌, ℕ, not}
 use Rattle.std.specs.Prelude.{All, IfSome}
-use Rattle.dn_demo.specs.Rows.{IsMove, IsRecordable}
+use Rattle.dn_demo.specs.Text.{IsMove, IsRecordable}
 use Rattle.dn_machine.specs.Node.{lacks}
-use Rattle.dn_lockstep.specs.{Rings.ring_at, Peers.peer_at, Rows.{is_gone, has_gone}}
+use Rattle.dn_lockstep.specs.{Tables.{ring_at, peer_at}, Rows.{is_gone, has_gone}}
 use Rattle.dn_lockstep.proofs.Seats.{seats_below}
 use Rattle.dn_lockstep.proofs.rows.fill_row.Given as goal
 

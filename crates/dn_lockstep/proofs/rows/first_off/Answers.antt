@@ -1,6 +1,6 @@
 use Rattle.std.proofs.Common.{rules, arith}
-use Rattle.dn_machine.proofs.Marks.{lowest_none_each}
-use Rattle.dn_lockstep.specs.{Rings.ring_at, Peers.peer_at, Rows.is_missing}
+use Rattle.dn_machine.proofs.Truth.{lowest_none_each}
+use Rattle.dn_lockstep.specs.{Tables.{ring_at, peer_at}, Rows.is_missing}
 use Rattle.dn_lockstep.proofs.Lowest.{lowest_zero, lowest_past, lowest_found}
 use Rattle.dn_lockstep.proofs.rows.first_off.Goals as goal
 

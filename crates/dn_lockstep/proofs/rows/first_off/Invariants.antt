@@ -1,6 +1,6 @@
 use Rattle.std.proofs.Common.{◌≡◌, None}
 use Rattle.dn_machine.specs.Node.{lowest}
-use Rattle.dn_lockstep.specs.{Rings.ring_at, Marks.slot, Peers.peer_at, Rows.{differs_but, has}}
+use Rattle.dn_lockstep.specs.{Tables.{ring_at, peer_at, slot}, Rows.{differs_but, has}}
 use Rattle.dn_lockstep.proofs.rows.first_off.Given as goal
 
 abbrev pub invariant-loop-player : goal.invariant-loop-player

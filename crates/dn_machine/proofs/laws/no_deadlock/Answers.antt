@@ -2,7 +2,7 @@
 -- thirteen more.
 use Rattle.std.proofs.Common.{arith, subst, ◌≡◌, ◌+◌, ℕ}
 use Rattle.dn_machine.specs.{Worlds.rules_of, Progress.HasRoom}
-use Rattle.dn_machine.proofs.{InOrder.led_rounds, Progress.goes_on_with, Vanilla.{vanilla_window, vanilla_swift, vanilla_packet}}
+use Rattle.dn_machine.proofs.{EachEvent.led_rounds, Progress.goes_on_with, Vanilla.{vanilla_window, vanilla_swift, vanilla_packet}}
 use Rattle.dn_machine.proofs.laws.no_deadlock.Goals as goal
 
 pub returns-clause-goes_on : goal.returns-clause-goes_on

@@ -1,7 +1,7 @@
 -- As with the numbers of 1997.
 use Rattle.std.proofs.Common.{arith, ◌+◌}
 use Rattle.dn_machine.specs.Worlds.{rules_within}
-use Rattle.dn_machine.proofs.{InOrder.led_rounds, Progress.goes_on_with}
+use Rattle.dn_machine.proofs.{EachEvent.led_rounds, Progress.goes_on_with}
 use Rattle.dn_machine.proofs.laws.no_deadlock_in_windows.Goals as goal
 
 pub returns-clause-goes_on : goal.returns-clause-goes_on

@@ -1,8 +1,8 @@
 use Rattle.std.proofs.Common.{◌≡◌, inr, ℕ, List, length, refl, ap, sym, ◌∙◌, subst}
 use Rattle.dn_world.specs.Plane.{Spots, walking}
-use Rattle.dn_netgame.specs.{Lines.Udp.{Ports, UdpSends, UdpPolls}, Turning.Rounds.{AreSeated, TakeRounds}, LoopShown.{new_seats, HavePlayed}, PlayShown.failures}
+use Rattle.dn_netgame.specs.{Lines.Udp.{Ports, UdpSends, UdpPolls}, Turning.{AreSeated, TakeRounds}, PlayShown.{new_seats, HavePlayed, failures}}
 use Rattle.dn_node.specs.declared.node.Node.{Node}
-use Rattle.dn_netgame.proofs.Together.{together}
+use Rattle.dn_netgame.proofs.Seated.{together}
 use Rattle.dn_netgame.proofs.netloop.play_all.Goals as goal
 
 pub returns-clause-played : goal.returns-clause-played

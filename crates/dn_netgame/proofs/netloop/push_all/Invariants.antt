@@ -1,6 +1,6 @@
 use Rattle.std.proofs.Common.{◌≡◌, ◌++◌, ◌≤◌, [], drop, length}
 use Rattle.std.specs.String.{string_bytes}
-use Rattle.dn_netgame.specs.Texts.GameLines.{node_lines}
+use Rattle.dn_netgame.specs.Texts.{node_lines}
 use Rattle.dn_netgame.proofs.netloop.push_all.Given as goal
 
 abbrev pub invariant-loop-node : goal.invariant-loop-node

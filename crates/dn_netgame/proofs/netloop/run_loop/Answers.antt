@@ -1,6 +1,6 @@
 use Rattle.std.proofs.Common.{inl, refl}
 use Rattle.std.specs.String.{string_bytes}
-use Rattle.dn_netgame.proofs.{Showing.prints_such, Together.played}
+use Rattle.dn_netgame.proofs.{Showing.prints_such, Seated.all_played}
 use Rattle.dn_netgame.proofs.netloop.run_loop.Goals as goal
 
 pub returns-in_default : goal.returns-in_default
@@ -12,5 +12,5 @@ pub returns : goal.returns
 returns g c =
     prints_such g.W.Write.contents _ c.args.output.now c.print-2.new.output _ _ 0 c.print-2.result
     c.print-2.ensures.printed c.as_bytes-2.ensures.value
-    (played c.args.config c.args.players c.args.base c.args.seed c.args.count (λ text. string_bytes text)
+    (all_played c.args.config c.args.players c.args.base c.args.seed c.args.count (λ text. string_bytes text)
     c.in_ok-text.field-0 c.in-Some.text c.in-Some.is c.in_ok-text.ensures.played)

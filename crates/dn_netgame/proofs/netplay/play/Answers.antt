@@ -1,8 +1,8 @@
 use Rattle.std.proofs.Common.{◌≡◌, ◌<◌, length, slice_index_or, ◌∙◌, subst, arith}
 use Rattle.std.proofs.lemmas.Option.{slice_get-get_or}
 use Rattle.dn_world.specs.Plane.{Spots, walking}
-use Rattle.dn_netgame.specs.{Lines.Udp.{Ports, UdpSends, UdpPolls}, Turning.Rounds.Seat, PlayShown.{failures, new_seat, PlaysOut}}
-use Rattle.dn_netgame.proofs.Alone.{alone}
+use Rattle.dn_netgame.specs.{Lines.Udp.{Ports, UdpSends, UdpPolls}, Turning.Seat, PlayShown.{failures, new_seat, PlaysOut}}
+use Rattle.dn_netgame.proofs.Seated.{alone}
 use Rattle.dn_netgame.proofs.netplay.play.Goals as goal
 
 pub returns-clause-played : goal.returns-clause-played

@@ -1,9 +1,10 @@
 use Rattle.std.proofs.Common.{◌≡◌, ◌<◌, ℕ, length, refl, ◌∙◌, subst, arith}
 use Rattle.std.proofs.lemmas.{List.length-set, Option.slice_get_read}
 use Rattle.dn_machine.specs.{Node.put, Running.on_quit}
-use Rattle.dn_node.specs.{declared.node.Node.Node, Contents.contents, Represents.Represents}
-use Rattle.dn_netgame.specs.{Turning.Rounds.{Seat, TakeRounds, rules_at}, PlayShown.with_quit}
-use Rattle.dn_netgame.proofs.Turning.Tics.{seated_with}
+use Rattle.dn_node.specs.declared.node.Node.{Node}
+use Rattle.dn_node.specs.Contents.{contents, Represents}
+use Rattle.dn_netgame.specs.{Turning.{Seat, TakeRounds, rules_at}, PlayShown.with_quit}
+use Rattle.dn_netgame.proofs.Turning.{seated_with}
 use Rattle.dn_netgame.proofs.netplay.play_out.Goals as goal
 
 pub returns : goal.returns

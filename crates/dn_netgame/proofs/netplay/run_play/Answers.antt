@@ -1,8 +1,8 @@
 use Rattle.std.proofs.Common.{◌≡◌, inl, false, ◌∙◌, refl, rules}
 use Rattle.std.specs.String.{string_bytes}
 use Rattle.dn_node.specs.Contents.{contents}
-use Rattle.dn_netgame.specs.Texts.NodeLines.{node_line}
-use Rattle.dn_netgame.proofs.{Showing.prints_such, Alone.played}
+use Rattle.dn_netgame.specs.Texts.{node_line}
+use Rattle.dn_netgame.proofs.{Showing.prints_such, Seated.played}
 use Rattle.dn_netgame.proofs.netplay.run_play.Goals as goal
 
 pub returns-in_default : goal.returns-in_default

@@ -1,7 +1,7 @@
 use Rattle.std.proofs.Common.{rules, ◌≡◌, length, take, arith, Err}
 use Rattle.std.specs.{String.string_bytes, Io.KnownBytes.Appends}
-use Rattle.dn_netgame.specs.{Transfer.AppendsFront, declared.fault.RunFault.TheVariants.Write}
-use Rattle.dn_netgame.proofs.{FeedPieces.up_to_full, RowPieces.{lists_whole, lists_more, lists_all, lists_front}}
+use Rattle.dn_netgame.specs.{Transfer.AppendsFront, declared.transfer.RunFault.TheVariants.Write}
+use Rattle.dn_netgame.proofs.{Pieces.up_to_full, RowPieces.{lists_whole, lists_more, lists_all, lists_front}}
 use Rattle.dn_netgame.proofs.rows.list_rows.Goals as goal
 
 pub returns-in_err-count-clause-fails : goal.returns-in_err-count-clause-fails

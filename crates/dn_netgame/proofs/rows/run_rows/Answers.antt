@@ -1,7 +1,7 @@
 use Rattle.std.proofs.Common.{rules, ◌≡◌, ◌++◌, ℕ, List, [], sym, subst, inr, arith, append-nil, Err}
 use Rattle.std.specs.{String.string_bytes, Io.KnownBytes.{Appends, Consumes}}
 use Rattle.std.proofs.KnownBytes.{Appends-trans}
-use Rattle.dn_netgame.specs.{Texts.RowLines.lines_of_rows, RowsShown.ListsWhole, Transfer.AppendsFront, declared.fault.RunFault.TheVariants.Write}
+use Rattle.dn_netgame.specs.{Texts.lines_of_rows, RowsShown.ListsWhole, Transfer.AppendsFront, declared.transfer.RunFault.TheVariants.Write}
 use Rattle.dn_netgame.proofs.RowPieces.{are_rows, rows_shown, front_behind}
 use Rattle.dn_netgame.proofs.rows.run_rows.Goals as goal
 

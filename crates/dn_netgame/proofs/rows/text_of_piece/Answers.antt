@@ -1,7 +1,7 @@
 use Rattle.std.proofs.Common.{◌≡◌, ◌++◌, ◌∙◌, ap}
 use Rattle.std.specs.String.{string_bytes}
-use Rattle.dn_demo.specs.Listed.{told}
-use Rattle.dn_netgame.specs.Texts.RowLines.{lines_of_rows}
+use Rattle.dn_demo.specs.Feeding.{told}
+use Rattle.dn_netgame.specs.Texts.{lines_of_rows}
 use Rattle.dn_netgame.proofs.RowPieces.{told_more}
 use Rattle.dn_netgame.proofs.rows.text_of_piece.Goals as goal
 

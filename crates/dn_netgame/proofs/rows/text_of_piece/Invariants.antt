@@ -2,8 +2,8 @@ use Rattle.std.proofs.Common.{◌≡◌, List, Option, length}
 use Rattle.std.specs.String.{string_bytes}
 use Rattle.dn_tic.specs.declared.command.Move.{Move}
 use Rattle.dn_world.specs.Plane.{walking}
-use Rattle.dn_demo.specs.Listed.{TellsFront}
-use Rattle.dn_netgame.specs.Texts.RowLines.{lines_of_rows}
+use Rattle.dn_demo.specs.Feeding.{TellsFront}
+use Rattle.dn_netgame.specs.Texts.{lines_of_rows}
 use Rattle.dn_netgame.proofs.rows.text_of_piece.Given as goal
 
 abbrev pub invariant-loop-rest : goal.invariant-loop-rest

@@ -3,7 +3,7 @@ use Rattle.std.proofs.Common.{◌≡◌, ℕ, Bool, true, false, List, Option, S
 use Rattle.dn_world.specs.Plane.{Spots}
 use Rattle.dn_demo.specs.Recorded.{capacity}
 use Rattle.dn_game.specs.{declared.config.GameConfig.GameConfig, declared.played.Played.Played, Contents.contents}
-use Rattle.dn_netgame.specs.{CalmShown.{Calms, CalmsAfter, too_many}, StormShown.{WalksUnder, IsStorm}, Told.Account}
+use Rattle.dn_netgame.specs.{StormShown.{Calms, CalmsAfter, too_many, WalksUnder, IsStorm}, Told.Account}
 use Rattle.dn_netgame.proofs.Showing.{prints_such}
 use Rattle.dn_netgame.proofs.storm.tell_storm.Goals as goal
 

@@ -1,7 +1,7 @@
 use Rattle.std.proofs.Common.{arith}
 use Rattle.dn_machine.specs.Worlds.{rules_within}
-use Rattle.dn_lockstep.proofs.Replaying.{read_back}
-use Rattle.dn_node.proofs.Replaying.{world_played, world_recorded}
+use Rattle.dn_lockstep.proofs.Moving.{read_back}
+use Rattle.dn_node.proofs.Running.{world_played, world_recorded}
 use Rattle.dn_node.proofs.laws.ended_demos_replay.Goals as goal
 
 pub returns-clause-read : goal.returns-clause-read

@@ -4,13 +4,16 @@ use Rattle.std.specs.Prelude.{slice_get, Result, Ok, Err}
 use Rattle.dn_packet.specs.{declared.packet.Packet.Packet, declared.packet.PacketFault.PacketFault, declared.packet.PacketFault.TheVariants.Short}
 use Rattle.dn_setup.specs.{Settings.Settings, declared.setup.SetupFault.SetupFault, declared.setup.SetupFault.TheVariants.NotSetup}
 use Rattle.dn_machine.specs.{Flight.Flight, Flight.packet_of, Limits.Limits}
-use Rattle.dn_lockstep.specs.{Contents.Contents, Marking.Marking, OneGame.beside, OneGame.AreOneGame, Session.Session, Told.made}
-use Rattle.dn_lockstep.proofs.Nearby.{told_by}
+use Rattle.dn_lockstep.specs.Contents.{Contents}
+use Rattle.dn_lockstep.specs.Marking.{Marking}
+use Rattle.dn_lockstep.specs.OneGame.{beside, AreOneGame, Session}
+use Rattle.dn_lockstep.specs.Told.{made}
+use Rattle.dn_lockstep.proofs.Receiving.{told_by}
 use Rattle.dn_seal.specs.{declared.opened.Opened.Opened, declared.opened.SealFault.SealFault, declared.seal.Seal.Seal, Opening.IsOpenedAs}
-use Rattle.dn_seal.proofs.Deciding.{is_something}
-use Rattle.dn_open.specs.{Arrivals.HearsSealed, Arrivals.IsRead, Arrivals.on_opened, declared.arrived.Arrived.Arrived, OpenGames.IsArrivedAs, OpenGames.IsDeliveredAs, OpenGames.IsEnvelope, OpenGames.IsGenuine}
-use Rattle.dn_open.specs.{Playable.IsSmall, Sealed.opened_of, Sealed.sealing_of}
-use Rattle.dn_open.proofs.{Fairness.are_sealable, Sealables.is_opened_of, Sealables.opened_is, Answered.delivered_as, Answered.delivered_once, Answered.good, Answered.reads}
+use Rattle.dn_seal.proofs.Openings.{is_something}
+use Rattle.dn_open.specs.{Arrivals.HearsSealed, Arrivals.IsRead, Arrivals.on_opened, declared.hearing.Arrived.Arrived, OpenGames.IsArrivedAs, OpenGames.IsDeliveredAs, OpenGames.IsEnvelope, OpenGames.IsGenuine}
+use Rattle.dn_open.specs.{Sealed.IsSmall, Sealed.opened_of, Sealed.sealing_of}
+use Rattle.dn_open.proofs.{Fairness.are_sealable, Sealables.is_opened_of, Sealables.opened_is, Keeping.delivered_as, Keeping.delivered_once, Keeping.good, Keeping.reads}
 use Rattle.dn_open.proofs.laws.arrivals_are_answered.Goals as goal
 
 module _ (marking : Marking) (limits : Limits) (settings : Settings) {session : Session}

@@ -1,4 +1,4 @@
-use Rattle.dn_open.proofs.Answered.{letters_answered}
+use Rattle.dn_open.proofs.Keeping.{letters_answered}
 use Rattle.dn_open.proofs.laws.letters_are_answered.Goals as goal
 
 pub returns : goal.returns

@@ -3,10 +3,14 @@ use Rattle.std.proofs.Common.{◌≡◌, ◌∙◌, ℕ, List, [], ◌∷◌, le
 use Rattle.std.specs.Prelude.{Ok, slice_get}
 use Rattle.dn_setup.specs.Settings.{Settings}
 use Rattle.dn_machine.specs.{Flight.Flight, Flight.packet_of, Limits.Limits}
-use Rattle.dn_lockstep.specs.{Contents.Contents, Marking.Marking, OneGame.AreOneGame, Session.Session, Session.with_lockstep}
-use Rattle.dn_lockstep.proofs.{Nearby.told_by, Nearby.told_is, OneGame.kept}
-use Rattle.dn_seal.specs.{declared.seal.Seal.Seal, declared.suite.Suite.TheVariants.Open}
-use Rattle.dn_open.specs.{Arrivals.HearsOpened, Arrivals.IsRead, declared.arrived.Arrived.Arrived, Sealed.envelope_of, Sealed.opened_of}
+use Rattle.dn_lockstep.specs.Contents.{Contents}
+use Rattle.dn_lockstep.specs.Marking.{Marking}
+use Rattle.dn_lockstep.specs.OneGame.{AreOneGame, Session, with_lockstep}
+use Rattle.dn_lockstep.proofs.Receiving.{told_by, told_is}
+use Rattle.dn_lockstep.proofs.OneGame.{kept}
+use Rattle.dn_seal.specs.declared.seal.Seal.{Seal}
+use Rattle.dn_seal.specs.declared.seal.Suite.TheVariants.{Open}
+use Rattle.dn_open.specs.{Arrivals.HearsOpened, Arrivals.IsRead, declared.hearing.Arrived.Arrived, Sealed.envelope_of, Sealed.opened_of}
 use Rattle.dn_open.proofs.{Deliveries.AreFound, Fairness.are_sealable, Keeping.arrival_keeps, Sealables.is_opened_of}
 use Rattle.dn_open.proofs.laws.letters_keep_one_game.Goals as goal
 

@@ -3,11 +3,18 @@ use Rattle.std.proofs.Common.{◌≡◌, ◌≢◌, ◌<◌, ◌&&◌, ℕ, List
 use Rattle.std.specs.Prelude.{slice_get, Ok}
 use Rattle.dn_setup.specs.Settings.{Settings}
 use Rattle.dn_machine.specs.{declared.answers.Heard.Heard, Flight.Flight, Flight.packet_of, Flight.is_close, Flight.is_request_close, Hearing.on_packet, Limits.Limits}
-use Rattle.dn_lockstep.specs.{Contents.Contents, Marking.Marking, OneGame.AreOneGame, Represents.Represents, Session.Session, Steps.IsAfter, Told.made}
-use Rattle.dn_lockstep.proofs.{Counting.made_is, Nearby.told_by, Nearby.told_is, Nearby.near_received, OneGame.kept}
+use Rattle.dn_lockstep.specs.Contents.{Contents}
+use Rattle.dn_lockstep.specs.Marking.{Marking}
+use Rattle.dn_lockstep.specs.OneGame.{AreOneGame, Session}
+use Rattle.dn_lockstep.specs.Represents.{Represents}
+use Rattle.dn_lockstep.specs.Steps.{IsAfter}
+use Rattle.dn_lockstep.specs.Told.{made}
+use Rattle.dn_lockstep.proofs.Shown.{made_is}
+use Rattle.dn_lockstep.proofs.Receiving.{told_by, told_is, near_received}
+use Rattle.dn_lockstep.proofs.OneGame.{kept}
 use Rattle.dn_seal.specs.{declared.seal.Seal.Seal, Opening.IsOpenedAs}
-use Rattle.dn_open.specs.{Arrivals.HearsSealed, Arrivals.HearsPacket, Arrivals.heard, Arrivals.on_opened, declared.arrived.Arrived.Arrived, Sealed.sealing_of, Sealed.envelope_of, Sealed.opened_of}
-use Rattle.dn_open.proofs.{Alikes.alike, Deliveries.near_if, Fairness.are_sealable, Sealables.IsSealable, Sealables.is_opened_of}
+use Rattle.dn_open.specs.{Arrivals.HearsSealed, Arrivals.HearsPacket, Arrivals.heard, Arrivals.on_opened, declared.hearing.Arrived.Arrived, Sealed.sealing_of, Sealed.envelope_of, Sealed.opened_of}
+use Rattle.dn_open.proofs.{Sealables.alike, Deliveries.near_if, Fairness.are_sealable, Sealables.IsSealable, Sealables.is_opened_of}
 use Rattle.dn_machine.specs.Node as machine
 use Rattle.dn_open.proofs.laws.sealed_packets_are_heard.Goals as goal
 

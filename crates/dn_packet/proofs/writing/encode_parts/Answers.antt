@@ -1,5 +1,5 @@
 use Rattle.std.proofs.Common.{refl, [], ℕ, List, arith}
-use Rattle.dn_packet.specs.Front.{IsFront}
+use Rattle.dn_packet.specs.Written.{IsFront}
 use Rattle.dn_packet.proofs.Fronts.{parts_written}
 use Rattle.dn_packet.proofs.writing.encode_parts.Goals as goal
 

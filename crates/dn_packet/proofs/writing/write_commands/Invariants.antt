@@ -1,7 +1,7 @@
 use Rattle.std.proofs.Common.{◌≡◌, ◌+◌, ◌*◌, ◌++◌, ◌≤◌, ℕ, List, length, take}
 use Rattle.std.specs.List.{flat_map}
 use Rattle.dn_tic.specs.Command.{command_bytes}
-use Rattle.dn_packet.specs.Front.{IsFront}
+use Rattle.dn_packet.specs.Written.{IsFront}
 use Rattle.dn_packet.proofs.writing.write_commands.Given as goal
 
 abbrev pub invariant-loop-command : goal.invariant-loop-command

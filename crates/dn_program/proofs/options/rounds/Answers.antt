@@ -1,5 +1,5 @@
 use Rattle.std.proofs.Common.{rules}
-use Rattle.dn_program.proofs.OptionValues.Finding.{finds_none}
+use Rattle.dn_program.proofs.OptionValues.{finds_none}
 use Rattle.dn_program.proofs.options.rounds.Goals as goal
 
 pub returns-in_err-seed : goal.returns-in_err-seed

@@ -1,6 +1,6 @@
 use native.Mathlib.Omega.{arith}
 use Rattle.std.proofs.Common.{rules}
-use Rattle.dn_program.proofs.OptionValues.Finding.{finds_none}
+use Rattle.dn_program.proofs.OptionValues.{finds_none}
 use Rattle.dn_program.proofs.options.settings.Goals as goal
 
 pub returns-in_err-byte : goal.returns-in_err-byte

@@ -5,7 +5,7 @@ use Rattle.clap.specs.Simple.{App, HasMatchesOf}
 use Rattle.clap.specs.Takes.{takes}
 use Rattle.clap.specs.Values.{kind_of}
 use Rattle.clap.specs.declared.error.kind.ErrorKind.TheVariants.{OutOfMemory}
-use Rattle.dn_program.proofs.Subcommands.{simple}
+use Rattle.dn_program.proofs.More.{simple}
 use Rattle.dn_program.proofs.words.matches_of.Goals as goal
 
 pub returns-clause-read : goal.returns-clause-read

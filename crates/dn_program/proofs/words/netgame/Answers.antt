@@ -2,7 +2,7 @@ use Rattle.std.proofs.Common.{◌++◌, ◌∙◌, ap}
 use Rattle.std.proofs.lemmas.Result.{IfOk-weaker}
 use Rattle.clap.specs.Simple.{App}
 use Rattle.dn_program.specs.Commands.{games, netgame, readers, sessions, with_subcommands}
-use Rattle.dn_program.proofs.Subcommands.{many_more}
+use Rattle.dn_program.proofs.More.{many_more}
 use Rattle.dn_program.proofs.words.netgame.Goals as goal
 
 pub returns : goal.returns

@@ -1,7 +1,7 @@
 use Rattle.std.proofs.Common.{[], ◌∷◌, codes}
 use Rattle.std.proofs.lemmas.Result.{IfOk-weaker}
 use Rattle.dn_program.specs.Commands.{host_rules, subcommand}
-use Rattle.dn_program.proofs.Subcommands.{added, one_more}
+use Rattle.dn_program.proofs.More.{added, one_more}
 use Rattle.dn_program.proofs.words.with_sessions.Goals as goal
 
 pub returns : goal.returns

@@ -1,7 +1,12 @@
 -- The events lead there.
 use Rattle.std.proofs.Common.{refl, arith}
-use Rattle.dn_machine.specs.{Building.on_build, Sending.on_send, Hearing.on_packet, Game.applied, Game.opening_game, Limits.row_of, Node.lowest, Running.on_run_but}
-use Rattle.dn_remain.specs.{Vanished.Calls.every, Vanished.Decisions.longest, Remaining.opening_remaining, Seen.rows_to, Wary.on_give_up, Wary.on_report}
+use Rattle.dn_machine.specs.Sending.{on_build, on_send}
+use Rattle.dn_machine.specs.Hearing.{on_packet}
+use Rattle.dn_machine.specs.Game.{applied, opening_game}
+use Rattle.dn_machine.specs.Limits.{row_of}
+use Rattle.dn_machine.specs.Node.{lowest}
+use Rattle.dn_machine.specs.Running.{on_run_but}
+use Rattle.dn_remain.specs.{Vanished.Calls.every, Vanished.Commands.longest, Remaining.opening_remaining, Wary.rows_to, Wary.on_give_up, Wary.on_report}
 use Rattle.dn_remain.proofs.Example.{after_own, after, after_all, goes_on, last, reaches}
 use Rattle.dn_remain.proofs.laws.a_game_goes_on.Goals as goal
 

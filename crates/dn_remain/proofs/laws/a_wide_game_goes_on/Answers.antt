@@ -7,15 +7,19 @@ use Rattle.dn_tic.proofs.Making.{made_by-mark}
 use Rattle.dn_setup.specs.Settings.{Settings}
 use Rattle.dn_world.specs.Physics.{Physics}
 use Rattle.dn_machine.specs.{declared.answers.Phase.TheVariants.Playing, declared.answers.Ran.Ran, declared.events.Refusal.Refusal, Game.with_node, Game.own_marks, Game.refused_at, Game.applied, Game.opening_game}
-use Rattle.dn_machine.specs.{Building.on_build, Sending.on_send, Hearing.on_packet, Limits.Limits, Limits.row_of, Node.Node, Node.got, Node.ran, Node.held_at, Node.lacks, Node.lowest, Worlds.Rules, Worlds.rules_within}
+use Rattle.dn_machine.specs.Sending.{on_build, on_send}
+use Rattle.dn_machine.specs.Hearing.{on_packet}
+use Rattle.dn_machine.specs.Limits.{Limits, row_of}
+use Rattle.dn_machine.specs.Node.{Node, got, ran, held_at, lacks, lowest}
+use Rattle.dn_machine.specs.Worlds.{Rules, rules_within}
 use Rattle.dn_machine.specs.{Worlds.world_after, declared.events.Event.TheVariants.Build, declared.events.Event.TheVariants.Send, declared.events.Event.TheVariants.Deliver, declared.events.Event.TheVariants.Run}
 use Rattle.dn_machine.specs.{Running.tic_limit, Running.full_at, Running.is_awaited, Running.row_held, Running.first_off_but, Running.on_run_but}
 use Rattle.dn_machine.proofs.Calls.{ran_on}
-use Rattle.dn_remain.specs.{Vanished.Calls.every, Vanished.Commands.Holder, Vanished.Decisions.longest, Seen.rows_to, Wary.on_give_up, Wary.on_report, Remaining.Remaining, Remaining.opening_remaining}
-use Rattle.dn_remain.specs.{Remaining.after_run, Remaining.after_event, RunsRemain.NextRemain, RunsRemain.LeadsRemain, RunsRemain.RunsRemain, Promise.AgreeInPairs, declared.events.RemainEvent.RemainEvent}
+use Rattle.dn_remain.specs.{Vanished.Calls.every, Vanished.Commands.Holder, Vanished.Commands.longest, Wary.rows_to, Wary.on_give_up, Wary.on_report, Remaining.Remaining, Remaining.opening_remaining}
+use Rattle.dn_remain.specs.{Remaining.after_run, Remaining.after_event, Remaining.NextRemain, Remaining.LeadsRemain, Remaining.RunsRemain, Promise.AgreeInPairs, declared.events.RemainEvent.RemainEvent}
 use Rattle.dn_remain.specs.{declared.events.RemainEvent.TheVariants.Own, declared.events.RemainEvent.TheVariants.GiveUp}
-use Rattle.dn_remain.proofs.{ButRuns.runs_tic, Checks.none_off, Example.after_own, Example.after_all, Example.after, Example.leads_to, Followed.anchored, Promises.pairs_agree, Reached.IsReached, Reached.reached_by}
-use Rattle.dn_remain.proofs.Histories
+use Rattle.dn_remain.proofs.{Each.runs_tic, Checks.none_off, Example.after_own, Example.after_all, Example.after, Example.leads_to, Followed.anchored, Promises.pairs_agree, Reached.IsReached, Reached.reached_by}
+use Rattle.dn_remain.proofs.Known
 use Rattle.dn_remain.proofs.laws.a_wide_game_goes_on.Goals as goal
 
 abbrev sevens : Limits
@@ -94,7 +98,7 @@ module _ {S : Type 0} (physics : Physics S) (settings : Settings) where
   -- its own mark fits, and no other is compared
   none : first_off_but sevens (there.gone 1) (there.game.nodes 1) ≡ None
   none = none_off (rules_within physics sevens) settings there.game there.gone known.0
-      (anchored Histories.known (rules_within physics sevens) there known.0 known.1.followed) known.1.marked
+      (anchored Known.known (rules_within physics sevens) there known.0 known.1.followed) known.1.marked
       (omega arith) 1 (omega arith) is_there.plays is_there.nobody
 
   abbrev after_it : Node

@@ -1,6 +1,6 @@
 -- A history says it of its game.
 use Rattle.dn_machine.specs.Worlds.{rules_within}
-use Rattle.dn_remain.proofs.{Fitted.pairs_fit, Promises.pairs_agree, Reached.reached_by, Steady.pairs_steady}
+use Rattle.dn_remain.proofs.{Promises.pairs_fit, Promises.pairs_agree, Reached.reached_by, Steady.pairs_steady}
 use Rattle.dn_remain.proofs.laws.those_who_remain_agree.Goals as goal
 
 pub returns-clause-agree : goal.returns-clause-agree

@@ -4,7 +4,7 @@ use Rattle.std.specs.Prelude.{slice_get}
 use Rattle.std.proofs.lemmas.Bool.{cond-false}
 use Rattle.std.proofs.lemmas.Option.{same_Some, slice_get_within, slice_get-map}
 use Rattle.std.specs.Option.{option_map}
-use Rattle.dn_remain_game.proofs.{Keeping.window_of, Answering.plays_leads, Standing.flight_at, SteadyAnswers.steady_at, Promising.promised}
+use Rattle.dn_remain_game.proofs.{Stepping.window_of, Answering.plays_leads, Standing.flight_at, SteadyAnswers.steady_at, Promising.promised}
 use Rattle.dn_setup.specs.Settings.{Settings}
 use Rattle.dn_world.specs.Physics.{Physics}
 use Rattle.dn_machine.specs.{declared.answers.Heard.Heard, declared.events.Done.Done, declared.events.Event.TheVariants.Deliver, declared.events.Refusal.Refusal, Game.delivered, Hearing.on_packet, Limits.Limits}
@@ -13,9 +13,10 @@ use Rattle.dn_remain.specs.{Promise.SteadyInPairs, Remaining.Remaining, Remainin
 use Rattle.dn_remain.specs.{declared.events.RemainEvent.RemainEvent, declared.events.RemainEvent.TheVariants.Own, declared.events.RemainEvent.TheVariants.Hear}
 use Rattle.dn_survivor.specs.{Represents.reported_is, Surviving.has_given_up, declared.answers.Reported.Reported}
 use Rattle.dn_remain_game.specs.{declared.happened.Happened.Happened, declared.lived.Lived.Lived, Applied.IsReached, Contents.Contents, Events.applied_remain, Events.applied_remain_if, Events.heard_at, Events.own_unless}
-use Rattle.dn_remain_game.specs.{Events.refused_remain, Living.living, Represents.given_of}
-use Rattle.dn_game.specs.{declared.flight.Flight.Flight, Represents.flight_of}
-use Rattle.dn_survivor.proofs.{NodeAnswers.is_dropped, Tellings.telling_at}
+use Rattle.dn_remain_game.specs.{Events.refused_remain, Living.living, Applied.given_of}
+use Rattle.dn_game.specs.declared.flight.Flight.{Flight}
+use Rattle.dn_game.specs.Contents.{flight_of}
+use Rattle.dn_survivor.proofs.{Heard.is_dropped, Reports.telling_at}
 use Rattle.dn_machine.specs.Drops as drops
 use Rattle.dn_machine.specs.Flight as exact
 use Rattle.dn_remain_game.specs.declared.under_way.Telling as under_way

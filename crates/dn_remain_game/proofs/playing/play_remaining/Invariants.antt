@@ -1,5 +1,5 @@
 use Rattle.std.proofs.Common.{◌≡◌, ◌+◌, length, take}
-use Rattle.dn_remain_game.specs.{Contents.contents, Frame.KeepGiven, Fresh.AreLimited, Promised.IsPlayed, Room.IsWithinTwice}
+use Rattle.dn_remain_game.specs.{Contents.contents, Contents.KeepGiven, Contents.AreLimited, Promised.IsPlayed, Room.IsWithinTwice}
 use Rattle.dn_game.specs.Opening.{rules_in}
 use Rattle.dn_remain_game.proofs.playing.play_remaining.Given as goal
 

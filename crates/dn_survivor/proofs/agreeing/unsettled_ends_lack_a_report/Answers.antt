@@ -6,10 +6,10 @@ use Rattle.std.proofs.lemmas.Option.{none-some}
 use Rattle.dn_setup.specs.Settings.{Settings}
 use Rattle.dn_machine.specs.{Limits.Limits, Node.ends_of, Node.lowest}
 use Rattle.dn_lockstep.specs.Marking.{Marking}
-use Rattle.dn_remain.specs.{Remaining.wary_of, Seen.end_seen, Seen.reached, Wary.Wary, Wary.can_settle, Wary.on_give_up, Wary.on_report}
+use Rattle.dn_remain.specs.{Remaining.wary_of, Wary.end_seen, Wary.reached, Wary.Wary, Wary.can_settle, Wary.on_give_up, Wary.on_report}
 use Rattle.dn_remain.proofs.Seeing.{reached_some}
-use Rattle.dn_survivor.specs.{Calls.GivesUp, Calls.HearsReport, Calls.undecided_in, Calls.unsettled_in, OneGame.AreRemaining, Represents.Represents, Represents.given_up_is, Represents.reported_is, Session.Given}
-use Rattle.dn_survivor.specs.{Session.Session, Surviving.Surviving, Surviving.is_unsettled, declared.answers.GivenUp.GivenUp, declared.answers.Reported.Reported}
+use Rattle.dn_survivor.specs.{Calls.GivesUp, Calls.HearsReport, Calls.undecided_in, Calls.unsettled_in, OneGame.AreRemaining, Represents.Represents, Represents.given_up_is, Represents.reported_is, OneGame.Given}
+use Rattle.dn_survivor.specs.{OneGame.Session, Surviving.Surviving, Surviving.is_unsettled, declared.answers.GivenUp.GivenUp, declared.answers.Reported.Reported}
 use Rattle.dn_survivor.proofs.{Lowest.lowest_none, Pairs.known}
 use Rattle.dn_machine.specs.Node as machine
 use Rattle.dn_remain.specs.declared.events.GivenUp as remain_given

@@ -1,5 +1,5 @@
 use Rattle.std.proofs.Common.{arith}
-use Rattle.dn_tic.proofs.Pressing.{IsOpposed, is_opposed}
+use Rattle.dn_tic.proofs.Making.{IsOpposed, is_opposed}
 use Rattle.dn_tic.proofs.moves.opposed.Goals as goal
 
 product_is : (c : goal.After-from-2) → IsOpposed c.is_down.result c.is_down-2.result c.from.result

@@ -1,7 +1,7 @@
 use Rattle.std.proofs.{Common.{◌≡◌, ◌∙◌, ap, arith, rules, to_z, of_z, w8, ◌+ℤ◌}, lemmas.Int.{ints, to_z-of_z}}
 use Rattle.std.specs.Int.{w16}
 use Rattle.dn_tic.specs.Pressed.{clamped}
-use Rattle.dn_tic.proofs.Pressing.{side_is}
+use Rattle.dn_tic.proofs.Making.{side_is}
 use Rattle.dn_tic.proofs.moves.side_move.Goals as goal
 
 pub returns : goal.returns

@@ -1,6 +1,6 @@
 use Rattle.std.proofs.{Common.arith, lemmas.Int.{ints, to_z-of_z}}
 use Rattle.dn_tic.specs.Pressed.{opposed}
-use Rattle.dn_tic.proofs.Pressing.{IsKept, is_kept}
+use Rattle.dn_tic.proofs.Making.{IsKept, is_kept}
 use Rattle.dn_tic.proofs.moves.strafed.Goals as goal
 
 side_is : (c : goal.After-opposed) → IsKept c.is_down.result c.from.result c.opposed.result

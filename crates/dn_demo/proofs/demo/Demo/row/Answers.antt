@@ -1,7 +1,7 @@
 use Rattle.std.proofs.Common.{◌<◌, ◌∙◌, length, Some, sym, ap, arith}
 use Rattle.std.proofs.lemmas.Option.{slice_get_past}
 use Rattle.dn_demo.specs.Layout.{layout_of}
-use Rattle.dn_demo.proofs.Kept.{row_kept}
+use Rattle.dn_demo.proofs.Fronts.{row_kept}
 use Rattle.dn_demo.proofs.demo.Demo.row.Goals as goal
 
 pub row-requires : goal.row-requires

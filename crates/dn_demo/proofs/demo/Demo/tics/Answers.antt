@@ -1,6 +1,6 @@
 use Rattle.std.proofs.Common.{◌≡◌, ◌/◌, ◌∙◌, sym, ap, rules}
-use Rattle.dn_demo.specs.{Layout.layout_of, Rows.player_count, Places.commands_in, Places.seats_in, Reading.Recording}
-use Rattle.dn_demo.proofs.Kept.{length-rows}
+use Rattle.dn_demo.specs.{Layout.layout_of, Text.player_count, Places.{commands_in, seats_in}, Reading.Recording}
+use Rattle.dn_demo.proofs.Fronts.{length-rows}
 use Rattle.dn_demo.proofs.demo.Demo.tics.Goals as goal
 
 pub returns : goal.returns

@@ -1,6 +1,6 @@
 use Rattle.std.proofs.Common.{◌∷◌, get_or, sym, ap, ◌∙◌}
 use Rattle.std.proofs.lemmas.List.{take_rest}
-use Rattle.dn_demo.proofs.{FeedKept.front_more, FeedEnds.front_byte, FeedEnds.first_byte}
+use Rattle.dn_demo.proofs.FeedKept.{front_more, front_byte, first_byte}
 use Rattle.dn_demo.proofs.feed.Feed.advance.Goals as goal
 
 pub returns-then-self-clause-front : goal.returns-then-self-clause-front

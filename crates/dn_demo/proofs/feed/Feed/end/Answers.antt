@@ -1,6 +1,6 @@
 use Rattle.std.proofs.Common.{rules, refl, ◌/◌, arith}
 use Rattle.dn_demo.specs.Layout.{layout_of}
-use Rattle.dn_demo.proofs.FeedEnds.{ends_unmarked, ends_marked}
+use Rattle.dn_demo.proofs.FeedKept.{ends_unmarked, ends_marked}
 use Rattle.dn_demo.proofs.feed.Feed.end.Goals as goal
 
 pub returns-then-not-self : goal.returns-then-not-self

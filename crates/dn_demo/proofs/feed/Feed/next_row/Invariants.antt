@@ -1,5 +1,5 @@
 use Rattle.std.proofs.Common.{◌≡◌, ◌≤◌, true, [], length}
-use Rattle.dn_demo.specs.Listed.{TellsFront}
+use Rattle.dn_demo.specs.Feeding.{TellsFront}
 use Rattle.dn_demo.proofs.feed.Feed.next_row.Given as goal
 
 abbrev pub invariant-loop-byte : goal.invariant-loop-byte

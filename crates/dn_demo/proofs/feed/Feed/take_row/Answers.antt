@@ -1,6 +1,6 @@
 use Rattle.std.proofs.Common.{rules, ◌≡◌, ◌<◌, ◌⊎◌, ◌∷◌, false, List, ℕ, length, inl, inr, ap, sym, subst, arith}
 use Rattle.dn_demo.specs.{Layout.layout_of, Reading.HasHeader}
-use Rattle.dn_demo.proofs.{FeedKept.front_more, FeedEnds.front_byte}
+use Rattle.dn_demo.proofs.FeedKept.{front_more, front_byte}
 use Rattle.dn_demo.proofs.feed.Feed.take_row.Goals as goal
 
 -- what is left is shorter than the piece

@@ -1,6 +1,6 @@
 use Rattle.std.proofs.Common.{rules, arith}
 use Rattle.dn_demo.specs.Layout.{long_tics}
-use Rattle.dn_demo.proofs.{Layouts.long_tics_sound, Text.text-row, Text.length-row_bytes}
+use Rattle.dn_demo.proofs.Text.{long_tics_sound, text-row, length-row_bytes}
 use Rattle.dn_demo.proofs.recorder.Recorder.add_row.Goals as goal
 
 pub add_all-requires-clause-room : goal.add_all-requires-clause-room

@@ -1,6 +1,6 @@
 use Rattle.std.proofs.Common.{rules, arith, ◌≤◌, ◌+◌, length}
 use Rattle.dn_demo.specs.{Layout.long_tics, Text.row_bytes}
-use Rattle.dn_demo.proofs.{Layouts.long_tics_sound, Text.length-row_bytes}
+use Rattle.dn_demo.proofs.Text.{long_tics_sound, length-row_bytes}
 use Rattle.dn_demo.proofs.recorder.Recorder.row.Goals as goal
 
 pub returns-then-len-row_size-clause-size : goal.returns-then-len-row_size-clause-size

@@ -3,9 +3,9 @@ use Rattle.dn_machine.specs.Flight.{Flight}
 use Rattle.dn_machine.specs.Node.{put}
 use Rattle.dn_machine.proofs.Put.{put_at, put_off}
 use Rattle.dn_lockstep.specs.Contents.{Contents, contents}
-use Rattle.dn_lockstep.specs.Session.{Session}
+use Rattle.dn_lockstep.specs.OneGame.{Session}
 use Rattle.dn_engine_tests.specs.Calls.{PassesTo, AreFor}
-use Rattle.dn_engine_tests.specs.declared.parcel.Parcel.{Parcel}
+use Rattle.dn_engine_tests.specs.declared.calls.Parcel.{Parcel}
 use Rattle.dn_engine_tests.proofs.Parcels.{for_on}
 use Rattle.dn_engine_tests.proofs.pairs.Pair.exchange.Goals as goal
 

@@ -2,7 +2,7 @@ use Rattle.std.proofs.Common.{◌<◌, append-nil, inl, refl, ap, sym, ◌∙◌
 use Rattle.dn_machine.specs.{declared.events.Done.Done, Game.refused, Worlds.rules_of}
 use Rattle.dn_game.specs.{Contents.contents, Applied.IsAddressed, Frame.named_by}
 use Rattle.dn_game.proofs.{Applying.{after_refused, after_event, after_send, stops}, Framing.{rest_all, rest_as, rest_same, rest_step, run_keeps}, OpenAnswering.{leads_on, step_leads}}
-use Rattle.dn_node.proofs.Whose.{whose_step}
+use Rattle.dn_node.proofs.Stepping.{whose_step}
 use Rattle.dn_game.proofs.game.Game.apply.Goals as goal
 
 pub returns-in-Some-clause-leads : goal.returns-in-Some-clause-leads

@@ -2,8 +2,8 @@ use Rattle.std.proofs.Common.{ℕ, List, refl, sym, ◌∙◌, subst, arith}
 use Rattle.dn_machine.specs.{Worlds.rules_of}
 use Rattle.dn_packet.specs.Read.{IsReadAs}
 use Rattle.dn_game.specs.Contents.{contents}
-use Rattle.dn_game.proofs.{OpenArriving.{only_at, comes_to_nobody, unopened, late, unlike, hears}, Framing.{others_step, worlds_step, holds_step}, OpenAnswering.carries_arrival, Standing.node_at}
-use Rattle.dn_node.proofs.Whose.{whose_step}
+use Rattle.dn_game.proofs.{OpenAnswering.{only_at, comes_to_nobody, unopened, late, unlike, hears, carries_arrival}, Framing.{others_step, worlds_step, holds_step}, Standing.node_at}
+use Rattle.dn_node.proofs.Stepping.{whose_step}
 use Rattle.dn_game.proofs.game.Game.arrive.Goals as goal
 
 pub returns-in-Some-clause-arrived : goal.returns-in-Some-clause-arrived

@@ -4,9 +4,9 @@ use Rattle.std.specs.{Prelude.{slice_get, slice_index_or}, Option.option_map}
 use Rattle.dn_world.specs.Physics.{Physics}
 use Rattle.dn_machine.specs.{declared.answers.Heard.Heard, declared.events.Done.Done, Flight.{packet_of, is_near}, Game.{delivered, refused_flight}, Hearing.on_packet, Node.made, Worlds.{Rules, rules_of}}
 use Rattle.dn_node.specs.{declared.node.Node.Node, Steps.HearsNear}
-use Rattle.dn_game.specs.{declared.flight.Flight.Flight, declared.pool.Record.Record, Applied.IsAfter, Contents.Contents, Pool.IsRecordOf, Represents.{Represents, flight_of}}
-use Rattle.dn_game.proofs.{Standing.{places, flight_at, node_at, made_at}, Refusing.near_unless, Framing.{others_step, worlds_step}, Places.there_is, Packing.receiver_below}
-use Rattle.dn_node.proofs.Whose.{whose_step}
+use Rattle.dn_game.specs.{declared.flight.Flight.Flight, declared.pool.Record.Record, Applied.IsAfter, Contents.{Contents, Represents, flight_of}, Pool.IsRecordOf}
+use Rattle.dn_game.proofs.{Standing.{places, flight_at, node_at, made_at, there_is}, Applying.near_unless, Framing.{others_step, worlds_step}, Packing.receiver_below}
+use Rattle.dn_node.proofs.Stepping.{whose_step}
 use Rattle.dn_machine.specs.Flight as exact
 use Rattle.dn_machine.specs.Game as machine
 use Rattle.dn_node.specs.Contents as node

@@ -1,6 +1,6 @@
 use Rattle.std.proofs.Common.{◌<◌, ◌^◌, length, true≢false, sym, ◌∙◌, arith}
 use Rattle.dn_machine.specs.Worlds.{rules_of}
-use Rattle.dn_game.proofs.{Arriving.{exchanges, left_out, not_begun}, GoingRound.flights_are, Roomy.{continues_on, continues_one, continues_same}}
+use Rattle.dn_game.proofs.{Arriving.{exchanges, left_out, not_begun}, GoingRound.flights_are, Rounding.{continues_on, continues_one, continues_same}}
 use Rattle.dn_game.proofs.game.Game.exchange.Goals as goal
 
 pub returns-clause-good : goal.returns-clause-good

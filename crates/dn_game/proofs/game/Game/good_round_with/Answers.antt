@@ -1,8 +1,8 @@
 use Rattle.std.proofs.Common.{refl, ◌∙◌, rules, ◌≡◌, ◌<◌, Err, arith}
 use Rattle.dn_machine.specs.{Progress.{in_order, turn, good_round}, Worlds.rules_of}
-use Rattle.dn_game.specs.{Contents.contents, RoundEvents.turn_events}
+use Rattle.dn_game.specs.{Contents.contents, Rounds.turn_events}
 use Rattle.dn_tic.specs.Inputs.{input_of}
-use Rattle.dn_game.proofs.{Rounding.after_turn, Arriving.{by_own_input, goes_on, ends, ended}, Roomy.{continues_on, continues_same}}
+use Rattle.dn_game.proofs.{Rounding.{after_turn, continues_on, continues_same}, Arriving.{by_own_input, goes_on, ends, ended}}
 use Rattle.dn_game.proofs.game.Game.good_round_with.Goals as goal
 
 pub loop-node-init : goal.loop-node-init

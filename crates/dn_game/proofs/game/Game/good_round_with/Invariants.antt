@@ -1,5 +1,5 @@
 use Rattle.dn_machine.specs.Progress.{turn}
-use Rattle.dn_game.specs.{Applied.Tells, Contents.contents, Room.Continues, RoundEvents.turn_events}
+use Rattle.dn_game.specs.{Applied.Tells, Contents.contents, Room.Continues, Rounds.turn_events}
 use Rattle.dn_tic.specs.Inputs.{input_of}
 use Rattle.dn_game.proofs.Arriving.{HasTaken}
 use Rattle.dn_game.proofs.game.Game.good_round_with.Given as goal

@@ -1,7 +1,7 @@
 use Rattle.std.proofs.Common.{ℕ, subst}
 use Rattle.dn_tic.specs.declared.input.Input.{Input}
 use Rattle.dn_machine.specs.{Progress.good_rounds, Worlds.rules_of}
-use Rattle.dn_game.specs.{Contents.contents, RoundEvents.rounds_events, Rounds.IsCarriedOut}
+use Rattle.dn_game.specs.{Contents.contents, Rounds.{rounds_events, IsCarriedOut}}
 use Rattle.dn_game.proofs.Arriving.{keys_as_inputs}
 use Rattle.dn_game.proofs.game.Game.good_rounds.Goals as goal
 

@@ -1,8 +1,8 @@
 use Rattle.std.proofs.Common.{refl, rules, ◌≡◌, ◌<◌, Err, arith}
 use Rattle.dn_machine.specs.{Progress.{in_order, good_round, good_rounds}, Worlds.rules_of}
-use Rattle.dn_game.specs.{Contents.contents, RoundEvents.round_events}
+use Rattle.dn_game.specs.{Contents.contents, Rounds.round_events}
 use Rattle.dn_tic.specs.Inputs.{input_of}
-use Rattle.dn_game.proofs.{Rounding.after_round, Arriving.{goes_on, ends, ended}, Roomy.{continues_on, continues_same}}
+use Rattle.dn_game.proofs.{Rounding.{after_round, continues_on, continues_same}, Arriving.{goes_on, ends, ended}}
 use Rattle.dn_game.proofs.game.Game.good_rounds_with.Goals as goal
 
 pub loop-init : goal.loop-init

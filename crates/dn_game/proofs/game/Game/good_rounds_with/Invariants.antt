@@ -1,6 +1,6 @@
 use Rattle.std.proofs.Common.{◌≡◌}
 use Rattle.dn_machine.specs.Progress.{good_round}
-use Rattle.dn_game.specs.{Applied.Tells, Contents.contents, Room.Continues, RoundEvents.round_events}
+use Rattle.dn_game.specs.{Applied.Tells, Contents.contents, Room.Continues, Rounds.round_events}
 use Rattle.dn_tic.specs.Inputs.{input_of}
 use Rattle.dn_game.proofs.Arriving.{HasTaken}
 use Rattle.dn_game.proofs.game.Game.good_rounds_with.Given as goal

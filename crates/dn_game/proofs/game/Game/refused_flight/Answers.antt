@@ -1,5 +1,5 @@
 use Rattle.std.proofs.Common.{◌∙◌, ◌<◌, length, refl, rules, arith}
-use Rattle.dn_game.proofs.{Packing.receiver_below, Refusing.{told_far, told_near}}
+use Rattle.dn_game.proofs.{Packing.receiver_below, Applying.{told_far, told_near}}
 use Rattle.dn_game.proofs.game.Game.refused_flight.Goals as goal
 
 pub index-receiver-requires : goal.index-receiver-requires

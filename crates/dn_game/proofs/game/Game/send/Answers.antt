@@ -3,18 +3,17 @@ use Rattle.std.proofs.Common.{◌≡◌, ◌++◌, ◌∷◌, [], ℕ, List, len
 use Rattle.std.proofs.lemmas.{List.{length-map, map_push}, List.Elements.All-push, Bool.{lt-ltb, cond-true}, Option.same_Some}
 use Rattle.std.specs.{Prelude.{All, IfSome, nat_lt}, Option.option_map}
 use Rattle.dn_machine.specs.{declared.events.Done.Done, Game.{posted, on_event, with_node}, Worlds.{Rules, rules_of}, declared.answers.Phase.Phase, declared.events.Event.TheVariants.Send, Sending.{on_send, on_send_in}}
-use Rattle.dn_game.specs.{declared.flight.Flight.Flight, Applied.IsAfter, Contents.Contents, Represents.{Represents, IsCarried, flight_of}}
+use Rattle.dn_game.specs.{declared.flight.Flight.Flight, Applied.IsAfter, Contents.{Contents, Represents, IsCarried, flight_of}}
 use Rattle.dn_game.proofs.{Standing.{moved, places, node_at}, Framing.{others_step, worlds_step, sent_after}}
 use Rattle.arrayvec.specs.ArrayVec.{ArrayVec}
-use Rattle.dn_node.specs.{declared.node.Node.Node, Giving.Gives}
-use Rattle.dn_lockstep.specs.{declared.lockstep.aiming.Aim.Aim, Near.IsFair, Sent.{sent_to, aim_of, bytes_of}, Giving.aim_in}
-use Rattle.dn_lockstep.proofs.{Giving.{some_flight, no_flight, some_given}, Sending.sends_in}
-use Rattle.dn_node.proofs.Whose.{whose_step}
+use Rattle.dn_node.specs.{declared.node.Node.Node, Steps.Gives}
+use Rattle.dn_lockstep.specs.{declared.lockstep.aiming.Aim.Aim, Sent.{IsFair, sent_to, aim_of, bytes_of}, Giving.aim_in}
+use Rattle.dn_lockstep.proofs.Giving.{some_flight, no_flight, some_given, sends_in}
+use Rattle.dn_node.proofs.Stepping.{whose_step}
 use Rattle.dn_machine.specs.Flight as exact
 use Rattle.dn_machine.specs.Game as machine
 use Rattle.dn_machine.specs.Node as machine_node
 use Rattle.dn_node.specs.Contents as node
-use Rattle.dn_node.specs.Represents as node_to
 use Rattle.dn_node.specs.Steps as step
 use Rattle.dn_game.proofs.game.Game.send.Goals as goal
 
@@ -57,7 +56,7 @@ between_in rules me to m phase given e = grind arith
 -- a packet that a node gives is carried
 module _ {W S : Type 0} (state : W → S) (rules : Rules S) (me to : ℕ) (n : node.Contents W)
     (m : machine_node.Node) where
-  given_between : node_to.Represents state rules me n m → Gives n to → (given : exact.Flight)
+  given_between : node.Represents state rules me n m → Gives n to → (given : exact.Flight)
       → (sent_to to rules.limits me m).1 ≡ Some given → IsBetween me to given
   given_between r gives given e =
       let sends = sends_in rules.limits me (node.locked n) m to m.phase r.lockstep gives.below gives.other
@@ -65,7 +64,7 @@ module _ {W S : Type 0} (state : W → S) (rules : Rules S) (me to : ℕ) (n : n
       between_in rules me to m m.phase given
       (sym (ap (λ (x : machine_node.Node × Option exact.Flight). x.1) sends) ∙ e)
 
-  carries : node_to.Represents state rules me n m → Gives n to → (given : exact.Flight)
+  carries : node.Represents state rules me n m → Gives n to → (given : exact.Flight)
       → (sent_to to rules.limits me m).1 ≡ Some given → me < rules.players
       → IsFair given → IsCarried rules.players given
   carries r gives given e mine fair = grind (arith, given_between)
@@ -77,7 +76,7 @@ module _ {W S : Type 0} (state : W → S) (rules : Rules S) (g : Contents W) (m 
   asked : sent_to to rules.limits me (m.nodes me) ≡ on_send rules.limits me (m.nodes me) to
   asked = cond-true (nat_lt to rules.players) _ _ (lt-ltb to rules.players (omega (arith, there, r.players)))
 
-  sends_none : node_to.Represents state rules me (node.contents new) (sent_to to rules.limits me (m.nodes me)).0
+  sends_none : node.Represents state rules me (node.contents new) (sent_to to rules.limits me (m.nodes me)).0
       → (sent_to to rules.limits me (m.nodes me)).1 ≡ None → flights ≡ g.flights
       → IsAfter state rules (record g { nodes = set g.nodes me new; flights = flights })
       (on_event rules m (Send me to)) Done.Silent
@@ -89,7 +88,7 @@ module _ {W S : Type 0} (state : W → S) (rules : Rules S) (g : Contents W) (m 
 
   -- the packet has the numbers that were aimed at
   sends_packet : (old : node.Contents W) (aim : Aim) (bytes : ArrayVec ℕ) (which : ℕ)
-      → node_to.Represents state rules me old (m.nodes me) → Gives old to
+      → node.Represents state rules me old (m.nodes me) → Gives old to
       → Some aim ≡ option_map aim_of (sent_to to rules.limits me (m.nodes me)).1
       → step.IsAfter state rules me (node.contents new) (sent_to to rules.limits me (m.nodes me))
       (λ x. Some bytes.items ≡ option_map bytes_of x)

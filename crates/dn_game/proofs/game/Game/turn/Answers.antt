@@ -1,7 +1,7 @@
 use Rattle.std.proofs.Common.{◌∙◌, rules, ◌≡◌, ◌<◌, [], ◌∷◌, Err, refl, arith}
 use Rattle.dn_machine.specs.{declared.events.Event.TheVariants.Run, Game.Game, Progress.{after, build_of, in_order, exchange, turn}, Worlds.rules_of}
-use Rattle.dn_game.specs.{Contents.contents, RoundEvents.{events_in_order, exchange_events}}
-use Rattle.dn_game.proofs.{Rounding.{after_exchange, flights_on, idle_one}, Arriving.{after_other, build_idle, built, goes_on, ends, ended, turn_idle, within}, Roomy.{continues_on, continues_one, continues_same}}
+use Rattle.dn_game.specs.{Contents.contents, Rounds.{events_in_order, exchange_events}}
+use Rattle.dn_game.proofs.{Rounding.{after_exchange, flights_on, idle_one, continues_on, continues_one, continues_same}, Arriving.{after_other, build_idle, built, goes_on, ends, ended, turn_idle, within}}
 use Rattle.dn_game.proofs.game.Game.turn.Goals as goal
 
 pub loop-to-init : goal.loop-to-init

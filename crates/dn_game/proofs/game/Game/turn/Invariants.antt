@@ -1,5 +1,5 @@
 use Rattle.dn_machine.specs.Progress.{after, build_of, exchange}
-use Rattle.dn_game.specs.{Applied.Tells, Contents.contents, Room.Continues, RoundEvents.exchange_events}
+use Rattle.dn_game.specs.{Applied.Tells, Contents.contents, Room.Continues, Rounds.exchange_events}
 use Rattle.dn_game.proofs.Arriving.{HasTaken}
 use Rattle.dn_game.proofs.game.Game.turn.Given as goal
 

@@ -1,6 +1,6 @@
 use Rattle.std.proofs.Common.{◌<◌, arith}
 use Rattle.std.proofs.lemmas.List.Elements.{All-from_get_or}
-use Rattle.dn_game.proofs.OpenArriving.{opening_of}
+use Rattle.dn_game.proofs.OpenAnswering.{opening_of}
 use Rattle.dn_game.proofs.game.arriving.are_opened.Goals as goal
 
 pub returns : goal.returns

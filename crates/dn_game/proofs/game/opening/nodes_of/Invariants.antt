@@ -1,6 +1,6 @@
 use Rattle.std.proofs.Common.{◌≡◌, ◌+◌, ◌++◌, length, map}
 use Rattle.std.specs.{List.All, Vec.vec_capacity}
-use Rattle.dn_game.specs.{Fresh.EachIs, Opening.rules_in}
+use Rattle.dn_game.specs.Opening.{EachIs, rules_in}
 use Rattle.dn_game.proofs.game.opening.nodes_of.Given as goal
 
 abbrev pub invariant-loop-world : goal.invariant-loop-world

@@ -1,5 +1,5 @@
 use Rattle.std.proofs.Common.{◌≡◌, ◌<◌, length, Some, ap, sym, ◌∙◌, rules}
-use Rattle.dn_game.proofs.{Packing.is_told, Places.there_is}
+use Rattle.dn_game.proofs.{Packing.is_told, Standing.there_is}
 use Rattle.dn_game.proofs.pool.Pool.flight.Goals as goal
 
 pub returns : goal.returns

@@ -4,7 +4,7 @@ use Rattle.std.specs.{Prelude.slice_index_or, Option.option_map}
 use Rattle.rand_pcg.specs.Lcg.{Lcg}
 use Rattle.rand_pcg.specs.Pcg.{pcg32}
 use Rattle.dn_machine.specs.{Game.Game, Worlds.{Rules, rules_of}}
-use Rattle.dn_game.specs.{Contents.Contents, Represents.Represents, Schedule.{first_moving, event_of, next_event, scheduled}}
+use Rattle.dn_game.specs.{Contents.{Contents, Represents}, Schedule.{first_moving, event_of, next_event, scheduled}}
 use Rattle.dn_game.proofs.schedule.Schedule.next.Goals as goal
 
 module _ (players : ℕ) (m : Game) (g g1 g2 g3 : Lcg) (a b c : ℕ)

@@ -1,4 +1,4 @@
-use Rattle.dn_game.proofs.Scripts.Lines.{built}
+use Rattle.dn_game.proofs.Scripts.{built}
 use Rattle.dn_game.proofs.script.line.build.Goals as goal
 
 pub returns-in_err-number : goal.returns-in_err-number

@@ -1,7 +1,7 @@
 use Rattle.std.proofs.Common.{refl}
 use Rattle.std.specs.Prelude.{codes, Some}
 use Rattle.std.proofs.lemmas.{Bool.Decides.Decides-eqb, Slice.Eq.strip_prefix_is}
-use Rattle.dn_game.proofs.Scripts.Lines.{heads_differ, seconds_differ, no_number}
+use Rattle.dn_game.proofs.Scripts.{heads_differ, seconds_differ, no_number}
 use Rattle.dn_game.proofs.script.line.event.Goals as goal
 
 pub returns-in_err-number : goal.returns-in_err-number

@@ -1,4 +1,4 @@
-use Rattle.dn_game.proofs.Scripts.Lines.{sent}
+use Rattle.dn_game.proofs.Scripts.{sent}
 use Rattle.dn_game.proofs.script.line.send.Goals as goal
 
 pub returns-in_err-number : goal.returns-in_err-number

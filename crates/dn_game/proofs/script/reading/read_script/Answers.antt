@@ -3,9 +3,9 @@ use Rattle.std.proofs.Common.{◌≡◌, ℕ, cond, eqb, List, [], ◌∷◌, �
 use Rattle.std.specs.{Prelude.codes, List.slice_split, Str.bytes_eq, Str.Parse.digits_value}
 use Rattle.std.proofs.lemmas.{List.Splits.{slice_split_at, slice_split_none}, Iterator.Consumers.{YieldsList-turn, YieldsList-end}, Iterator.Splits.YieldsList-from_slice_split, List.length_push, Bool.false≢true}
 use Rattle.dn_machine.specs.{declared.events.Event.Event, declared.events.Event.TheVariants.{Build, Give, Send, Deliver, Run, Quit, Stop}}
-use Rattle.dn_game.specs.{Scripts.Words.{IsNumber, AreKeys}, Scripts.Lines.{HasNoSpace, IsLineOf, IsSkipped, IsBad}, Scripts.Script.{AreEventsOf, none, skipped, told, StandsBehind, IsReadAs, IsSameButMemory}, declared.script.reading.ScriptFault.ScriptFault}
+use Rattle.dn_game.specs.{Scripts.{IsNumber, AreKeys, HasNoSpace, IsLineOf, IsSkipped, IsBad, AreEventsOf, none, skipped, told, StandsBehind, IsReadAs, IsSameButMemory}, declared.script.reading.ScriptFault.ScriptFault}
 use Rattle.dn_game.specs.{declared.script.reading.ScriptFault.TheVariants.{TooLong, Line, Memory}}
-use Rattle.dn_game.proofs.{Scripts.Keys.{one_keys, number_lacks, keys_lack}, Scripts.Lines.one_way, Scripts.Events.{IsNext, nothing_read, more_skipped, more_told, bad_line, no_room, all_read}, script.reading.read_script.Goals.In-Some}
+use Rattle.dn_game.proofs.{Scripts.{one_keys, number_lacks, keys_lack, one_way, IsNext, nothing_read, more_skipped, more_told, bad_line, no_room, all_read}, script.reading.read_script.Goals.In-Some}
 use Rattle.dn_game.proofs.script.reading.read_script.Goals as goal
 
 number_no_space : (word : List ℕ) (n : ℕ) → IsNumber word n → HasNoSpace word

@@ -1,5 +1,5 @@
 use Rattle.std.proofs.Common.{arith, rules}
-use Rattle.dn_game.proofs.Scripts.Keys.{more_letters, not_keys, no_letters, whole_keys}
+use Rattle.dn_game.proofs.Scripts.{more_letters, not_keys, no_letters, whole_keys}
 use Rattle.dn_game.proofs.script.words.keys.Goals as goal
 
 pub loop-byte-init : goal.loop-byte-init

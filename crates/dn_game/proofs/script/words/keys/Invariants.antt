@@ -1,4 +1,4 @@
-use Rattle.dn_game.proofs.Scripts.Keys.{AreLettersUpTo}
+use Rattle.dn_game.proofs.Scripts.{AreLettersUpTo}
 use Rattle.dn_game.proofs.script.words.keys.Given as goal
 
 abbrev pub invariant-loop-byte : goal.invariant-loop-byte

@@ -1,5 +1,5 @@
 use Rattle.std.proofs.Common.{arith}
-use Rattle.dn_game.proofs.Scripts.Numbers.{few_digits, more_digits, not_number, whole_number}
+use Rattle.dn_game.proofs.Scripts.{few_digits, more_digits, not_number, whole_number}
 use Rattle.dn_game.proofs.script.words.number.Goals as goal
 
 pub overflow_mul-number : goal.overflow_mul-number

@@ -1,4 +1,4 @@
-use Rattle.dn_game.proofs.Scripts.Numbers.{AreDigits}
+use Rattle.dn_game.proofs.Scripts.{AreDigits}
 use Rattle.dn_game.proofs.script.words.number.Given as goal
 
 abbrev pub invariant-loop-byte : goal.invariant-loop-byte

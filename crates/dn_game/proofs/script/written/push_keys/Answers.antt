@@ -1,7 +1,7 @@
 use Rattle.std.proofs.Common.{◌≡◌, ℕ, List, ◌++◌, ap, sym, ◌∙◌}
 use Rattle.std.specs.String.{string_bytes}
 use Rattle.std.proofs.lemmas.{Bool.{cond-false, ne_eqb}, Result.IfOk-weaker}
-use Rattle.dn_game.specs.{Scripts.Words.letters, Scripts.Written.{letters_down, keys_word}}
+use Rattle.dn_game.specs.Scripts.{letters, letters_down, keys_word}
 use Rattle.dn_game.proofs.script.written.push_keys.Goals as goal
 
 pub returns : goal.returns

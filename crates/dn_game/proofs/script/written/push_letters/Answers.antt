@@ -3,8 +3,8 @@ use Rattle.std.proofs.Common.{◌≡◌, ◌<◌, ◌+◌, ℕ, Bool, true, eqb,
 use Rattle.std.specs.{Prelude.nat_lt, Int.bit_at}
 use Rattle.std.proofs.lemmas.{Bool.{agree_below_at, cond-true, cond-false, eq-eqb, ne_eqb}, List.Elements.filter_more}
 use borrow.Author.Tests.{ltb-true}
-use Rattle.dn_game.specs.{Scripts.Words.{letters, place_in_letters}, Scripts.Written.{is_down_at, letters_down}}
-use Rattle.dn_game.proofs.{Scripts.Keys.letter_found, script.written.push_letters.Goals.{then-bits-place-eq1+in_ok-push, else-bits-place-eq1}}
+use Rattle.dn_game.specs.Scripts.{letters, place_in_letters, is_down_at, letters_down}
+use Rattle.dn_game.proofs.{Scripts.letter_found, script.written.push_letters.Goals.{then-bits-place-eq1+in_ok-push, else-bits-place-eq1}}
 use Rattle.dn_game.proofs.script.written.push_letters.Goals as goal
 
 letter_small : (place : ℕ) → place < 18 → get_or letters place 0 < 128

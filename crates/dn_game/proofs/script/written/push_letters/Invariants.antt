@@ -1,6 +1,6 @@
 use Rattle.std.proofs.Common.{◌≡◌, ◌++◌, take}
 use Rattle.std.specs.String.{string_bytes}
-use Rattle.dn_game.specs.{Scripts.Words.letters, Scripts.Written.letters_down}
+use Rattle.dn_game.specs.Scripts.{letters, letters_down}
 use Rattle.dn_game.proofs.script.written.push_letters.Given as goal
 
 abbrev pub invariant-loop-place : goal.invariant-loop-place

@@ -1,6 +1,6 @@
 use Rattle.std.proofs.{Common.{ap, sym, ◌∙◌, ◌≡◌, ℕ, true, Some, List}, lemmas.Bool.lt-ltb}
 use Rattle.std.specs.Prelude.{nat_lt, slice_index_or}
-use Rattle.dn_greeting.specs.{declared.seats.Place.TheVariants.Closed, Seats.number_in, Lobby.{Lobby, answered, lobby, moved}}
+use Rattle.dn_greeting.specs.{declared.places.Place.TheVariants.Closed, Seats.number_in, Lobby.{Lobby, answered, lobby, moved}}
 use Rattle.dn_greeting.proofs.table.Table.take_again.Goals as goal
 
 pub returns-then-number_in-call-clause-reply : goal.returns-then-number_in-call-clause-reply

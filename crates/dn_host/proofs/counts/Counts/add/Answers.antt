@@ -1,6 +1,6 @@
 use Rattle.std.proofs.Common.{◌++◌, List, replicate, subst, append_assoc, refl, arith}
 use Rattle.std.proofs.Math.Logic.{∥∥₁_map}
-use Rattle.dn_measure.specs.{declared.told.Told.Told, declared.told.Told.TheVariants.Built, declared.told.Told.TheVariants.Ran, Measure.IsMeasureOf}
+use Rattle.dn_measure.specs.{declared.measure.Told.Told, declared.measure.Told.TheVariants.Built, declared.measure.Told.TheVariants.Ran, Measure.IsMeasureOf}
 use Rattle.dn_host.proofs.Counted.{runs_in}
 use Rattle.dn_host.proofs.counts.Counts.add.Goals as goal
 

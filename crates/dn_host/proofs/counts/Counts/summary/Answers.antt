@@ -7,9 +7,12 @@ use Rattle.std.proofs.lemmas.List.Recursion.{is_count_by}
 use Rattle.std.proofs.lemmas.List.Sums.{count_by-le-length}
 use Rattle.std.proofs.Math.Logic.{∥∥₁_elim}
 use mathlib.Core.HLevel.{⊥_prop, ×_prop}
-use Rattle.dn_link.specs.{declared.figures.Figures.Figures, Linked.Linked, Paced.PaceState, Linking.linked, Pacing.pace_of}
-use Rattle.dn_measure.specs.{declared.arrivals.Arrivals.Arrivals, declared.felt.Felt.Felt, declared.felt.Felt.TheVariants.Never, declared.felt.Felt.TheVariants.Within, declared.felt.Felt.TheVariants.Longer, Felt.IsFelt}
-use Rattle.dn_measure.specs.{Histogram.AreCountsOf, Histogram.IsPercentile, Measure.IsSummaryOf, Measure.samples_of, Measure.waits_of, Told.runs_of, declared.summary.Summary.Summary, declared.told.Told.Told}
+use Rattle.dn_link.specs.declared.tally.Figures.{Figures}
+use Rattle.dn_link.specs.Linked.{Linked}
+use Rattle.dn_link.specs.Pacing.{PaceState, pace_of}
+use Rattle.dn_link.specs.Linking.{linked}
+use Rattle.dn_measure.specs.{declared.arrivals.Arrivals.Arrivals, declared.felt.Felt.Felt, declared.felt.Felt.TheVariants.Never, declared.felt.Felt.TheVariants.Within, declared.felt.Felt.TheVariants.Longer, Histogram.IsFelt}
+use Rattle.dn_measure.specs.{Histogram.AreCountsOf, Histogram.IsPercentile, Measure.IsSummaryOf, Measure.samples_of, Measure.waits_of, Told.runs_of, declared.measure.Summary.Summary, declared.measure.Told.Told}
 use Rattle.dn_measure.specs.{Runs.as_count, Runs.gaps_in, Runs.is_gap, Runs.longest_of, Runs.times_between, Runs.times_in}
 use Rattle.dn_host.specs.{Arrived.arrivals_by, Arrived.arrivals_in, Arrived.since_then, Coming.figures_by_link, Summaries.IsNoLater, Summaries.IsWithin}
 use Rattle.dn_host.proofs.counts.Counts.summary.Goals as goal

@@ -1,6 +1,6 @@
 use Rattle.std.proofs.Common.{◌≡◌, ℤ, Bool, List, sym, subst}
 use Rattle.dn_machine.specs.Running.{on_run}
-use Rattle.dn_lockstep.specs.Runs.{RunsBy}
+use Rattle.dn_lockstep.specs.Steps.{RunsBy}
 use Rattle.dn_link.specs.Linking.{linked}
 use Rattle.dn_host.specs.Played.{Plays, times_of}
 use Rattle.dn_host.proofs.Playing.{plays_run}

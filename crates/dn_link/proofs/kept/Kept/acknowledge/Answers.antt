@@ -1,7 +1,7 @@
 use Rattle.std.proofs.Common.{rules, ◌≡◌, length, arith, ap, sym, subst}
 use Rattle.std.specs.Prelude.{max}
-use Rattle.dn_link.specs.{declared.bundle.Carried.Carried, Keeping.kept, Kept.IsCovering, Kept.IsKeptRising, Kept.Unacknowledged, Kept.acknowledged, Kept.without}
-use Rattle.dn_link.proofs.{Covered.covers_less, Rising.fewer, Rising.rises_past}
+use Rattle.dn_link.specs.{declared.bundle.Carried.Carried, Linking.kept, Kept.IsCovering, Kept.IsKeptRising, Kept.Unacknowledged, Kept.acknowledged, Kept.without}
+use Rattle.dn_link.proofs.{Covered.covers_less, Covered.fewer, Covered.rises_past}
 use Rattle.dn_link.proofs.kept.Kept.acknowledge.Goals as goal
 
 pub invariant_of-self : goal.invariant_of-self

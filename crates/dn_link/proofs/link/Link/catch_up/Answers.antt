@@ -1,9 +1,9 @@
 use Rattle.std.proofs.Common.{◌≡◌, refl, ap, sym, ◌∙◌, subst}
 use Rattle.std.proofs.lemmas.Option.{same_Some}
 use Rattle.dn_tic.specs.declared.input.Input.{Input}
-use Rattle.dn_machine.specs.Building.{on_build}
+use Rattle.dn_machine.specs.Sending.{on_build}
 use Rattle.dn_lockstep.specs.Steps.{Steps}
-use Rattle.dn_link.specs.{Linking.linked, Pace.still_owed, Paced.PaceState}
+use Rattle.dn_link.specs.{Linking.linked, Pace.still_owed, Pacing.PaceState}
 use Rattle.dn_link.proofs.link.Link.catch_up.Goals as goal
 
 pub returns-clause-owed : goal.returns-clause-owed

@@ -2,7 +2,7 @@ use Rattle.std.proofs.Common.{rules, ◌≡◌, ◌<◌, ◌+◌, List, ◌%◌,
 use Rattle.std.specs.Prelude.{Bool, None, ◌&&◌, ◌||◌, is_some}
 use Rattle.dn_machine.specs.Node.{put}
 use Rattle.dn_lockstep.specs.Contents.{Contents, contents}
-use Rattle.dn_link.specs.{Counting.counts_of, Giving.SendsCarried, Hearing.ByTest, Line.LineState, Line.missing, Presence.message_of, Kept.going, Kept.kept_after, Kept.taken_by, Linked.PeerState, Linked.holds_back}
+use Rattle.dn_link.specs.{Counting.counts_of, Hearing.SendsCarried, Hearing.ByTest, Line.LineState, Line.missing, Presence.message_of, Kept.going, Kept.kept_after, Kept.taken_by, Linked.PeerState, Linked.holds_back}
 use Rattle.dn_link.specs.{Linked.is_gathering, Linking.identity_of, Linking.linked, Linking.peers_of, Linking.state_of, Relays.AreLacked, Packing.ArePacked}
 use Rattle.dn_link.proofs.{Handing.may_before, Linking.same_reported, Places.peer_at, Places.peers_put}
 use Rattle.dn_link.proofs.link.Link.datagram.Goals as goal

@@ -1,6 +1,6 @@
 use Rattle.std.proofs.Common.{sym, ◌∙◌}
 use Rattle.dn_survivor.specs.Surviving.{surviving}
-use Rattle.dn_link.proofs.Surviving.{gives_up_own}
+use Rattle.dn_link.proofs.RemainingCalls.{gives_up_own}
 use Rattle.dn_link.proofs.link.Link.give_up.Goals as goal
 
 pub invariant_of-self : goal.invariant_of-self

@@ -1,6 +1,6 @@
 use Rattle.std.proofs.Common.{ap, sym, ◌∙◌, subst}
 use Rattle.dn_lockstep.specs.Contents.{Contents, contents}
-use Rattle.dn_survivor.specs.{declared.others.Others.Others, OfOthers.Keeping.has}
+use Rattle.dn_survivor.specs.{declared.others.Others.Others, OfOthers.has}
 use Rattle.dn_link.specs.{Counting.held_of, Hearing.HearsAll, Packets.heard_in, Packets.takes_relay}
 use Rattle.dn_link.proofs.Hearings.{all_same}
 use Rattle.dn_link.proofs.link.Link.hear_packets.Goals as goal

@@ -1,6 +1,6 @@
 use Rattle.std.proofs.Common.{sym, ◌∙◌}
 use Rattle.dn_survivor.specs.Surviving.{surviving}
-use Rattle.dn_link.proofs.Surviving.{hears_same}
+use Rattle.dn_link.proofs.RemainingCalls.{hears_same}
 use Rattle.dn_link.proofs.link.Link.hear_report.Goals as goal
 
 pub invariant_of-self : goal.invariant_of-self

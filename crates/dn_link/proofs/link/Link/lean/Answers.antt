@@ -1,6 +1,6 @@
 use Rattle.std.proofs.Common.{rules, ◌≡◌, ◌+ℤ◌, w8, w32, to_z, of_z, ap, ◌∙◌}
 use Rattle.std.specs.Prelude.{pos}
-use Rattle.dn_link.specs.{Leaning.looks, Leaning.step_of, Leaning.worked_off, Pace.with_leads, Stretching.stretches, Linked.Linked}
+use Rattle.dn_link.specs.{Leaning.looks, Leaning.step_of, Leaning.worked_off, Pace.with_leads, Leaning.stretches, Linked.Linked}
 use Rattle.dn_link.proofs.link.Link.lean.Goals as goal
 
 pub returns-clause-leans : goal.returns-clause-leans

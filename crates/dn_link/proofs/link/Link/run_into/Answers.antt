@@ -1,5 +1,5 @@
 use Rattle.std.proofs.Common.{ap, sym}
-use Rattle.dn_lockstep.specs.Runs.{with_row}
+use Rattle.dn_lockstep.specs.Steps.{with_row}
 use Rattle.dn_lockstep.proofs.{After.after, After.steps, Running.run_all}
 use Rattle.dn_link.proofs.link.Link.run_into.Goals as goal
 

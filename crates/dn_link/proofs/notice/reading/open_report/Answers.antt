@@ -1,8 +1,8 @@
 use Rattle.std.proofs.Common.{rules, ◌≢◌, Ok, Err}
 use Rattle.std.specs.Prelude.{slice_index}
 use Rattle.dn_seal.specs.{Hmac.tag_of, Opening.IsFor, Opening.told_body, Opening.told_tag, Sealing.sealing}
-use Rattle.dn_link.specs.{declared.notice.fault.ReportDatagramFault.TheVariants.Tag, declared.notice.fault.ReportDatagramFault.TheVariants.Form, SealedReports.Opening.sealed_reports, SealedReports.Opening.IsOfPlayer}
-use Rattle.dn_link.proofs.SealedReports.Openings.{one_opening, report_is}
+use Rattle.dn_link.specs.{declared.notice.ReportDatagramFault.TheVariants.Tag, declared.notice.ReportDatagramFault.TheVariants.Form, SealedReports.sealed_reports, SealedReports.IsOfPlayer}
+use Rattle.dn_link.proofs.SealedReports.{one_opening, report_is}
 use Rattle.dn_link.proofs.notice.reading.open_report.Goals as goal
 
 pub returns-in-Some-clause-only : goal.returns-in-Some-clause-only

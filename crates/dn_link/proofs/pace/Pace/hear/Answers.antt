@@ -1,6 +1,6 @@
 use Rattle.std.proofs.Common.{rules, ◌≡◌, ◌<◌, ℕ, length, ap, ◌∙◌, arith}
 use Rattle.dn_machine.specs.Node.{put}
-use Rattle.dn_link.specs.{Line.LineState, Line.heard_on, Line.new_line, Lines.line_of, Pacing.lines_of, Pacing.state_of}
+use Rattle.dn_link.specs.{Line.LineState, Line.heard_on, Line.new_line, Pacing.line_of, Pacing.lines_of, Pacing.state_of}
 use Rattle.dn_link.proofs.Places.{place_at, place_put}
 use Rattle.dn_link.proofs.pace.Pace.hear.Goals as goal
 

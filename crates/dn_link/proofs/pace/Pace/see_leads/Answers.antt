@@ -2,7 +2,7 @@ use Rattle.std.proofs.Common.{rules, ◌≡◌, ◌≤◌, ℕ, zero, suc, ◌�
 use Rattle.std.specs.Prelude.{false, nat_lt, pos}
 use Rattle.dn_machine.proofs.Put.{same_functions}
 use Rattle.dn_lockstep.specs.Contents.{contents}
-use Rattle.dn_link.specs.{Line.LineState, Line.lead_over, Line.new_line, Lines.line_of, Pacing.lines_of, Pacing.state_of}
+use Rattle.dn_link.specs.{Line.LineState, Line.lead_over, Line.new_line, Pacing.line_of, Pacing.lines_of, Pacing.state_of}
 use Rattle.dn_link.proofs.Places.{place_past}
 use Rattle.dn_link.proofs.pace.Pace.see_leads.Goals as goal
 

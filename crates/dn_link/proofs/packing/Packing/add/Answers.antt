@@ -1,5 +1,5 @@
 use Rattle.std.proofs.Common.{◌++◌, ◌∷◌, [], ap, sym, ◌∙◌}
-use Rattle.dn_link.specs.{declared.bundle.Carried.Carried, OpenPacking.packed, Packets.opened_from}
+use Rattle.dn_link.specs.{declared.bundle.Carried.Carried, Packing.packed, Packets.opened_from}
 use Rattle.dn_link.proofs.packing.Packing.add.Goals as goal
 
 pub returns-in-Some-clause-more : goal.returns-in-Some-clause-more

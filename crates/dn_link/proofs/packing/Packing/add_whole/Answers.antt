@@ -1,6 +1,6 @@
 use Rattle.std.proofs.Common.{◌++◌, ◌∷◌, [], ap, ◌∙◌, List}
 use Rattle.dn_link.specs.{declared.bundle.Carried.Carried, declared.bundle.Part.Part, declared.bundle.Part.TheVariants.Whole}
-use Rattle.dn_link.proofs.{Tight.whole_tight}
+use Rattle.dn_link.proofs.{Packings.whole_tight}
 use Rattle.dn_link.proofs.packing.Packing.add_whole.Goals as goal
 
 pub returns-clause-tight : goal.returns-clause-tight

@@ -1,5 +1,5 @@
 use Rattle.std.proofs.Common.{◌≡◌, ◌+◌, ◌/◌, ◌%◌, ◌^◌, length, arith}
-use Rattle.dn_link.proofs.{Tight.ended_for, packing.Packing.make_way.Goals.then-count-eq24-via-then-count-eq24, packing.Packing.make_way.Goals.then-count-eq24-via-else-count-eq24+then-self-count}
+use Rattle.dn_link.proofs.{Packings.ended_for, packing.Packing.make_way.Goals.then-count-eq24-via-then-count-eq24, packing.Packing.make_way.Goals.then-count-eq24-via-else-count-eq24+then-self-count}
 use Rattle.dn_link.proofs.packing.Packing.make_way.Goals as goal
 
 pub returns-then-count-eq24-clause-tight : goal.returns-then-count-eq24-clause-tight

@@ -1,5 +1,5 @@
 use Rattle.std.proofs.Common.{◌≡◌, length}
-use Rattle.dn_link.proofs.Turns.{SoFar}
+use Rattle.dn_link.proofs.Wholes.{SoFar}
 use Rattle.dn_link.proofs.reading.parts.all_in.Given as goal
 
 abbrev pub invariant-parts : goal.invariant-parts

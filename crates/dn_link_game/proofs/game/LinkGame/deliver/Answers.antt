@@ -1,6 +1,6 @@
 use Rattle.std.proofs.Common.{refl, ap, length}
 use Rattle.std.proofs.lemmas.Option.{slice_get_read}
-use Rattle.dn_survivor.specs.Session.{Session}
+use Rattle.dn_survivor.specs.OneGame.{Session}
 use Rattle.dn_link_game.proofs.Going.{given, goes}
 use Rattle.dn_link_game.proofs.game.LinkGame.deliver.Goals as goal
 

@@ -1,7 +1,7 @@
 use Rattle.std.proofs.Common.{refl, sym, ap, ◌∙◌, subst}
 use Rattle.dn_tic.specs.declared.input.Input.TheVariants.{Pressed}
-use Rattle.dn_lockstep.specs.Commands.{Builds}
-use Rattle.dn_survivor.specs.Session.{after_build}
+use Rattle.dn_lockstep.specs.Told.{Builds}
+use Rattle.dn_survivor.specs.OneGame.{after_build}
 use Rattle.dn_link.specs.Linked.{Linked, surviving_of}
 use Rattle.dn_link.specs.Linking.{linked}
 use Rattle.dn_link_game.specs.Playing.{marking_of}

@@ -1,8 +1,8 @@
 use Rattle.std.proofs.Common.{◌≡◌, Option, Some, None, refl, sym, ap, ◌∙◌, subst, inl, inr}
 use Rattle.std.specs.Prelude.{◌⊎◌}
 use Rattle.dn_tic.specs.declared.input.Input.{Input}
-use Rattle.dn_lockstep.specs.Commands.{Builds}
-use Rattle.dn_survivor.specs.Session.{after_build, with_survivor}
+use Rattle.dn_lockstep.specs.Told.{Builds}
+use Rattle.dn_survivor.specs.OneGame.{after_build, with_survivor}
 use Rattle.dn_link.specs.Linked.{Linked, surviving_of}
 use Rattle.dn_link.specs.Linking.{linked}
 use Rattle.dn_link.specs.Pacing.{pace_of}

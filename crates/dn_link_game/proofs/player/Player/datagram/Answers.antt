@@ -1,9 +1,9 @@
 use Rattle.std.proofs.Common.{◌≡◌, false, refl, sym, ap, ◌∙◌, subst}
 use Rattle.std.specs.Prelude.{IfSome}
-use Rattle.dn_lockstep.specs.Near.{IsFair}
+use Rattle.dn_lockstep.specs.Sent.{IsFair}
 use Rattle.dn_lockstep.specs.Sent.{sent_to}
 use Rattle.dn_lockstep.specs.Steps.{Tells}
-use Rattle.dn_survivor.specs.Session.{after_packet, after_relays, with_survivor}
+use Rattle.dn_survivor.specs.OneGame.{after_packet, after_relays, with_survivor}
 use Rattle.dn_link.specs.Linked.{Gives, Linked, holds_back, remains, surviving_of}
 use Rattle.dn_link.specs.Linking.{identity_of, linked, seal_of}
 use Rattle.dn_link.specs.Pacing.{pace_of}

@@ -1,5 +1,5 @@
 use Rattle.std.proofs.Common.{refl, sym, ap, ◌∙◌}
-use Rattle.dn_survivor.specs.Session.{with_survivor}
+use Rattle.dn_survivor.specs.OneGame.{with_survivor}
 use Rattle.dn_link.specs.Linked.{Linked, forgotten, surviving_of}
 use Rattle.dn_link.specs.Linking.{linked}
 use Rattle.dn_link_game.specs.Playing.{marking_of}

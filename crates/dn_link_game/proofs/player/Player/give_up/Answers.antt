@@ -1,6 +1,6 @@
 use Rattle.std.proofs.Common.{refl, sym, ap, subst}
 use Rattle.dn_machine.proofs.Put.{put_at}
-use Rattle.dn_survivor.specs.Session.{with_survivor}
+use Rattle.dn_survivor.specs.OneGame.{with_survivor}
 use Rattle.dn_link.specs.Linked.{Linked, surviving_of}
 use Rattle.dn_link.specs.Linking.{linked}
 use Rattle.dn_link.specs.Surviving.{GivesUpPeer}

@@ -1,7 +1,7 @@
 use Rattle.std.proofs.Common.{◌≡◌, refl, sym, ap, ◌∙◌, subst}
 use Rattle.dn_machine.specs.Running.{on_quit}
 use Rattle.dn_lockstep.specs.Steps.{Steps}
-use Rattle.dn_survivor.specs.Session.{with_survivor}
+use Rattle.dn_survivor.specs.OneGame.{with_survivor}
 use Rattle.dn_link.specs.Linked.{Linked, surviving_of}
 use Rattle.dn_link.specs.Linking.{linked}
 use Rattle.dn_link_game.specs.Playing.{marking_of}

@@ -1,6 +1,6 @@
 use Rattle.std.proofs.Common.{refl, sym, ap, subst}
 use Rattle.dn_machine.proofs.Put.{put_at}
-use Rattle.dn_survivor.specs.Session.{with_survivor}
+use Rattle.dn_survivor.specs.OneGame.{with_survivor}
 use Rattle.dn_link.specs.Linked.{Linked, Receives, surviving_of}
 use Rattle.dn_link.specs.Linking.{identity_of, linked, seal_of}
 use Rattle.dn_link.specs.Notices.{HearsNotice}

@@ -4,8 +4,8 @@ use Rattle.std.specs.Option.{option_map}
 use Rattle.arrayvec.specs.ArrayVec.{ArrayVec}
 use Rattle.dn_machine.specs.Node.{put}
 use Rattle.dn_machine.proofs.Put.{view_kept}
-use Rattle.dn_survivor.specs.ReportBytes.Text.{IsReport}
-use Rattle.dn_survivor.specs.Session.{Session, after_report}
+use Rattle.dn_survivor.specs.ReportBytes.{IsReport}
+use Rattle.dn_survivor.specs.OneGame.{Session, after_report}
 use Rattle.dn_survivor.specs.Telling.{report_for}
 use Rattle.dn_link.specs.Linked.{Linked, surviving_of}
 use Rattle.dn_link.specs.Linking.{linked, seal_of}

@@ -2,13 +2,14 @@
 use Rattle.std.proofs.Common.{◌≡◌, ◌<◌, ◌≤◌, ℕ, List, [], ◌∷◌, ◌++◌, Option, None, refl, sym, ap, ◌∙◌, subst, true, false, true≢false, Some, arith}
 use Rattle.std.proofs.lemmas.List.Sums.{fold_push}
 use Rattle.dn_tic.specs.declared.command.Move.{Move}
-use Rattle.dn_setup.specs.{Settings.Settings, Starts.start_of}
+use Rattle.dn_setup.specs.Settings.{Settings, start_of}
 use Rattle.dn_world.specs.Physics.{Physics}
 use Rattle.dn_machine.specs.Limits.{Limits}
 use Rattle.dn_machine.proofs.Put.{put_at, view_kept, put_off}
-use Rattle.dn_lockstep.specs.{OneGame.world_told, Rows.seats_of, Session.told_on}
-use Rattle.dn_survivor.specs.{Session.Session, Session.after_run, Session.with_survivor, Surviving.Surviving}
-use Rattle.dn_link.specs.{Linked.Linked, RemainingLinks.AreRemainingLinks, Linked.surviving_of, Linking.linked, Running.RunsBut, RemainingLinks.StayRemaining}
+use Rattle.dn_lockstep.specs.OneGame.{world_told, told_on}
+use Rattle.dn_lockstep.specs.Rows.{seats_of}
+use Rattle.dn_survivor.specs.{OneGame.Session, OneGame.after_run, OneGame.with_survivor, Surviving.Surviving}
+use Rattle.dn_link.specs.{Linked.Linked, RemainingLinks.AreRemainingLinks, Linked.surviving_of, Linking.linked, Surviving.RunsBut, RemainingLinks.StayRemaining}
 use Rattle.dn_link_game.specs.{Playing.IsPlayer, Playing.marking_of, Playing.world_by, declared.player.Player.Player}
 use Rattle.dn_link_game.proofs.player.Player.run.Goals as goal
 

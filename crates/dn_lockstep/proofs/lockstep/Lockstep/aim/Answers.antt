@@ -1,5 +1,5 @@
 use Rattle.std.proofs.Common.{refl, ap, arith, Some}
-use Rattle.dn_lockstep.proofs.Sending.{to_itself, to_nobody, aimed, aimed_in, aim_of_set_up}
+use Rattle.dn_lockstep.proofs.Giving.{to_itself, to_nobody, aimed, aimed_in, aim_of_set_up}
 use Rattle.dn_lockstep.proofs.lockstep.Lockstep.aim.Goals.{then-to-self-via-then-to-self}
 use Rattle.dn_lockstep.proofs.lockstep.Lockstep.aim.Goals as goal
 

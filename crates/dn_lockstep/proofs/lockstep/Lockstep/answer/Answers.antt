@@ -1,8 +1,8 @@
 use Rattle.std.proofs.Common.{refl, ◌≡◌, sym, ◌∙◌, arith}
 use Rattle.dn_machine.specs.Hearing.{after_request}
-use Rattle.dn_lockstep.specs.{Contents.contents, Peers.peer_at, Reading.request_in}
+use Rattle.dn_lockstep.specs.{Contents.contents, Tables.peer_at, Received.request_in}
 use Rattle.dn_lockstep.proofs.After.{steps}
-use Rattle.dn_lockstep.proofs.Kept.{AreKept, kept_asked, same_end, gone_still, stays_gone, resends_low}
+use Rattle.dn_lockstep.proofs.Changing.{AreKept, kept_asked, same_end, gone_still, stays_gone, resends_low}
 use Rattle.dn_lockstep.proofs.{Taking.{IsRead, leaver_asked}, lockstep.Lockstep.answer.Goals.After-ask}
 use Rattle.dn_lockstep.proofs.lockstep.Lockstep.answer.Goals as goal
 

@@ -2,10 +2,10 @@ use Rattle.std.proofs.Common.{refl, sym, ◌∙◌, ap, arith, rules, inl, inr, 
 use Rattle.std.proofs.lemmas.Int.{ints, to_z-of_z}
 use Rattle.dn_machine.specs.Node as machine
 use Rattle.dn_machine.specs.{Running.is_over, declared.peer.Peer.Peer}
-use Rattle.dn_lockstep.specs.{Peers.peer_at, Rings.ring_at}
+use Rattle.dn_lockstep.specs.Tables.{peer_at, ring_at}
 use Rattle.std.specs.Int.{w16}
 use Rattle.dn_ring.specs.Ring.{Ring}
-use Rattle.dn_lockstep.proofs.{After.{after, steps}, Counting.{mine, made_is, changed}}
+use Rattle.dn_lockstep.proofs.{After.{after, steps}, Shown.{mine, made_is, changed}}
 use Rattle.dn_lockstep.proofs.Changing.{build_not, build_full, build_makes, own_ring, shows_commands}
 use Rattle.dn_lockstep.proofs.lockstep.Lockstep.make.Goals as goal
 

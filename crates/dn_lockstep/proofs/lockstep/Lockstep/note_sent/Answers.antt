@@ -1,15 +1,15 @@
 use Rattle.std.proofs.Common.{◌≡◌, ◌-◌, ℕ, Option, refl, ap, sym, ◌∙◌, arith}
-use Rattle.dn_setup.specs.Starts.{bit}
+use Rattle.dn_setup.specs.Settings.{bit}
 use Rattle.dn_machine.specs.Node as machine
 use Rattle.dn_machine.specs.{Limits.Limits, declared.answers.Cause.Cause, declared.answers.Phase.Phase}
 use Rattle.dn_machine.specs.declared.answers.Phase.TheVariants.{Playing, Ended}
 use Rattle.dn_machine.specs.{Sending.{lag, last_sent, after_sent}, declared.peer.Peer.Peer, Flight.Flight}
 use Rattle.std.specs.{Prelude.◌⊎◌, Option.option_map}
-use Rattle.dn_lockstep.specs.{Sent.{after_giving, aim_of}, Rings.ring_at, Peers.peer_at}
-use Rattle.dn_lockstep.proofs.{Sending.{own_aim, last_is, sends_in}, After.{along, becomes}}
-use Rattle.dn_lockstep.proofs.Counting.{made_is, below}
-use Rattle.dn_lockstep.proofs.Kept.{AreKept, same_end, gone_still, stays_gone, resends_low}
-use Rattle.dn_lockstep.proofs.{Changing.shows_peer, lockstep.Lockstep.note_sent.Goals.After-resend_from}
+use Rattle.dn_lockstep.specs.{Sent.{after_giving, aim_of}, Tables.{ring_at, peer_at}}
+use Rattle.dn_lockstep.proofs.{Giving.{own_aim, last_is, sends_in}, After.{along, becomes}}
+use Rattle.dn_lockstep.proofs.Shown.{made_is, below}
+use Rattle.dn_lockstep.proofs.Changing.{AreKept, same_end, gone_still, stays_gone, resends_low, shows_peer}
+use Rattle.dn_lockstep.proofs.lockstep.Lockstep.note_sent.Goals.{After-resend_from}
 use Rattle.dn_lockstep.proofs.lockstep.Lockstep.note_sent.Goals as goal
 
 -- a node that plays or has ended keeps from where on it sends next

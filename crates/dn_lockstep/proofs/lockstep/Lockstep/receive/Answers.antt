@@ -1,6 +1,6 @@
 use Rattle.std.proofs.Common.{refl, sym, ◌∙◌, arith}
 use Rattle.dn_lockstep.specs.Contents.{contents}
-use Rattle.dn_lockstep.proofs.{Nearby.near_from_any, Receiving.{any_ended, any_strange, any_read, any_fault}}
+use Rattle.dn_lockstep.proofs.Receiving.{near_from_any, any_ended, any_strange, any_read, any_fault}
 use Rattle.dn_lockstep.proofs.lockstep.Lockstep.receive.Goals as goal
 
 pub returns-then-hears_none-clause-any : goal.returns-then-hears_none-clause-any

@@ -1,15 +1,15 @@
 use Rattle.std.proofs.Common.{◌≡◌, ◌<◌, ◌+◌, ℕ, Bool, true, false, true≢false, not, List, Option, Some, refl, ap, sym, ◌∙◌, subst, arith}
 use Rattle.std.specs.Prelude.{if◌then◌else◌, All, IfSome}
 use Rattle.dn_tic.specs.declared.command.Move.{Move}
-use Rattle.dn_demo.specs.{Recorded.AddsRow, Rows.{IsMove, IsRow}, declared.recorder.Stage.Stage}
+use Rattle.dn_demo.specs.{Recorded.AddsRow, Text.{IsMove, IsRow}, declared.recorder.Stage.Stage}
 use Rattle.dn_demo.specs.declared.recorder.Stage.TheVariants.{Open, Closed}
 use Rattle.dn_machine.specs.{declared.answers.Ran.Ran, Node.{is_whole, lacks}, Running.{row_held, marks_kept}}
-use Rattle.dn_lockstep.specs.{Contents.{contents, whose}, Peers.peer_at, Rings.ring_at}
-use Rattle.dn_lockstep.specs.{Rows.{has_gone, seats_of}, Runs.{marks_in, with_row}}
-use Rattle.dn_lockstep.proofs.{After.{after, steps}, Finding.{row_is, seat_held, seat_empty, full_is, fits}}
-use Rattle.dn_lockstep.proofs.{Kept.{over_later, gone_later}, Moving.{IsWritten, shows_moved}}
-use Rattle.dn_lockstep.proofs.{DemoTexts.{size_more, row_fits}, Running.{row_full, row_moves, kept_here}}
-use Rattle.dn_lockstep.proofs.{Seats.here_all, lockstep.Lockstep.run_row.Goals.After-stamp}
+use Rattle.dn_lockstep.specs.{Contents.{contents, whose}, Tables.{peer_at, ring_at}}
+use Rattle.dn_lockstep.specs.{Rows.{has_gone, seats_of}, Steps.{marks_in, with_row}}
+use Rattle.dn_lockstep.proofs.{After.{after, steps}, Seats.{row_is, seat_held, seat_empty, full_is, fits, here_all}}
+use Rattle.dn_lockstep.proofs.{Changing.{over_later, gone_later}, Moving.{IsWritten, shows_moved}}
+use Rattle.dn_lockstep.proofs.{DemosAgreeing.{size_more, row_fits}, Running.{row_full, row_moves, kept_here}}
+use Rattle.dn_lockstep.proofs.lockstep.Lockstep.run_row.Goals.{After-stamp}
 use Rattle.dn_lockstep.proofs.lockstep.Lockstep.run_row.Goals as goal
 
 opened : (c : After-stamp) → c.fill_row-whole.result ≡ true → c.args.self.now.demo.stage ≡ Open

@@ -4,10 +4,10 @@ use Rattle.dn_tic.specs.declared.command.TicCmd.{TicCmd}
 use Rattle.dn_ring.specs.Ring.{Ring}
 use Rattle.dn_machine.specs.{declared.peer.Peer.Peer, Running.is_over}
 use Rattle.dn_lockstep.specs.{Contents.contents, declared.lockstep.settling.Settled.TheVariants.Taken}
-use Rattle.dn_lockstep.specs.{Peers.peer_at, Rings.{ring_at, ring_of}}
+use Rattle.dn_lockstep.specs.Tables.{peer_at, ring_at, ring_of}
 use Rattle.dn_lockstep.specs.Settling.{is_no_peer, is_other_end, missing}
-use Rattle.dn_lockstep.proofs.{After.steps, Counting.{changed, still_counted}}
-use Rattle.dn_lockstep.proofs.Kept.{AreKept, same_end, gone_still, stays_gone, resends_low}
+use Rattle.dn_lockstep.proofs.{After.steps, Shown.{changed, still_counted}}
+use Rattle.dn_lockstep.proofs.Changing.{AreKept, same_end, gone_still, stays_gone, resends_low}
 use Rattle.dn_lockstep.proofs.Gathering.{peer_below, peer_apart}
 use Rattle.dn_lockstep.proofs.Wholes.{missing_length, kept_settled, past_gap, refused_by, refuses, taken_shows}
 use Rattle.dn_lockstep.proofs.lockstep.Lockstep.settle.Goals.{After-want}

@@ -1,9 +1,9 @@
 use Rattle.std.proofs.Common.{◌≡◌, ◌≤◌, refl, ◌+◌, false, length, sym, ap, ◌∙◌, arith}
 use Rattle.dn_ring.specs.Ring.{Ring}
 use Rattle.dn_machine.specs.{Hearing.{after_request, after_exit, is_strange_end}, Running.is_over}
-use Rattle.dn_lockstep.specs.{Contents.contents, Peers.peer_at, Reading.request_in, Rings.ring_at}
-use Rattle.dn_lockstep.proofs.{After.steps, Counting.{changed, still_counted}}
-use Rattle.dn_lockstep.proofs.Kept.{AreKept, kept_asked, kept_told, kept_wanted, same_end, gone_still, stays_gone, resends_low}
+use Rattle.dn_lockstep.specs.{Contents.contents, Tables.{peer_at, ring_at}, Received.request_in}
+use Rattle.dn_lockstep.proofs.{After.steps, Shown.{changed, still_counted}}
+use Rattle.dn_lockstep.proofs.Changing.{AreKept, kept_asked, kept_told, kept_wanted, same_end, gone_still, stays_gone, resends_low}
 use Rattle.dn_lockstep.proofs.Taking.{rest_length, none_behind, IsRead, over_shows, odd_shows, stale_shows, gap_shows, taken_shows}
 use Rattle.dn_lockstep.proofs.lockstep.Lockstep.take.Goals.{After-as_slice-commands, After-tell}
 use Rattle.dn_lockstep.proofs.lockstep.Lockstep.take.Goals as goal

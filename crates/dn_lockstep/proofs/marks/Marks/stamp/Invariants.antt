@@ -1,7 +1,7 @@
 use Rattle.std.proofs.Common.{◌≡◌, ◌≢◌, ◌<◌, ◌%◌, ℕ, pos, true, false}
 use Rattle.std.specs.Prelude.{get_or}
 use Rattle.dn_machine.specs.Node.{lacks}
-use Rattle.dn_lockstep.specs.Marks.{slot}
+use Rattle.dn_lockstep.specs.Tables.{slot}
 use Rattle.dn_lockstep.proofs.marks.Marks.stamp.Given as goal
 
 abbrev pub invariant-loop-player : goal.invariant-loop-player

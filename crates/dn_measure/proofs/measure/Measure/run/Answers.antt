@@ -1,5 +1,5 @@
 use Rattle.std.proofs.{Common.{◌≡◌, ◌<◌, ◌-◌, ℕ, List, ◌++◌, [], ◌∷◌, length, take, drop, min, sym, ap, ◌∙◌, subst, arith}, lemmas.Bool.Decides.nat_tests, lemmas.List.nil_from_length}
-use Rattle.dn_measure.specs.{declared.told.Told.TheVariants.Ran, Told.{Keys, keys_of}, Felt.bin_of, Histogram.AreCountsOf, Measure.samples_of, Runs.{AreRunsOf, running}}
+use Rattle.dn_measure.specs.{declared.measure.Told.TheVariants.Ran, Told.{Keys, keys_of}, Histogram.bin_of, Histogram.AreCountsOf, Measure.samples_of, Runs.{AreRunsOf, running}}
 use Rattle.dn_measure.proofs.{Telling.{runs_ran, ran_one, ran_none, sample_more, first_of}, Counting.bin_kept}
 use Rattle.dn_measure.proofs.measure.Measure.run.Goals as goal
 

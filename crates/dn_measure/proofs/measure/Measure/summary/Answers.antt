@@ -1,5 +1,5 @@
 use Rattle.std.proofs.Common.{◌-◌, ℕ, List, ap, ◌∙◌, subst, refl}
-use Rattle.dn_measure.specs.{Felt.IsFelt, Measure.samples_of, Told.runs_of}
+use Rattle.dn_measure.specs.{Histogram.IsFelt, Measure.samples_of, Told.runs_of}
 use Rattle.dn_measure.proofs.Counting.{one_table, felt_is}
 use Rattle.dn_measure.proofs.measure.Measure.summary.Goals as goal
 

@@ -1,5 +1,5 @@
 use Rattle.std.proofs.Common.{[], ◌∷◌, ◌++◌, sym, subst}
-use Rattle.dn_measure.specs.{declared.told.Told.Told, Measure.IsMeasureOf}
+use Rattle.dn_measure.specs.{declared.measure.Told.Told, Measure.IsMeasureOf}
 use Rattle.dn_measure.proofs.measure.Measure.tell.Goals as goal
 
 pub returns-in-Built : goal.returns-in-Built

@@ -1,5 +1,5 @@
 use Rattle.std.proofs.{Common.{◌-◌, arith}, lemmas.Bool.{lt-ltb, le-ltb}}
-use Rattle.dn_measure.proofs.{Waiting.{after_gap, after_calm, longest_more}, runs.Runs.wait.Goals.{then-time-gt-GAP, else-time-gt-GAP}}
+use Rattle.dn_measure.proofs.{Counting.{after_gap, after_calm, longest_more}, runs.Runs.wait.Goals.{then-time-gt-GAP, else-time-gt-GAP}}
 use Rattle.dn_measure.proofs.runs.Runs.wait.Goals as goal
 
 pub returns-clause-gaps : goal.returns-clause-gaps

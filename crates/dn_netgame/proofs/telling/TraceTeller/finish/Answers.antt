@@ -1,6 +1,6 @@
 use Rattle.std.proofs.Common.{ℕ, List, ◌++◌, ap, ◌∙◌}
 use Rattle.std.specs.String.{string_bytes}
-use Rattle.dn_netgame.specs.Texts.GameLines.{game_lines}
+use Rattle.dn_netgame.specs.Texts.{game_lines}
 use Rattle.dn_netgame.proofs.Tracing.{traced}
 use Rattle.dn_netgame.proofs.telling.TraceTeller.finish.Goals as goal
 

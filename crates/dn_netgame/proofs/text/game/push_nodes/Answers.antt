@@ -2,8 +2,8 @@ use Rattle.std.proofs.Common.{arith, rules, ◌≡◌, ◌++◌, false, Some, No
 use Rattle.std.specs.{Prelude.{slice_get, slice_index_or}, String.string_bytes}
 use Rattle.std.proofs.lemmas.Option.{slice_get_within}
 use Rattle.dn_game.specs.Contents.{contents}
-use Rattle.dn_netgame.specs.Texts.NodeLines.{node_line}
-use Rattle.dn_netgame.proofs.Texts.Listing.{lines_more, lines_done}
+use Rattle.dn_netgame.specs.Texts.{node_line}
+use Rattle.dn_netgame.proofs.Texts.{lines_more, lines_done}
 use Rattle.dn_node.specs.Contents as node
 use Rattle.dn_netgame.proofs.text.game.push_nodes.Goals as goal
 

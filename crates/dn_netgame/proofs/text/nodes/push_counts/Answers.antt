@@ -2,8 +2,8 @@
 use Rattle.std.specs.{Prelude.{nat_lt, if◌then◌else◌}, Fmt.signed_decimal, String.string_bytes}
 use Rattle.std.proofs.Common.{◌≡◌, ◌<◌, ◌≤◌, ◌+◌, ◌-◌, ℕ, pos, suc, Bool, true, false, Some, None, List, [], ◌++◌, append_assoc, append-nil, refl, codes, arith, rules}
 use Rattle.dn_ring.specs.Ring.{Ring}
-use Rattle.dn_lockstep.specs.Rings.{count_of}
-use Rattle.dn_netgame.specs.Texts.NodeLines.{counts_from, counts}
+use Rattle.dn_lockstep.specs.Tables.{count_of}
+use Rattle.dn_netgame.specs.Texts.{counts_from, counts}
 use Rattle.dn_node.specs.Contents.{contents}
 use Rattle.dn_netgame.proofs.text.nodes.push_counts.Goals as goal
 

@@ -1,7 +1,7 @@
 use Rattle.std.proofs.Common.{◌≡◌, ◌++◌, ◌-◌, ◌≤◌}
 use Rattle.std.specs.String.{string_bytes}
 use Rattle.dn_node.specs.Contents.{contents}
-use Rattle.dn_netgame.specs.Texts.NodeLines.{counts, counts_from}
+use Rattle.dn_netgame.specs.Texts.{counts, counts_from}
 use Rattle.dn_netgame.proofs.text.nodes.push_counts.Given as goal
 
 abbrev pub invariant-loop-count : goal.invariant-loop-count

@@ -1,6 +1,6 @@
 use Rattle.std.proofs.Common.{◌≡◌, ◌++◌, ◌≤◌, drop, length}
 use Rattle.std.specs.String.{string_bytes}
-use Rattle.dn_netgame.specs.Texts.PacketLines.{command_lines, lines_of}
+use Rattle.dn_netgame.specs.Texts.{command_lines, lines_of}
 use Rattle.dn_netgame.proofs.text.packet.text_of_packet.Given as goal
 
 abbrev pub invariant-loop-index : goal.invariant-loop-index

@@ -3,7 +3,7 @@ use Rattle.std.specs.Option.{option_map}
 use Rattle.dn_lockstep.specs.Contents as lockstep
 use Rattle.dn_lockstep.specs.Sent.{sent_to, bytes_of}
 use Rattle.dn_node.specs.Contents.{contents, with_world}
-use Rattle.dn_node.proofs.{Beside.send_beside, Stepping.{steps_beside, tells}}
+use Rattle.dn_node.proofs.Stepping.{send_beside, steps_beside, tells}
 use Rattle.dn_node.proofs.node.Node.packet.Goals as goal
 
 pub returns-clause-step : goal.returns-clause-step

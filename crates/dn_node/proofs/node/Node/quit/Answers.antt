@@ -2,7 +2,7 @@ use Rattle.std.proofs.Common.{◌≡◌, refl}
 use Rattle.dn_machine.specs.Running.{on_quit}
 use Rattle.dn_lockstep.specs.Contents as lockstep
 use Rattle.dn_node.specs.Contents.{contents, with_world}
-use Rattle.dn_node.proofs.{Beside.quit_beside, Stepping.steps_beside}
+use Rattle.dn_node.proofs.Stepping.{quit_beside, steps_beside}
 use Rattle.dn_node.proofs.node.Node.quit.Goals as goal
 
 pub returns-clause-step : goal.returns-clause-step

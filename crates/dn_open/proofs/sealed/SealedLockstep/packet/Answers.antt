@@ -2,8 +2,8 @@ use Rattle.std.proofs.Common.{ap, sym}
 use Rattle.dn_lockstep.specs.{Contents.contents, Giving.aim_in}
 use Rattle.dn_lockstep.proofs.{After.steps, Giving.some_given}
 use Rattle.dn_seal.specs.Sealing.{sealing}
-use Rattle.dn_open.specs.{Locked.seal_of, Sealed.envelope_of}
-use Rattle.dn_open.proofs.Giving.{gives_none, gives_some}
+use Rattle.dn_open.specs.{Sealed.seal_of, Sealed.envelope_of}
+use Rattle.dn_open.proofs.Sealables.{gives_none, gives_some}
 use Rattle.dn_open.proofs.sealed.SealedLockstep.packet.Goals as goal
 
 pub returns-in_default-clause-step : goal.returns-in_default-clause-step

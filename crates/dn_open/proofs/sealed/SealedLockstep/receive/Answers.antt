@@ -1,7 +1,7 @@
 use Rattle.std.proofs.Common.{arith}
 use Rattle.dn_lockstep.specs.Contents.{contents}
 use Rattle.dn_seal.specs.Sealing.{sealing}
-use Rattle.dn_open.specs.Locked.{locked}
+use Rattle.dn_open.specs.Sealed.{locked}
 use Rattle.dn_open.proofs.Receiving.{typed_by, unopened, hears_sealed}
 use Rattle.dn_open.proofs.sealed.SealedLockstep.receive.Goals as goal
 

@@ -1,5 +1,5 @@
 -- What the tests of a node say, and what they need.
-use Rattle.dn_remain.proofs.{Vanished.Tests.heard_from, Vanished.Undecided.can}
+use Rattle.dn_remain.proofs.{Vanished.Tests.heard_from, Vanished.Tests.can}
 use Rattle.dn_remain.proofs.vanish.calls.tests_are_exact.Goals as goal
 
 pub returns-clause-suffices : goal.returns-clause-suffices

@@ -1,5 +1,5 @@
 -- The last commands are enough.
-use Rattle.dn_remain.proofs.Vanished.Catching.{ready_told, ready_all}
+use Rattle.dn_remain.proofs.Vanished.Lists.{ready_told, ready_all}
 use Rattle.dn_remain.proofs.vanish.commands.last_commands_suffice.Goals as goal
 
 pub returns-clause-told : goal.returns-clause-told

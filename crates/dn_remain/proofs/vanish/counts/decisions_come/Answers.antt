@@ -3,7 +3,7 @@ use Rattle.std.proofs.Common.{◌≡◌, ℕ, ◌<◌, sym, ◌∙◌, ap, List,
 use Rattle.std.specs.Prelude.{true, false, Option, Some}
 use Rattle.std.proofs.lemmas.Bool.{leb-false}
 use Rattle.dn_machine.specs.{Running.is_over, Node.put}
-use Rattle.dn_remain.specs.{Vanished.Node.Node, Vanished.Node.ran, Vanished.Reports.HasHeard, Vanished.Reports.decided, Vanished.Steps.Decide, Vanished.Steps.Step}
+use Rattle.dn_remain.specs.{Vanished.Node.Node, Vanished.Node.ran, Vanished.Node.HasHeard, Vanished.Node.decided, Vanished.Steps.Decide, Vanished.Steps.Step}
 use Rattle.dn_remain.proofs.{Vanished.Invariant.IsKept, Vanished.Deciding.got_in, Vanished.Deciding.ends_in, Vanished.Always.always}
 use Rattle.dn_machine.proofs.Put.{put_at}
 use Rattle.dn_remain.proofs.vanish.counts.decisions_come.Goals as goal

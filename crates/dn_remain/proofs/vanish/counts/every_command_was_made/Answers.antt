@@ -1,5 +1,5 @@
 -- Commands are made one by one.
-use Rattle.dn_remain.proofs.Vanished.Making.{made}
+use Rattle.dn_remain.proofs.Vanished.Windows.{made}
 use Rattle.dn_remain.proofs.vanish.counts.every_command_was_made.Goals as goal
 
 pub returns : goal.returns

@@ -3,7 +3,7 @@ use Rattle.std.specs.Global.{Vec}
 use Rattle.dn_machine.specs.Worlds.{rules_within}
 use Rattle.dn_remain_game.specs.{Events.asks_room, Events.refused_remain, Contents.contents, Room.LacksRoom, declared.under_way.Telling.Telling}
 use Rattle.dn_remain_game.proofs.{Answering.carries, Applying.after_event, Applying.after_refused, Applying.on_err, Applying.own_done, Applying.own_left, Applying.told_so, Rest.others_by, Rest.done_takes, Rest.kept_room}
-use Rattle.dn_remain_game.proofs.{Rest.refused_takes, Rest.taken_by, ReportsTold.refused_tells, ReportsTold.told_by, Surviving.asked_by, Surviving.refused_asks}
+use Rattle.dn_remain_game.proofs.{Rest.refused_takes, Rest.taken_by, Reporting.refused_tells, Reporting.told_by, Surviving.asked_by, Surviving.refused_asks}
 use Rattle.dn_remain_game.proofs.game.Game.apply.Goals as goal
 
 pub returns-in-Some-clause-applied : goal.returns-in-Some-clause-applied

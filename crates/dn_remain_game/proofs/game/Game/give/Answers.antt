@@ -1,7 +1,8 @@
 use Rattle.std.proofs.Common.{refl}
-use Rattle.dn_machine.specs.{declared.events.Done.Done, Building.on_build}
+use Rattle.dn_machine.specs.declared.events.Done.{Done}
+use Rattle.dn_machine.specs.Sending.{on_build}
 use Rattle.dn_tic.specs.declared.input.Input.TheVariants.{Given}
-use Rattle.dn_remain_game.proofs.{Rest.rest_by, NodeSteps.goes_on}
+use Rattle.dn_remain_game.proofs.{Rest.rest_by, Applying.goes_on}
 use Rattle.dn_remain_game.proofs.game.Game.give.Goals as goal
 
 pub returns-clause-steps : goal.returns-clause-steps

@@ -1,7 +1,7 @@
 -- A node of a game gives up a player.
 use Rattle.std.proofs.Common.{◌≡◌, ◌≢◌, ◌<◌, ◌≤◌, ℕ, false, List, length, Result, set, ap, subst, arith, refl}
 use Rattle.std.specs.Prelude.{slice_index_or}
-use Rattle.dn_remain_game.proofs.{Keeping.window_of, Answering.plays_leads, Narrowing.narrowed, Keeping.keep_others, Standing.node_at, Standing.places_wary, Rest.rest_by_giving, Surviving.gives_up_at}
+use Rattle.dn_remain_game.proofs.{Stepping.window_of, Answering.plays_leads, Giving.narrowed, Stepping.keep_others, Standing.node_at, Standing.places_wary, Rest.rest_by_giving, Surviving.gives_up_at}
 use Rattle.dn_setup.specs.Settings.{Settings}
 use Rattle.dn_world.specs.Physics.{Physics}
 use Rattle.dn_machine.specs.{Limits.Limits, declared.events.Refusal.Refusal, Worlds.Rules, Worlds.rules_within}

@@ -5,9 +5,10 @@ use Rattle.dn_setup.specs.Settings.{Settings}
 use Rattle.dn_machine.specs.{Game.opening_game, Worlds.Rules}
 use Rattle.dn_remain.specs.Remaining.{opening_remaining}
 use Rattle.dn_survivor.specs.OneGame.{AreTelling}
-use Rattle.dn_game.specs.{declared.flight.Flight.Flight, Represents.IsVanilla}
-use Rattle.dn_remain_game.specs.{declared.lived.Lived.Lived, declared.under_way.Telling.Telling, Fresh.AreFresh}
-use Rattle.dn_remain_game.specs.Represents as represents
+use Rattle.dn_game.specs.declared.flight.Flight.{Flight}
+use Rattle.dn_game.specs.Contents.{IsVanilla}
+use Rattle.dn_remain_game.specs.{declared.lived.Lived.Lived, declared.under_way.Telling.Telling, Contents.AreFresh}
+use Rattle.dn_remain_game.specs.Applied as represents
 use Rattle.dn_remain_game.proofs.game.Game.new.Goals as goal
 
 nobody : (i : ℕ) → slice_index_or (false ∷ false ∷ false ∷ false ∷ []) i false ≡ false

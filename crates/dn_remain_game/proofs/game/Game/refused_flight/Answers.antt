@@ -1,10 +1,11 @@
 use Rattle.std.proofs.Common.{ap, ◌∙◌, ◌<◌, length, rules, arith}
 use Rattle.dn_machine.specs.Worlds.{rules_within}
-use Rattle.dn_lockstep.specs.{Contents.Contents, Rings.count_of}
+use Rattle.dn_lockstep.specs.Contents.{Contents}
+use Rattle.dn_lockstep.specs.Tables.{count_of}
 use Rattle.dn_survivor.specs.Surviving.{Surviving}
 use Rattle.dn_game.specs.declared.flight.Flight.{Flight}
 use Rattle.dn_remain_game.specs.Contents.{contents}
-use Rattle.dn_remain_game.proofs.{Refusing.told_far, Refusing.told_near, Standing.receiver_below}
+use Rattle.dn_remain_game.proofs.{Standing.told_far, Standing.told_near, Standing.receiver_below}
 use Rattle.dn_remain_game.proofs.game.Game.refused_flight.Goals as goal
 
 pub index-requires : goal.index-requires

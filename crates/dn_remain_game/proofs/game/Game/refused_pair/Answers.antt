@@ -1,7 +1,7 @@
 use Rattle.std.proofs.Common.{ap, sym, ◌∙◌}
 use Rattle.std.specs.Prelude.{nat_lt}
-use Rattle.dn_game.proofs.Refusing.{refused_send}
-use Rattle.dn_remain_game.proofs.Refusing.{refused_nobody}
+use Rattle.dn_game.proofs.Applying.{refused_send}
+use Rattle.dn_remain_game.proofs.Standing.{refused_nobody}
 use Rattle.dn_remain_game.proofs.game.Game.refused_pair.Goals as goal
 
 pub returns-then-not-is_player-clause-told : goal.returns-then-not-is_player-clause-told

@@ -1,6 +1,6 @@
 use Rattle.std.proofs.Common.{refl}
 use Rattle.dn_machine.specs.{declared.events.Done.Done, Game.own_marks, Running.on_run_but}
-use Rattle.dn_remain_game.proofs.{Rest.rest_by, NodeSteps.goes_on}
+use Rattle.dn_remain_game.proofs.{Rest.rest_by, Applying.goes_on}
 use Rattle.dn_remain_game.proofs.game.Game.run.Goals as goal
 
 pub returns-clause-steps : goal.returns-clause-steps

@@ -1,7 +1,7 @@
 use Rattle.std.proofs.Common.{◌<◌, length, refl, arith}
 use Rattle.dn_machine.specs.Worlds.{rules_within}
 use Rattle.dn_remain_game.specs.Contents.{contents}
-use Rattle.dn_remain_game.proofs.NodeSteps.{stops}
+use Rattle.dn_remain_game.proofs.Applying.{stops}
 use Rattle.dn_remain_game.proofs.game.Game.stop.Goals as goal
 
 pub returns-clause-steps : goal.returns-clause-steps

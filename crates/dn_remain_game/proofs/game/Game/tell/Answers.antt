@@ -3,7 +3,7 @@ use Rattle.std.specs.Prelude.{All}
 use Rattle.std.proofs.lemmas.List.Elements.{All-push}
 use Rattle.dn_machine.specs.Worlds.{rules_within}
 use Rattle.dn_remain_game.specs.{Contents.contents, declared.under_way.Telling.Telling}
-use Rattle.dn_remain_game.proofs.{Reporting.tells_none, Reporting.tells_some, Standing.joins, ReportsTold.tells_nothing, ReportsTold.tells_report}
+use Rattle.dn_remain_game.proofs.{Reporting.tells_none, Reporting.tells_some, Standing.joins, Reporting.tells_nothing, Reporting.tells_report}
 use Rattle.dn_remain_game.proofs.game.Game.tell.Goals as goal
 
 pub returns-in_default-report-clause-told : goal.returns-in_default-report-clause-told

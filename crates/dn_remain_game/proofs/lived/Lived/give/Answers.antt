@@ -1,5 +1,5 @@
 use Rattle.dn_tic.specs.declared.input.Input.TheVariants.{Given}
-use Rattle.dn_survivor.proofs.Lent.{lent_steps}
+use Rattle.dn_survivor.proofs.Steps.{lent_steps}
 use Rattle.dn_remain_game.proofs.Stepping.{builds_alone}
 use Rattle.dn_remain_game.proofs.lived.Lived.give.Goals as goal
 

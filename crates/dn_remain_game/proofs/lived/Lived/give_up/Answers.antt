@@ -1,5 +1,5 @@
 use Rattle.std.proofs.Common.{ℕ, refl, ap, sym, ◌∙◌, subst}
-use Rattle.dn_setup.specs.Starts.{start_of}
+use Rattle.dn_setup.specs.Settings.{start_of}
 use Rattle.dn_lockstep.specs.Rows.{seats_of}
 use Rattle.dn_survivor.specs.Surviving.{Surviving, surviving}
 use Rattle.dn_remain_game.specs.Living.{living}

@@ -9,11 +9,11 @@ use Rattle.dn_world.specs.Physics.{Physics}
 use Rattle.dn_machine.specs.{Flight.Flight, Limits.Limits, Node.Node, Worlds.rules_within}
 use Rattle.dn_lockstep.specs.{declared.lockstep.aiming.Aim.Aim, Sent.sent_to, Sent.aim_of, Sent.bytes_of, Contents.Contents, Steps.Tells}
 use Rattle.dn_lockstep.proofs.Giving.{no_flight, some_flight}
-use Rattle.dn_survivor.specs.{OfOthers.Keeping.has, Calls.sent_unless, Surviving.surviving}
+use Rattle.dn_survivor.specs.{OfOthers.has, Calls.sent_unless, Surviving.surviving}
 use Rattle.dn_remain.specs.Wary.{Wary}
 use Rattle.dn_survivor.proofs.Steps.{stepped}
 use Rattle.dn_remain_game.specs.Living.{IsAfter, IsGiven, Living, Represents, on_node, living}
-use Rattle.dn_remain_game.proofs.{Beside.IsBeside, Beside.send_beside, Beside.stays, Keeping.keeps, Beside.beside}
+use Rattle.dn_remain_game.proofs.{Stepping.IsBeside, Stepping.send_beside, Stepping.stays, Stepping.keeps, Stepping.beside}
 use Rattle.dn_lockstep.specs.Steps as lockstep
 use Rattle.dn_remain_game.proofs.lived.Lived.packet.Goals as goal
 

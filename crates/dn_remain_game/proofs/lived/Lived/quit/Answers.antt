@@ -1,8 +1,8 @@
 use Rattle.std.proofs.Common.{◌≡◌, refl}
 use Rattle.dn_machine.specs.Running.{on_quit}
-use Rattle.dn_survivor.proofs.Lent.{lent_steps}
+use Rattle.dn_survivor.proofs.Steps.{lent_steps}
 use Rattle.dn_remain_game.specs.Living.{living}
-use Rattle.dn_remain_game.proofs.{Beside.quit_beside, Stepping.steps_alone, Stepping.with_lockstep}
+use Rattle.dn_remain_game.proofs.{Stepping.quit_beside, Stepping.steps_alone, Stepping.with_lockstep}
 use Rattle.dn_remain_game.proofs.lived.Lived.quit.Goals as goal
 
 pub returns-clause-step : goal.returns-clause-step

@@ -1,7 +1,7 @@
 -- A node that hears a packet starts and begins its world, or leaves its world as it is.
 use Rattle.std.proofs.Common.{◌≡◌, ◌≢◌, ℕ, true, false, List, Some, None, ap, sym, ◌∙◌, subst, refl}
 use Rattle.std.specs.Prelude.{Ok}
-use Rattle.dn_setup.specs.{Settings.Settings, Starts.start_of}
+use Rattle.dn_setup.specs.Settings.{Settings, start_of}
 use Rattle.dn_world.specs.Physics.{Physics}
 use Rattle.dn_machine.specs.{declared.answers.Heard.Heard, Hearing.on_packet, Limits.Limits, Node.Node, Node.made, Node.ran, Worlds.rules_within}
 use Rattle.dn_lockstep.specs.{Phases.is_waiting, Received.flight_from, Rows.seats_of, Contents.whose}
@@ -10,7 +10,7 @@ use Rattle.dn_remain.specs.Wary.{Wary}
 use Rattle.dn_survivor.specs.Surviving.{Surviving, surviving}
 use Rattle.dn_survivor.proofs.Steps.{stepped}
 use Rattle.dn_remain_game.specs.Living.{HearsAny, HearsNear, IsAfter, Living, Represents, on_node, living}
-use Rattle.dn_remain_game.proofs.{Beside.Hears, Beside.GoesOn, Beside.Starts, Beside.heard_beside, Beside.is_start, Keeping.keeps, Keeping.keeps_till_start, Beside.begins, Beside.beside, Rest.whose_received}
+use Rattle.dn_remain_game.proofs.{Stepping.Hears, Stepping.GoesOn, Stepping.Starts, Stepping.heard_beside, Stepping.is_start, Stepping.keeps, Stepping.keeps_till_start, Stepping.begins, Stepping.beside, Rest.whose_received}
 use Rattle.dn_remain_game.proofs.{lived.Lived.receive.Given.Over, lived.Lived.receive.Goals.After-begin, lived.Lived.receive.Goals.After-receive-heard}
 use Rattle.dn_lockstep.specs.Hearing as lockstep
 use Rattle.dn_lockstep.specs.Represents as lockstep_to

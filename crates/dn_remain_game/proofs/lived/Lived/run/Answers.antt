@@ -14,12 +14,12 @@ use Rattle.dn_machine.specs.{declared.answers.Phase.Phase, declared.answers.Phas
 use Rattle.dn_machine.specs.{declared.answers.Phase.TheVariants.Ended, declared.answers.Ran.Ran, Game.own_world, Game.own_marks, Limits.Limits, Node.Node, Node.lowest, Node.ran, Running.first_off_but, Running.full_at}
 use Rattle.dn_machine.specs.{Running.is_awaited, Running.marks_kept, Running.on_run_but, Running.on_run_but_in, Running.on_run_playing, Running.row_held, Worlds.Rules, Worlds.mark_in, Worlds.rules_within}
 use Rattle.dn_machine.specs.{Worlds.world_after}
-use Rattle.dn_lockstep.specs.Runs.{RunsBy, marks_in, row_told, told_by}
+use Rattle.dn_lockstep.specs.Steps.{RunsBy, marks_in, row_told, told_by}
 use Rattle.dn_lockstep.proofs.{Moving.moved, Running.kept_same}
 use Rattle.dn_remain.specs.Wary.{Wary}
 use Rattle.dn_survivor.specs.Surviving.{has_given_up, surviving}
 use Rattle.dn_remain_game.specs.Living.{IsAfter, Living, Represents, Steps, on_node, living}
-use Rattle.dn_remain_game.proofs.{Beside.IsBeside, Beside.stays, Keeping.keeps, Keeping.keeps_till_run, Beside.beside}
+use Rattle.dn_remain_game.proofs.{Stepping.IsBeside, Stepping.stays, Stepping.keeps, Stepping.keeps_till_run, Stepping.beside}
 use Rattle.dn_machine.specs.declared.answers.Cause.TheVariants as Cause
 use Rattle.dn_survivor.specs.Represents as survivor_to
 use Rattle.dn_survivor.proofs.Steps as survivor

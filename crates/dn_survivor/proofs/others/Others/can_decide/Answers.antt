@@ -1,5 +1,5 @@
 use Rattle.dn_remain.specs.Vanished.Calls.{is_heard}
-use Rattle.dn_survivor.specs.OfOthers.Keeping.{nodes_of, own_of}
+use Rattle.dn_survivor.specs.OfOthers.{nodes_of, own_of}
 use Rattle.dn_survivor.proofs.Lowest.{all_pass}
 use Rattle.dn_survivor.proofs.others.Others.can_decide.Goals as goal
 

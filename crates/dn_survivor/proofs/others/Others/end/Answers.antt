@@ -1,8 +1,8 @@
 use Rattle.std.proofs.Common.{◌≡◌, ℕ, sym, ◌∙◌, refl}
 use Rattle.std.specs.Prelude.{max}
-use Rattle.dn_remain.specs.Vanished.Reports.{highest, share}
-use Rattle.dn_survivor.specs.OfOthers.Keeping.{told_of, own_of}
-use Rattle.dn_survivor.proofs.OfOthers.Largest.{highest_more, no_numbers}
+use Rattle.dn_remain.specs.Vanished.Node.{highest, share}
+use Rattle.dn_survivor.specs.OfOthers.{told_of, own_of}
+use Rattle.dn_survivor.proofs.Lowest.{highest_more, no_numbers}
 use Rattle.dn_survivor.proofs.others.Others.end.Goals as goal
 
 pub loop-teller-init : goal.loop-teller-init

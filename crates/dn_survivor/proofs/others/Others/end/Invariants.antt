@@ -1,6 +1,6 @@
 use Rattle.std.proofs.Common.{◌≡◌}
-use Rattle.dn_remain.specs.Vanished.Reports.{highest, share}
-use Rattle.dn_survivor.specs.OfOthers.Keeping.{told_of, own_of}
+use Rattle.dn_remain.specs.Vanished.Node.{highest, share}
+use Rattle.dn_survivor.specs.OfOthers.{told_of, own_of}
 use Rattle.dn_survivor.proofs.others.Others.end.Given as goal
 
 abbrev pub invariant-loop-teller : goal.invariant-loop-teller

@@ -1,6 +1,6 @@
 use Rattle.std.proofs.Common.{◌≡◌, ℕ, sym, ◌∙◌, refl, arith, inl, inr}
-use Rattle.dn_survivor.specs.OfOthers.Keeping.{count_by}
-use Rattle.dn_survivor.proofs.{OfOthers.Largest.largest_of_both, OfOthers.Largest.no_largest, others.Others.teller.Goals.then-share, others.Others.teller.Goals.else-share}
+use Rattle.dn_survivor.specs.OfOthers.{count_by}
+use Rattle.dn_survivor.proofs.{Lowest.largest_of_both, Lowest.no_largest, others.Others.teller.Goals.then-share, others.Others.teller.Goals.else-share}
 use Rattle.dn_survivor.proofs.others.Others.teller.Goals as goal
 
 pub loop-teller-init : goal.loop-teller-init

@@ -1,5 +1,5 @@
 use Rattle.std.proofs.Common.{◌≡◌, ◌<◌}
-use Rattle.dn_survivor.specs.OfOthers.Keeping.{count_by, largest_at}
+use Rattle.dn_survivor.specs.OfOthers.{count_by, largest_at}
 use Rattle.dn_survivor.proofs.others.Others.teller.Given as goal
 
 abbrev pub invariant-loop-teller : goal.invariant-loop-teller

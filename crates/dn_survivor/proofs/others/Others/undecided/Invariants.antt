@@ -1,7 +1,7 @@
 use Rattle.std.proofs.Common.{◌≡◌, ◌<◌, ℕ}
 use Rattle.std.specs.Prelude.{true}
 use Rattle.dn_remain.specs.Vanished.Calls.{is_heard}
-use Rattle.dn_survivor.specs.OfOthers.Keeping.{nodes_of, own_of}
+use Rattle.dn_survivor.specs.OfOthers.{nodes_of, own_of}
 use Rattle.dn_survivor.proofs.others.Others.undecided.Given as goal
 
 abbrev pub invariant-loop-player : goal.invariant-loop-player

@@ -1,5 +1,5 @@
 use Rattle.std.proofs.Common.{◌≡◌, length}
-use Rattle.dn_survivor.specs.OfOthers.Keeping.{last_told}
+use Rattle.dn_survivor.specs.OfOthers.{last_told}
 use Rattle.dn_survivor.proofs.others.ending.last_told.Given as goal
 
 abbrev pub invariant-loop-tail : goal.invariant-loop-tail

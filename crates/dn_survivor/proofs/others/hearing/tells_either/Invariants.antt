@@ -1,5 +1,5 @@
 use Rattle.std.proofs.Common.{◌≡◌, length}
-use Rattle.dn_survivor.specs.OfOthers.Hearing.{tells_either}
+use Rattle.dn_survivor.specs.OfOthers.{tells_either}
 use Rattle.dn_survivor.proofs.others.hearing.tells_either.Given as goal
 
 abbrev pub invariant-loop-tail : goal.invariant-loop-tail

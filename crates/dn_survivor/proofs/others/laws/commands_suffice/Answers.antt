@@ -1,6 +1,6 @@
 use Rattle.std.proofs.Common.{List, sym, subst}
 use Rattle.dn_tic.specs.declared.command.TicCmd.{TicCmd}
-use Rattle.dn_survivor.proofs.OfOthers.Catching.{Suffices, suffices}
+use Rattle.dn_survivor.proofs.OfOthers.{Suffices, suffices}
 use Rattle.dn_survivor.proofs.others.laws.commands_suffice.Goals as goal
 
 pub returns : goal.returns

@@ -1,5 +1,5 @@
 use Rattle.std.proofs.Common.{refl}
-use Rattle.dn_survivor.proofs.OfOthers.Agreeing.{ends}
+use Rattle.dn_survivor.proofs.OfOthers.{ends}
 use Rattle.dn_survivor.proofs.others.laws.ends_agree.Goals as goal
 
 pub returns : goal.returns

@@ -4,11 +4,11 @@ use Rattle.std.specs.Prelude.{true, ◌||◌, ◌==◌, if◌then◌else◌, []}
 use Rattle.std.specs.Option.{option_map}
 use Rattle.std.proofs.lemmas.List.{get_or-set_other}
 use Rattle.dn_machine.proofs.Put.{same_functions}
-use Rattle.dn_survivor.specs.{declared.report.Report.Report, declared.others.Others.Others, OfOthers.Keeping.commands_of, OfOthers.Keeping.first_of, OfOthers.Keeping.has, OfOthers.Keeping.largest_at}
-use Rattle.dn_survivor.specs.{OfOthers.Keeping.last_by, OfOthers.Keeping.last_in, OfOthers.Keeping.newest_of, OfOthers.Keeping.node_of, OfOthers.Keeping.nodes_of, OfOthers.Keeping.own_of, OfOthers.Keeping.teller_of}
-use Rattle.dn_survivor.specs.{OfOthers.Keeping.told_of}
-use Rattle.dn_remain.specs.{Vanished.Calls.every, Vanished.Calls.is_heard, Vanished.Calls.is_report_in, Vanished.Calls.can_decide, Vanished.Calls.report_or, Vanished.Reports.highest, Vanished.Reports.share}
-use Rattle.dn_remain.specs.{Vanished.Reports.decided_end}
+use Rattle.dn_survivor.specs.{declared.report.Report.Report, declared.others.Others.Others, OfOthers.commands_of, OfOthers.first_of, OfOthers.has, OfOthers.largest_at}
+use Rattle.dn_survivor.specs.{OfOthers.last_by, OfOthers.last_in, OfOthers.newest_of, OfOthers.node_of, OfOthers.nodes_of, OfOthers.own_of, OfOthers.teller_of}
+use Rattle.dn_survivor.specs.{OfOthers.told_of}
+use Rattle.dn_remain.specs.{Vanished.Calls.every, Vanished.Calls.is_heard, Vanished.Calls.is_report_in, Vanished.Calls.can_decide, Vanished.Calls.report_or, Vanished.Node.highest, Vanished.Node.share}
+use Rattle.dn_remain.specs.{Vanished.Node.decided_end}
 use Rattle.dn_survivor.proofs.others.laws.lies_are_undone.Goals as goal
 
 -- the same reports are missing, and a player has the same end and the same commands

@@ -1,6 +1,6 @@
 use Rattle.std.proofs.Common.{◌≡◌, ◌++◌, ◌∷◌, [], ℕ, length, ap, ◌∙◌, arith}
-use Rattle.dn_survivor.specs.{ReportBytes.Text.first_byte, ReportBytes.Text.tail_bytes, declared.report.Tail.Tail}
-use Rattle.dn_survivor.proofs.ReportBytes.Tails.{one_more}
+use Rattle.dn_survivor.specs.{ReportBytes.first_byte, ReportBytes.tail_bytes, declared.report.Tail.Tail}
+use Rattle.dn_survivor.proofs.ReportBytes.{one_more}
 use Rattle.dn_survivor.proofs.report.Report.bytes.Goals as goal
 
 pub loop-tail-init : goal.loop-tail-init

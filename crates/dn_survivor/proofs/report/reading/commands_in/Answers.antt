@@ -2,7 +2,7 @@ use Rattle.std.proofs.Common.{rules, ◌≡◌, ◌++◌, ◌∷◌, ◌∙◌, 
 use Rattle.std.proofs.lemmas.List.{length_push, length-append}
 use Rattle.std.proofs.lemmas.List.Elements.{All-push}
 use Rattle.dn_tic.specs.{Command.command_bytes, Command.IsCommand, declared.command.TicCmd.TicCmd}
-use Rattle.dn_survivor.proofs.ReportBytes.Tails.{one_read}
+use Rattle.dn_survivor.proofs.ReportBytes.{one_read}
 use Rattle.dn_survivor.proofs.report.reading.commands_in.Goals as goal
 
 pub loop-command-preserved : goal.loop-command-preserved

@@ -4,9 +4,9 @@ use Rattle.std.specs.Prelude.{Bool, ◌==◌}
 use Rattle.std.specs.List.{flat_map}
 use Rattle.std.proofs.lemmas.Bool.{eq-eqb, ne_eqb}
 use Rattle.std.proofs.lemmas.List.{take_rest}
-use Rattle.dn_survivor.specs.{declared.report.ReportFault.ReportFault, declared.report.ReportFault.TheVariants.Bits, declared.report.Tail.Tail, ReportBytes.Text.bit, ReportBytes.Text.number_of}
-use Rattle.dn_survivor.specs.{ReportBytes.Text.tail_bytes, ReportBytes.Text.AreTold, ReportBytes.Read.free_bits, ReportBytes.Read.HasFault, ReportBytes.Read.IsReadAs}
-use Rattle.dn_survivor.proofs.ReportBytes.Once.{one_reading}
+use Rattle.dn_survivor.specs.{declared.report.ReportFault.ReportFault, declared.report.ReportFault.TheVariants.Bits, declared.report.Tail.Tail, ReportBytes.bit, ReportBytes.number_of}
+use Rattle.dn_survivor.specs.{ReportBytes.tail_bytes, ReportBytes.AreTold, ReportBytes.free_bits, ReportBytes.HasFault, ReportBytes.IsReadAs}
+use Rattle.dn_survivor.proofs.ReportBytes.{one_reading}
 use Rattle.dn_survivor.proofs.report.reading.decode.Goals as goal
 
 fault_read : (bytes : List ℕ) (f : ReportFault) → 1 ≤ length bytes → free_bits bytes ≡ 0

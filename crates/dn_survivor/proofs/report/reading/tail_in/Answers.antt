@@ -1,8 +1,8 @@
 use Rattle.std.proofs.Common.{◌≡◌, ◌+◌, ◌-◌, ◌*◌, ℕ, refl, sym, ◌∙◌, arith, ap, take, drop}
 use Rattle.std.specs.List.{flat_map}
 use Rattle.dn_tic.specs.Command.{command_bytes}
-use Rattle.dn_survivor.specs.ReportBytes.Read.{told_number, IsFirst}
-use Rattle.dn_survivor.proofs.ReportBytes.Tails.{assembled}
+use Rattle.dn_survivor.specs.ReportBytes.{told_number, IsFirst}
+use Rattle.dn_survivor.proofs.ReportBytes.{assembled}
 use Rattle.dn_survivor.proofs.report.reading.tail_in.Goals as goal
 
 pub returns-clause-told : goal.returns-clause-told

@@ -3,9 +3,9 @@ use Rattle.std.proofs.Common.{◌≡◌, ◌≢◌, ◌≤◌, ℕ, suc, List, [
 use Rattle.std.proofs.lemmas.List.{length_push, take_rest, length-drop, nil_from_length}
 use Rattle.std.proofs.lemmas.List.Elements.{All-nil, All-push}
 use Rattle.std.specs.List.{flat_map}
-use Rattle.dn_survivor.specs.{declared.report.Tail.Tail, ReportBytes.Text.AreInOrder, ReportBytes.Text.AreTold, ReportBytes.Text.IsTail, ReportBytes.Read.next_after, ReportBytes.Text.tail_bytes, ReportBytes.Read.fault_at}
-use Rattle.dn_survivor.specs.{ReportBytes.Read.told_number}
-use Rattle.dn_survivor.proofs.ReportBytes.Tails.{one_read}
+use Rattle.dn_survivor.specs.{declared.report.Tail.Tail, ReportBytes.AreInOrder, ReportBytes.AreTold, ReportBytes.IsTail, ReportBytes.next_after, ReportBytes.tail_bytes, ReportBytes.fault_at}
+use Rattle.dn_survivor.specs.{ReportBytes.told_number}
+use Rattle.dn_survivor.proofs.ReportBytes.{one_read}
 use Rattle.dn_survivor.proofs.report.reading.tails_in.Goals as goal
 
 -- nobody is told

@@ -1,6 +1,6 @@
 use Rattle.std.proofs.Common.{◌≡◌, ◌++◌, length}
 use Rattle.std.specs.List.{flat_map}
-use Rattle.dn_survivor.specs.{ReportBytes.Text.tail_bytes, ReportBytes.Text.AreTold, ReportBytes.Read.next_after}
+use Rattle.dn_survivor.specs.{ReportBytes.tail_bytes, ReportBytes.AreTold, ReportBytes.next_after}
 use Rattle.dn_survivor.proofs.report.reading.tails_in.Given as goal
 
 abbrev pub invariant-loop-rest : goal.invariant-loop-rest

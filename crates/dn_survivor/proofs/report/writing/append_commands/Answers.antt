@@ -1,6 +1,6 @@
 use Rattle.std.proofs.Common.{◌++◌, ℕ, List, length, ap, sym, ◌∙◌, arith, length-append, append-nil}
 use Rattle.dn_tic.specs.Command.{command_bytes}
-use Rattle.dn_survivor.proofs.ReportBytes.Tails.{one_more}
+use Rattle.dn_survivor.proofs.ReportBytes.{one_more}
 use Rattle.dn_survivor.proofs.report.writing.append_commands.Goals as goal
 
 pub loop-command-init : goal.loop-command-init

@@ -5,7 +5,7 @@ use Rattle.dn_machine.specs.Node as machine
 use Rattle.dn_lockstep.specs.{Contents.contents, Steps.IsAfter}
 use Rattle.dn_lockstep.proofs.After.{steps}
 use Rattle.dn_remain.specs.Vanished.Calls.{can_decide}
-use Rattle.dn_survivor.specs.{OfOthers.Keeping.nodes_of, OfOthers.Keeping.own_of, Ending.decided_by, Ending.settled_below, declared.answers.Ends.Ends}
+use Rattle.dn_survivor.specs.{OfOthers.nodes_of, OfOthers.own_of, Calls.decided_by, Calls.settled_below, declared.answers.Ends.Ends}
 use Rattle.dn_survivor.proofs.survivor.Survivor.decide.Goals as goal
 
 pub returns-then-can_decide-clause-step : goal.returns-then-can_decide-clause-step

@@ -3,7 +3,7 @@ use Rattle.std.specs.Prelude.{true, false}
 use Rattle.std.proofs.lemmas.Option.{none-some}
 use Rattle.dn_lockstep.specs.{Settling.is_no_peer, Steps.Steps}
 use Rattle.dn_lockstep.proofs.After.{steps}
-use Rattle.dn_survivor.specs.{declared.others.Others.Others, OfOthers.Hearing.reported_as, Calls.HearsReportUnless, Calls.reported_by, Calls.refused_report, Calls.unkept, Ending.decided_by}
+use Rattle.dn_survivor.specs.{declared.others.Others.Others, OfOthers.reported_as, Calls.HearsReportUnless, Calls.reported_by, Calls.refused_report, Calls.unkept, Calls.decided_by}
 use Rattle.dn_survivor.specs.{Surviving.surviving, declared.answers.Reported.Reported}
 use Rattle.dn_remain.specs.Wary.{is_in_game}
 use Rattle.dn_survivor.specs.declared.others.hearing.Reported as noted

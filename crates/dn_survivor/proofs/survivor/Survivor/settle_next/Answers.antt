@@ -1,6 +1,6 @@
 use Rattle.std.proofs.Common.{◌≡◌, ◌∙◌, sym, ap, refl}
 use Rattle.dn_lockstep.proofs.After.{after, steps}
-use Rattle.dn_survivor.specs.Ending.{ends_with, settled_by, settled_with}
+use Rattle.dn_survivor.specs.Calls.{ends_with, settled_by, settled_with}
 use Rattle.dn_survivor.proofs.survivor.Survivor.settle_next.Goals as goal
 
 pub returns-then-not-has_given_up-clause-step : goal.returns-then-not-has_given_up-clause-step

@@ -1,6 +1,6 @@
 use Rattle.std.proofs.Common.{rules, ◌≡◌, length, ap, arith}
 use Rattle.std.specs.Prelude.{◌-◌, min}
-use Rattle.dn_survivor.specs.ReportBytes.Text.{IsTail}
+use Rattle.dn_survivor.specs.ReportBytes.{IsTail}
 use Rattle.dn_lockstep.specs.{Contents.contents, Told.command_told}
 use Rattle.dn_survivor.proofs.Lists.{all_one, picks_few}
 use Rattle.dn_survivor.proofs.survivor.Survivor.tail.Goals as goal

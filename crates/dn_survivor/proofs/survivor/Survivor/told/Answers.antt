@@ -3,7 +3,7 @@ use Rattle.std.specs.Prelude.{Option}
 use Rattle.std.specs.List.{filter_map, range_with_len}
 use Rattle.std.specs.Option.{option_to_list}
 use Rattle.std.proofs.lemmas.List.{length-append}
-use Rattle.dn_survivor.specs.{declared.report.Tail.Tail, ReportBytes.Text.IsTail, Telling.told_in}
+use Rattle.dn_survivor.specs.{declared.report.Tail.Tail, ReportBytes.IsTail, Telling.told_in}
 use Rattle.dn_lockstep.specs.Contents.{contents}
 use Rattle.dn_survivor.proofs.{Lists.all_more, Lists.picks_more, Reports.are_told, Reports.few_tails}
 use Rattle.dn_survivor.proofs.survivor.Survivor.told.Goals as goal

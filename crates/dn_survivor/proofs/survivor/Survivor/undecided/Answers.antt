@@ -2,7 +2,7 @@ use Rattle.std.proofs.Common.{◌∙◌}
 use Rattle.std.specs.Prelude.{not}
 use Rattle.dn_machine.specs.Node.{lowest}
 use Rattle.dn_remain.specs.Vanished.Calls.{is_heard}
-use Rattle.dn_survivor.specs.OfOthers.Keeping.{nodes_of, own_of}
+use Rattle.dn_survivor.specs.OfOthers.{nodes_of, own_of}
 use Rattle.dn_survivor.proofs.Lowest.{first_fails}
 use Rattle.dn_survivor.proofs.survivor.Survivor.undecided.Goals as goal
 

@@ -1,6 +1,6 @@
 use Rattle.std.proofs.Common.{◌∙◌, arith}
 use Rattle.dn_world.specs.Plane.{spot_at}
-use Rattle.dn_world.proofs.{Seated.{there, absent, beyond}, walk.Walk.spot.Goals.{else-player-lt4-via-then-player-lt4+else-self-player, else-player-lt4-via-else-player-lt4}}
+use Rattle.dn_world.proofs.{Steps.{there, absent, beyond}, walk.Walk.spot.Goals.{else-player-lt4-via-then-player-lt4+else-self-player, else-player-lt4-via-else-player-lt4}}
 use Rattle.dn_world.proofs.walk.Walk.spot.Goals as goal
 
 pub returns-then-self-player-clause-value : goal.returns-then-self-player-clause-value

@@ -1,8 +1,0 @@
-use Rattle.dn_survivor.proofs.ReportBytes.Lengths.{longest, report_length}
-use Rattle.dn_survivor.proofs.report.laws.report_lengths.Goals as goal
-
-pub returns-clause-most : goal.returns-clause-most
-returns-clause-most c = longest
-
-pub returns-clause-by_window : goal.returns-clause-by_window
-returns-clause-by_window c = report_length
