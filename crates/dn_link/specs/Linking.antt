@@ -1,4 +1,5 @@
 -- What a link is, with what is kept for a peer.
+use Rattle.dn_lockstep.specs.declared.config.Config.{Config}
 use Rattle.std.specs.Prelude.{ℕ, List, [], ◌∷◌, false}
 use Rattle.dn_seal.specs.declared.seal.Seal.{Seal}
 use Rattle.dn_seal.specs.Sealing.{sealing}
@@ -54,3 +55,14 @@ seal_of link = (sealing link.sealer).seal
 
 abbrev pub identity_of : Link → Identity
 identity_of link = link.identity
+
+-- what a link of this configuration has in common with the others
+abbrev pub identity_for : Config → ℕ → List ℕ → Identity
+identity_for config ahead host =
+    record {
+      players = config.players;
+      extra = config.extra;
+      ahead = ahead;
+      limit = config.limit;
+      host = host;
+    }

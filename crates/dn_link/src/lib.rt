@@ -44,7 +44,8 @@ pub use presence::Presence;
 pub use reading::open_bundle;
 pub use received::Received;
 pub use remaining::{
-    remaining_bytes_are_genuine, remaining_links_agree, remaining_links_go_on, remaining_links_open,
+    remaining_bytes_are_genuine, remaining_links_agree, remaining_links_go_on,
+    remaining_links_open, remaining_links_start,
 };
 pub use tally::Figures;
 pub use writing::seal_bundle;

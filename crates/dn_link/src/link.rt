@@ -25,6 +25,7 @@ use crate::peer::Peer;
 use dn_lockstep::{Config, Lockstep, NodeFault};
 use dn_machine::Made;
 use dn_seal::{Seal, Sealer};
+use dn_setup::Settings;
 use dn_survivor::Survivor;
 use dn_tic::{Command, Input, Keys};
 use std::alloc::Global;
@@ -44,6 +45,8 @@ pub struct Link {
 }
 
 impl Link {
+    ghost use Rattle.dn_machine.specs.Started.{started_node};
+    ghost use Rattle.dn_lockstep.specs.Opening.{keyed};
     ghost use Rattle.std.specs.Prelude.{ℕ, ◌<◌, ◌+◌, false, None, Some, IfOk, Ok};
     ghost use Rattle.dn_tic.specs.declared.input.Input.TheVariants.{Pressed, Given};
     ghost use Rattle.dn_machine.specs.Sending.{on_build};
@@ -52,7 +55,7 @@ impl Link {
     ghost use Rattle.dn_lockstep.specs.{Steps.Steps, Contents.whose, Opening.IsAdmittedWithin, Opening.limits_within, Opening.whose_within, Represents.Represents};
     ghost use Rattle.dn_setup.specs.Settings.{Settings as Choice};
     ghost use Rattle.dn_survivor.specs.OfOthers.{nothing_kept};
-    ghost use Rattle.dn_link.specs.{Linking.identity_of, Linking.linked, Linking.new_peer, Linking.seal_of, Pace.after_input, Pacing.new_pace, Pacing.pace_of};
+    ghost use Rattle.dn_link.specs.{Linking.identity_for, Linking.identity_of, Linking.linked, Linking.new_peer, Linking.seal_of, Pace.after_input, Pacing.new_pace, Pacing.pace_of};
     ghost use Rattle.dn_machine.specs.declared.answers.Made.TheVariants as made;
 
     /// A link with no history, of a game with this seal, and in a window of this width. What the host adds to
@@ -72,33 +75,70 @@ impl Link {
         ensures others { IfOk result (λ link. (linked link).others ≡ nothing_kept) }
         ensures peers { IfOk result (λ link. (player : ℕ) → (linked link).peers player ≡ new_peer) }
         ensures pace { IfOk result (λ link. pace_of link ≡ new_pace) }
-        ensures identity { IfOk result (λ link. identity_of link ≡ record {
-          players = config.players;
-          extra = config.extra;
-          ahead = ahead;
-          limit = config.limit;
-          host = host;
-        }) }
+        ensures identity { IfOk result (λ link. identity_of link ≡ identity_for config ahead host) }
         ensures seal { IfOk result (λ link. seal_of link ≡ seal) }
     {
-        let identity = Identity {
+        let identity = Link::identity_for(&config, ahead, host);
+        let survivor = Survivor::new(alloc, config, ahead)?;
+        Ok(Link::around(survivor, identity, seal))
+    }
+
+    /// A link that plays from the beginning on, in a window of this width. Who is in the game was agreed on
+    /// elsewhere: there each player was given these settings, and this seal, whose game nobody else plays. Those of
+    /// the configuration do not count. It says no hello.
+    pub fn started(
+        alloc: Global,
+        config: Config,
+        settings: Settings,
+        ahead: u8,
+        seal: Seal,
+    ) -> Result<Link, NodeFault>
+        ensures admitted { IsAdmittedWithin (keyed config settings) ahead result }
+        ensures opened { IfOk result (λ link. Represents (limits_within config ahead) config.me (linked link).node
+            (started_node config.players settings config.me)) }
+        ensures whose { IfOk result (λ link. whose (linked link).node ≡ whose_within config ahead) }
+        ensures others { IfOk result (λ link. (linked link).others ≡ nothing_kept) }
+        ensures peers { IfOk result (λ link. (player : ℕ) → (linked link).peers player ≡ new_peer) }
+        ensures pace { IfOk result (λ link. pace_of link ≡ new_pace) }
+        ensures seal { IfOk result (λ link. seal_of link ≡ seal) }
+    {
+        let identity = Link::identity_for(&config, ahead, [0; 16]);
+        let survivor = Survivor::started(alloc, config, settings, ahead)?;
+        Ok(Link::around(survivor, identity, seal))
+    }
+
+    /// What all players of a game have in common, as they say hello with it.
+    fn identity_for(config: &Config, ahead: u8, host: [u8; 16]) -> Identity
+        ensures { result ≡ identity_for config.now ahead host }
+    {
+        Identity {
             players: config.players,
             extra: config.extra,
             ahead,
             limit: config.limit,
             host,
-        };
-        let survivor = Survivor::new(alloc, config, ahead)?;
+        }
+    }
+
+    /// A link around a survivor, that has kept and heard nothing.
+    fn around(survivor: Survivor, identity: Identity, seal: Seal) -> Link
+        ensures node { (linked result).node ≡ (surviving survivor).lockstep }
+        ensures others { (linked result).others ≡ (surviving survivor).others }
+        ensures peers { (player : ℕ) → (linked result).peers player ≡ new_peer }
+        ensures pace { pace_of result ≡ new_pace }
+        ensures identity { identity_of result ≡ identity }
+        ensures seal { seal_of result ≡ seal }
+    {
         let sealer = Sealer::of(seal, survivor.lockstep().me());
         let overdue = Overdue::new(survivor.lockstep().me());
-        Ok(Link {
+        Link {
             survivor,
             sealer,
             identity,
             peers: [Peer::new(), Peer::new(), Peer::new(), Peer::new()],
             pace: Pace::new(),
             overdue,
-        })
+        }
     }
 
     /// The lockstep, for its readers.

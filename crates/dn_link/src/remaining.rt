@@ -1,5 +1,9 @@
 //! What holds of links of which players may be given up.
 
+ghost use Rattle.dn_setup.specs.Settings.{IsSettings};
+ghost use Rattle.dn_machine.specs.Started.{started_node};
+ghost use Rattle.dn_lockstep.specs.Opening.{IsGame};
+ghost use Rattle.dn_survivor.specs.OneGame.{started_session};
 ghost use Rattle.std.specs.Prelude.{◌≡◌, ◌<◌, ◌≤◌, ℕ, ℤ, pos, Bool, true, false, List, [], get_or, Option, Some, IfSome, Err, slice_get};
 ghost use Rattle.dn_tic.specs.{declared.command.Move.Move, declared.input.Input.Input};
 ghost use Rattle.dn_setup.specs.Settings.{Settings};
@@ -27,7 +31,7 @@ ghost use Rattle.dn_survivor.specs.OneGame.{after_relays};
 ghost use Rattle.dn_link.specs.Relays.{flights_of};
 ghost use Rattle.dn_link.specs.{RemainingLinks.StayRemaining, RemainingLinks.WasSealedIn, Surviving.GivesUpPeer, Text.IsBundle, Text.sealed_bytes};
 
-use dn_survivor::{remaining_game_opens, survivors_agree};
+use dn_survivor::{remaining_game_opens, remaining_game_starts, survivors_agree};
 
 /// New links of the same limits, one for each player, of which player 0's has these settings, are those of one
 /// game in which players may be given up. Each premise is what `Link::new` says of one of them, by its clauses
@@ -44,6 +48,20 @@ pub fn remaining_links_open()
         (opening_session (λ player. surviving_of (links player))) links }
 {
     remaining_game_opens();
+}
+
+/// And so are those that play from the beginning on, as `Link::started` makes them.
+pub fn remaining_links_start()
+    ensures { (marking : Marking) (limits : Limits) (settings : Settings) (links : ℕ → Linked)
+        → IsWindow limits → IsGame limits.players → limits.places ≤ 24 → IsSettings settings
+        → ((player : ℕ) → player < limits.players
+        → Represents limits player (links player).node (started_node limits.players settings player))
+        → ((p : ℕ) → p < limits.players → (links p).others ≡ nothing_kept)
+        → ((player peer : ℕ) → player < limits.players → (links player).peers peer ≡ new_peer)
+        → AreRemainingLinks marking limits settings
+        (started_session limits.players settings (λ player. surviving_of (links player))) links }
+{
+    remaining_game_starts();
 }
 
 /// And so they stay after each call on one of them, whatever bytes come in, as long as what it opens was sealed

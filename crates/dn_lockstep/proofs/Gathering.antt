@@ -1,4 +1,13 @@
 -- What a gathering node makes of a peer that it hears, and of a player who is excused.
+use Rattle.std.proofs.Common.{◌-◌, subst, ap, inl, inr}
+use Rattle.std.proofs.lemmas.Bool.{cases_Bool, ltb-true}
+use Rattle.std.specs.Prelude.{nat_lt}
+use Rattle.dn_machine.specs.Game.{fresh}
+use Rattle.dn_machine.specs.Started.{started_node, heard_by, key_node}
+use Rattle.dn_machine.proofs.Started.{key_first, key_gathers, hears_next}
+use Rattle.dn_lockstep.specs.Opening.{IsGame}
+use Rattle.dn_lockstep.specs.Steps.{Steps, Becomes}
+use Rattle.dn_lockstep.proofs.After.{along}
 use Rattle.std.proofs.Common.{◌≡◌, ◌≢◌, ◌<◌, ℕ, Bool, true, false, refl, sym, ◌∙◌, arith, ◌≤◌, ◌+◌, zero, suc, Some}
 use Rattle.dn_machine.specs.{declared.answers.Heard.Heard, declared.answers.Phase.TheVariants.Gathering}
 use Rattle.dn_machine.specs.{Limits.Limits, Hearing.{on_gathering, started}, Node.put}
@@ -84,3 +93,48 @@ module _ (limits : Limits) (me : ℕ) (n : Contents) (m : machine.Node)
     started_shows settings started_as every known shows =
         let none = all_heard true every in
         grind (arith, after)
+
+-- where each player was given the settings: how player 0 comes to play, by those that it need not wait for
+module _ (limits : Limits) (settings : Settings) where
+  abbrev key : ℕ → machine.Node
+  key others = key_node limits.players settings others
+
+  pub noted_next : (player : ℕ) (n : Contents) → 1 ≤ player → player < n.players → Represents limits 0 n (key (player - 1))
+      → (new : Contents) (IsAnswer : Heard → Type 0) → Steps n new (λ limits me m. on_gathering limits m player) IsAnswer
+      → Represents limits 0 new (key player)
+  noted_next player n some below r new IsAnswer steps =
+      let count : player < limits.players = grind arith in
+      let at : key (player - 1) ≡ record (fresh settings 0) { noted = heard_by (player - 1) } =
+      key_gathers limits settings (player - 1) (omega arith) in
+      let same : player - 1 + 1 ≡ player = omega arith in
+      along (sym (subst (λ (p : ℕ). (on_gathering limits (record (fresh settings 0) { noted = heard_by (player - 1) }) p).0 ≡ key p)
+      same (hears_next limits settings (player - 1) (omega arith))))
+      (steps.step limits 0 (record (fresh settings 0) { noted = heard_by (player - 1) }) (along (sym at) r)).node
+
+  pub plays_on : (player : ℕ) (n : Contents) → 1 ≤ player → (n.phase ≡ Gathering → n.players ≤ player)
+      → Represents limits 0 n (key (player - 1)) → Represents limits 0 n (key player)
+  plays_on player n some off r =
+      elim (cases_Bool (nat_lt (player - 1 + 1) limits.players)) [
+        | inl below ↦
+            let at = key_gathers limits settings (player - 1) (ltb-true (player - 1 + 1) limits.players below) in
+            let past = off (r.stands.phase ∙ ap (λ (m : machine.Node). m.phase) at) in
+            let count = ltb-true (player - 1 + 1) limits.players below in
+            absurd (omega (arith, r.whose.players))
+        | inr last ↦ along (grind arith) r
+      ]
+
+  pub last_noted : (me : ℕ) → IsGame limits.players → (n new : Contents) → n.me ≡ 0
+      → Represents limits me n (fresh settings me)
+      → (Represents limits 0 n (key 0) → Represents limits 0 new (key 3))
+      → Represents limits me new (started_node limits.players settings me)
+  last_noted me few n new first r on =
+      let mine : 0 ≡ me = sym first ∙ r.whose.number in
+      subst (λ (i : ℕ). Represents limits i new (started_node limits.players settings i)) mine
+      (along (grind arith) (on (along (sym (key_first limits settings few.0))
+      (subst (λ (i : ℕ). Represents limits i n (fresh settings i)) (sym mine) r))))
+
+  pub other_starts : (me : ℕ) (n new : Contents) → n.me ≢ 0 → Represents limits me n (fresh settings me)
+      → Becomes n new (λ limits me m. started m settings)
+      → Represents limits me new (started_node limits.players settings me)
+  other_starts me n new other r becomes =
+      along (grind arith) (becomes.step limits me (fresh settings me) r).node

@@ -1,4 +1,14 @@
 -- The locksteps of one game stay those of one game, call by call.
+use Rattle.std.proofs.Common.{zero, suc, ◌-◌}
+use Rattle.std.proofs.lemmas.Bool.{cases_Bool, ltb-true, ltb-false}
+use Rattle.std.specs.Prelude.{map}
+use Rattle.dn_setup.specs.Settings.{IsSettings}
+use Rattle.dn_setup.specs.Settings.{bit}
+use Rattle.dn_machine.specs.Started.{started_node, set_up_of, answer_of, start_flights, start_events}
+use Rattle.dn_machine.proofs.Started.{comes_there}
+use Rattle.dn_lockstep.specs.Opening.{IsGame}
+use Rattle.dn_lockstep.specs.OneGame.{started_session}
+use Rattle.dn_lockstep.proofs.After.{along}
 use Rattle.std.proofs.Common.{◌≡◌, ◌≢◌, ◌<◌, ◌≤◌, ◌+◌, ◌||◌, ℕ, ℤ, pos, Bool, true, false, List, [], ◌∷◌, ◌++◌, fold, Option, Some, None, refl, ap, sym, ◌∙◌, subst, arith, inl, inr, append_assoc, append-nil}
 use Rattle.std.proofs.{lemmas.Bool.{lt-ltb, cond_both}, lemmas.Option.none-some, Math.Seq.take-length}
 use Rattle.std.specs.{Prelude.{◌⊎◌, nat_lt, get_or, slice_get, IfSome}, Option.option_map}
@@ -128,6 +138,53 @@ module _ (marking : Marking) (limits : Limits) (settings : Settings) where
     fair = λ which flight h. absurd (none-some flight h);
     going = λ p. refl;
   }
+
+  -- where everybody plays from the beginning on, each packet that was given is fair
+  bit_low : (b : Bool) → bit b ≤ 1
+  bit_low b = grind arith
+
+  set_up_fair : IsSettings settings → (player : ℕ) → IsFair (set_up_of settings player)
+  set_up_fair fits player = record { packet = grind (arith, bit_low); kind = (refl, fits) }
+
+  answer_fair : (player : ℕ) → player < 256 → IsFair (answer_of player)
+  answer_fair player low = record { packet = grind arith; kind = refl }
+
+  pub start_fair : IsSettings settings → (others : ℕ) → others < 255 → (which : ℕ) (flight : Flight)
+      → slice_get (start_flights settings others) which ≡ Some flight → IsFair flight
+  unfolding start_flights
+  start_fair fits zero low which flight h = absurd (none-some flight h)
+  start_fair fits (suc others) low which flight h =
+      let before = start_flights settings others in
+      let one = set_up_of settings (others + 1) in
+      let other = answer_of (others + 1) in
+      fair_on (before ++ one ∷ []) (fair_on before (start_fair fits others (omega arith)) (Some one)
+      (set_up_fair fits (others + 1))) (Some other) (answer_fair (others + 1) (omega arith)) which flight
+      (ap (λ (l : List Flight). slice_get l which) (append_assoc before (one ∷ []) (other ∷ [])) ∙ h)
+
+  pub starts : (locksteps : ℕ → Contents) → IsWindow limits → IsGame limits.players → IsSettings settings
+      → ((p : ℕ) → p < limits.players
+      → Represents limits p (locksteps p) (started_node limits.players settings p))
+      → AreOneGame marking limits settings (started_session limits.players settings locksteps)
+  starts locksteps window few fits each =
+      let there = comes_there rules settings few.0 in
+      record {
+        window = window;
+        events = map Own (start_events (limits.players - 1));
+        last = there.0;
+        runs = Asking.own_events rules (start_events (limits.players - 1)) (opening_game settings) there.0 there.1;
+        nodes = λ p below. along (there.2.nodes p below) (each p below);
+        inputs = λ p. elim (cases_Bool (nat_lt p limits.players)) [
+          | inl below ↦ ap (λ (m : machine.Node). m.inputs) (there.2.nodes p (ltb-true p limits.players below))
+          | inr past ↦ ap (λ (m : machine.Node). m.inputs) (there.2.others p (ltb-false p limits.players past))
+        ];
+        flights = there.2.flights;
+        rows = λ p. elim (cases_Bool (nat_lt p limits.players)) [
+          | inl below ↦ ap (λ (m : machine.Node). m.rows) (there.2.nodes p (ltb-true p limits.players below))
+          | inr past ↦ ap (λ (m : machine.Node). m.rows) (there.2.others p (ltb-false p limits.players past))
+        ];
+        fair = start_fair fits (limits.players - 1) (omega (arith, few));
+        going = there.2.going;
+      }
 
   module _ {session : Session} (game : AreOneGame marking limits settings session) where
     abbrev pub node : ℕ → machine.Node

@@ -1,4 +1,6 @@
 -- The locksteps of one game, by what their callers have seen of it.
+use Rattle.std.specs.Prelude.{◌-◌}
+use Rattle.dn_machine.specs.Started.{start_flights}
 use Rattle.std.specs.Prelude.{ℕ, List, [], ◌∷◌, ◌++◌, Option, Some, None, ◌≡◌, ◌<◌, false, IfSome, slice_get}
 use Rattle.std.specs.Option.{option_map}
 use Rattle.dn_tic.specs.declared.command.Move.{Move}
@@ -33,6 +35,11 @@ pub record Session : Type 0 where
 abbrev pub opening_session : (ℕ → Contents) → Session
 opening_session locksteps =
     record { inputs = λ player. []; given = []; told = λ player. []; locksteps = locksteps }
+
+-- where all locksteps play from the beginning on, what they would have told each other before is given
+abbrev pub started_session : ℕ → Settings → (ℕ → Contents) → Session
+started_session players settings locksteps =
+    record (opening_session locksteps) { given = start_flights settings (players - 1) }
 
 -- a player's lockstep is another now
 abbrev pub with_lockstep : Session → ℕ → Contents → Session

@@ -3,6 +3,9 @@
 ghost use Rattle.std.specs.{Prelude.◌≡◌, Prelude.◌≢◌, Prelude.◌∷◌, Prelude.[], Prelude.◌<◌, Prelude.◌≤◌, Prelude.◌+◌, Prelude.◌||◌, Prelude.ℕ, Prelude.ℤ, Prelude.Bool, Prelude.List, Prelude.true, Prelude.false, Prelude.Option};
 ghost use Rattle.std.specs.{Prelude.Some, Prelude.Ok, Prelude.IfSome, Prelude.◌⊎◌, Prelude.get_or, Prelude.length, Prelude.pos, Prelude.slice_get, Option.option_map};
 ghost use Rattle.dn_machine.specs.Drops as drops;
+ghost use Rattle.dn_setup.specs.Settings.{IsSettings};
+ghost use Rattle.dn_machine.specs.Started.{started_node};
+ghost use Rattle.dn_lockstep.specs.{Opening.IsGame, OneGame.started_session};
 ghost use Rattle.dn_tic.specs.{declared.command.Move.Move, declared.input.Input.Input, declared.command.TicCmd.TicCmd};
 ghost use Rattle.dn_setup.specs.Settings.{Settings, start_of};
 ghost use Rattle.dn_demo.specs.{Layout.long_tics, Reading.IsReadAs, Reading.written_demo};
@@ -41,6 +44,15 @@ pub fn one_game_opens()
         → ((player : ℕ) → player < limits.players
         → Represents limits player (locksteps player) (fresh settings player))
         → AreOneGame marking limits settings (opening_session locksteps) }
+{}
+
+/// And so are those that play from the beginning on, as `Lockstep::started` makes them.
+pub fn one_game_starts()
+    ensures { (marking : Marking) (limits : Limits) (settings : Settings) (locksteps : ℕ → Contents)
+        (window : IsWindow limits) → IsGame limits.players → IsSettings settings
+        → ((player : ℕ) → player < limits.players
+        → Represents limits player (locksteps player) (started_node limits.players settings player))
+        → AreOneGame marking limits settings (started_session limits.players settings locksteps) }
 {}
 
 /// And so they stay after each call on one of them whose caller keeps the duty: it hands in datagrams as they

@@ -24,7 +24,7 @@ pub use dn_machine::{Cause, Heard, Made, Phase, Ran};
 pub use ends::{ends_settle_in_turn, last_commands_settle};
 pub use laws::{
     ended_demos_are_read, given_packets_are_heard, locksteps_agree, numbered_packets_are_near,
-    one_game_goes_on, one_game_opens, windows_hold,
+    one_game_goes_on, one_game_opens, one_game_starts, windows_hold,
 };
 pub use lockstep::Lockstep;
 pub use lockstep::aiming::Aim;

@@ -31,12 +31,18 @@ module _ {S : Type 0} (rules : Rules S) where
     own_leads own (record all { game = way.0 }) last nobody way.2,
   )
 
+  -- and so as it was before, apart from the game
+  pub stays_quiet : (settings : Settings) (own : List Event) (game : Game) → Runs rules settings own game
+      → RunsRemain rules settings (map Own own) (record (opening_remaining settings) { game = game })
+  unfolding opening_remaining
+  stays_quiet settings own game runs = own_leads own (opening_remaining settings) game (λ node player. refl) runs
+
   pub is_quiet : (settings : Settings) (own : List Event) (game : Game) → Runs rules settings own game
       → (all : Remaining) × RunsRemain rules settings (map Own own) all × NobodyGivenUp all × (all.game ≡ game)
   unfolding opening_remaining
   is_quiet settings own game runs = (
     record (opening_remaining settings) { game = game },
-    own_leads own (opening_remaining settings) game (λ node player. refl) runs,
+    stays_quiet settings own game runs,
     (λ node player. refl),
     refl,
   )

@@ -1,4 +1,17 @@
 -- The survivors of one game stay those of one game, call by call.
+use Rattle.std.proofs.Common.{◌-◌}
+use Rattle.std.proofs.lemmas.Bool.{ltb-true, ltb-false}
+use Rattle.std.specs.Prelude.{map}
+use Rattle.dn_setup.specs.Settings.{IsSettings}
+use Rattle.dn_machine.specs.Started.{started_node, start_events}
+use Rattle.dn_machine.proofs.Started.{comes_there}
+use Rattle.dn_lockstep.specs.Opening.{IsGame}
+use Rattle.dn_lockstep.proofs.OneGame.{start_fair}
+use Rattle.dn_remain.proofs.Quiet.{stays_quiet}
+use Rattle.dn_remain.proofs.Relayed.{as_relayed}
+use Rattle.dn_remain.specs.Relaying.{Own as plain}
+use Rattle.dn_survivor.specs.Represents.{nobody_gone}
+use Rattle.dn_survivor.specs.OneGame.{started_session}
 use Rattle.std.proofs.Common.{◌≡◌, ◌≢◌, ◌<◌, ◌≤◌, ℕ, ℤ, pos, Bool, true, false, List, [], ◌∷◌, ◌++◌, Option, Some, None, refl, ap, sym, ◌∙◌, subst, arith, inl, inr}
 use Rattle.std.specs.Prelude.{nat_lt, get_or, slice_get, if◌then◌else◌, IfSome}
 use Rattle.std.specs.Option.{option_map}
@@ -88,6 +101,39 @@ module _ (marking : Marking) (limits : Limits) (settings : Settings) where
     fair = λ which packet h. absurd (none-some packet h);
     going = λ p. refl;
   }
+
+  pub starts : (survivors : ℕ → Surviving) → IsWindow limits → IsGame limits.players → limits.places ≤ 24
+      → IsSettings settings
+      → ((p : ℕ) → p < limits.players
+      → lockstep.Represents limits p (survivors p).lockstep (started_node limits.players settings p))
+      → ((p : ℕ) → p < limits.players → (survivors p).others ≡ nothing_kept)
+      → AreRemaining marking limits settings (started_session limits.players settings survivors)
+  unfolding opening_remaining
+  starts survivors window few kept fits each nothing =
+      let there = comes_there rules settings few.0 in
+      let events = start_events (limits.players - 1) in
+      let last : Remaining = record (opening_remaining settings) { game = there.0 } in
+      record {
+        window = window;
+        events = map plain (map Own events);
+        last = last;
+        runs = as_relayed rules settings (map Own events) last (stays_quiet rules settings events there.0 there.1);
+        nodes = λ p below. subst (λ (m : machine.Node). Represents limits p (survivors p) (nobody_gone m))
+            (sym (there.2.nodes p below)) (steps.opened limits p (survivors p)
+            (started_node limits.players settings p) below few.1 kept (each p below) (nothing p below));
+        inputs = λ p. elim (cases_Bool (nat_lt p limits.players)) [
+          | inl below ↦ ap (λ (m : machine.Node). m.inputs) (there.2.nodes p (ltb-true p limits.players below))
+          | inr past ↦ ap (λ (m : machine.Node). m.inputs) (there.2.others p (ltb-false p limits.players past))
+        ];
+        packets = there.2.flights;
+        reports = tt;
+        rows = λ p. elim (cases_Bool (nat_lt p limits.players)) [
+          | inl below ↦ ap (λ (m : machine.Node). m.rows) (there.2.nodes p (ltb-true p limits.players below))
+          | inr past ↦ ap (λ (m : machine.Node). m.rows) (there.2.others p (ltb-false p limits.players past))
+        ];
+        fair = start_fair marking limits settings fits (limits.players - 1) (omega (arith, few));
+        going = there.2.going;
+      }
 
   module _ {session : Session} (game : AreRemaining marking limits settings session) where
     -- the survivors of this session are those of one game too

@@ -1,4 +1,6 @@
 -- The survivors of one game, and what their callers have seen of it.
+use Rattle.std.specs.Prelude.{◌-◌}
+use Rattle.dn_machine.specs.Started.{start_flights}
 use Rattle.std.specs.Prelude.{◌≡◌, ◌≢◌, ◌<◌, ℕ, false, List, [], ◌∷◌, Option, Some, IfSome, slice_get, ◌++◌, None}
 use Rattle.std.specs.Option.{option_map}
 use Rattle.dn_tic.specs.declared.command.Move.{Move}
@@ -50,6 +52,11 @@ opening_session survivors =
       told = λ player. [];
       survivors = survivors;
     }
+
+-- where all play from the beginning on, what their locksteps would have told each other before is given
+abbrev pub started_session : ℕ → Settings → (ℕ → Surviving) → Session
+started_session players settings survivors =
+    record (opening_session survivors) { packets = start_flights settings (players - 1) }
 
 -- a player's survivor is another now
 abbrev pub with_survivor : Session → ℕ → Surviving → Session

@@ -1,5 +1,9 @@
 //! The survivors of one game, call by call.
 
+ghost use Rattle.dn_setup.specs.Settings.{IsSettings};
+ghost use Rattle.dn_machine.specs.Started.{started_node};
+ghost use Rattle.dn_lockstep.specs.Opening.{IsGame};
+ghost use Rattle.dn_survivor.specs.OneGame.{started_session};
 ghost use Rattle.std.specs.{Prelude.◌≡◌, Prelude.◌≢◌, Prelude.◌<◌, Prelude.◌≤◌, Prelude.ℕ, Prelude.ℤ, Prelude.Bool, Prelude.true, Prelude.false, Prelude.List, Prelude.Option, Prelude.Some};
 ghost use Rattle.std.specs.{Prelude.get_or, Prelude.pos, Prelude.slice_get, Option.option_map, Prelude.IfSome};
 ghost use Rattle.dn_tic.specs.{declared.command.Move.Move, declared.input.Input.Input};
@@ -42,6 +46,16 @@ pub fn remaining_game_opens()
         → lockstep.Represents limits player (survivors player).lockstep (fresh settings player))
         → ((player : ℕ) → player < limits.players → (survivors player).others ≡ nothing_kept)
         → AreRemaining marking limits settings (opening_session survivors) }
+{}
+
+/// And so are those that play from the beginning on, as `Survivor::started` makes them.
+pub fn remaining_game_starts()
+    ensures { (marking : Marking) (limits : Limits) (settings : Settings) (survivors : ℕ → Surviving)
+        → IsWindow limits → IsGame limits.players → limits.places ≤ 24 → IsSettings settings
+        → ((player : ℕ) → player < limits.players
+        → lockstep.Represents limits player (survivors player).lockstep (started_node limits.players settings player))
+        → ((player : ℕ) → player < limits.players → (survivors player).others ≡ nothing_kept)
+        → AreRemaining marking limits settings (started_session limits.players settings survivors) }
 {}
 
 /// And so they stay after each call on one of them whose caller keeps the duty. Each clause takes what the

@@ -24,7 +24,7 @@ pub use agreeing::{
     decisions_are_taken, given_reports_are_heard, survivors_agree, unsettled_ends_lack_a_report,
 };
 pub use answers::{GivenUp, Reported};
-pub use game::{remaining_game_goes_on, remaining_game_opens};
+pub use game::{remaining_game_goes_on, remaining_game_opens, remaining_game_starts};
 pub use laws::{
     calls_are_wary, decisions_can_be_settled, ends_are_refused_for_reasons, give_ups_may_start,
 };

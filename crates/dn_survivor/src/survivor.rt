@@ -1,11 +1,12 @@
 //! A lockstep of which players may be given up.
 
 ghost use Rattle.std.specs.{Prelude.◌≡◌, Prelude.◌<◌, Prelude.◌&&◌, Prelude.◌||◌, Prelude.not, Prelude.Some, Prelude.IfOk, Prelude.is_some, Prelude.true, Option.option_map};
-ghost use Rattle.dn_lockstep.specs.Opening.{IsAdmittedWithin, limits_within, whose_within};
+ghost use Rattle.dn_lockstep.specs.Opening.{IsAdmittedWithin, keyed, limits_within, whose_within};
 
 use crate::others::Others;
 use dn_lockstep::{Config, Lockstep, NodeFault};
 use dn_machine::Phase;
+use dn_setup::Settings;
 use std::alloc::Global;
 
 /// A lockstep of which players may be given up, and what its player keeps of the others for that.
@@ -17,7 +18,7 @@ pub struct Survivor {
 
 impl Survivor {
     ghost use Rattle.dn_setup.specs.Settings.{Settings as Choice};
-    ghost use Rattle.dn_machine.specs.Game.{fresh};
+    ghost use Rattle.dn_machine.specs.{Game.fresh, Started.started_node};
     ghost use Rattle.dn_lockstep.specs.{Contents.contents, Contents.whose, Represents.Represents, Settling.is_no_peer};
     ghost use Rattle.dn_survivor.specs.OfOthers.{nothing_kept};
     ghost use Rattle.dn_remain.specs.Wary.{is_in_game};
@@ -37,6 +38,27 @@ impl Survivor {
         ensures others { IfOk result (λ survivor. (surviving survivor).others ≡ nothing_kept) }
     {
         let lockstep = Lockstep::within(alloc, config, ahead)?;
+        Ok(Survivor {
+            lockstep,
+            others: Others::new(),
+        })
+    }
+
+    /// The same of a lockstep as `Lockstep::started` makes it, which plays from the beginning on.
+    pub fn started(
+        alloc: Global,
+        config: Config,
+        settings: Settings,
+        ahead: u8,
+    ) -> Result<Survivor, NodeFault>
+        ensures admitted { IsAdmittedWithin (keyed config settings) ahead result }
+        ensures opened { IfOk result (λ survivor. Represents (limits_within config ahead) config.me
+            (surviving survivor).lockstep (started_node config.players settings config.me)) }
+        ensures whose { IfOk result (λ survivor. whose (surviving survivor).lockstep
+            ≡ whose_within config ahead) }
+        ensures others { IfOk result (λ survivor. (surviving survivor).others ≡ nothing_kept) }
+    {
+        let lockstep = Lockstep::started(alloc, config, settings, ahead)?;
         Ok(Survivor {
             lockstep,
             others: Others::new(),

@@ -3,7 +3,7 @@
 ghost use Rattle.std.specs.Prelude.{◌≡◌, ◌==◌, if◌then◌else◌, Some, IfOk, true};
 ghost use Rattle.dn_machine.specs.declared.answers.Phase.TheVariants.{Listening, Gathering};
 ghost use Rattle.dn_demo.specs.Recorded.{capacity};
-ghost use Rattle.dn_lockstep.specs.Opening.{IsAdmitted, IsAdmittedWithin, IsGame, CanBeAhead, places_for};
+ghost use Rattle.dn_lockstep.specs.Opening.{keyed, IsAdmitted, IsAdmittedWithin, IsGame, CanBeAhead, places_for};
 
 use super::Lockstep;
 use crate::config::{Config, NodeFault};
@@ -12,7 +12,7 @@ use crate::peers::Peers;
 use crate::rings::Rings;
 use dn_demo::{Recorder, capacity};
 use dn_machine::Phase;
-use dn_setup::Gather;
+use dn_setup::{Gather, Settings};
 use dn_tic::Builder;
 use std::alloc::Global;
 
@@ -61,9 +61,20 @@ fn first_phase(me: u8) -> Phase
     }
 }
 
+/// The configuration of one of the nodes that were all given these settings.
+fn keyed(config: Config, settings: Settings) -> Config
+    ensures { result ≡ keyed config settings }
+{
+    let key = if config.me == 0 { Some(settings) } else { None };
+    Config {
+        settings: key,
+        ..config
+    }
+}
+
 impl Lockstep {
     ghost use Rattle.dn_setup.specs.Settings.{Settings as Choice};
-    ghost use Rattle.dn_machine.specs.Game.{fresh};
+    ghost use Rattle.dn_machine.specs.{Game.fresh, Started.started_node};
     ghost use Rattle.dn_lockstep.specs.{Contents.contents, Contents.whose, Opening.limits_in, Opening.limits_within, Opening.whose_in, Opening.whose_within, Represents.Represents};
 
     /// A lockstep with no history: player 0 gathers, the others listen. All memory that it needs is taken
@@ -92,6 +103,24 @@ impl Lockstep {
         } else {
             Err(NodeFault::Ahead)
         }
+    }
+
+    /// A lockstep that plays from the beginning on, in a window of this width: who is in the game was agreed on
+    /// elsewhere, and each player was given these settings there. Those of the configuration do not count.
+    pub fn started(
+        alloc: Global,
+        config: Config,
+        settings: Settings,
+        ahead: u8,
+    ) -> Result<Lockstep, NodeFault>
+        ensures admitted { IsAdmittedWithin (keyed config settings) ahead result }
+        ensures opened { IfOk result (λ lockstep. Represents (limits_within config ahead) config.me
+            (contents lockstep) (started_node config.players settings config.me)) }
+        ensures whose { IfOk result (λ lockstep. whose (contents lockstep) ≡ whose_within config ahead) }
+    {
+        let mut lockstep = Lockstep::within(alloc, keyed(config, settings), ahead)?;
+        lockstep.begin(settings);
+        Ok(lockstep)
     }
 
     /// A lockstep in a window that it can have.

@@ -11,6 +11,10 @@ use dn_machine::{Cause, Phase};
 use dn_setup::Settings;
 
 impl Lockstep {
+    ghost use Rattle.std.specs.Prelude.{◌≤◌, ◌-◌, ℕ};
+    ghost use Rattle.dn_setup.specs.Settings.{Settings as Choice};
+    ghost use Rattle.dn_machine.specs.{Game.fresh, Limits.Limits, Started.key_node, Started.started_node};
+    ghost use Rattle.dn_lockstep.specs.{Contents.whose, Opening.IsGame, Represents.Represents};
     ghost use Rattle.dn_machine.specs.{Hearing.started, Running.on_quit};
     ghost use Rattle.dn_lockstep.specs.{Contents.contents, Steps.Steps, Steps.Becomes};
 
@@ -25,6 +29,39 @@ impl Lockstep {
         self.played = true;
         self.settings = Some(settings);
         self.demo.head(&start, self.me, present);
+    }
+
+    /// Player 0 notes this player, if the game has it and has not started.
+    fn note(&mut self, player: u8)
+        requires { (1 ≤ player) × (player ≤ 3) }
+        ensures same { whose (contents self.new) ≡ whose (contents self.old) }
+        ensures noted { (limits : Limits) (choice : Choice)
+            → Represents limits 0 (contents self.old) (key_node limits.players choice (player - 1))
+            → Represents limits 0 (contents self.new) (key_node limits.players choice player) }
+    {
+        if player >= self.players {
+            return;
+        }
+        if let Phase::Gathering = self.phase {
+            self.hear_gathering(player);
+        }
+    }
+
+    /// Starts, where each player was given these settings.
+    pub(super) fn begin(&mut self, settings: Settings)
+        requires { is_waiting (contents self.old).phase ≡ true }
+        ensures same { whose (contents self.new) ≡ whose (contents self.old) }
+        ensures begun { (limits : Limits) (me : ℕ) → IsGame limits.players
+            → Represents limits me (contents self.old) (fresh settings me)
+            → Represents limits me (contents self.new) (started_node limits.players settings me) }
+    {
+        if self.me > 0 {
+            self.start(settings);
+            return;
+        }
+        self.note(1);
+        self.note(2);
+        self.note(3);
     }
 
     /// Ends a node that plays, and closes its demo where it is open.
