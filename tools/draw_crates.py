@@ -23,7 +23,7 @@ PLACES = [
     ('bytes', 1, 638, [['dn_greeting']]),
     ('bytes', 2, 291, [['dn_demo']]),
     ('bytes', 2, 384, [['dn_world']]),
-    ('bytes', 2, 500, [['dn_lobby']]),
+    ('bytes', 2, 500, [['dn_session']]),
     ('bytes', 2, 686, [['dn_measure']]),
     ('machine', 0, 345, [['dn_machine']]),
     ('machine', 0, 442, [['dn_remain']]),

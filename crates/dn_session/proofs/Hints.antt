@@ -1,0 +1,57 @@
+-- Bytes are read as one hint.
+use Rattle.std.proofs.Common.{◌≡◌, ℕ, List, [], ◌∷◌, length, arith, refl, ap, sym, ◌∙◌, None, Result, Ok, Err, inl, inr}
+use Rattle.std.proofs.lemmas.Option.{same_Some, none-some}
+use Rattle.dn_session.specs.declared.greeting.GreetingFault.{GreetingFault}
+use Rattle.dn_session.specs.declared.greeting.Hint.{Hint}
+use Rattle.dn_session.specs.declared.greeting.Hint.TheVariants as hint
+use Rattle.dn_session.specs.declared.greeting.Hinted.{Hinted}
+use Rattle.dn_session.specs.Text.{hint_byte, hinted_bytes, version_of, IsHinted}
+use Rattle.dn_session.specs.Reading.{hint_fault, IsHintedIn}
+use Rattle.dn_session.specs.Told.{told_hint, told_hinted}
+
+-- sixteen bytes, one by one
+sixteen : (m : List ℕ) → length m ≡ 16 → (P : List ℕ → Type 0)
+    → ((a b c d e f g h i j k l n o p q : ℕ)
+    → P (a ∷ b ∷ c ∷ d ∷ e ∷ f ∷ g ∷ h ∷ i ∷ j ∷ k ∷ l ∷ n ∷ o ∷ p ∷ q ∷ [])) → P m
+sixteen (a ∷ b ∷ c ∷ d ∷ e ∷ f ∷ g ∷ h ∷ i ∷ j ∷ k ∷ l ∷ n ∷ o ∷ p ∷ q ∷ []) long P holds =
+    holds a b c d e f g h i j k l n o p q
+sixteen _ long P holds = absurd (omega (arith, long))
+
+-- why it was not read is found again in its bytes
+hint_back : (h : Hint) → told_hint (hint_byte h) (version_of h) ≡ h
+hint_back hint.Key = refl
+hint_back (hint.Version v) = refl
+
+pub hinted_back : (hinted : Hinted) → IsHinted hinted → told_hinted (hinted_bytes hinted) ≡ hinted
+hinted_back hinted is =
+    sixteen hinted.number is.number
+    (λ m. told_hinted (hinted_bytes (record hinted { number = m })) ≡ record hinted { number = m })
+    (λ a b c d e f g h i j k l n o p q.
+    let why = hint_back hinted.hint in
+    λ x. record { number = a ∷ b ∷ c ∷ d ∷ e ∷ f ∷ g ∷ h ∷ i ∷ j ∷ k ∷ l ∷ n ∷ o ∷ p ∷ q ∷ []; hint = why x })
+
+pub same_hinted : (a b : Hinted) → IsHinted a → IsHinted b → hinted_bytes a ≡ hinted_bytes b → a ≡ b
+same_hinted a b ha hb e = sym (hinted_back a ha) ∙ ap told_hinted e ∙ hinted_back b hb
+
+-- the bytes of a hint have no fault
+clean_hint : (hinted : Hinted) → IsHinted hinted → hint_fault (hinted_bytes hinted) ≡ None
+unfolding hint_fault
+clean_hint hinted is =
+    sixteen hinted.number is.number (λ m. hint_fault (hinted_bytes (record hinted { number = m })) ≡ None)
+    (λ a b c d e f g h i j k l n o p q. refl)
+
+not_both : (bytes : List ℕ) (h : Hinted) (f : GreetingFault) → IsHintedIn bytes (Ok h) → IsHintedIn bytes (Err f) → ⊥
+not_both bytes h f ok (inl first) = none-some f (sym (ap hint_fault ok.1 ∙ clean_hint h ok.0) ∙ first)
+not_both bytes h f ok (inr (form, none, never)) = never h ok.0 ok.1
+
+one_fault : (bytes : List ℕ) (f g : GreetingFault) → IsHintedIn bytes (Err f) → IsHintedIn bytes (Err g) → f ≡ g
+one_fault bytes f g (inl x) (inl y) = same_Some f g (sym x ∙ y)
+one_fault bytes f g (inl x) (inr y) = absurd (none-some f (sym y.1 ∙ x))
+one_fault bytes f g (inr x) (inl y) = absurd (none-some g (sym x.1 ∙ y))
+one_fault bytes f g (inr x) (inr y) = x.0 ∙ sym y.0
+
+pub one_hint : (bytes : List ℕ) (a b : Result Hinted GreetingFault) → IsHintedIn bytes a → IsHintedIn bytes b → a ≡ b
+one_hint bytes (Ok s) (Ok t) x y = ap Ok (same_hinted s t x.0 y.0 (sym x.1 ∙ y.1))
+one_hint bytes (Ok s) (Err f) x y = absurd (not_both bytes s f x y)
+one_hint bytes (Err f) (Ok t) x y = absurd (not_both bytes t f y x)
+one_hint bytes (Err f) (Err g) x y = ap Err (one_fault bytes f g x y)

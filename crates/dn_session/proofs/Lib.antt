@@ -1,0 +1,4 @@
+pub mod Changes
+pub mod Hints
+pub mod Lobbies
+pub mod Readings

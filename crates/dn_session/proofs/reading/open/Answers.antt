@@ -1,0 +1,23 @@
+use Rattle.std.proofs.Common.{◌≡◌, ℕ, List, Option, sym, ◌∙◌, inl}
+use Rattle.dn_seal.specs.declared.seal.Seal.{Seal}
+use Rattle.dn_session.specs.declared.greeting.GreetingFault.{GreetingFault}
+use Rattle.dn_session.specs.Reading.{first_fault}
+use Rattle.dn_session.proofs.Readings.{only, opened}
+use Rattle.dn_session.proofs.reading.open.Goals as goal
+
+-- the fault that was found, as the sort has it
+of_sort : (seal : Seal) (bytes : List ℕ) {kind sort : ℕ × ℕ} {a b : Option GreetingFault} → kind ≡ sort
+    → a ≡ first_fault seal kind.0 kind.1 bytes → a ≡ b → first_fault seal sort.0 sort.1 bytes ≡ b
+of_sort seal bytes same found is = sym (λ i. first_fault seal (same i).0 (same i).1 bytes) ∙ sym found ∙ is
+
+pub returns-in-Some-clause-only : goal.returns-in-Some-clause-only
+returns-in-Some-clause-only g c =
+    let first = of_sort _ _ c.what_and_size-what.ensures c.fault_in.ensures.first c.in-Some.is in
+    λ read. only g.G.Greeting.sort _ _ _ read (inl first)
+
+pub returns-in-None : goal.returns-in-None
+returns-in-None g c =
+    let first = of_sort _ _ c.what_and_size-what.ensures c.fault_in.ensures.first c.in-None.is in
+    let reads =
+    opened g.G.Greeting.sort _ _ first _ c.greeting_in.ensures _ c.ok_or.ensures.value in
+    record { opens = reads; only = λ read. only g.G.Greeting.sort _ _ _ read reads }

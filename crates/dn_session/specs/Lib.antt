@@ -1,0 +1,11 @@
+pub mod Terms
+pub mod Text
+pub mod Told
+pub mod Sorts
+pub mod Rests
+pub mod Reading
+pub mod Cookies
+pub mod Seats
+pub mod Hosting
+pub mod Joining
+pub mod Lead

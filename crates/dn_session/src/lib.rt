@@ -1,0 +1,41 @@
+//! A session: its lobby, that is what a host and those who join tell each other until their game begins; and whom a
+//! player gives up in the game. No clock and no socket.
+#![tactic(auto)]
+
+mod calls;
+mod cookies;
+mod fields;
+mod greeting;
+mod hinting;
+mod host;
+mod joiner;
+mod laws;
+mod lead;
+mod polling;
+mod reading;
+mod replies;
+mod seats;
+mod sorts;
+mod terms;
+mod writing;
+
+pub use cookies::FRESH_FOR;
+pub use greeting::{
+    Address, Call, GreetingFault, Hint, Hinted, Holder, Refusal, Refused, Seating, Shown,
+};
+pub use hinting::hinted_bytes;
+pub use host::{Host, HostConfig};
+pub use joiner::{JoinConfig, Joiner, Stage};
+pub use laws::{
+    addresses_move_from_silence, begun_once, calls_without_a_cookie_change_nothing,
+    greetings_are_no_envelopes, greetings_are_read_back, heard_is_the_time_of_a_cookie,
+    joiners_act_when_due, no_ghost_plays, one_game_a_number, one_greeting,
+    players_are_told_as_often_as_they_call, players_are_told_one_game, replies_are_read_back,
+    seated_joiners_heed_no_refusal,
+};
+pub use lead::{Seen, Standing, View, due, is_given_up};
+pub use reading::{is_greeting, open, read_hinted};
+pub use seats::{Held, Seat};
+pub use sorts::Greeting;
+pub use terms::{LobbyFault, Policy, Terms};
+pub use writing::{greeter, seal};
