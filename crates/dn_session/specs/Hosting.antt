@@ -1,5 +1,5 @@
 -- The host's lobby: who gets which seat, and when the game begins.
-use Rattle.std.specs.Prelude.{◌≡◌, ◌≤◌, ◌<◌, ◌⊎◌, ℕ, ◌+◌, ◌==◌, ◌||◌, Bool, not, false, nat_le, if◌then◌else◌, List, [], ◌∷◌, length, map, position, slice_index_or, slice_set, Option, Some, None, option_map, Result, Ok, Err}
+use Rattle.std.specs.Prelude.{◌≡◌, ◌≤◌, ◌<◌, ◌⊎◌, ℕ, ◌+◌, ◌-◌, ◌==◌, ◌||◌, Bool, not, false, nat_le, if◌then◌else◌, List, [], ◌∷◌, length, map, position, slice_index_or, slice_set, Option, Some, None, option_map, Result, Ok, Err}
 use Rattle.std.specs.List.{list_all, list_any}
 use Rattle.std.specs.Str.{bytes_eq}
 use Rattle.dn_seal.specs.declared.seal.Seal.{Seal}
@@ -86,6 +86,15 @@ pub record IsLobby (l : Lobby) : Type 0 where
 -- who holds the seats 1 to 3, by the numbers of their sessions
 abbrev pub roster : Lobby → List (List ℕ)
 roster l = map number_in l.seats
+
+-- the session that holds the seat of this number, from 1 on
+abbrev pub number_held : Seat → Option (List ℕ)
+number_held (seat.Taken held) = Some held.holder.number
+number_held seat = None
+
+abbrev pub holder_of : Lobby → ℕ → Option (List ℕ)
+holder_of l player =
+    if nat_le 1 player then number_held (slice_index_or l.seats (player - 1) seat.Absent) else None
 
 -- the number of its game
 abbrev pub game : Lobby → List ℕ

@@ -9,3 +9,12 @@ pub mod Seats
 pub mod Hosting
 pub mod Joining
 pub mod Lead
+pub mod Ticks
+pub mod Watch
+pub mod Places
+pub mod Players
+pub mod Ending
+pub mod Coming
+pub mod Playing
+pub mod Sent
+pub mod Session

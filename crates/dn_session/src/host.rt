@@ -37,7 +37,7 @@ pub struct Host {
 }
 
 impl Host {
-    ghost use Rattle.dn_session.specs.Hosting.{game_told, kicked, lobby, roster, IsHostOf, IsLobby};
+    ghost use Rattle.dn_session.specs.Hosting.{game_told, holder_of, kicked, lobby, roster, IsHostOf, IsLobby};
 
     /// The host of a game of these terms, or the first fault of them.
     pub fn new(config: &HostConfig) -> Result<Host, LobbyFault>
@@ -114,6 +114,19 @@ impl Host {
             let mut seats = self.seats;
             seats[n] = Seat::Free;
             self.seats = seats;
+        }
+    }
+
+    /// The session that holds a seat, 1 to 3, by its number, if one does.
+    pub fn holder(&self, seat: u8) -> Option<[u8; 16]>
+        ensures { result ≡ holder_of (lobby self.now) seat }
+    {
+        if seat < 1 || seat > 3 {
+            return None;
+        }
+        match &self.seats[usize::from(seat - 1)] {
+            Seat::Taken(held) => Some(held.holder.number),
+            _ => None,
         }
     }
 }

@@ -1,7 +1,7 @@
 //! Whom a player gives up.
 
 ghost use Rattle.std.specs.Prelude.{◌≡◌, ◌<◌, ◌-◌, ◌&&◌, IfSome, option_map, position, [], ◌∷◌};
-ghost use Rattle.dn_session.specs.Lead.{due, due_under, follows_due, has_left, is_given_up, is_late, is_lost, is_mute, is_named, is_open, is_there, late_due, lead, leads_due, lowest, names, seen};
+ghost use Rattle.dn_session.specs.Lead.{due, due_under, follows_due, has_left, highest, is_given_up, is_late, is_lost, is_mute, is_named, is_open, is_there, late_due, lead, leads_due, lowest, names, seen};
 
 use crate::cookies::FRESH_FOR;
 
@@ -43,7 +43,7 @@ pub struct View {
 }
 
 /// Whether a player plays.
-fn is_open(view: &View, player: u8) -> bool
+pub(crate) fn is_open(view: &View, player: u8) -> bool
     requires { player < 4 }
     ensures { result ≡ is_open view.now player }
 {
@@ -51,7 +51,7 @@ fn is_open(view: &View, player: u8) -> bool
 }
 
 /// Whether it is another, and not gone.
-fn is_there(view: &View, player: u8) -> bool
+pub(crate) fn is_there(view: &View, player: u8) -> bool
     requires { player < 4 }
     ensures { result ≡ is_there view.now player }
 {
@@ -83,7 +83,7 @@ fn is_named(view: &View, player: u8) -> bool
 }
 
 /// The lowest player who plays leads.
-fn lead(view: &View) -> Option<usize>
+pub(crate) fn lead(view: &View) -> Option<usize>
     ensures value { result ≡ lead view.now }
     ensures within { IfSome result (λ n. n < 4) }
 {
@@ -112,7 +112,8 @@ fn is_mute(patience: u32, view: &View, player: u8) -> bool
 /// The number that stands at this place if they are counted from 3 down.
 fn from_above(place: Option<usize>) -> Option<usize>
     requires { IfSome place (λ n. n < 4) }
-    ensures { result ≡ option_map (λ n. 3 - n) place }
+    ensures value { result ≡ option_map (λ n. 3 - n) place }
+    ensures within { IfSome result (λ n. n < 4) }
 {
     match place {
         Some(n) => Some(3 - n),
@@ -140,11 +141,20 @@ fn mute_from_above(patience: u32, view: &View) -> Option<usize>
         .position(|player| is_mute(patience, view, *player))
 }
 
+/// The highest player who was awaited for the patience.
+pub(crate) fn late(patience: u32, view: &View) -> Option<usize>
+    ensures value { result ≡ highest (is_late patience view.now) }
+    ensures within { IfSome result (λ n. n < 4) }
+{
+    from_above(late_from_above(patience, view))
+}
+
 /// Of those whom one that leads has awaited for the patience, whom it gives up.
 fn late_due(patience: u32, view: &View) -> Option<usize>
-    ensures { result ≡ late_due patience view.now }
+    ensures value { result ≡ late_due patience view.now }
+    ensures within { IfSome result (λ n. n < 4) }
 {
-    match from_above(late_from_above(patience, view)) {
+    match late(patience, view) {
         Some(late) => match from_above(mute_from_above(patience, view)) {
             Some(mute) => Some(mute),
             None => Some(late),
@@ -156,7 +166,8 @@ fn late_due(patience: u32, view: &View) -> Option<usize>
 /// The lowest other player whom a player names.
 fn lowest_named(view: &View, by: u8) -> Option<usize>
     requires { by < 4 }
-    ensures { result ≡ lowest (λ player. is_there view.now player && names view.now by player) }
+    ensures value { result ≡ lowest (λ player. is_there view.now player && names view.now by player) }
+    ensures within { IfSome result (λ n. n < 4) }
 {
     [0, 1, 2, 3].iter().position(|player| is_there(view, *player) && names(view, by, *player))
 }
@@ -164,14 +175,16 @@ fn lowest_named(view: &View, by: u8) -> Option<usize>
 /// The lowest other player who names a player.
 fn lowest_accuser(view: &View, of: u8) -> Option<usize>
     requires { of < 4 }
-    ensures { result ≡ lowest (λ player. is_there view.now player && names view.now player of) }
+    ensures value { result ≡ lowest (λ player. is_there view.now player && names view.now player of) }
+    ensures within { IfSome result (λ n. n < 4) }
 {
     [0, 1, 2, 3].iter().position(|player| is_there(view, *player) && names(view, *player, of))
 }
 
 /// The lowest player who has left, and whom another names.
 fn lowest_left(view: &View) -> Option<usize>
-    ensures { result ≡ lowest (λ player. has_left (seen view.now player).standing && is_named view.now player) }
+    ensures value { result ≡ lowest (λ player. has_left (seen view.now player).standing && is_named view.now player) }
+    ensures within { IfSome result (λ n. n < 4) }
 {
     [0, 1, 2, 3].iter().position(|player| has_left(view, *player) && is_named(view, *player))
 }
@@ -179,7 +192,8 @@ fn lowest_left(view: &View) -> Option<usize>
 /// Whom one that leads gives up.
 fn leads_due(patience: u32, view: &View) -> Option<usize>
     requires { view.now.me < 4 }
-    ensures { result ≡ leads_due patience view.now }
+    ensures value { result ≡ leads_due patience view.now }
+    ensures within { IfSome result (λ n. n < 4) }
 {
     match lowest_accuser(view, view.me) {
         Some(player) => Some(player),
@@ -205,7 +219,8 @@ fn is_lost(patience: u32, view: &View, leader: u8) -> bool
 /// Whom one that follows gives up.
 fn follows_due(patience: u32, view: &View, leader: u8) -> Option<usize>
     requires { leader < 4 }
-    ensures { result ≡ follows_due patience view.now leader }
+    ensures value { result ≡ follows_due patience view.now leader }
+    ensures within { IfSome result (λ n. n < 4) }
 {
     match lowest_named(view, leader) {
         Some(player) => Some(player),
@@ -216,10 +231,10 @@ fn follows_due(patience: u32, view: &View, leader: u8) -> Option<usize>
 
 /// Whom a player gives up next, under a policy of so much patience in milliseconds; none if nobody.
 pub fn due(patience: u32, view: &View) -> Option<usize>
-    requires { view.now.me < 4 }
-    ensures { result ≡ due patience view.now }
+    ensures value { result ≡ due patience view.now }
+    ensures within { IfSome result (λ n. n < 4) }
 {
-    if !is_open(view, view.me) {
+    if view.me >= 4 || !is_open(view, view.me) {
         return None;
     }
     let leader = lead(view)? as u8;
@@ -232,9 +247,11 @@ pub fn due(patience: u32, view: &View) -> Option<usize>
 
 /// Whether the one that leads has given up the player itself.
 pub fn is_given_up(view: &View) -> bool
-    requires { view.now.me < 4 }
     ensures { result ≡ is_given_up view.now }
 {
+    if view.me >= 4 {
+        return false;
+    }
     match lead(view) {
         Some(leader) => {
             is_open(view, view.me) && leader as u8 != view.me && names(view, leader as u8, view.me)

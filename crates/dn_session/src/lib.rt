@@ -3,7 +3,9 @@
 #![tactic(auto)]
 
 mod calls;
+mod coming;
 mod cookies;
+mod ending;
 mod fields;
 mod greeting;
 mod hinting;
@@ -11,15 +13,23 @@ mod host;
 mod joiner;
 mod laws;
 mod lead;
+mod part;
+mod places;
+mod players;
 mod polling;
 mod reading;
 mod replies;
 mod seats;
+mod session;
+mod side;
 mod sorts;
 mod terms;
+mod ticks;
+mod watch;
 mod writing;
 
 pub use cookies::FRESH_FOR;
+pub use ending::{Ending, Progress};
 pub use greeting::{
     Address, Call, GreetingFault, Hint, Hinted, Holder, Refusal, Refused, Seating, Shown,
 };
@@ -34,8 +44,14 @@ pub use laws::{
     seated_joiners_heed_no_refusal,
 };
 pub use lead::{Seen, Standing, View, due, is_given_up};
+pub use part::{Part, Transmit};
+pub use places::{Place, Places};
 pub use reading::{is_greeting, open, read_hinted};
 pub use seats::{Held, Seat};
+pub use session::Session;
+pub use side::{Begun, Side};
 pub use sorts::Greeting;
 pub use terms::{LobbyFault, Policy, Terms};
+pub use ticks::Ticks;
+pub use watch::Watch;
 pub use writing::{greeter, seal};

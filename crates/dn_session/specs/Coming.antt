@@ -1,0 +1,54 @@
+-- How a player's datagrams come: what is a sign of life of it, and of where it is.
+use Rattle.std.specs.Prelude.{ℕ, ◌==◌, ◌&&◌, ◌||◌, Bool, not, true, false, nat_lt, if◌then◌else◌, List, map, Option, Some, None, slice_index_or}
+use Rattle.dn_link.specs.declared.tally.Figures.{Figures}
+use Rattle.dn_link.specs.declared.received.Received.{Received}
+use Rattle.dn_link.specs.declared.received.Received.TheVariants.{Heard}
+use Rattle.dn_link.specs.Linked.{Linked, figures_of, is_peer}
+use Rattle.dn_link.specs.Pacing.{PaceState}
+use Rattle.dn_lockstep.specs.Contents.{Contents}
+use Rattle.dn_lockstep.specs.Told.{got}
+use Rattle.dn_session.specs.Players.{four}
+
+-- what a link reports of the line of a player
+abbrev pub figures_in : Linked → PaceState → ℕ → Option Figures
+figures_in link pace player =
+    if is_peer link.node player then Some (figures_of (pace.lines player)) else None
+
+-- of four players
+abbrev pub lines_in : Linked → PaceState → List (Option Figures)
+lines_in link pace = map (figures_in link pace) four
+
+abbrev pub line_of : List (Option Figures) → ℕ → Option Figures
+line_of lines player = slice_index_or lines player None
+
+-- no datagram that was sent later had come: one more came, and none of those that were missing
+abbrev pub is_new_in : (before after : Option Figures) → Bool
+is_new_in (Some before) (Some after) = nat_lt before.came after.came && not (nat_lt after.lost before.lost)
+is_new_in before after = false
+
+-- it is one of the last 64, and came for the first time or again
+abbrev pub is_late_in : (before after : Option Figures) → Bool
+is_late_in (Some before) (Some after) = nat_lt before.came after.came || nat_lt before.repeated after.repeated
+is_late_in before after = false
+
+-- whose datagram was heard
+abbrev pub heard_of : Received → Option ℕ
+heard_of (Heard from started) = Some from
+heard_of received = None
+
+-- a new datagram of this player was heard
+abbrev pub is_news_of : Option ℕ → (before after : List (Option Figures)) → ℕ → Bool
+is_news_of None before after player = false
+is_news_of (Some from) before after player =
+    (player == from) && is_new_in (line_of before from) (line_of after from)
+
+-- how many commands of each player are there
+abbrev pub count_in : Contents → ℕ → ℕ
+count_in n player = if nat_lt player n.players then got n player else 0
+
+abbrev pub counts_in : Contents → List ℕ
+counts_in n = map (count_in n) four
+
+-- more commands of this player are there than before, whoever brought them
+abbrev pub has_more : (before after : List ℕ) → ℕ → Bool
+has_more before after player = nat_lt (slice_index_or before player 0) (slice_index_or after player 0)

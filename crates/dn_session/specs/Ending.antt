@@ -1,0 +1,81 @@
+-- How a game ends for a player, whom it gives up under a policy, and how it leaves.
+use Rattle.std.specs.Prelude.{ℕ, ◌-◌, ◌*◌, ◌==◌, ◌&&◌, ◌||◌, Bool, true, false, nat_le, if◌then◌else◌, Option, Some, None}
+use Rattle.std.specs.Option.{option_map, option_or}
+use Rattle.dn_machine.specs.declared.answers.Cause.TheVariants as cause
+use Rattle.dn_machine.specs.declared.answers.Phase.{Phase}
+use Rattle.dn_machine.specs.declared.answers.Phase.TheVariants as phase
+use Rattle.dn_link.specs.Linked.{Linked}
+use Rattle.dn_session.specs.declared.ending.Ending.{Ending}
+use Rattle.dn_session.specs.declared.ending.Ending.TheVariants as ending
+use Rattle.dn_session.specs.declared.ending.Progress.{Progress}
+use Rattle.dn_session.specs.declared.ending.Progress.TheVariants as progress
+use Rattle.dn_session.specs.declared.lead.View.{View}
+use Rattle.dn_session.specs.declared.terms.Policy.{Policy}
+use Rattle.dn_session.specs.declared.terms.Policy.TheVariants as policy
+use Rattle.dn_session.specs.Lead.{due, highest, is_given_up, is_late, is_open, is_there, lead}
+use Rattle.dn_session.specs.Players.{has_gone, is_abandoned}
+
+-- longer than any clock of a session runs
+abbrev pub for_ever : ℕ
+for_ever = 4294967295
+
+-- for how long somebody is awaited before the session gives a player up by itself
+abbrev pub patience : Policy → ℕ
+patience (policy.GiveUp seconds) = seconds * 1000
+patience policy = for_ever
+
+-- its player may give up others from three seconds on: one that leads any other, and one that follows the one that leads
+abbrev pub is_leading : View → ℕ → Bool
+is_leading view player = elim (lead view) [
+  | None ↦ false
+  | Some leader ↦ (leader == view.me) || (leader == player)
+]
+
+abbrev pub may_give_up : View → ℕ → Bool
+may_give_up view player =
+    is_open view view.me && (is_there view player && (nat_le 3000 view.stalled && is_leading view player))
+
+-- under a policy by which the game ends: the highest of those for whom it waits too long
+abbrev pub lost_under : Policy → View → Option ℕ
+lost_under (policy.End seconds) view = highest (is_late (seconds * 1000) view)
+lost_under policy view = None
+
+-- its own demo is full, or it found that another's world differs
+abbrev pub own_ending : Phase → Option Ending
+own_ending (phase.Ended cause.Full) = Some ending.Full
+own_ending (phase.Ended (cause.Inconsistent player was should)) = Some (ending.Inconsistent player)
+own_ending phase = None
+
+-- it is left alone where it has given up somebody, and nobody remains
+abbrev pub is_alone : Linked → Bool
+is_alone link = has_gone link && is_abandoned link
+
+-- how the game of a player ends, if it does: the first of these that is so
+abbrev pub ending_of : Policy → View → Linked → Option Ending
+ending_of policy view link =
+    option_or (own_ending link.node.phase)
+    (if is_given_up view then Some ending.GivenUp else
+    (if is_alone link then Some ending.Alone else option_map ending.Lost (lost_under policy view)))
+
+-- who is given up or alone has nobody to tell; any other says that it leaves, and leaves then
+abbrev pub ended_by : Ending → ℕ → Progress
+ended_by ending.GivenUp now = progress.Over ending.GivenUp
+ended_by ending.Alone now = progress.Over ending.Alone
+ended_by ending now = progress.Leaving ending now None
+
+-- since when nobody needs it, if nobody does
+abbrev pub free_since : Bool → Option ℕ → ℕ → Option ℕ
+free_since may_leave (Some free) now = Some free
+free_since may_leave None now = if may_leave then Some now else None
+
+-- that was at least two seconds ago
+abbrev pub has_waited : Option ℕ → ℕ → Bool
+has_waited None now = false
+has_waited (Some free) now = nat_le 2000 (now - free)
+
+-- who leaves goes on for two seconds once nobody needs it, and for ten at most
+abbrev pub waits : Bool → Ending → ℕ → Option ℕ → ℕ → Progress
+waits may_leave ending since free now =
+    if has_waited (free_since may_leave free now) now || nat_le 10000 (now - since)
+    then progress.Over ending
+    else progress.Leaving ending since (free_since may_leave free now)

@@ -1,0 +1,87 @@
+-- What a player sees of the others in its game: by its link, and by how long it was silent there.
+use Rattle.std.specs.Prelude.{ℕ, ◌==◌, ◌&&◌, ◌||◌, Bool, not, true, false, nat_le, nat_lt, if◌then◌else◌, List, [], ◌∷◌, map, Option, Some, None, is_none, is_some}
+use Rattle.std.specs.List.{list_any, list_all}
+use Rattle.dn_machine.specs.declared.answers.Phase.{Phase}
+use Rattle.dn_machine.specs.declared.answers.Phase.TheVariants as phase
+use Rattle.dn_lockstep.specs.Contents.{Contents}
+use Rattle.dn_lockstep.specs.Told.{got, made}
+use Rattle.dn_survivor.specs.Calls.{undecided_in}
+use Rattle.dn_link.specs.Linked.{Linked, end_known, has_given_up, remains, surviving_of}
+use Rattle.dn_link.specs.Surviving.{reports_gone}
+use Rattle.dn_session.specs.declared.lead.Seen.{Seen}
+use Rattle.dn_session.specs.declared.lead.Standing.{Standing}
+use Rattle.dn_session.specs.declared.lead.Standing.TheVariants.{Open, Closed, Gone}
+use Rattle.dn_session.specs.declared.lead.View.{View}
+use Rattle.dn_session.specs.declared.watch.Watch.{Watch}
+use Rattle.dn_session.specs.Watch.{silence, stalled}
+
+abbrev pub four : List ℕ
+four = 0 ∷ 1 ∷ 2 ∷ 3 ∷ []
+
+-- its own player plays
+abbrev pub plays_on : Phase → Bool
+plays_on phase.Playing = true
+plays_on phase = false
+
+abbrev pub own_standing : Phase → Standing
+own_standing phase = if plays_on phase then Open else Closed
+
+-- another one is gone once it is given up, and has left once its last command is known: all before it are here then
+abbrev pub standing_beside : Linked → ℕ → Standing
+standing_beside link player =
+    if not (remains link player) then Gone else (if is_some (end_known link.node player) then Closed else Open)
+
+abbrev pub standing_of : Linked → ℕ → Standing
+standing_of link player =
+    if player == link.node.me then own_standing link.node.phase else standing_beside link player
+
+-- the own command of the next tic is there, and this player's is not
+abbrev pub lacks : Contents → ℕ → Bool
+lacks n player = nat_lt n.ran (made n) && nat_le (got n player) n.ran
+
+-- somebody is given up
+abbrev pub has_gone : Linked → Bool
+has_gone link = list_any (has_given_up link) four
+
+abbrev pub is_it : ℕ → Option ℕ → Bool
+is_it player None = false
+is_it player (Some other) = player == other
+
+-- then reports of all others are needed. They are awaited one by one, the lowest first
+abbrev pub owes_report : Linked → ℕ → Bool
+owes_report link player = has_gone link && is_it player (undecided_in (surviving_of link))
+
+-- a command or a report of another is awaited, who is not given up
+abbrev pub is_awaited : Linked → ℕ → Bool
+is_awaited link player =
+    remains link player
+    && ((is_none (end_known link.node player) && lacks link.node player) || owes_report link player)
+
+abbrev pub is_any_awaited : Linked → Bool
+is_any_awaited link = list_any (is_awaited link) four
+
+-- one is awaited since no tic was run and nobody went: the next command of each is that of the next tic
+abbrev pub seen_of : Linked → Watch → ℕ → ℕ → Seen
+seen_of link watch now player =
+    record {
+      standing = standing_of link player;
+      awaited = if is_awaited link player then stalled now watch else 0;
+      owes_report = owes_report link player;
+      silent = silence player now watch;
+      names = map (reports_gone link player) four;
+    }
+
+abbrev pub view_of : Linked → Watch → ℕ → View
+view_of link watch now =
+    record {
+      me = link.node.me;
+      players = map (seen_of link watch now) four;
+      stalled = stalled now watch;
+    }
+
+-- all others are given up
+abbrev pub is_gone_from : Linked → ℕ → Bool
+is_gone_from link player = not (remains link player)
+
+abbrev pub is_abandoned : Linked → Bool
+is_abandoned link = list_all (is_gone_from link) four

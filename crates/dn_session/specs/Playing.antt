@@ -1,0 +1,289 @@
+-- A player's part in its game: what each call makes of it.
+use Rattle.std.specs.Prelude.{⊤, ⊥, ◌≡◌, ◌×◌, ◌⊎◌, ℕ, ℤ, ◌&&◌, ◌||◌, Bool, not, true, false, nat_le, if◌then◌else◌, List, [], ◌∷◌, map, position, slice_index_or, slice_set, replicate, Option, Some, None, is_some}
+use Rattle.dn_tic.specs.declared.command.Move.{Move}
+use Rattle.dn_tic.specs.declared.input.Input.{Input}
+use Rattle.dn_machine.specs.Sending.{on_build}
+use Rattle.dn_machine.specs.Running.{on_quit}
+use Rattle.dn_machine.specs.declared.answers.Made.{Made}
+use Rattle.dn_machine.specs.declared.answers.Ran.{Ran}
+use Rattle.dn_lockstep.specs.Steps.{Steps}
+use Rattle.dn_survivor.specs.declared.answers.GivenUp.{GivenUp}
+use Rattle.dn_link.specs.declared.link.Link.{Link}
+use Rattle.dn_link.specs.declared.received.Received.{Received}
+use Rattle.dn_link.specs.declared.tally.Figures.{Figures}
+use Rattle.dn_link.specs.Linked.{Receives, forgotten, has_given_up, may_leave, remains}
+use Rattle.dn_link.specs.Linking.{identity_of, linked, seal_of}
+use Rattle.dn_link.specs.Notices.{HearsNotice, is_notice}
+use Rattle.dn_link.specs.Pace.{Paces, after_input, after_tick, lean, still_owed, wants_second}
+use Rattle.dn_link.specs.Pacing.{pace_of}
+use Rattle.dn_link.specs.Surviving.{GivesUpPeer, RunsBut}
+use Rattle.dn_session.specs.declared.ending.Ending.{Ending}
+use Rattle.dn_session.specs.declared.ending.Ending.TheVariants as ending
+use Rattle.dn_session.specs.declared.ending.Progress.{Progress}
+use Rattle.dn_session.specs.declared.ending.Progress.TheVariants as progress
+use Rattle.dn_session.specs.declared.greeting.Address.{Address}
+use Rattle.dn_session.specs.declared.lead.View.{View}
+use Rattle.dn_session.specs.declared.part.Owed.{Owed}
+use Rattle.dn_session.specs.declared.part.Part.{Part}
+use Rattle.dn_session.specs.declared.places.Places.{Places}
+use Rattle.dn_session.specs.declared.terms.Policy.{Policy}
+use Rattle.dn_session.specs.declared.ticks.Ticks.{Ticks}
+use Rattle.dn_session.specs.declared.watch.Watch.{Watch}
+use Rattle.dn_session.specs.Coming.{counts_in, has_more, heard_of, is_late_in, is_new_in, is_news_of, line_of, lines_in}
+use Rattle.dn_session.specs.Ending.{ended_by, ending_of, may_give_up, patience, waits}
+use Rattle.dn_session.specs.Lead.{due}
+use Rattle.dn_session.specs.Players.{four, is_any_awaited, view_of}
+use Rattle.dn_session.specs.Joining.{has_come}
+use Rattle.dn_session.specs.Places.{heard_at, place_of}
+use Rattle.dn_session.specs.Ticks.{half_taken, is_due, passed, resumed}
+use Rattle.dn_session.specs.Watch.{looked_at}
+
+-- its link; when ticks are due; for how long others were silent; where they are; what is to be sent; how far it is;
+-- and what becomes of a player who vanishes
+pub record Playing : Type 0 where
+  pub link : Link
+  pub ticks : Ticks
+  pub watch : Watch
+  pub places : Places
+  pub owed : Owed
+  pub progress : Progress
+  pub policy : Policy
+
+abbrev pub playing : Part → Playing
+playing part =
+    record {
+      link = part.link;
+      ticks = part.ticks;
+      watch = part.watch;
+      places = part.places;
+      owed = part.owed;
+      progress = part.progress;
+      policy = part.policy;
+    }
+
+-- what one of its link's calls leaves as it was
+pub record KeepsGame (old new : Link) : Type 0 where
+  pub seal : seal_of new ≡ seal_of old
+  pub identity : identity_of new ≡ identity_of old
+
+pub record KeepsAll (old new : Link) : Type 0 where
+  pub game : KeepsGame old new
+  pub linked : linked new ≡ linked old
+  pub pace : pace_of new ≡ pace_of old
+
+abbrev pub view : ℕ → Playing → View
+view now p = view_of (linked p.link) p.watch now
+
+-- how it ended
+abbrev pub ended_as : Progress → Option Ending
+ended_as (progress.Over end) = Some end
+ended_as progress = None
+
+-- Datagrams that come.
+
+-- any bytes come to the link
+abbrev pub Takes : List ℕ → Link → Link → Received → Type 0
+Takes bytes old new received =
+    KeepsGame old new
+    × (is_notice bytes ≡ false
+    → Receives (seal_of old) (identity_of old) (pace_of old) bytes (linked old) (linked new) received)
+    × (is_notice bytes ≡ false → Paces (seal_of old) bytes (linked old) (pace_of old) (pace_of new))
+    × (is_notice bytes ≡ true
+    → HearsNotice (seal_of old) bytes (linked old) (pace_of old) (linked new) (pace_of new) received)
+
+-- what is known of players by it: of each line, and how many of each player's commands are there
+abbrev pub lines_by : Link → List (Option Figures)
+lines_by link = lines_in (linked link) (pace_of link)
+
+abbrev pub counts_by : Link → List ℕ
+counts_by link = counts_in (linked link).node
+
+-- a new datagram of a player is a sign of life of it, and so are more of its commands
+abbrev pub is_alive : Received → (old new : Link) → ℕ → Bool
+is_alive received old new player =
+    is_news_of (heard_of received) (lines_by old) (lines_by new) player
+    || has_more (counts_by old) (counts_by new) player
+
+abbrev pub hears_if : Bool → ℕ → ℕ → Watch → Watch
+hears_if true player now watch = record watch { heard = slice_set watch.heard player now }
+hears_if false player now watch = watch
+
+abbrev pub watch_after : Received → Link → Link → ℕ → Watch → Watch
+watch_after received old new now watch =
+    hears_if (is_alive received old new 3) 3 now
+    (hears_if (is_alive received old new 2) 2 now
+    (hears_if (is_alive received old new 1) 1 now
+    (hears_if (is_alive received old new 0) 0 now watch)))
+
+-- where the player is whose datagram was heard
+abbrev pub places_by : Option ℕ → Address → ℕ → Link → Link → Places → Places
+places_by None from now old new places = places
+places_by (Some player) from now old new places =
+    let before = line_of (lines_by old) player in
+    let after = line_of (lines_by new) player in
+    heard_at player from now (is_new_in before after) (is_late_in before after) places
+
+-- bytes come from an address at a time. Once it is over nothing is taken
+abbrev pub HearsBytes : Address → List ℕ → ℕ → Playing → Playing → Type 0
+HearsBytes from bytes now old new =
+    (received : Received) × Takes bytes old.link new.link received
+    × (new ≡ record old {
+      link = new.link;
+      watch = watch_after received old.link new.link now old.watch;
+      places = places_by (heard_of received) from now old.link new.link old.places;
+    })
+
+-- Ticks.
+
+-- a datagram and a report are owed to each
+abbrev pub owes_all : Owed
+owes_all = record { datagrams = replicate 4 true; reports = replicate 4 true }
+
+abbrev pub owes_nobody : Owed
+owes_nobody = record { datagrams = replicate 4 false; reports = replicate 4 false }
+
+-- a tick goes by for the link
+abbrev pub Leans : Link → Link → ℤ → Type 0
+Leans old new by =
+    KeepsGame old new × (linked new ≡ linked old) × (pace_of new ≡ after_tick (linked old) (pace_of old))
+    × (by ≡ lean (linked old) (pace_of old))
+
+-- the tick that is due goes by: all are owed a datagram and a report
+abbrev pub PassesTick : Playing → Playing → Type 0
+PassesTick old new =
+    (by : ℤ) × Leans old.link new.link by
+    × (new ≡ record old { link = new.link; ticks = passed by old.ticks; owed = owes_all })
+
+-- the input of a tick is built, and what was owed before is dropped
+abbrev pub Builds : Input → Link → Link → Type 0
+Builds input old new =
+    KeepsGame old new
+    × ((made : Made) × Steps (linked old).node (linked new).node (λ limits me m. on_build limits me m input)
+    (λ answer. made ≡ answer) × (pace_of new ≡ after_input input made (pace_of old)))
+    × ((linked new).others ≡ (linked old).others) × ((linked new).peers ≡ (linked old).peers)
+
+-- its player gives the input of a tick: one is due while it plays, or nothing changes
+abbrev pub is_giving : Progress → Bool
+is_giving progress.Playing = true
+is_giving progress = false
+
+abbrev pub may_give : ℕ → Playing → Bool
+may_give now p = is_giving p.progress && is_due now p.ticks
+
+abbrev pub GivesWhen : Bool → ℕ → Input → Playing → Playing → Type 0
+GivesWhen false now input old new = new ≡ old
+GivesWhen true now input old new =
+    (mid : Link) × Builds input old.link mid
+    × PassesTick (record old { link = mid; ticks = resumed now old.ticks }) new
+
+-- Tics.
+
+-- a command that was owed is built, where there is room for it now
+abbrev pub CatchesUp : Link → Link → Option Made → Type 0
+CatchesUp old new result =
+    KeepsGame old new × ((linked new).others ≡ (linked old).others) × ((linked new).peers ≡ (linked old).peers)
+    × ((pace_of old).owed ≡ None → (result ≡ None) × (linked new ≡ linked old) × (pace_of new ≡ pace_of old))
+    × ((input : Input) → (pace_of old).owed ≡ Some input → (made : Made) × (result ≡ Some made)
+    × Steps (linked old).node (linked new).node (λ limits me m. on_build limits me m input) (λ answer. made ≡ answer)
+    × (pace_of new ≡ record (pace_of old) { owed = still_owed made (pace_of old).owed }))
+
+abbrev pub is_made : Option Made → Bool
+is_made (Some (Made.Made tic)) = true
+is_made result = false
+
+-- if one was built, all are owed a datagram
+abbrev pub owed_by : Option Made → Owed → Owed
+owed_by result owed = if is_made result then owes_all else owed
+
+-- a tic is run, or not
+abbrev pub RunsTic : List ℤ → Link → Link → Ran → Option (List (Option Move)) → Type 0
+RunsTic marks old new ran row =
+    KeepsGame old new × RunsBut marks (linked old) (linked new) (λ answer told. (ran ≡ answer) × (row ≡ told))
+    × ((linked new).others ≡ (linked old).others) × ((linked new).peers ≡ (linked old).peers)
+    × (pace_of new ≡ pace_of old)
+
+-- the next tic is run with the marks of the world, and then the command is built that is owed
+abbrev pub RunsNext : List ℤ → Playing → Playing → Ran → Option (List (Option Move)) → Type 0
+RunsNext marks old new ran row =
+    (mid : Link) × (made : Option Made) × RunsTic marks old.link mid ran row × CatchesUp mid new.link made
+    × (new ≡ record old { link = new.link; owed = owed_by made old.owed })
+
+-- Time.
+
+-- it looks who is awaited
+abbrev pub looks : ℕ → Playing → Playing
+looks now p =
+    record p {
+      watch = looked_at now (linked p.link).node.ran (map (has_given_up (linked p.link)) four)
+        (is_any_awaited (linked p.link)) p.watch;
+    }
+
+-- a player is given up, if any is
+abbrev pub GivesUpNow : Option ℕ → Playing → Playing → Type 0
+GivesUpNow None old new = new ≡ old
+GivesUpNow (Some player) old new =
+    ((answer : GivenUp) × GivesUpPeer player (linked old.link) (linked new.link) answer)
+    × KeepsGame old.link new.link × (pace_of new.link ≡ pace_of old.link)
+    × (new ≡ record old { link = new.link })
+
+-- its player leaves the game, as far as it has not ended; who is lost is not waited for
+abbrev pub without_lost : Ending → Link → Link → Type 0
+without_lost (ending.Lost player) old mid = linked mid ≡ forgotten player (linked old)
+without_lost end old mid = linked mid ≡ linked old
+
+abbrev pub Quits : Link → Link → Type 0
+Quits old new =
+    ((quit : Bool) × Steps (linked old).node (linked new).node (λ limits me m. on_quit m) (λ answer. quit ≡ answer))
+    × ((linked new).others ≡ (linked old).others) × ((linked new).peers ≡ (linked old).peers)
+
+abbrev pub LeavesGame : Ending → Link → Link → Type 0
+LeavesGame end old new =
+    KeepsGame old new × (pace_of new ≡ pace_of old) × ((mid : Link) × without_lost end old mid × Quits mid new)
+
+-- the game ends for it, if it does
+abbrev pub EndsNow : Option Ending → ℕ → Playing → Playing → Type 0
+EndsNow None now old new = new ≡ old
+EndsNow (Some end) now old new =
+    LeavesGame end old.link new.link × (new ≡ record old { link = new.link; progress = ended_by end now })
+
+-- a tick of one who leaves
+abbrev pub TicksWhen : Bool → ℕ → Playing → Playing → Type 0
+TicksWhen false now old new = new ≡ old
+TicksWhen true now old new = PassesTick (record old { ticks = resumed now old.ticks }) new
+
+-- what a part does as time goes, by how far it is: one that plays gives up whom it must, and may end; one that leaves
+-- does its ticks by itself, and waits
+abbrev pub PassesTime : Progress → ℕ → Playing → Playing → Type 0
+PassesTime progress.Playing now old new =
+    (mid : Playing) × GivesUpNow (due (patience old.policy) (view now (looks now old))) (looks now old) mid
+    × EndsNow (ending_of mid.policy (view now mid) (linked mid.link)) now mid new
+PassesTime (progress.Leaving end since free) now old new =
+    (mid : Playing) × TicksWhen (is_due now old.ticks) now old mid
+    × (new ≡ record mid { progress = waits (may_leave (linked mid.link)) end since free now })
+PassesTime (progress.Over end) now old new = new ≡ old
+
+-- half a tick later a second datagram is owed to those who miss some
+abbrev pub owed_second : Playing → List Bool
+owed_second p =
+    map (λ player. slice_index_or p.owed.datagrams player false || wants_second (linked p.link) (pace_of p.link) player)
+    four
+
+abbrev pub after_half : ℕ → Playing → Playing
+after_half now p =
+    if has_come now p.ticks.half
+    then record p { ticks = half_taken now p.ticks; owed = record p.owed { datagrams = owed_second p } }
+    else p
+
+abbrev pub Polls : ℕ → Playing → Playing → Type 0
+Polls now old new = (mid : Playing) × PassesTime old.progress now old mid × (new ≡ after_half now mid)
+
+-- What its player decides.
+
+-- it leaves, if it plays
+abbrev pub QuitsBy : ℕ → Playing → Playing → Type 0
+QuitsBy now old new = EndsNow (if is_giving old.progress then Some ending.Left else None) now old new
+
+-- it gives up another, if it may
+abbrev pub given_up_at : ℕ → ℕ → Playing → Option ℕ
+given_up_at now player p =
+    if is_giving p.progress && may_give_up (view now p) player then Some player else None

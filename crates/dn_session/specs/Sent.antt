@@ -1,0 +1,69 @@
+-- What a player's part sends, and where to.
+use Rattle.std.specs.Prelude.{⊤, ◌≡◌, ◌×◌, ℕ, ◌&&◌, Bool, not, false, if◌then◌else◌, List, position, slice_index_or, slice_set, Option, Some, None, is_some}
+use Rattle.dn_survivor.specs.Telling.{report_for}
+use Rattle.dn_link.specs.Linked.{Gives, remains, surviving_of}
+use Rattle.dn_link.specs.Linking.{identity_of, linked, seal_of}
+use Rattle.dn_link.specs.Notices.{notice_for}
+use Rattle.dn_link.specs.Pacing.{pace_of}
+use Rattle.dn_session.specs.declared.greeting.Address.{Address}
+use Rattle.dn_session.specs.declared.part.sending.Transmit.{Transmit}
+use Rattle.dn_session.specs.Places.{place_of}
+use Rattle.dn_session.specs.Players.{four}
+use Rattle.dn_session.specs.Playing.{KeepsGame, Playing}
+
+-- bytes, and where they go to
+abbrev pub sent_of : Transmit → Address × List ℕ
+sent_of transmit = (transmit.to, transmit.bytes.items)
+
+-- where a player is, as far as it is known
+abbrev pub address_of : Playing → ℕ → Option Address
+address_of p player = (place_of player p.places).address
+
+-- a datagram is owed to a player who remains, and it is known where that one is
+abbrev pub is_owed : Playing → ℕ → Bool
+is_owed p player =
+    slice_index_or p.owed.datagrams player false && (remains (linked p.link) player && is_some (address_of p player))
+
+-- a report is
+abbrev pub is_owed_report : Playing → ℕ → Bool
+is_owed_report p player =
+    slice_index_or p.owed.reports player false
+    && (is_some (report_for (surviving_of (linked p.link)) player) && is_some (address_of p player))
+
+-- the lowest to whom one is
+abbrev pub first_owed : Playing → Option ℕ
+first_owed p = position (is_owed p) four
+
+abbrev pub first_owed_report : Playing → Option ℕ
+first_owed_report p = position (is_owed_report p) four
+
+-- a datagram to a player is made
+abbrev pub SendsTo : ℕ → Playing → Playing → Option (Address × List ℕ) → Type 0
+SendsTo player old new sent =
+    (address : Address) × (bytes : List ℕ) × (address_of old player ≡ Some address) × (sent ≡ Some (address, bytes))
+    × Gives (seal_of old.link) (identity_of old.link) (pace_of old.link) player (linked old.link) (linked new.link) bytes
+    × KeepsGame old.link new.link × (pace_of new.link ≡ pace_of old.link)
+    × (new ≡ record old {
+      link = new.link;
+      owed = record old.owed { datagrams = slice_set old.owed.datagrams player false };
+    })
+
+-- a report
+abbrev pub Reports : ℕ → Playing → Playing → Option (Address × List ℕ) → Type 0
+Reports player old new sent =
+    (address : Address) × (bytes : List ℕ) × (address_of old player ≡ Some address) × (sent ≡ Some (address, bytes))
+    × (notice_for (seal_of old.link) (linked old.link) player ≡ Some bytes)
+    × (new ≡ record old { owed = record old.owed { reports = slice_set old.owed.reports player false } })
+
+-- the reports go behind the datagrams
+abbrev pub SendsReport : Option ℕ → Playing → Playing → Option (Address × List ℕ) → Type 0
+SendsReport None old new sent = (sent ≡ None) × (new ≡ old)
+SendsReport (Some player) old new sent = Reports player old new sent
+
+abbrev pub SendsFirst : Option ℕ → Playing → Playing → Option (Address × List ℕ) → Type 0
+SendsFirst None old new sent = SendsReport (first_owed_report old) old new sent
+SendsFirst (Some player) old new sent = SendsTo player old new sent
+
+-- what is sent next, if anything is
+abbrev pub SendsNext : Playing → Playing → Option (Address × List ℕ) → Type 0
+SendsNext old new sent = SendsFirst (first_owed old) old new sent

@@ -1,0 +1,296 @@
+-- A session: its lobby, and its part in the game once that has begun.
+use Rattle.std.specs.Prelude.{⊤, ⊥, ◌≡◌, ◌×◌, ℕ, ℤ, ◌&&◌, if◌then◌else◌, Bool, true, false, is_none, is_some, List, map, Option, Some, None, Result, Ok, Err}
+use Rattle.std.specs.Option.{option_map}
+use Rattle.dn_seal.specs.declared.seal.Seal.{Seal}
+use Rattle.dn_seal.specs.declared.seal.Suite.TheVariants as suite
+use Rattle.dn_seal.specs.Hmac.{no_secret}
+use Rattle.dn_seal.specs.Sealing.{sealed_with}
+use Rattle.dn_machine.specs.Started.{started_node}
+use Rattle.dn_machine.specs.declared.answers.Ran.{Ran}
+use Rattle.dn_machine.specs.declared.answers.Ran.TheVariants as ran
+use Rattle.dn_tic.specs.declared.command.Move.{Move}
+use Rattle.dn_tic.specs.declared.input.Input.{Input}
+use Rattle.dn_lockstep.specs.Contents.{whose}
+use Rattle.dn_lockstep.specs.Opening.{IsAdmittedWithin, keyed, limits_within, whose_within}
+use Rattle.dn_lockstep.specs.Represents.{Represents}
+use Rattle.dn_lockstep.specs.declared.config.Config.{Config}
+use Rattle.dn_lockstep.specs.declared.config.NodeFault.{NodeFault}
+use Rattle.dn_survivor.specs.OfOthers.{nothing_kept}
+use Rattle.dn_link.specs.declared.link.Link.{Link}
+use Rattle.dn_link.specs.Linking.{linked, new_peer, seal_of}
+use Rattle.dn_link.specs.Pacing.{new_pace, pace_of}
+use Rattle.dn_session.specs.declared.ending.Ending.{Ending}
+use Rattle.dn_session.specs.declared.ending.Progress.TheVariants as progress
+use Rattle.dn_session.specs.declared.greeting.Address.{Address}
+use Rattle.dn_session.specs.declared.greeting.Seating.{Seating}
+use Rattle.dn_session.specs.declared.greeting.Shown.{Shown}
+use Rattle.dn_session.specs.declared.host.Host.{Host}
+use Rattle.dn_session.specs.declared.host.HostConfig.{HostConfig}
+use Rattle.dn_session.specs.declared.joiner.JoinConfig.{JoinConfig}
+use Rattle.dn_session.specs.declared.joiner.Joiner.{Joiner}
+use Rattle.dn_session.specs.declared.joiner.Stage.{Stage}
+use Rattle.dn_session.specs.declared.joiner.Stage.TheVariants as stage
+use Rattle.dn_session.specs.declared.part.Part.{Part}
+use Rattle.dn_session.specs.declared.seats.Seat.{Seat}
+use Rattle.dn_session.specs.declared.seats.Seat.TheVariants as seat
+use Rattle.dn_session.specs.declared.session.Session.{Session}
+use Rattle.dn_session.specs.declared.side.Begun.{Begun}
+use Rattle.dn_session.specs.declared.side.Side.{Side}
+use Rattle.dn_session.specs.declared.side.Side.TheVariants as side
+use Rattle.dn_session.specs.declared.terms.LobbyFault.{LobbyFault}
+use Rattle.dn_session.specs.Hosting.{game, holder_of, kicked, lobby, HearsCall, IsHostOf, Lobby}
+use Rattle.dn_session.specs.Joining.{game_in, is_heard, joining, on_time, HearsHost, IsJoinerOf, Joining}
+use Rattle.dn_session.specs.Places.{places_of}
+use Rattle.dn_session.specs.Playing.{ended_as, given_up_at, may_give, owes_nobody, playing, GivesUpNow, GivesWhen, HearsBytes, Playing, Polls, QuitsBy, RunsNext}
+use Rattle.dn_session.specs.Reading.{is_greeting}
+use Rattle.dn_session.specs.Sent.{sent_of, SendsNext}
+use Rattle.dn_session.specs.Ticks.{new_ticks}
+use Rattle.dn_session.specs.Watch.{new_watch}
+
+-- The game that a lobby begins.
+
+abbrev pub address_in : Seat → Option Address
+address_in (seat.Taken held) = Some held.holder.address
+address_in seat = None
+
+abbrev pub address_shown : Option Shown → Option Address
+address_shown None = None
+address_shown (Some shown) = Some shown.holder.address
+
+-- what the host begins
+abbrev pub begun_here : Lobby → Begun
+begun_here l =
+    record {
+      game = game l;
+      terms = l.terms;
+      me = 0;
+      host = None;
+      seats = map address_in l.seats;
+    }
+
+-- what one who joins begins, by what it was told
+abbrev pub begun_there : Joining → Seating → Begun
+begun_there j s =
+    record {
+      game = game_in j.seal s;
+      terms = s.terms;
+      me = s.seat;
+      host = Some j.config.host;
+      seats = map address_shown s.seats;
+    }
+
+abbrev pub begun_with : Joining → Stage → Option Seating → Option Begun
+begun_with j stage.Playing (Some s) = Some (begun_there j s)
+begun_with j stage seating = None
+
+-- the game of a lobby, once it has begun
+abbrev pub begun_in : Side → Option Begun
+begun_in (side.Host host) = if (lobby host).begun then Some (begun_here (lobby host)) else None
+begun_in (side.Joiner joiner) = begun_with (joining joiner) (joining joiner).stage (joining joiner).seating
+
+-- The link of a game.
+
+-- a game of this number: under the secret that the players share, and openly if they share none
+abbrev pub game_seal : Option (List ℕ) → List ℕ → Seal
+game_seal None game = sealed_with suite.Open no_secret game
+game_seal (Some secret) game = sealed_with suite.Secret secret game
+
+abbrev pub config_of : Begun → Config
+config_of b =
+    record {
+      players = b.terms.players;
+      me = b.me;
+      extra = b.terms.extra;
+      limit = b.terms.limit;
+      settings = None;
+    }
+
+-- a link that plays from the beginning on, and has no history
+pub record IsLinkOf (secret : Option (List ℕ)) (b : Begun) (link : Link) : Type 0 where
+  pub sealed : seal_of link ≡ game_seal secret b.game
+  pub whose_is : whose (linked link).node ≡ whose_within (config_of b) b.terms.ahead
+  pub opened : Represents (limits_within (config_of b) b.terms.ahead) b.me (linked link).node
+      (started_node b.terms.players b.terms.settings b.me)
+  pub others : (linked link).others ≡ nothing_kept
+  pub peers : (player : ℕ) → (linked link).peers player ≡ new_peer
+  pub pace : pace_of link ≡ new_pace
+
+-- a part in the game from now on
+pub record IsPartOf (secret : Option (List ℕ)) (b : Begun) (now : ℕ) (p : Playing) : Type 0 where
+  pub link : IsLinkOf secret b p.link
+  pub ticks : p.ticks ≡ new_ticks b.terms.rate now
+  pub watch : p.watch ≡ new_watch now
+  pub places : p.places ≡ places_of b.host b.seats now
+  pub owed : p.owed ≡ owes_nobody
+  pub progress : p.progress ≡ progress.Playing
+  pub policy : p.policy ≡ b.terms.policy
+
+-- The session.
+
+-- its lobby; the secret; its part; and a reply and a call that are to be sent
+pub record Meeting : Type 0 where
+  pub lobby : Side
+  pub secret : Option (List ℕ)
+  pub part : Option Part
+  pub reply : Option (Address × List ℕ)
+  pub call : Option (Address × List ℕ)
+
+abbrev pub meeting : Session → Meeting
+meeting session =
+    record {
+      lobby = session.side;
+      secret = session.secret;
+      part = session.part;
+      reply = option_map sent_of session.reply;
+      call = option_map sent_of session.call;
+    }
+
+abbrev pub new_meeting : Side → Option (List ℕ) → Meeting
+new_meeting side secret =
+    record { lobby = side; secret = secret; part = None; reply = None; call = None }
+
+-- a session is made as its lobby is, or refused as that is
+abbrev pub IsHostSession : HostConfig → Result Session LobbyFault → Type 0
+IsHostSession config (Ok session) =
+    (host : Host) × IsHostOf config (Ok host) × (meeting session ≡ new_meeting (side.Host host) config.secret)
+IsHostSession config (Err fault) = IsHostOf config (Err fault)
+
+abbrev pub IsJoinSession : JoinConfig → ℕ → Result Session LobbyFault → Type 0
+IsJoinSession config now (Ok session) =
+    (joiner : Joiner) × IsJoinerOf config now (Ok joiner)
+    × (meeting session ≡ new_meeting (side.Joiner joiner) config.secret)
+IsJoinSession config now (Err fault) = IsJoinerOf config now (Err fault)
+
+-- what a part does, if there is one
+abbrev pub IfPlaying : (Playing → Playing → Type 0) → Option Part → Option Part → Type 0
+IfPlaying Does None None = ⊤
+IfPlaying Does (Some old) (Some new) = Does (playing old) (playing new)
+IfPlaying Does old new = ⊥
+
+-- what comes
+
+abbrev pub reply_to : Address → Option (List ℕ) → Option (Address × List ℕ)
+reply_to from reply = option_map (λ bytes. (from, bytes)) reply
+
+-- a joiner hears its host alone
+abbrev pub HearsReply : Bool → List ℕ → ℕ → Joining → Joining → Type 0
+HearsReply true bytes now old new = HearsHost bytes now old new
+HearsReply false bytes now old new = new ≡ old
+
+abbrev pub HearsGreeting : Address → List ℕ → ℕ → Side → Side → Option (List ℕ) → Type 0
+HearsGreeting from bytes now (side.Host old) (side.Host new) reply =
+    HearsCall from bytes now (lobby old) (lobby new) reply
+HearsGreeting from bytes now (side.Joiner old) (side.Joiner new) reply =
+    HearsReply (is_heard from (joining old)) bytes now (joining old) (joining new) × (reply ≡ None)
+HearsGreeting from bytes now old new reply = ⊥
+
+-- a greeting goes to the lobby, and its reply takes the place of one that was not sent; all else goes to the part
+abbrev pub HearsWhen : Bool → Address → List ℕ → ℕ → Meeting → Meeting → Type 0
+HearsWhen true from bytes now old new =
+    (side : Side) × (reply : Option (List ℕ)) × HearsGreeting from bytes now old.lobby side reply
+    × (new ≡ record old { lobby = side; reply = reply_to from reply })
+HearsWhen false from bytes now old new =
+    IfPlaying (HearsBytes from bytes now) old.part new.part × (new ≡ record old { part = new.part })
+
+abbrev pub HearsAny : Address → List ℕ → ℕ → Meeting → Meeting → Type 0
+HearsAny from bytes now old new = HearsWhen (is_greeting bytes) from bytes now old new
+
+-- the game begins for it
+
+abbrev pub may_begin : Meeting → Bool
+may_begin m = is_some (begun_in m.lobby) && is_none m.part
+
+abbrev pub BeginsAs : Option Begun → ℕ → Meeting → Meeting → Type 0
+BeginsAs None now old new = ⊥
+BeginsAs (Some b) now old new =
+    (part : Part) × IsPartOf old.secret b now (playing part) × (new ≡ record old { part = Some part })
+
+-- it has a part then, once; and none for want of memory, or of terms that are no game's
+abbrev pub IsRefusedAs : Option Begun → NodeFault → Type 0
+IsRefusedAs None fault = ⊥
+IsRefusedAs (Some b) fault = IsAdmittedWithin {Part} (keyed (config_of b) b.terms.settings) b.terms.ahead (Err fault)
+
+abbrev pub Begins : ℕ → Meeting → Meeting → Result Bool NodeFault → Type 0
+Begins now old new (Ok true) = (may_begin old ≡ true) × BeginsAs (begun_in old.lobby) now old new
+Begins now old new (Ok false) = (may_begin old ≡ false) × (new ≡ old)
+Begins now old new (Err fault) = (may_begin old ≡ true) × IsRefusedAs (begun_in old.lobby) fault × (new ≡ old)
+
+-- time
+
+-- a joiner calls, where a call is due
+abbrev pub call_to : Joining → Option (List ℕ) → Option (Address × List ℕ)
+call_to j call = option_map (λ bytes. (j.config.host, bytes)) call
+
+abbrev pub Calls : ℕ → Side → Side → Option (Address × List ℕ) → Type 0
+Calls now (side.Host old) new call = (new ≡ side.Host old) × (call ≡ None)
+Calls now (side.Joiner old) (side.Joiner new) call =
+    (joining new ≡ (on_time now (joining old)).0) × (call ≡ call_to (joining old) (on_time now (joining old)).1)
+Calls now old new call = ⊥
+
+abbrev pub PassesTo : ℕ → Meeting → Meeting → Type 0
+PassesTo now old new =
+    Calls now old.lobby new.lobby new.call × IfPlaying (Polls now) old.part new.part
+    × (new ≡ record old { lobby = new.lobby; call = new.call; part = new.part })
+
+-- what is sent: a reply goes first, and then a call
+
+abbrev pub SendsPart : Option Part → Option Part → Option (Address × List ℕ) → Type 0
+SendsPart None new sent = (new ≡ None) × (sent ≡ None)
+SendsPart (Some old) None sent = ⊥
+SendsPart (Some old) (Some new) sent = SendsNext (playing old) (playing new) sent
+
+abbrev pub SendsCall : Option (Address × List ℕ) → Meeting → Meeting → Option (Address × List ℕ) → Type 0
+SendsCall (Some call) old new sent = (sent ≡ Some call) × (new ≡ record old { call = None })
+SendsCall None old new sent = SendsPart old.part new.part sent × (new ≡ record old { part = new.part })
+
+abbrev pub SendsReply : Option (Address × List ℕ) → Meeting → Meeting → Option (Address × List ℕ) → Type 0
+SendsReply (Some reply) old new sent = (sent ≡ Some reply) × (new ≡ record old { reply = None })
+SendsReply None old new sent = SendsCall old.call old new sent
+
+abbrev pub Sends : Meeting → Meeting → Option (Address × List ℕ) → Type 0
+Sends old new sent = SendsReply old.reply old new sent
+
+-- what its player does in the game
+
+abbrev pub GivesPart : ℕ → Input → Option Part → Option Part → Bool → Type 0
+GivesPart now input None new given = (new ≡ None) × (given ≡ false)
+GivesPart now input (Some old) None given = ⊥
+GivesPart now input (Some old) (Some new) given =
+    GivesWhen (may_give now (playing old)) now input (playing old) (playing new) × (given ≡ may_give now (playing old))
+
+abbrev pub RunsPart : List ℤ → Option Part → Option Part → Ran → Option (List (Option Move)) → Type 0
+RunsPart marks None new answer row = (new ≡ None) × (answer ≡ ran.NotPlaying) × (row ≡ None)
+RunsPart marks (Some old) None answer row = ⊥
+RunsPart marks (Some old) (Some new) answer row = RunsNext marks (playing old) (playing new) answer row
+
+abbrev pub can_give : ℕ → Option Part → Bool
+can_give now None = false
+can_give now (Some part) = may_give now (playing part)
+
+abbrev pub QuitsPart : ℕ → Option Part → Option Part → Type 0
+QuitsPart now old new = IfPlaying (QuitsBy now) old new
+
+abbrev pub GivesUpPart : ℕ → ℕ → Option Part → Option Part → Bool → Type 0
+GivesUpPart player now None new gave = (new ≡ None) × (gave ≡ false)
+GivesUpPart player now (Some old) None gave = ⊥
+GivesUpPart player now (Some old) (Some new) gave =
+    GivesUpNow (given_up_at now player (playing old)) (playing old) (playing new)
+    × (gave ≡ is_some (given_up_at now player (playing old)))
+
+abbrev pub ending_in : Option Part → Option Ending
+ending_in None = None
+ending_in (Some part) = ended_as (playing part).progress
+
+-- what the host does in the lobby
+
+abbrev pub kicked_as : Option (List ℕ) → Lobby → Lobby
+kicked_as None l = l
+kicked_as (Some number) l = kicked number l
+
+abbrev pub KicksFrom : ℕ → Side → Side → Type 0
+KicksFrom player (side.Host old) (side.Host new) = lobby new ≡ kicked_as (holder_of (lobby old) player) (lobby old)
+KicksFrom player (side.Joiner old) new = new ≡ side.Joiner old
+KicksFrom player old new = ⊥
+
+abbrev pub Kicks : ℕ → Meeting → Meeting → Type 0
+Kicks player old new = KicksFrom player old.lobby new.lobby × (new ≡ record old { lobby = new.lobby })

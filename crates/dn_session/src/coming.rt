@@ -1,0 +1,76 @@
+//! How a player's datagrams come.
+
+ghost use Rattle.std.specs.Prelude.{◌≡◌, ◌<◌, map};
+ghost use Rattle.dn_lockstep.specs.{Contents.contents, Told.got};
+ghost use Rattle.dn_link.specs.{Linking.linked, Pacing.pace_of};
+ghost use Rattle.dn_session.specs.{Coming.figures_in, Coming.heard_of, Coming.is_late_in, Coming.is_new_in, Coming.is_news_of, Coming.line_of, Coming.lines_in, Players.four};
+
+use dn_link::{Figures, Link, Received};
+use dn_lockstep::Lockstep;
+
+/// What is known of the lines of four players.
+pub(crate) type Lines = [Option<Figures>; 4];
+
+/// What is known of each line.
+pub(crate) fn lines_of(link: &Link) -> Lines
+    ensures { result ≡ lines_in (linked link.now) (pace_of link.now) }
+{
+    [
+        link.figures(0),
+        link.figures(1),
+        link.figures(2),
+        link.figures(3),
+    ]
+}
+
+/// What is known of a player's line.
+pub(crate) fn line_of(lines: &Lines, player: u8) -> Option<Figures>
+    ensures { result ≡ line_of lines.now player }
+{
+    match lines.get(usize::from(player)) {
+        Some(line) => *line,
+        None => None,
+    }
+}
+
+/// Whether no datagram that was sent later had come, by the figures of its line before it and after it.
+pub(crate) fn is_new_in(before: &Option<Figures>, after: &Option<Figures>) -> bool
+    ensures { result ≡ is_new_in before.now after.now }
+{
+    match (before, after) {
+        (Some(before), Some(after)) => before.came < after.came && before.lost <= after.lost,
+        _ => false,
+    }
+}
+
+/// Whether it is one of the last 64, and came for the first time or again.
+pub(crate) fn is_late_in(before: &Option<Figures>, after: &Option<Figures>) -> bool
+    ensures { result ≡ is_late_in before.now after.now }
+{
+    match (before, after) {
+        (Some(before), Some(after)) => {
+            before.came < after.came || before.repeated < after.repeated
+        }
+        _ => false,
+    }
+}
+
+/// Whose datagram was heard.
+pub(crate) fn heard_of(received: &Received) -> Option<u8>
+    ensures { result ≡ heard_of received.now }
+{
+    match received {
+        Received::Heard { from, .. } => Some(*from),
+        _ => None,
+    }
+}
+
+/// Whether a new datagram of this player was heard.
+pub(crate) fn is_news_of(heard: Option<u8>, before: &Lines, after: &Lines, player: u8) -> bool
+    ensures { result ≡ is_news_of heard before.now after.now player }
+{
+    match heard {
+        Some(from) => player == from && is_new_in(&line_of(before, from), &line_of(after, from)),
+        None => false,
+    }
+}

@@ -1,0 +1,191 @@
+//! How a game ends for a player, and whom it gives up under a policy.
+
+ghost use Rattle.std.specs.Prelude.{◌≡◌, ◌<◌, IfSome, option_map};
+ghost use Rattle.dn_link.specs.Linking.{linked};
+ghost use Rattle.dn_session.specs.Lead.{highest, is_late};
+ghost use Rattle.dn_session.specs.declared.ending.Ending.TheVariants.{Lost};
+ghost use Rattle.dn_session.specs.Ending.{ended_by, ending_of, free_since, has_waited, is_alone, is_leading, lost_under, may_give_up, own_ending, patience, waits};
+
+use crate::lead::{View, is_given_up, is_open, is_there, late, lead};
+use crate::players::{has_gone, is_abandoned};
+use crate::terms::Policy;
+use dn_link::Link;
+use dn_machine::{Cause, Phase};
+
+/// How a game ends for a player.
+#[derive(Clone, Copy, Debug, PartialEq, Eq)]
+pub enum Ending {
+    /// It has left.
+    Left,
+    /// Its demo is full.
+    Full,
+    /// It found that this player's world differs from its own.
+    Inconsistent(u8),
+    /// The others have given it up.
+    GivenUp,
+    /// It has given up others, and nobody is left.
+    Alone,
+    /// This player was awaited for as long as the policy says, which ends the game.
+    Lost(u8),
+}
+
+/// How far a player's part in a game is. Times are milliseconds of its own clock.
+#[derive(Clone, Copy, Debug, PartialEq, Eq)]
+pub enum Progress {
+    /// It plays.
+    Playing,
+    /// It is leaving since this time, and nobody needs it since that one.
+    Leaving {
+        ending: Ending,
+        since: u32,
+        free: Option<u32>,
+    },
+    /// It is over.
+    Over(Ending),
+}
+
+/// For how long somebody is awaited before a player is given up without being asked, in milliseconds.
+pub(crate) fn patience(policy: Policy) -> u32
+    ensures { result ≡ patience policy }
+{
+    match policy {
+        Policy::GiveUp(seconds) => u32::from(seconds) * 1000,
+        Policy::Wait | Policy::End(_) => u32::MAX,
+    }
+}
+
+/// Whether the one that leads is the player itself, or this one.
+fn is_leading(view: &View, player: u8) -> bool
+    ensures { result ≡ is_leading view.now player }
+{
+    match lead(view) {
+        Some(leader) => leader == usize::from(view.me) || leader == usize::from(player),
+        None => false,
+    }
+}
+
+/// Whether a player may give up another when it is told to.
+pub(crate) fn may_give_up(view: &View, player: u8) -> bool
+    ensures { result ≡ may_give_up view.now player }
+{
+    if player >= 4 || view.me >= 4 {
+        return false;
+    }
+    is_open(view, view.me)
+        && is_there(view, player)
+        && view.stalled >= 3000
+        && is_leading(view, player)
+}
+
+/// For whom the game ends, if it waits for somebody too long.
+fn lost_under(policy: Policy, view: &View) -> Option<usize>
+    ensures value { result ≡ lost_under policy view.now }
+    ensures within { IfSome result (λ n. n < 4) }
+{
+    match policy {
+        Policy::End(seconds) => late(u32::from(seconds) * 1000, view),
+        Policy::Wait | Policy::GiveUp(_) => None,
+    }
+}
+
+/// How its own machine ended the game.
+fn own_ending(phase: Phase) -> Option<Ending>
+    ensures { result ≡ own_ending phase }
+{
+    match phase {
+        Phase::Ended(Cause::Full) => Some(Ending::Full),
+        Phase::Ended(Cause::Inconsistent { player, .. }) => Some(Ending::Inconsistent(player)),
+        _ => None,
+    }
+}
+
+/// Whether it is left alone.
+fn is_alone(link: &Link) -> bool
+    ensures { result ≡ is_alone (linked link.now) }
+{
+    has_gone(link) && is_abandoned(link)
+}
+
+/// The loss of a player, if it is one.
+fn lost(player: Option<usize>) -> Option<Ending>
+    requires { IfSome player (λ n. n < 4) }
+    ensures { result ≡ option_map Lost player }
+{
+    match player {
+        Some(player) => Some(Ending::Lost(player as u8)),
+        None => None,
+    }
+}
+
+/// How the game of a player ends, if it does.
+pub(crate) fn ending_of(policy: Policy, view: &View, link: &Link) -> Option<Ending>
+    ensures { result ≡ ending_of policy view.now (linked link.now) }
+{
+    if let Some(ending) = own_ending(link.lockstep().phase()) {
+        return Some(ending);
+    }
+    if is_given_up(view) {
+        return Some(Ending::GivenUp);
+    }
+    if is_alone(link) {
+        return Some(Ending::Alone);
+    }
+    lost(lost_under(policy, view))
+}
+
+/// How far it is once it ends so.
+pub(crate) fn ended_by(ending: Ending, now: u32) -> Progress
+    ensures { result ≡ ended_by ending now }
+{
+    match ending {
+        Ending::GivenUp | Ending::Alone => Progress::Over(ending),
+        _ => Progress::Leaving {
+            ending,
+            since: now,
+            free: None,
+        },
+    }
+}
+
+/// Since when nobody needs it, if nobody does.
+fn free_since(may_leave: bool, free: Option<u32>, now: u32) -> Option<u32>
+    ensures { result ≡ free_since may_leave free now }
+{
+    match free {
+        Some(free) => Some(free),
+        None if may_leave => Some(now),
+        None => None,
+    }
+}
+
+/// Whether that was two seconds ago.
+fn has_waited(free: Option<u32>, now: u32) -> bool
+    ensures { result ≡ has_waited free now }
+{
+    match free {
+        Some(free) => now.saturating_sub(free) >= 2000,
+        None => false,
+    }
+}
+
+/// How far one is who leaves.
+pub(crate) fn waits(
+    may_leave: bool,
+    ending: Ending,
+    since: u32,
+    free: Option<u32>,
+    now: u32,
+) -> Progress
+    ensures { result ≡ waits may_leave ending since free now }
+{
+    let free = free_since(may_leave, free, now);
+    if has_waited(free, now) || now.saturating_sub(since) >= 10_000 {
+        Progress::Over(ending)
+    } else {
+        Progress::Leaving {
+            ending,
+            since,
+            free,
+        }
+    }
+}

@@ -1,0 +1,118 @@
+//! A player's part in its game.
+
+ghost use Rattle.std.specs.Prelude.{◌≡◌, map};
+ghost use Rattle.dn_link.specs.{Linked.has_given_up, Linking.linked};
+ghost use Rattle.dn_session.specs.{Players.four, Playing.owes_all};
+
+mod ending;
+mod giving;
+mod hearing;
+mod polling;
+mod running;
+mod sending;
+
+pub use sending::Transmit;
+pub(crate) use sending::widened;
+
+use crate::ending::{Ending, Progress};
+use crate::places::Places;
+use crate::terms::Policy;
+use crate::ticks::Ticks;
+use crate::watch::Watch;
+use dn_link::Link;
+
+/// To whom a datagram is owed, and to whom a report.
+#[derive(Clone, Copy, Debug, PartialEq, Eq)]
+pub(crate) struct Owed {
+    datagrams: [bool; 4],
+    reports: [bool; 4],
+}
+
+/// All are owed both.
+fn owes_all() -> Owed
+    ensures { result ≡ owes_all }
+{
+    Owed {
+        datagrams: [true; 4],
+        reports: [true; 4],
+    }
+}
+
+/// Whom a link has given up.
+fn gone_from(link: &Link) -> [bool; 4]
+    ensures { result ≡ map (has_given_up (linked link.now)) four }
+{
+    [
+        link.has_given_up(0),
+        link.has_given_up(1),
+        link.has_given_up(2),
+        link.has_given_up(3),
+    ]
+}
+
+/// A player's part in its game: its link, when its ticks are due, where the others are, whom it waits for, what is to
+/// be sent, and how far it is.
+#[derive(Drop)]
+pub struct Part {
+    link: Link,
+    ticks: Ticks,
+    watch: Watch,
+    places: Places,
+    owed: Owed,
+    progress: Progress,
+    policy: Policy,
+}
+
+impl Part {
+    ghost use Rattle.dn_session.specs.{Playing.ended_as, Playing.owes_nobody, Playing.playing, Ticks.new_ticks, Watch.new_watch, declared.ending.Progress.TheVariants as progress};
+
+    /// The part that plays by this link from now on, in a game of this rate and policy, with the others at these places.
+    pub(crate) fn new(link: Link, rate: u8, policy: Policy, places: Places, now: u32) -> Part
+        ensures { playing result ≡ record {
+            link = link;
+            ticks = new_ticks rate now;
+            watch = new_watch now;
+            places = places;
+            owed = owes_nobody;
+            progress = progress.Playing;
+            policy = policy;
+        } }
+    {
+        Part {
+            link,
+            ticks: Ticks::new(rate, now),
+            watch: Watch::new(now),
+            places,
+            owed: Owed {
+                datagrams: [false; 4],
+                reports: [false; 4],
+            },
+            progress: Progress::Playing,
+            policy,
+        }
+    }
+
+    /// Its link, for its readers.
+    pub fn link(&self) -> &Link
+        ensures { result.now ≡ (playing self.now).link }
+    {
+        &self.link
+    }
+
+    /// How far it is.
+    pub fn progress(&self) -> Progress
+        ensures { result ≡ (playing self.now).progress }
+    {
+        self.progress
+    }
+
+    /// How it ended, once it is over.
+    pub fn ending(&self) -> Option<Ending>
+        ensures { result ≡ ended_as (playing self.now).progress }
+    {
+        match self.progress {
+            Progress::Over(ending) => Some(ending),
+            _ => None,
+        }
+    }
+}

@@ -1,0 +1,64 @@
+//! Ticks: the commands that its player gives.
+
+ghost use Rattle.std.specs.Prelude.{◌≡◌};
+ghost use Rattle.dn_session.specs.Playing.{is_giving, Builds};
+
+use super::{Part, owes_all};
+use crate::ending::Progress;
+use dn_link::Link;
+use dn_tic::Input;
+
+/// Whether it plays.
+pub(super) fn is_giving(progress: Progress) -> bool
+    ensures { result ≡ is_giving progress }
+{
+    matches!(progress, Progress::Playing)
+}
+
+/// The input of a tick is built.
+fn build(link: &mut Link, input: Input)
+    ensures { Builds input link.old link.new }
+{
+    match input {
+        Input::Pressed(keys) => {
+            let _ = link.build(keys);
+        }
+        Input::Given(command) => {
+            let _ = link.give(command);
+        }
+    }
+}
+
+impl Part {
+    ghost use Rattle.dn_session.specs.Playing.{playing, may_give, GivesWhen, PassesTick};
+
+    /// The tick that is due goes by.
+    pub(super) fn pass_tick(&mut self)
+        ensures { PassesTick (playing self.old) (playing self.new) }
+    {
+        let lean = self.link.lean();
+        self.ticks.pass(lean);
+        self.owed = owes_all();
+    }
+
+    /// Whether its player is to give a command now.
+    pub fn wants_input(&self, now: u32) -> bool
+        ensures { result ≡ may_give now (playing self.now) }
+    {
+        is_giving(self.progress) && self.ticks.is_due(now)
+    }
+
+    /// Its player gives the input of the tick that is due. Whether one was: else nothing changes.
+    pub(crate) fn give(&mut self, input: Input, now: u32) -> bool
+        ensures gives { GivesWhen (may_give now (playing self.old)) now input (playing self.old) (playing self.new) }
+        ensures is { result ≡ may_give now (playing self.old) }
+    {
+        if !self.wants_input(now) {
+            return false;
+        }
+        self.ticks.resume(now);
+        build(&mut self.link, input);
+        self.pass_tick();
+        true
+    }
+}

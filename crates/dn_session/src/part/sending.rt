@@ -1,0 +1,122 @@
+//! What goes out.
+
+ghost use Rattle.std.specs.Prelude.{◌≡◌, ◌<◌, ◌≤◌, length, IfSome};
+
+use super::Part;
+use crate::greeting::Address;
+use crate::players::is_gone_from;
+use arrayvec::ArrayVec;
+use dn_seal::append;
+
+/// Bytes, and where they go to.
+#[derive(Clone, Debug, PartialEq, Eq, Drop)]
+pub struct Transmit {
+    /// Where they go to.
+    pub to: Address,
+    /// The bytes.
+    pub bytes: ArrayVec<u8, 1200>,
+}
+
+/// The same bytes, in room for any.
+pub(crate) fn widened<const ROOM: usize>(bytes: &ArrayVec<u8, ROOM>) -> ArrayVec<u8, 1200>
+    requires { length bytes.now.items ≤ 1200 }
+    ensures { result.items ≡ bytes.now.items }
+{
+    let mut wide = ArrayVec::new();
+    append(&mut wide, bytes.as_slice());
+    wide
+}
+
+impl Part {
+    ghost use Rattle.std.specs.Prelude.{option_map, is_some, true};
+    ghost use Rattle.dn_session.specs.Sent.{first_owed, first_owed_report, is_owed, is_owed_report, sent_of, Reports, SendsNext, SendsReport, SendsTo};
+    ghost use Rattle.dn_session.specs.Playing.{playing};
+
+    /// Whether a datagram is owed to a player.
+    fn is_owed(&self, player: u8) -> bool
+        requires { player < 4 }
+        ensures { result ≡ is_owed (playing self.now) player }
+    {
+        self.owed.datagrams[player as usize]
+            && !is_gone_from(&self.link, player)
+            && self.places.at(player).is_some()
+    }
+
+    /// Whether a report is.
+    fn is_owed_report(&self, player: u8) -> bool
+        requires { player < 4 }
+        ensures { result ≡ is_owed_report (playing self.now) player }
+    {
+        self.owed.reports[player as usize]
+            && self.link.report(player).is_some()
+            && self.places.at(player).is_some()
+    }
+
+    /// The lowest player to whom a datagram is owed.
+    fn first_owed(&self) -> Option<usize>
+        ensures value { result ≡ first_owed (playing self.now) }
+        ensures within { IfSome result (λ n. n < 4) }
+    {
+        [0, 1, 2, 3]
+            .iter()
+            .position(|player| self.is_owed(*player))
+    }
+
+    /// The lowest to whom a report is.
+    fn first_owed_report(&self) -> Option<usize>
+        ensures value { result ≡ first_owed_report (playing self.now) }
+        ensures within { IfSome result (λ n. n < 4) }
+    {
+        [0, 1, 2, 3]
+            .iter()
+            .position(|player| self.is_owed_report(*player))
+    }
+
+    /// The datagram that is owed to a player.
+    fn send(&mut self, player: u8) -> Option<Transmit>
+        requires few { player < 4 }
+        requires owed { is_owed (playing self.old) player ≡ true }
+        ensures { SendsTo player (playing self.old) (playing self.new) (option_map sent_of result) }
+    {
+        self.owed.datagrams[player as usize] = false;
+        let to = self.places.at(player)?;
+        let bytes = self.link.datagram(player)?;
+        Some(Transmit { to, bytes })
+    }
+
+    /// The report that is owed to a player.
+    fn report(&mut self, player: u8) -> Option<Transmit>
+        requires few { player < 4 }
+        requires owed { is_owed_report (playing self.old) player ≡ true }
+        ensures { Reports player (playing self.old) (playing self.new) (option_map sent_of result) }
+    {
+        self.owed.reports[player as usize] = false;
+        let to = self.places.at(player)?;
+        let report = self.link.report_datagram(player)?;
+        Some(Transmit {
+            to,
+            bytes: widened(&report),
+        })
+    }
+
+    /// The report that is to be sent next, if one is.
+    fn send_report(&mut self) -> Option<Transmit>
+        ensures { SendsReport (first_owed_report (playing self.old)) (playing self.old) (playing self.new)
+            (option_map sent_of result) }
+    {
+        match self.first_owed_report() {
+            Some(player) => self.report(player as u8),
+            None => None,
+        }
+    }
+
+    /// What is to be sent next, if anything is.
+    pub(crate) fn transmit(&mut self) -> Option<Transmit>
+        ensures { SendsNext (playing self.old) (playing self.new) (option_map sent_of result) }
+    {
+        match self.first_owed() {
+            Some(player) => self.send(player as u8),
+            None => self.send_report(),
+        }
+    }
+}

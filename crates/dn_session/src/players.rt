@@ -1,0 +1,150 @@
+//! What a player sees of the others in its game.
+
+ghost use Rattle.std.specs.{Prelude.◌≡◌, List.list_any, List.list_all};
+ghost use Rattle.dn_lockstep.specs.Contents.{contents};
+ghost use Rattle.dn_link.specs.{Linked.has_given_up, Linking.linked};
+ghost use Rattle.dn_session.specs.Players.{four, has_gone, is_abandoned, is_any_awaited, is_awaited, is_gone_from, is_it, lacks, owes_report, own_standing, seen_of, standing_beside, standing_of, view_of};
+
+use crate::lead::{Seen, Standing, View};
+use crate::watch::Watch;
+use dn_link::Link;
+use dn_lockstep::Lockstep;
+use dn_machine::Phase;
+
+/// What its own player is in the game.
+fn own_standing(phase: Phase) -> Standing
+    ensures { result ≡ own_standing phase }
+{
+    match phase {
+        Phase::Playing => Standing::Open,
+        _ => Standing::Closed,
+    }
+}
+
+/// Whether a number is given up, or no other player's.
+pub(crate) fn is_gone_from(link: &Link, player: u8) -> bool
+    ensures { result ≡ is_gone_from (linked link.now) player }
+{
+    let lockstep = link.lockstep();
+    player >= lockstep.players() || player == lockstep.me() || link.has_given_up(player)
+}
+
+/// What another is.
+fn standing_beside(link: &Link, player: u8) -> Standing
+    ensures { result ≡ standing_beside (linked link.now) player }
+{
+    if is_gone_from(link, player) {
+        Standing::Gone
+    } else if link.lockstep().end(player).is_some() {
+        Standing::Closed
+    } else {
+        Standing::Open
+    }
+}
+
+/// What a player is in the game.
+fn standing_of(link: &Link, player: u8) -> Standing
+    ensures { result ≡ standing_of (linked link.now) player }
+{
+    if player == link.lockstep().me() {
+        own_standing(link.lockstep().phase())
+    } else {
+        standing_beside(link, player)
+    }
+}
+
+/// Whether the own command of the next tic is there, and this player's is not.
+fn lacks(lockstep: &Lockstep, player: u8) -> bool
+    requires { player < (contents lockstep.now).players }
+    ensures { result ≡ lacks (contents lockstep.now) player }
+{
+    let ran = lockstep.ran();
+    ran < lockstep.made() && lockstep.got(player).unwrap_or(0) <= ran
+}
+
+/// Whether somebody is given up.
+pub(crate) fn has_gone(link: &Link) -> bool
+    ensures { result ≡ has_gone (linked link.now) }
+{
+    link.has_given_up(0) || link.has_given_up(1) || link.has_given_up(2) || link.has_given_up(3)
+}
+
+/// Whether it is this player.
+fn is_it(player: u8, other: Option<u8>) -> bool
+    ensures { result ≡ is_it player other }
+{
+    match other {
+        Some(other) => player == other,
+        None => false,
+    }
+}
+
+/// Whether the report of a player is awaited.
+fn owes_report(link: &Link, player: u8) -> bool
+    ensures { result ≡ owes_report (linked link.now) player }
+{
+    has_gone(link) && is_it(player, link.undecided())
+}
+
+/// Whether a command or a report of a player is awaited.
+fn is_awaited(link: &Link, player: u8) -> bool
+    ensures { result ≡ is_awaited (linked link.now) player }
+{
+    if is_gone_from(link, player) {
+        return false;
+    }
+    let lockstep = link.lockstep();
+    (lockstep.end(player).is_none() && lacks(lockstep, player)) || owes_report(link, player)
+}
+
+/// Whether anybody's is.
+pub(crate) fn is_any_awaited(link: &Link) -> bool
+    ensures { result ≡ is_any_awaited (linked link.now) }
+{
+    is_awaited(link, 0) || is_awaited(link, 1) || is_awaited(link, 2) || is_awaited(link, 3)
+}
+
+/// What is seen of a player.
+fn seen_of(link: &Link, watch: &Watch, now: u32, player: u8) -> Seen
+    ensures { result ≡ seen_of (linked link.now) watch.now now player }
+{
+    Seen {
+        standing: standing_of(link, player),
+        awaited: if is_awaited(link, player) {
+            watch.stalled(now)
+        } else {
+            0
+        },
+        owes_report: owes_report(link, player),
+        silent: watch.silence(player, now),
+        names: [
+            link.reports_gone(player, 0),
+            link.reports_gone(player, 1),
+            link.reports_gone(player, 2),
+            link.reports_gone(player, 3),
+        ],
+    }
+}
+
+/// What is seen of all.
+pub(crate) fn view_of(link: &Link, watch: &Watch, now: u32) -> View
+    ensures { result ≡ view_of (linked link.now) watch.now now }
+{
+    View {
+        me: link.lockstep().me(),
+        players: [
+            seen_of(link, watch, now, 0),
+            seen_of(link, watch, now, 1),
+            seen_of(link, watch, now, 2),
+            seen_of(link, watch, now, 3),
+        ],
+        stalled: watch.stalled(now),
+    }
+}
+
+/// Whether all others are given up.
+pub(crate) fn is_abandoned(link: &Link) -> bool
+    ensures { result ≡ is_abandoned (linked link.now) }
+{
+    is_gone_from(link, 0) && is_gone_from(link, 1) && is_gone_from(link, 2) && is_gone_from(link, 3)
+}

@@ -1,0 +1,217 @@
+//! A session of one player: its lobby, and then its part in the game.
+
+ghost use Rattle.std.specs.Prelude.{◌≡◌, IfOk};
+
+use crate::ending::Ending;
+use crate::greeting::Address;
+use crate::host::{Host, HostConfig};
+use crate::joiner::{JoinConfig, Joiner};
+use crate::part::{Part, Transmit};
+use crate::reading::is_greeting;
+use crate::side::{Begun, Side, game_seal};
+use crate::terms::LobbyFault;
+use dn_link::Link;
+use dn_lockstep::NodeFault;
+use dn_machine::Ran;
+use dn_tic::{Input, Move};
+use std::alloc::Global;
+
+/// A session of one player: of a host, or of one who joins. It has no socket and no clock: what comes is given to it
+/// with the address that it came from, and what goes is taken from it with the address that it goes to. Times are
+/// milliseconds of the player's own clock, and never go back.
+#[derive(Drop)]
+pub struct Session {
+    side: Side,
+    secret: Option<[u8; 32]>,
+    part: Option<Part>,
+    reply: Option<Transmit>,
+    call: Option<Transmit>,
+}
+
+impl Session {
+    ghost use Rattle.std.specs.Option.{option_map};
+    ghost use Rattle.dn_lockstep.specs.Steps.{told_by};
+    ghost use Rattle.dn_session.specs.Sent.{sent_of};
+    ghost use Rattle.dn_session.specs.Session.{begun_in, can_give, ending_in, meeting, new_meeting, Begins, GivesPart, GivesUpPart, HearsAny, IsHostSession, IsJoinSession, Kicks, PassesTo, QuitsPart, RunsPart, Sends};
+
+    /// The session of a host, or the first fault of its terms.
+    pub fn host(config: &HostConfig) -> Result<Session, LobbyFault>
+        ensures { IsHostSession config.now result }
+    {
+        let host = Host::new(config)?;
+        Ok(Session::of(Side::Host(host), config.secret))
+    }
+
+    /// The session of one who joins and calls from this time on, or the first fault of its configuration.
+    pub fn join(config: &JoinConfig, now: u32) -> Result<Session, LobbyFault>
+        ensures { IsJoinSession config.now now result }
+    {
+        let joiner = Joiner::new(config, now)?;
+        Ok(Session::of(Side::Joiner(joiner), config.secret))
+    }
+
+    /// A session in its lobby.
+    fn of(side: Side, secret: Option<[u8; 32]>) -> Session
+        ensures { meeting result ≡ new_meeting side secret }
+    {
+        Session {
+            side,
+            secret,
+            part: None,
+            reply: None,
+            call: None,
+        }
+    }
+
+    /// Takes any bytes that came from an address. Take what is to be sent before the next ones: a reply takes the place
+    /// of one that was not sent.
+    pub fn receive(&mut self, from: &Address, bytes: &[u8], now: u32)
+        ensures { HearsAny from.now bytes.now now (meeting self.old) (meeting self.new) }
+    {
+        if is_greeting(bytes) {
+            self.reply = self.side.hear(from, bytes, now);
+        } else if let Some(part) = &mut self.part {
+            part.hear(from, bytes, now);
+        }
+    }
+
+    /// The game, once it has begun.
+    pub fn begun(&self) -> Option<Begun>
+        ensures { result ≡ begun_in (meeting self.now).lobby }
+    {
+        self.side.begun()
+    }
+
+    /// Makes its part in the game, once that has begun: whether it did. All memory of a session is taken here.
+    pub fn begin(&mut self, alloc: Global, now: u32) -> Result<bool, NodeFault>
+        ensures { Begins now (meeting self.old) (meeting self.new) result }
+    {
+        if self.part.is_some() {
+            return Ok(false);
+        }
+        let Some(begun) = self.begun() else {
+            return Ok(false);
+        };
+        let terms = begun.terms;
+        let seal = game_seal(self.secret, begun.game);
+        let link = Link::started(alloc, begun.config(), terms.settings, terms.ahead, seal)?;
+        let places = begun.places(now);
+        self.part = Some(Part::new(link, terms.rate, terms.policy, places, now));
+        Ok(true)
+    }
+
+    /// Its part in the game, once it has one.
+    pub fn part(&self) -> &Option<Part>
+        ensures { result.now ≡ (meeting self.now).part }
+    {
+        &self.part
+    }
+
+    /// Does what is due at this time.
+    pub fn poll(&mut self, now: u32)
+        ensures { PassesTo now (meeting self.old) (meeting self.new) }
+    {
+        self.call = self.side.poll(now);
+        if let Some(part) = &mut self.part {
+            part.poll(now);
+        }
+    }
+
+    /// What is to be sent next. Call it until there is nothing, after each other call.
+    pub fn transmit(&mut self) -> Option<Transmit>
+        ensures { Sends (meeting self.old) (meeting self.new) (option_map sent_of result) }
+    {
+        if self.reply.is_some() {
+            return self.reply.take();
+        }
+        if self.call.is_some() {
+            return self.call.take();
+        }
+        match &mut self.part {
+            Some(part) => part.transmit(),
+            None => None,
+        }
+    }
+
+    /// Its player gives the input of the tick that is due: whether one was. Else nothing changes.
+    pub fn give(&mut self, input: Input, now: u32) -> bool
+        ensures { GivesPart now input (meeting self.old).part (meeting self.new).part result
+            × (meeting self.new ≡ record (meeting self.old) { part = (meeting self.new).part }) }
+    {
+        match &mut self.part {
+            Some(part) => part.give(input, now),
+            None => false,
+        }
+    }
+
+    /// Runs the next tic, if it can be run, with the marks of the world.
+    pub fn run(&mut self, marks: &[i16; 4], row: &mut [Option<Move>; 4]) -> Ran
+        ensures { RunsPart marks.now (meeting self.old).part (meeting self.new).part result (told_by result row.new)
+            × (meeting self.new ≡ record (meeting self.old) { part = (meeting self.new).part }) }
+    {
+        match &mut self.part {
+            Some(part) => part.run(marks, row),
+            None => Ran::NotPlaying,
+        }
+    }
+
+    /// Its lobby.
+    pub fn lobby(&self) -> &Side
+        ensures { result.now ≡ (meeting self.now).lobby }
+    {
+        &self.side
+    }
+
+    /// Whether a tick is due, for which its player is to give an input.
+    pub fn wants_input(&self, now: u32) -> bool
+        ensures { result ≡ can_give now (meeting self.now).part }
+    {
+        match &self.part {
+            Some(part) => part.wants_input(now),
+            None => false,
+        }
+    }
+
+    /// Turns away who holds this seat, 1 to 3, if it is the host and the game has not begun.
+    pub fn kick(&mut self, seat: u8)
+        ensures { Kicks seat (meeting self.old) (meeting self.new) }
+    {
+        if let Side::Host(host) = &mut self.side {
+            if let Some(number) = host.holder(seat) {
+                host.kick(&number);
+            }
+        }
+    }
+
+    /// Its player leaves the game, if it plays. Poll it and send on until it is over.
+    pub fn quit(&mut self, now: u32)
+        ensures { QuitsPart now (meeting self.old).part (meeting self.new).part
+            × (meeting self.new ≡ record (meeting self.old) { part = (meeting self.new).part }) }
+    {
+        if let Some(part) = &mut self.part {
+            part.quit(now);
+        }
+    }
+
+    /// Its player gives up another, for whom the game has waited three seconds: anybody if it leads, and else the one
+    /// that leads. Whether it did.
+    pub fn give_up(&mut self, player: u8, now: u32) -> bool
+        ensures { GivesUpPart player now (meeting self.old).part (meeting self.new).part result
+            × (meeting self.new ≡ record (meeting self.old) { part = (meeting self.new).part }) }
+    {
+        match &mut self.part {
+            Some(part) => part.give_up(player, now),
+            None => false,
+        }
+    }
+
+    /// How its game ended, once it is over.
+    pub fn ending(&self) -> Option<Ending>
+        ensures { result ≡ ending_in (meeting self.now).part }
+    {
+        match &self.part {
+            Some(part) => part.ending(),
+            None => None,
+        }
+    }
+}
