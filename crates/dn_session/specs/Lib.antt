@@ -18,3 +18,4 @@ pub mod Coming
 pub mod Playing
 pub mod Sent
 pub mod Session
+pub mod Roster

@@ -1,6 +1,6 @@
 //! Who joins.
 
-ghost use Rattle.std.specs.Prelude.{◌≡◌, None};
+ghost use Rattle.std.specs.Prelude.{◌≡◌, None, IfOk};
 ghost use Rattle.dn_session.specs.{Text.is_count_or_none, Text.is_wish, Text.join_fault};
 
 use crate::cookies::session_number;
@@ -100,11 +100,13 @@ pub struct Joiner {
 }
 
 impl Joiner {
+    ghost use Rattle.dn_session.specs.Roster.{IsJoining};
     ghost use Rattle.dn_session.specs.Joining.{is_unanswered, joining, IsJoinerOf};
 
     /// One who calls from this time on, or the first fault of the configuration.
     pub fn new(config: &JoinConfig, now: u32) -> Result<Joiner, LobbyFault>
-        ensures { IsJoinerOf config.now now result }
+        ensures made { IsJoinerOf config.now now result }
+        ensures fits { IfOk result (λ joiner. IsJoining (joining joiner)) }
     {
         if let Some(fault) = join_fault(config) {
             return Err(fault);

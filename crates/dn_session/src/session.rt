@@ -1,6 +1,6 @@
 //! A session of one player: its lobby, and then its part in the game.
 
-ghost use Rattle.std.specs.Prelude.{◌≡◌, IfOk};
+ghost use Rattle.std.specs.Prelude.{◌≡◌, ◌×◌, IfErr, IfOk};
 
 use crate::ending::Ending;
 use crate::greeting::Address;
@@ -31,12 +31,14 @@ pub struct Session {
 impl Session {
     ghost use Rattle.std.specs.Option.{option_map};
     ghost use Rattle.dn_lockstep.specs.Steps.{told_by};
-    ghost use Rattle.dn_session.specs.Sent.{sent_of};
+    ghost use Rattle.dn_lockstep.specs.declared.config.NodeFault.TheVariants as faults;
+    ghost use Rattle.dn_session.specs.{Roster.IsSide, Sent.sent_of};
     ghost use Rattle.dn_session.specs.Session.{begun_in, can_give, ending_in, meeting, new_meeting, Begins, GivesPart, GivesUpPart, HearsAny, IsHostSession, IsJoinSession, Kicks, PassesTo, QuitsPart, RunsPart, Sends};
 
     /// The session of a host, or the first fault of its terms.
     pub fn host(config: &HostConfig) -> Result<Session, LobbyFault>
-        ensures { IsHostSession config.now result }
+        ensures made { IsHostSession config.now result }
+        ensures fits { IfOk result (λ session. IsSide (meeting session).lobby) }
     {
         let host = Host::new(config)?;
         Ok(Session::of(Side::Host(host), config.secret))
@@ -44,7 +46,8 @@ impl Session {
 
     /// The session of one who joins and calls from this time on, or the first fault of its configuration.
     pub fn join(config: &JoinConfig, now: u32) -> Result<Session, LobbyFault>
-        ensures { IsJoinSession config.now now result }
+        ensures made { IsJoinSession config.now now result }
+        ensures fits { IfOk result (λ session. IsSide (meeting session).lobby) }
     {
         let joiner = Joiner::new(config, now)?;
         Ok(Session::of(Side::Joiner(joiner), config.secret))
@@ -66,7 +69,8 @@ impl Session {
     /// Takes any bytes that came from an address. Take what is to be sent before the next ones: a reply takes the place
     /// of one that was not sent.
     pub fn receive(&mut self, from: &Address, bytes: &[u8], now: u32)
-        ensures { HearsAny from.now bytes.now now (meeting self.old) (meeting self.new) }
+        ensures hears { HearsAny from.now bytes.now now (meeting self.old) (meeting self.new) }
+        ensures fits { IsSide (meeting self.old).lobby → IsSide (meeting self.new).lobby }
     {
         if is_greeting(bytes) {
             self.reply = self.side.hear(from, bytes, now);
@@ -84,7 +88,8 @@ impl Session {
 
     /// Makes its part in the game, once that has begun: whether it did. All memory of a session is taken here.
     pub fn begin(&mut self, alloc: Global, now: u32) -> Result<bool, NodeFault>
-        ensures { Begins now (meeting self.old) (meeting self.new) result }
+        ensures begins { Begins now (meeting self.old) (meeting self.new) result }
+        ensures fits { IsSide (meeting self.old).lobby → IfErr result (λ fault. fault ≡ faults.Memory) }
     {
         if self.part.is_some() {
             return Ok(false);
@@ -109,7 +114,8 @@ impl Session {
 
     /// Does what is due at this time.
     pub fn poll(&mut self, now: u32)
-        ensures { PassesTo now (meeting self.old) (meeting self.new) }
+        ensures passes { PassesTo now (meeting self.old) (meeting self.new) }
+        ensures fits { IsSide (meeting self.old).lobby → IsSide (meeting self.new).lobby }
     {
         self.call = self.side.poll(now);
         if let Some(part) = &mut self.part {
@@ -174,7 +180,8 @@ impl Session {
 
     /// Turns away who holds this seat, 1 to 3, if it is the host and the game has not begun.
     pub fn kick(&mut self, seat: u8)
-        ensures { Kicks seat (meeting self.old) (meeting self.new) }
+        ensures kicks { Kicks seat (meeting self.old) (meeting self.new) }
+        ensures fits { IsSide (meeting self.old).lobby → IsSide (meeting self.new).lobby }
     {
         if let Side::Host(host) = &mut self.side {
             if let Some(number) = host.holder(seat) {

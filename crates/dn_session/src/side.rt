@@ -140,7 +140,7 @@ fn begun_there(joiner: &Joiner) -> Option<Begun>
 
 impl Side {
     ghost use Rattle.std.specs.{Prelude.None, Option.option_map};
-    ghost use Rattle.dn_session.specs.{declared.side.Side.TheVariants as side, Session.begun_in, Session.reply_to, Session.Calls, Session.HearsGreeting, Sent.sent_of};
+    ghost use Rattle.dn_session.specs.{declared.side.Side.TheVariants as side, Roster.IsSide, Session.begun_in, Session.reply_to, Session.Calls, Session.HearsGreeting, Sent.sent_of};
 
     /// The game, once it has begun.
     pub(crate) fn begun(&self) -> Option<Begun>
@@ -154,8 +154,9 @@ impl Side {
 
     /// Takes bytes that came from an address, and returns what is sent back.
     pub(crate) fn hear(&mut self, from: &Address, bytes: &[u8], now: u32) -> Option<Transmit>
-        ensures { (reply : Option (List ℕ)) × HearsGreeting from.now bytes.now now self.old self.new reply
+        ensures hears { (reply : Option (List ℕ)) × HearsGreeting from.now bytes.now now self.old self.new reply
             × (option_map sent_of result ≡ reply_to from.now reply) }
+        ensures fits { IsSide self.old → IsSide self.new }
     {
         match self {
             Side::Host(host) => match host.hear(from, bytes, now) {
@@ -174,7 +175,8 @@ impl Side {
 
     /// As time goes: a call, if one is due.
     pub(crate) fn poll(&mut self, now: u32) -> Option<Transmit>
-        ensures { Calls now self.old self.new (option_map sent_of result) }
+        ensures calls { Calls now self.old self.new (option_map sent_of result) }
+        ensures fits { IsSide self.old → IsSide self.new }
     {
         match self {
             Side::Host(_) => None,
