@@ -1,5 +1,5 @@
 -- What a link makes of sealed reports.
-use Rattle.std.specs.Prelude.{◌≡◌, ℕ, ◌==◌, Bool, List, get_or, Option, Result, Ok, Err}
+use Rattle.std.specs.Prelude.{◌≡◌, ℕ, ◌==◌, ◌&&◌, if◌then◌else◌, Bool, false, List, [], get_or, Option, Some, None, Result, Ok, Err}
 use Rattle.std.specs.Option.{option_map}
 use Rattle.dn_survivor.specs.declared.report.Report.{Report}
 use Rattle.dn_link.specs.declared.notice.ReportDatagramFault.{ReportDatagramFault}
@@ -10,7 +10,7 @@ use Rattle.dn_survivor.specs.declared.answers.Reported.{Reported}
 use Rattle.dn_seal.specs.declared.seal.Seal.{Seal}
 use Rattle.dn_open.specs.Sealed.{sealing_of}
 use Rattle.dn_link.specs.declared.received.Received.{Received}
-use Rattle.dn_link.specs.Linked.{Linked, surviving_of}
+use Rattle.dn_link.specs.Linked.{Linked, has_given_up, is_peer, surviving_of}
 use Rattle.dn_link.specs.Pace.{after_refusal}
 use Rattle.dn_link.specs.Pacing.{PaceState}
 
@@ -18,6 +18,16 @@ use Rattle.dn_link.specs.Pacing.{PaceState}
 abbrev pub notice_for : Seal → Linked → ℕ → Option (List ℕ)
 notice_for seal link to =
     option_map (sealed_report_bytes seal link.node.me to) (report_for (surviving_of link) to)
+
+-- what one is told who is given up, sealed: whom this player has given up, and no more
+abbrev pub exclusion : Linked → Report
+exclusion link = record { gone = link.others.gone; left = false; told = record { items = [] } }
+
+abbrev pub exclusion_for : Seal → Linked → ℕ → Option (List ℕ)
+exclusion_for seal link to =
+    if is_peer link.node to && has_given_up link to
+    then Some (sealed_report_bytes seal link.node.me to (exclusion link))
+    else None
 
 -- bytes of the kind of reports
 abbrev pub is_notice : List ℕ → Bool

@@ -1,5 +1,5 @@
 -- What a player sees of the others in its game: by its link, and by how long it was silent there.
-use Rattle.std.specs.Prelude.{ℕ, ◌==◌, ◌&&◌, ◌||◌, Bool, not, true, false, nat_le, nat_lt, if◌then◌else◌, List, [], ◌∷◌, map, Option, Some, None, is_none, is_some}
+use Rattle.std.specs.Prelude.{ℕ, ◌==◌, ◌&&◌, ◌||◌, Bool, not, true, false, nat_le, nat_lt, if◌then◌else◌, List, [], ◌∷◌, map, slice_index_or, Option, Some, None, is_none, is_some}
 use Rattle.std.specs.List.{list_any, list_all}
 use Rattle.dn_machine.specs.declared.answers.Phase.{Phase}
 use Rattle.dn_machine.specs.declared.answers.Phase.TheVariants as phase
@@ -60,22 +60,27 @@ is_awaited link player =
 abbrev pub is_any_awaited : Linked → Bool
 is_any_awaited link = list_any (is_awaited link) four
 
+-- a player has told that it has given up another, or this one: those are the excluders
+abbrev pub names_by : Linked → List Bool → ℕ → ℕ → Bool
+names_by link excluders player other =
+    if other == link.node.me then slice_index_or excluders player false else reports_gone link player other
+
 -- one is awaited since no tic was run and nobody went: the next command of each is that of the next tic
-abbrev pub seen_of : Linked → Watch → ℕ → ℕ → Seen
-seen_of link watch now player =
+abbrev pub seen_of : Linked → List Bool → Watch → ℕ → ℕ → Seen
+seen_of link excluders watch now player =
     record {
       standing = standing_of link player;
       awaited = if is_awaited link player then stalled now watch else 0;
       owes_report = owes_report link player;
       silent = silence player now watch;
-      names = map (reports_gone link player) four;
+      names = map (names_by link excluders player) four;
     }
 
-abbrev pub view_of : Linked → Watch → ℕ → View
-view_of link watch now =
+abbrev pub view_of : Linked → List Bool → Watch → ℕ → View
+view_of link excluders watch now =
     record {
       me = link.node.me;
-      players = map (seen_of link watch now) four;
+      players = map (seen_of link excluders watch now) four;
       stalled = stalled now watch;
     }
 

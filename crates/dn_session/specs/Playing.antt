@@ -1,5 +1,5 @@
 -- A player's part in its game: what each call makes of it.
-use Rattle.std.specs.Prelude.{⊤, ⊥, ◌≡◌, ◌×◌, ◌⊎◌, ℕ, ℤ, ◌&&◌, ◌||◌, Bool, not, true, false, nat_le, if◌then◌else◌, List, [], ◌∷◌, map, position, slice_index_or, slice_set, replicate, Option, Some, None, is_some}
+use Rattle.std.specs.Prelude.{⊤, ⊥, ◌≡◌, ◌×◌, ◌⊎◌, ℕ, ℤ, ◌&&◌, ◌||◌, ◌+◌, Bool, not, true, false, nat_le, nat_lt, if◌then◌else◌, List, [], ◌∷◌, map, position, slice_index_or, slice_set, replicate, Option, Some, None, is_some}
 use Rattle.dn_tic.specs.declared.command.Move.{Move}
 use Rattle.dn_tic.specs.declared.input.Input.{Input}
 use Rattle.dn_machine.specs.Sending.{on_build}
@@ -10,6 +10,9 @@ use Rattle.dn_lockstep.specs.Steps.{Steps}
 use Rattle.dn_survivor.specs.declared.answers.GivenUp.{GivenUp}
 use Rattle.dn_link.specs.declared.link.Link.{Link}
 use Rattle.dn_link.specs.declared.received.Received.{Received}
+use Rattle.dn_link.specs.declared.received.Received.TheVariants as received
+use Rattle.dn_link.specs.declared.received.Received.TheVariants.{Reported}
+use Rattle.dn_survivor.specs.declared.answers.Reported.TheVariants as reported
 use Rattle.dn_link.specs.declared.tally.Figures.{Figures}
 use Rattle.dn_link.specs.Linked.{Receives, forgotten, has_given_up, may_leave, remains}
 use Rattle.dn_link.specs.Linking.{identity_of, linked, seal_of}
@@ -23,6 +26,7 @@ use Rattle.dn_session.specs.declared.ending.Progress.{Progress}
 use Rattle.dn_session.specs.declared.ending.Progress.TheVariants as progress
 use Rattle.dn_session.specs.declared.greeting.Address.{Address}
 use Rattle.dn_session.specs.declared.lead.View.{View}
+use Rattle.dn_session.specs.declared.part.Exclusions.{Exclusions}
 use Rattle.dn_session.specs.declared.part.Owed.{Owed}
 use Rattle.dn_session.specs.declared.part.Part.{Part}
 use Rattle.dn_session.specs.declared.places.Places.{Places}
@@ -38,13 +42,15 @@ use Rattle.dn_session.specs.Places.{heard_at, place_of}
 use Rattle.dn_session.specs.Ticks.{half_taken, is_due, passed, resumed}
 use Rattle.dn_session.specs.Watch.{looked_at}
 
--- its link; when ticks are due; for how long others were silent; where they are; what is to be sent; how far it is;
--- and what becomes of a player who vanishes
+-- its link; when ticks are due; for how long others were silent; where they are; who has told that it has given up
+-- this player; whom it is to tell so; what else is to be sent; how far it is; and what becomes of a player who vanishes
 pub record Playing : Type 0 where
   pub link : Link
   pub ticks : Ticks
   pub watch : Watch
   pub places : Places
+  pub excluders : List Bool
+  pub exclusions : Exclusions
   pub owed : Owed
   pub progress : Progress
   pub policy : Policy
@@ -56,6 +62,8 @@ playing part =
       ticks = part.ticks;
       watch = part.watch;
       places = part.places;
+      excluders = part.excluders;
+      exclusions = part.exclusions;
       owed = part.owed;
       progress = part.progress;
       policy = part.policy;
@@ -72,7 +80,7 @@ pub record KeepsAll (old new : Link) : Type 0 where
   pub pace : pace_of new ≡ pace_of old
 
 abbrev pub view : ℕ → Playing → View
-view now p = view_of (linked p.link) p.watch now
+view now p = view_of (linked p.link) p.excluders p.watch now
 
 -- how it ended
 abbrev pub ended_as : Progress → Option Ending
@@ -115,22 +123,38 @@ watch_after received old new now watch =
     (hears_if (is_alive received old new 1) 1 now
     (hears_if (is_alive received old new 0) 0 now watch)))
 
--- where the player is whose datagram was heard
-abbrev pub places_by : Option ℕ → Address → ℕ → Link → Link → Places → Places
-places_by None from now old new places = places
-places_by (Some player) from now old new places =
-    let before = line_of (lines_by old) player in
-    let after = line_of (lines_by new) player in
-    heard_at player from now (is_new_in before after) (is_late_in before after) places
+-- where the player is whose datagram was heard, by what was known of the lines before it and after it
+abbrev pub place_after : Option ℕ → Address → ℕ → (before after : List (Option Figures)) → Places → Places
+place_after None from now before after places = places
+place_after (Some player) from now before after places =
+    heard_at player from now (is_new_in (line_of before player) (line_of after player))
+    (is_late_in (line_of before player) (line_of after player)) places
 
--- bytes come from an address at a time. Once it is over nothing is taken
+-- who has told that it has given up this player
+abbrev pub excluders_by : Received → List Bool → List Bool
+excluders_by (Reported from reported.Excluded) excluders = slice_set excluders from true
+excluders_by received excluders = excluders
+
+-- one who is given up is told so, where its datagram came from, once a second at most
+abbrev pub is_told_since : ℕ → Option ℕ → Bool
+is_told_since now None = false
+is_told_since now (Some told) = nat_lt now (told + 1000)
+
+abbrev pub exclusions_by : Received → Address → ℕ → Exclusions → Exclusions
+exclusions_by (received.GivenUp player) from now e =
+    if is_told_since now e.told then e else record { told = Some now; next = Some (record { player = player; to = from }) }
+exclusions_by received from now e = e
+
+-- bytes come from an address at a time
 abbrev pub HearsBytes : Address → List ℕ → ℕ → Playing → Playing → Type 0
 HearsBytes from bytes now old new =
     (received : Received) × Takes bytes old.link new.link received
     × (new ≡ record old {
       link = new.link;
       watch = watch_after received old.link new.link now old.watch;
-      places = places_by (heard_of received) from now old.link new.link old.places;
+      places = place_after (heard_of received) from now (lines_by old.link) (lines_by new.link) old.places;
+      excluders = excluders_by received old.excluders;
+      exclusions = exclusions_by received from now old.exclusions;
     })
 
 -- Ticks.

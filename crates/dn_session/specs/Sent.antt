@@ -1,11 +1,12 @@
 -- What a player's part sends, and where to.
-use Rattle.std.specs.Prelude.{⊤, ◌≡◌, ◌×◌, ℕ, ◌&&◌, Bool, not, false, if◌then◌else◌, List, position, slice_index_or, slice_set, Option, Some, None, is_some}
+use Rattle.std.specs.Prelude.{⊤, ◌≡◌, ◌×◌, ℕ, ◌&&◌, Bool, not, false, if◌then◌else◌, List, position, slice_index_or, slice_set, Option, Some, None, is_some, option_map}
 use Rattle.dn_survivor.specs.Telling.{report_for}
 use Rattle.dn_link.specs.Linked.{Gives, remains, surviving_of}
 use Rattle.dn_link.specs.Linking.{identity_of, linked, seal_of}
-use Rattle.dn_link.specs.Notices.{notice_for}
+use Rattle.dn_link.specs.Notices.{exclusion_for, notice_for}
 use Rattle.dn_link.specs.Pacing.{pace_of}
 use Rattle.dn_session.specs.declared.greeting.Address.{Address}
+use Rattle.dn_session.specs.declared.part.Exclusion.{Exclusion}
 use Rattle.dn_session.specs.declared.part.sending.Transmit.{Transmit}
 use Rattle.dn_session.specs.Places.{place_of}
 use Rattle.dn_session.specs.Players.{four}
@@ -55,9 +56,16 @@ Reports player old new sent =
     × (notice_for (seal_of old.link) (linked old.link) player ≡ Some bytes)
     × (new ≡ record old { owed = record old.owed { reports = slice_set old.owed.reports player false } })
 
--- the reports go behind the datagrams
+-- one who is given up is told so, where it is to be told
+abbrev pub Excludes : Option Exclusion → Playing → Playing → Option (Address × List ℕ) → Type 0
+Excludes None old new sent = (sent ≡ None) × (new ≡ old)
+Excludes (Some e) old new sent =
+    (sent ≡ option_map (λ bytes. (e.to, bytes)) (exclusion_for (seal_of old.link) (linked old.link) e.player))
+    × (new ≡ record old { exclusions = record old.exclusions { next = None } })
+
+-- the reports go behind the datagrams, and that behind the reports
 abbrev pub SendsReport : Option ℕ → Playing → Playing → Option (Address × List ℕ) → Type 0
-SendsReport None old new sent = (sent ≡ None) × (new ≡ old)
+SendsReport None old new sent = Excludes old.exclusions.next old new sent
 SendsReport (Some player) old new sent = Reports player old new sent
 
 abbrev pub SendsFirst : Option ℕ → Playing → Playing → Option (Address × List ℕ) → Type 0

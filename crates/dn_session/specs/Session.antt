@@ -1,5 +1,5 @@
 -- A session: its lobby, and its part in the game once that has begun.
-use Rattle.std.specs.Prelude.{⊤, ⊥, ◌≡◌, ◌×◌, ℕ, ℤ, ◌&&◌, if◌then◌else◌, Bool, true, false, is_none, is_some, List, map, Option, Some, None, Result, Ok, Err}
+use Rattle.std.specs.Prelude.{⊤, ⊥, ◌≡◌, ◌×◌, ℕ, ℤ, ◌&&◌, if◌then◌else◌, Bool, true, false, is_none, is_some, List, map, replicate, Option, Some, None, Result, Ok, Err}
 use Rattle.std.specs.Option.{option_map}
 use Rattle.dn_seal.specs.declared.seal.Seal.{Seal}
 use Rattle.dn_seal.specs.declared.seal.Suite.TheVariants as suite
@@ -121,6 +121,8 @@ pub record IsPartOf (secret : Option (List ℕ)) (b : Begun) (now : ℕ) (p : Pl
   pub ticks : p.ticks ≡ new_ticks b.terms.rate now
   pub watch : p.watch ≡ new_watch now
   pub places : p.places ≡ places_of b.host b.seats now
+  pub excluders : p.excluders ≡ replicate 4 false
+  pub exclusions : p.exclusions ≡ record { next = None; told = None }
   pub owed : p.owed ≡ owes_nobody
   pub progress : p.progress ≡ progress.Playing
   pub policy : p.policy ≡ b.terms.policy

@@ -1,6 +1,6 @@
 //! A player's part in its game.
 
-ghost use Rattle.std.specs.Prelude.{◌≡◌, map};
+ghost use Rattle.std.specs.Prelude.{◌≡◌, map, false, replicate, None};
 ghost use Rattle.dn_link.specs.{Linked.has_given_up, Linking.linked};
 ghost use Rattle.dn_session.specs.{Players.four, Playing.owes_all};
 
@@ -15,6 +15,7 @@ pub use sending::Transmit;
 pub(crate) use sending::widened;
 
 use crate::ending::{Ending, Progress};
+use crate::greeting::Address;
 use crate::places::Places;
 use crate::terms::Policy;
 use crate::ticks::Ticks;
@@ -50,6 +51,20 @@ fn gone_from(link: &Link) -> [bool; 4]
     ]
 }
 
+/// One who is given up, and where it is to be told so.
+#[derive(Clone, Copy, Debug, PartialEq, Eq)]
+pub(crate) struct Exclusion {
+    player: u8,
+    to: Address,
+}
+
+/// Who is to be told next that it is given up, and when anybody was told last.
+#[derive(Clone, Copy, Debug, PartialEq, Eq)]
+pub(crate) struct Exclusions {
+    next: Option<Exclusion>,
+    told: Option<u32>,
+}
+
 /// A player's part in its game: its link, when its ticks are due, where the others are, whom it waits for, what is to
 /// be sent, and how far it is.
 #[derive(Drop)]
@@ -58,6 +73,8 @@ pub struct Part {
     ticks: Ticks,
     watch: Watch,
     places: Places,
+    excluders: [bool; 4],
+    exclusions: Exclusions,
     owed: Owed,
     progress: Progress,
     policy: Policy,
@@ -73,6 +90,8 @@ impl Part {
             ticks = new_ticks rate now;
             watch = new_watch now;
             places = places;
+            excluders = replicate 4 false;
+            exclusions = record { next = None; told = None };
             owed = owes_nobody;
             progress = progress.Playing;
             policy = policy;
@@ -83,6 +102,11 @@ impl Part {
             ticks: Ticks::new(rate, now),
             watch: Watch::new(now),
             places,
+            excluders: [false; 4],
+            exclusions: Exclusions {
+                next: None,
+                told: None,
+            },
             owed: Owed {
                 datagrams: [false; 4],
                 reports: [false; 4],

@@ -1,9 +1,9 @@
 //! What a player sees of the others in its game.
 
-ghost use Rattle.std.specs.{Prelude.◌≡◌, List.list_any, List.list_all};
+ghost use Rattle.std.specs.{Prelude.◌≡◌, Prelude.◌<◌, List.list_any, List.list_all};
 ghost use Rattle.dn_lockstep.specs.Contents.{contents};
 ghost use Rattle.dn_link.specs.{Linked.has_given_up, Linking.linked};
-ghost use Rattle.dn_session.specs.Players.{four, has_gone, is_abandoned, is_any_awaited, is_awaited, is_gone_from, is_it, lacks, owes_report, own_standing, seen_of, standing_beside, standing_of, view_of};
+ghost use Rattle.dn_session.specs.Players.{four, has_gone, is_abandoned, is_any_awaited, is_awaited, is_gone_from, is_it, lacks, names_by, owes_report, own_standing, seen_of, standing_beside, standing_of, view_of};
 
 use crate::lead::{Seen, Standing, View};
 use crate::watch::Watch;
@@ -104,9 +104,22 @@ pub(crate) fn is_any_awaited(link: &Link) -> bool
     is_awaited(link, 0) || is_awaited(link, 1) || is_awaited(link, 2) || is_awaited(link, 3)
 }
 
+/// Whether a player has told that it has given up another, or this one.
+fn names_by(link: &Link, excluders: &[bool; 4], player: u8, other: u8) -> bool
+    requires { player < 4 }
+    ensures { result ≡ names_by (linked link.now) excluders.now player other }
+{
+    if other == link.lockstep().me() {
+        excluders[player as usize]
+    } else {
+        link.reports_gone(player, other)
+    }
+}
+
 /// What is seen of a player.
-fn seen_of(link: &Link, watch: &Watch, now: u32, player: u8) -> Seen
-    ensures { result ≡ seen_of (linked link.now) watch.now now player }
+fn seen_of(link: &Link, excluders: &[bool; 4], watch: &Watch, now: u32, player: u8) -> Seen
+    requires { player < 4 }
+    ensures { result ≡ seen_of (linked link.now) excluders.now watch.now now player }
 {
     Seen {
         standing: standing_of(link, player),
@@ -118,25 +131,25 @@ fn seen_of(link: &Link, watch: &Watch, now: u32, player: u8) -> Seen
         owes_report: owes_report(link, player),
         silent: watch.silence(player, now),
         names: [
-            link.reports_gone(player, 0),
-            link.reports_gone(player, 1),
-            link.reports_gone(player, 2),
-            link.reports_gone(player, 3),
+            names_by(link, excluders, player, 0),
+            names_by(link, excluders, player, 1),
+            names_by(link, excluders, player, 2),
+            names_by(link, excluders, player, 3),
         ],
     }
 }
 
-/// What is seen of all.
-pub(crate) fn view_of(link: &Link, watch: &Watch, now: u32) -> View
-    ensures { result ≡ view_of (linked link.now) watch.now now }
+/// What is seen of all, and who has told that it has given up this player.
+pub(crate) fn view_of(link: &Link, excluders: &[bool; 4], watch: &Watch, now: u32) -> View
+    ensures { result ≡ view_of (linked link.now) excluders.now watch.now now }
 {
     View {
         me: link.lockstep().me(),
         players: [
-            seen_of(link, watch, now, 0),
-            seen_of(link, watch, now, 1),
-            seen_of(link, watch, now, 2),
-            seen_of(link, watch, now, 3),
+            seen_of(link, excluders, watch, now, 0),
+            seen_of(link, excluders, watch, now, 1),
+            seen_of(link, excluders, watch, now, 2),
+            seen_of(link, excluders, watch, now, 3),
         ],
         stalled: watch.stalled(now),
     }

@@ -7,6 +7,7 @@ use super::Link;
 use crate::notice::{KIND, MAX_SEALED_REPORT, open_report, seal_report};
 use crate::received::Received;
 use arrayvec::ArrayVec;
+use dn_survivor::report::Report;
 
 /// Whether bytes are of the kind of reports.
 pub(super) fn is_notice(bytes: &[u8]) -> bool
@@ -24,7 +25,7 @@ impl Link {
     ghost use Rattle.dn_survivor.specs.Telling.{report_for};
     ghost use Rattle.dn_survivor.specs.declared.answers.Reported.TheVariants as reported;
     ghost use Rattle.dn_link.specs.declared.received.Received.TheVariants as received;
-    ghost use Rattle.dn_link.specs.{Linked.IsWhole, Linked.surviving_of, Notices.HearsNotice, Notices.notice_for, Pace.after_refusal, Linking.identity_of, Linking.linked, Linking.seal_of, Pacing.pace_of};
+    ghost use Rattle.dn_link.specs.{Linked.IsWhole, Linked.surviving_of, Notices.HearsNotice, Notices.exclusion_for, Notices.notice_for, Pace.after_refusal, Linking.identity_of, Linking.linked, Linking.seal_of, Pacing.pace_of};
 
     /// The report to a player, sealed, for each tick while somebody is given up, and while this player has left:
     /// what `report` returns, which has the form of a report.
@@ -36,6 +37,22 @@ impl Link {
             Some(report) => Some(seal_report(&self.sealer, to, &report)),
             None => None,
         }
+    }
+
+    /// What a player is told who is given up, sealed: that it is, and no more. None to any other. It changes nothing
+    /// there: the link answers `Excluded` of it.
+    pub fn exclusion_datagram(&self, to: u8) -> Option<ArrayVec<u8, MAX_SEALED_REPORT>>
+        ensures { option_map (λ bytes. bytes.items) result ≡ exclusion_for (seal_of self.now) (linked self.now) to }
+    {
+        if !self.is_peer(to) || !self.has_given_up(to) {
+            return None;
+        }
+        let report = Report {
+            gone: self.survivor.others().gone,
+            left: false,
+            told: ArrayVec::new(),
+        };
+        Some(seal_report(&self.sealer, to, &report))
     }
 
     /// Counts bytes that are neither a datagram nor a report to this player, and answers so.

@@ -1,14 +1,15 @@
 //! What comes in.
 
-ghost use Rattle.std.specs.Prelude.{◌≡◌};
+ghost use Rattle.std.specs.Prelude.{◌≡◌, ◌||◌};
 ghost use Rattle.dn_lockstep.specs.Contents.{contents};
-ghost use Rattle.dn_session.specs.Coming.{count_in, counts_in, has_more};
+ghost use Rattle.dn_session.specs.{Coming.count_in, Coming.counts_in, Coming.has_more, Coming.heard_of, Coming.is_news_of, Playing.is_told_since};
 
-use super::Part;
+use super::{Exclusion, Exclusions, Part};
 use crate::coming::{Lines, heard_of, is_late_in, is_new_in, is_news_of, line_of, lines_of};
 use crate::greeting::Address;
 use dn_link::{Link, Received};
 use dn_lockstep::Lockstep;
+use dn_survivor::Reported;
 
 /// How many commands of a player are there.
 fn count_in(lockstep: &Lockstep, player: u8) -> u32
@@ -48,7 +49,7 @@ struct Known {
 
 impl Known {
     ghost use Rattle.dn_link.specs.Linking.{linked};
-    ghost use Rattle.dn_session.specs.Playing.{counts_by, is_alive, lines_by};
+    ghost use Rattle.dn_session.specs.Playing.{counts_by, lines_by};
 
     /// What a link knows.
     fn by(link: &Link) -> Known
@@ -75,8 +76,18 @@ fn is_alive(received: &Received, before: &Known, after: &Known, player: u8) -> b
     ) || has_more(&before.counts, &after.counts, player)
 }
 
+/// Whether somebody was told in the last second that it is given up.
+fn is_told_since(now: u32, told: Option<u32>) -> bool
+    ensures { result ≡ is_told_since now told }
+{
+    match told {
+        Some(told) => u64::from(now) < u64::from(told) + 1000,
+        None => false,
+    }
+}
+
 impl Part {
-    ghost use Rattle.dn_session.specs.Playing.{playing, places_by, hears_if, watch_after, HearsBytes};
+    ghost use Rattle.dn_session.specs.Playing.{excluders_by, exclusions_by, hears_if, place_after, playing, HearsBytes};
 
     /// Notes that a player was heard, if it was.
     fn note(&mut self, is_heard: bool, player: u8, now: u32)
@@ -85,6 +96,52 @@ impl Part {
     {
         if is_heard {
             self.watch.hear(player, now);
+        }
+    }
+
+    /// Notes who has told that it has given up this player.
+    fn note_excluder(&mut self, received: &Received)
+        ensures { playing self.new ≡ record (playing self.old) {
+            excluders = excluders_by received.now (playing self.old).excluders } }
+    {
+        if let Received::Reported {
+            from,
+            reported: Reported::Excluded,
+        } = received
+        {
+            if *from < 4 {
+                self.excluders[usize::from(*from)] = true;
+            }
+        }
+    }
+
+    /// Notes that one is to be told who is given up, if its datagram came.
+    fn note_excluded(&mut self, received: &Received, from: &Address, now: u32)
+        ensures { playing self.new ≡ record (playing self.old) {
+            exclusions = exclusions_by received.now from.now now (playing self.old).exclusions } }
+    {
+        if let Received::GivenUp(player) = received {
+            if !is_told_since(now, self.exclusions.told) {
+                self.exclusions = Exclusions {
+                    next: Some(Exclusion {
+                        player: *player,
+                        to: *from,
+                    }),
+                    told: Some(now),
+                };
+            }
+        }
+    }
+
+    /// Notes where a player is whose datagram was heard.
+    fn note_place(&mut self, heard: Option<u8>, from: &Address, now: u32, before: &Lines, after: &Lines)
+        ensures { playing self.new ≡ record (playing self.old) {
+            places = place_after heard from.now now before.now after.now (playing self.old).places } }
+    {
+        if let Some(player) = heard {
+            let (old, new) = (line_of(before, player), line_of(after, player));
+            let (is_new, is_late) = (is_new_in(&old, &new), is_late_in(&old, &new));
+            self.places.hear(player, from, now, is_new, is_late);
         }
     }
 
@@ -99,18 +156,8 @@ impl Part {
         self.note(is_alive(&received, &before, &after, 1), 1, now);
         self.note(is_alive(&received, &before, &after, 2), 2, now);
         self.note(is_alive(&received, &before, &after, 3), 3, now);
-        if let Some(player) = heard_of(&received) {
-            let (old, new) = (
-                line_of(&before.lines, player),
-                line_of(&after.lines, player),
-            );
-            self.places.hear(
-                player,
-                from,
-                now,
-                is_new_in(&old, &new),
-                is_late_in(&old, &new),
-            );
-        }
+        self.note_place(heard_of(&received), from, now, &before.lines, &after.lines);
+        self.note_excluder(&received);
+        self.note_excluded(&received, from, now);
     }
 }

@@ -26,7 +26,7 @@ impl Part {
     pub(super) fn view(&self, now: u32) -> View
         ensures { result ≡ view now (playing self.now) }
     {
-        view_of(&self.link, &self.watch, now)
+        view_of(&self.link, &self.excluders, &self.watch, now)
     }
 
     /// Looks who is awaited.

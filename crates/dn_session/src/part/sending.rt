@@ -29,7 +29,7 @@ pub(crate) fn widened<const ROOM: usize>(bytes: &ArrayVec<u8, ROOM>) -> ArrayVec
 
 impl Part {
     ghost use Rattle.std.specs.Prelude.{option_map, is_some, true};
-    ghost use Rattle.dn_session.specs.Sent.{first_owed, first_owed_report, is_owed, is_owed_report, sent_of, Reports, SendsNext, SendsReport, SendsTo};
+    ghost use Rattle.dn_session.specs.Sent.{first_owed, first_owed_report, is_owed, is_owed_report, sent_of, Excludes, Reports, SendsNext, SendsReport, SendsTo};
     ghost use Rattle.dn_session.specs.Playing.{playing};
 
     /// Whether a datagram is owed to a player.
@@ -99,14 +99,28 @@ impl Part {
         })
     }
 
-    /// The report that is to be sent next, if one is.
+    /// What one is told who is given up, if one is to be told.
+    fn exclude(&mut self) -> Option<Transmit>
+        ensures { Excludes (playing self.old).exclusions.next (playing self.old) (playing self.new)
+            (option_map sent_of result) }
+    {
+        let exclusion = self.exclusions.next?;
+        self.exclusions.next = None;
+        let bytes = self.link.exclusion_datagram(exclusion.player)?;
+        Some(Transmit {
+            to: exclusion.to,
+            bytes: widened(&bytes),
+        })
+    }
+
+    /// The report that is to be sent next, if one is; or what one is told who is given up.
     fn send_report(&mut self) -> Option<Transmit>
         ensures { SendsReport (first_owed_report (playing self.old)) (playing self.old) (playing self.new)
             (option_map sent_of result) }
     {
         match self.first_owed_report() {
             Some(player) => self.report(player as u8),
-            None => None,
+            None => self.exclude(),
         }
     }
 
