@@ -9,16 +9,16 @@ use Rattle.dn_session.specs.declared.places.Places.{Places}
 -- the player is known to be at this address
 abbrev pub is_at : Address → Place → Bool
 is_at from place = elim place.address [
-      | None ↦ false
-      | Some address ↦ bytes_eq address.bytes from.bytes
-    ]
+  | None ↦ false
+  | Some address ↦ bytes_eq address.bytes from.bytes
+]
 
 -- no address is known, or none of the player's last datagrams came from it for two seconds
 abbrev pub is_left : ℕ → Place → Bool
 is_left now place = elim place.address [
-      | None ↦ true
-      | Some address ↦ nat_le (place.heard + fresh_for) now
-    ]
+  | None ↦ true
+  | Some address ↦ nat_le (place.heard + fresh_for) now
+]
 
 -- a datagram of the player came from this address. At the one that is known, any of the last ones keeps it there, also
 -- one that came before; to another the player is followed by a new one, once it has left that one
@@ -36,6 +36,7 @@ places_of host seats now = record { at = map (λ address. record { address = add
 abbrev pub place_of : ℕ → Places → Place
 place_of player places = slice_index_or places.at player (record { address = None; heard = 0 })
 
+-- a datagram of a player came from this address
 abbrev pub heard_at : ℕ → Address → ℕ → Bool → Bool → Places → Places
 heard_at player from now is_new is_recent places =
     record {

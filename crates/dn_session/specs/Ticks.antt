@@ -1,6 +1,6 @@
 -- When a player's ticks are due. A tick is counted in parts, of which a millisecond has 32 for each tick of a second:
 -- 32,000 are a tick.
-use Rattle.std.specs.Prelude.{ℕ, ◌+◌, ◌*◌, ◌/◌, ◌%◌, ◌^◌, ◌-◌, ◌+ℤ◌, ℤ, pos, nat_abs, Bool, nat_lt, nat_le, max, min, if◌then◌else◌, Option, Some, None}
+use Rattle.std.specs.Prelude.{ℕ, ◌+◌, ◌*◌, ◌/◌, ◌%◌, ◌^◌, ◌-◌, ◌+ℤ◌, ℤ, pos, nat_abs, Bool, nat_lt, nat_le, max, min, if◌then◌else◌, Some, None}
 use Rattle.std.specs.Int.{int_max}
 use Rattle.dn_session.specs.declared.ticks.Ticks.{Ticks}
 use Rattle.dn_session.specs.Joining.{has_come}
@@ -9,35 +9,37 @@ use Rattle.dn_session.specs.Joining.{has_come}
 abbrev pub later : ℕ → ℕ → ℕ
 later time by = min (time + by) (2 ^ 32 - 1)
 
--- one a second at least
-abbrev pub rate_of : Ticks → ℕ
-rate_of ticks = max ticks.rate 1
-
--- from this time on
+-- ticks from this time on
 abbrev pub new_ticks : ℕ → ℕ → Ticks
 new_ticks rate now = record { rate = rate; due = now; rest = 0; half = None }
+
+-- how many come in a second: one at least
+abbrev pub rate_of : Ticks → ℕ
+rate_of ticks = max ticks.rate 1
 
 -- a tick is due
 abbrev pub is_due : ℕ → Ticks → Bool
 is_due now ticks = nat_le ticks.due now
 
--- it is more than eight ticks late
+-- it is more than eight ticks late: eight are 8000 / rate milliseconds
 abbrev pub is_late : ℕ → Ticks → Bool
 is_late now ticks = nat_lt (ticks.due + 8000 / rate_of ticks) now
 
--- who is goes on from now, so that eight ticks at most are made up beside the one of now
+-- then ticks go on from now: so at most eight that were missed are made up, beside the one of now
 abbrev pub resumed : ℕ → Ticks → Ticks
 resumed now ticks = if is_late now ticks then record ticks { due = now; rest = 0 } else ticks
 
--- a tick that is so many 32nds longer than usual has 1,000 parts for each 32nd, and one 32nd at least
+-- how long a tick is, by so many 32nds longer than usual, or shorter below 0: each has 1,000 parts, and one is left
+-- at least
 abbrev pub parts_of_tick : ℤ → ℕ
 parts_of_tick lean = 1000 * nat_abs (int_max (pos 32 +ℤ lean) (pos 1))
 
--- so many parts after the millisecond of this tick began, the next is due
+-- how long after the millisecond in which this tick was due the next one is
 abbrev pub parts_to_next : ℤ → Ticks → ℕ
 parts_to_next lean ticks = ticks.rest + parts_of_tick lean
 
--- the tick that was due has passed: the next is due a tick later, and the datagrams between them at half the way
+-- the tick that was due has passed: the next is due so much later, and what is left of a millisecond is kept; and
+-- the datagrams half a tick later are due at half of that
 abbrev pub passed : ℤ → Ticks → Ticks
 passed lean ticks =
     record ticks {
@@ -53,6 +55,6 @@ half_taken now ticks = if has_come now ticks.half then record ticks { half = Non
 -- when something is due next: a tick, or those datagrams
 abbrev pub next : Ticks → ℕ
 next ticks = elim ticks.half [
-      | None ↦ ticks.due
-      | Some half ↦ min ticks.due half
-    ]
+  | None ↦ ticks.due
+  | Some half ↦ min ticks.due half
+]

@@ -66,10 +66,22 @@ impl Places {
         let [one, two, three] = seats;
         Places {
             at: [
-                Place { address: host, heard: now },
-                Place { address: one, heard: now },
-                Place { address: two, heard: now },
-                Place { address: three, heard: now },
+                Place {
+                    address: host,
+                    heard: now,
+                },
+                Place {
+                    address: one,
+                    heard: now,
+                },
+                Place {
+                    address: two,
+                    heard: now,
+                },
+                Place {
+                    address: three,
+                    heard: now,
+                },
             ],
         }
     }

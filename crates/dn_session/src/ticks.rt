@@ -42,14 +42,14 @@ impl Ticks {
         self.due <= now
     }
 
-    /// Whether the one that is due is more than eight ticks late.
+    /// Whether it is more than eight ticks late.
     fn is_late(&self, now: u32) -> bool
         ensures { result ≡ is_late now self.now }
     {
         u64::from(self.due) + u64::from(8000 / u32::from(self.rate.max(1))) < u64::from(now)
     }
 
-    /// Who is later than by eight ticks goes on from now: the others are left out.
+    /// Where a tick is more than eight ticks late, they go on from now: those that were missed are left out.
     pub fn resume(&mut self, now: u32)
         ensures { self.new ≡ resumed now self.old }
     {
@@ -59,7 +59,7 @@ impl Ticks {
         }
     }
 
-    /// How many parts a tick has that is so many 32nds longer than usual.
+    /// How many parts a tick has that is by so many 32nds longer than usual.
     fn parts_of_tick(lean: i8) -> u64
         requires { nat_abs lean ≤ 34 }
         ensures value { result ≡ parts_of_tick lean }
@@ -68,7 +68,7 @@ impl Ticks {
         1000 * u64::from((32 + lean).max(1).unsigned_abs())
     }
 
-    /// How many parts after this millisecond began the next is due.
+    /// How many parts after the millisecond in which this tick was due the next one is.
     fn parts_to_next(&self, lean: i8) -> u64
         requires { nat_abs lean ≤ 34 }
         ensures value { result ≡ parts_to_next lean self.now }
