@@ -23,7 +23,6 @@ PLACES = [
     ('bytes', 1, 638, [['dn_greeting']]),
     ('bytes', 2, 291, [['dn_demo']]),
     ('bytes', 2, 384, [['dn_world']]),
-    ('bytes', 2, 500, [['dn_session']]),
     ('bytes', 2, 686, [['dn_measure']]),
     ('machine', 0, 345, [['dn_machine']]),
     ('machine', 0, 442, [['dn_remain']]),
@@ -34,7 +33,8 @@ PLACES = [
     ('promise', 1, 375, [['dn_game']]),
     ('promise', 1, 511, [['dn_link_game']]),
     ('promise', 2, 394, [['dn_remain_game']]),
-    ('promise', 2, 572, [['zirmegat']]),
+    ('promise', 2, 556, [['zirmegat']]),
+    ('promise', 2, 690, [['dn_session']]),
     ('promise', 3, 262, [['dn_netgame', 'dn_program', 'netgame']]),
     ('promise', 3, 650, [['dn_host']]),
 ]

@@ -7,7 +7,7 @@ use Rattle.dn_link.specs.Linked.{Linked, figures_of, is_peer}
 use Rattle.dn_link.specs.Pacing.{PaceState}
 use Rattle.dn_lockstep.specs.Contents.{Contents}
 use Rattle.dn_lockstep.specs.Told.{got}
-use Rattle.dn_session.specs.Players.{four}
+use Rattle.dn_session.specs.Players.{count_in, four}
 
 -- what a link reports of the line of a player
 abbrev pub figures_in : Linked → PaceState → ℕ → Option Figures
@@ -43,9 +43,6 @@ is_news_of (Some from) before after player =
     (player == from) && is_new_in (line_of before from) (line_of after from)
 
 -- how many commands of each player are there
-abbrev pub count_in : Contents → ℕ → ℕ
-count_in n player = if nat_lt player n.players then got n player else 0
-
 abbrev pub counts_in : Contents → List ℕ
 counts_in n = map (count_in n) four
 

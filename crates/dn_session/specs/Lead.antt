@@ -64,7 +64,8 @@ is_mute patience view player =
     is_there view player && ((is_open view player || (seen view player).owes_report)
     && nat_le patience (seen view player).silent)
 
--- of those whom one that leads has awaited for the patience, the silent go before those that are heard
+-- where one that leads has awaited anybody for the patience, whoever was silent for so long goes before those that it
+-- awaits; of several the highest
 abbrev pub late_due : ℕ → View → Option ℕ
 late_due patience view =
     elim (highest (is_late patience view)) [

@@ -1,5 +1,5 @@
 -- What a player sees of the others in its game: by its link, and by how long it was silent there.
-use Rattle.std.specs.Prelude.{ℕ, ◌==◌, ◌&&◌, ◌||◌, Bool, not, true, false, nat_le, nat_lt, if◌then◌else◌, List, [], ◌∷◌, map, slice_index_or, Option, Some, None, is_none, is_some}
+use Rattle.std.specs.Prelude.{ℕ, ◌==◌, ◌&&◌, ◌||◌, Bool, not, true, false, nat_le, nat_lt, if◌then◌else◌, List, [], ◌∷◌, map, slice_index_or, Option, Some, None}
 use Rattle.std.specs.List.{list_any, list_all}
 use Rattle.dn_machine.specs.declared.answers.Phase.{Phase}
 use Rattle.dn_machine.specs.declared.answers.Phase.TheVariants as phase
@@ -26,10 +26,27 @@ plays_on phase = false
 abbrev pub own_standing : Phase → Standing
 own_standing phase = if plays_on phase then Open else Closed
 
--- another one is gone once it is given up, and has left once its last command is known: all before it are here then
+-- how many commands of a player are here
+abbrev pub count_in : Contents → ℕ → ℕ
+count_in n player = if nat_lt player n.players then got n player else 0
+
+-- all commands before an end are here, if it is known
+abbrev pub ends_by : Option ℕ → ℕ → Bool
+ends_by None count = false
+ends_by (Some end) count = nat_le end count
+
+-- another player's last command is known, and all before it are here
+abbrev pub is_whole : Linked → ℕ → Bool
+is_whole link player = ends_by (end_known link.node player) (count_in link.node player)
+
+-- no other player has this number, or it is given up
+abbrev pub is_gone_from : Linked → ℕ → Bool
+is_gone_from link player = not (remains link player)
+
+-- another one is gone once it is given up, and has left once it is whole
 abbrev pub standing_beside : Linked → ℕ → Standing
 standing_beside link player =
-    if not (remains link player) then Gone else (if is_some (end_known link.node player) then Closed else Open)
+    if is_gone_from link player then Gone else (if is_whole link player then Closed else Open)
 
 abbrev pub standing_of : Linked → ℕ → Standing
 standing_of link player =
@@ -37,7 +54,7 @@ standing_of link player =
 
 -- the own command of the next tic is there, and this player's is not
 abbrev pub lacks : Contents → ℕ → Bool
-lacks n player = nat_lt n.ran (made n) && nat_le (got n player) n.ran
+lacks n player = nat_lt n.ran (made n) && nat_le (count_in n player) n.ran
 
 -- somebody is given up
 abbrev pub has_gone : Linked → Bool
@@ -54,8 +71,8 @@ owes_report link player = has_gone link && is_it player (undecided_in (surviving
 -- a command or a report of another is awaited, who is not given up
 abbrev pub is_awaited : Linked → ℕ → Bool
 is_awaited link player =
-    remains link player
-    && ((is_none (end_known link.node player) && lacks link.node player) || owes_report link player)
+    not (is_gone_from link player)
+    && ((not (is_whole link player) && lacks link.node player) || owes_report link player)
 
 abbrev pub is_any_awaited : Linked → Bool
 is_any_awaited link = list_any (is_awaited link) four
@@ -85,8 +102,5 @@ view_of link excluders watch now =
     }
 
 -- all others are given up
-abbrev pub is_gone_from : Linked → ℕ → Bool
-is_gone_from link player = not (remains link player)
-
 abbrev pub is_abandoned : Linked → Bool
 is_abandoned link = list_all (is_gone_from link) four

@@ -1,5 +1,5 @@
 -- A player's part in its game: what each call makes of it.
-use Rattle.std.specs.Prelude.{⊤, ⊥, ◌≡◌, ◌×◌, ◌⊎◌, ℕ, ℤ, ◌&&◌, ◌||◌, ◌+◌, Bool, not, true, false, nat_le, nat_lt, if◌then◌else◌, List, [], ◌∷◌, map, position, slice_index_or, slice_set, replicate, Option, Some, None, is_some}
+use Rattle.std.specs.Prelude.{◌≡◌, ◌⊎◌, ℕ, ℤ, ◌&&◌, ◌||◌, ◌+◌, Bool, not, true, false, nat_le, nat_lt, if◌then◌else◌, List, [], ◌∷◌, map, position, slice_index_or, slice_set, replicate, Option, Some, None, is_some}
 use Rattle.dn_tic.specs.declared.command.Move.{Move}
 use Rattle.dn_tic.specs.declared.input.Input.{Input}
 use Rattle.dn_machine.specs.Sending.{on_build}
@@ -13,7 +13,6 @@ use Rattle.dn_link.specs.declared.received.Received.{Received}
 use Rattle.dn_link.specs.declared.received.Received.TheVariants as received
 use Rattle.dn_link.specs.declared.received.Received.TheVariants.{Reported}
 use Rattle.dn_survivor.specs.declared.answers.Reported.TheVariants as reported
-use Rattle.dn_link.specs.declared.tally.Figures.{Figures}
 use Rattle.dn_link.specs.Linked.{Receives, forgotten, has_given_up, may_leave, remains}
 use Rattle.dn_link.specs.Linking.{identity_of, linked, seal_of}
 use Rattle.dn_link.specs.Notices.{HearsNotice, is_notice}
@@ -26,7 +25,8 @@ use Rattle.dn_session.specs.declared.ending.Progress.{Progress}
 use Rattle.dn_session.specs.declared.ending.Progress.TheVariants as progress
 use Rattle.dn_session.specs.declared.greeting.Address.{Address}
 use Rattle.dn_session.specs.declared.lead.View.{View}
-use Rattle.dn_session.specs.declared.part.Exclusions.{Exclusions}
+use Rattle.dn_session.specs.declared.part.Exclusion.{Exclusion}
+use Rattle.dn_session.specs.declared.part.hearing.Known.{Known}
 use Rattle.dn_session.specs.declared.part.Owed.{Owed}
 use Rattle.dn_session.specs.declared.part.Part.{Part}
 use Rattle.dn_session.specs.declared.places.Places.{Places}
@@ -50,7 +50,7 @@ pub record Playing : Type 0 where
   pub watch : Watch
   pub places : Places
   pub excluders : List Bool
-  pub exclusions : Exclusions
+  pub exclusions : List Exclusion
   pub owed : Owed
   pub progress : Progress
   pub policy : Policy
@@ -74,11 +74,6 @@ pub record KeepsGame (old new : Link) : Type 0 where
   pub seal : seal_of new ≡ seal_of old
   pub identity : identity_of new ≡ identity_of old
 
-pub record KeepsAll (old new : Link) : Type 0 where
-  pub game : KeepsGame old new
-  pub linked : linked new ≡ linked old
-  pub pace : pace_of new ≡ pace_of old
-
 abbrev pub view : ℕ → Playing → View
 view now p = view_of (linked p.link) p.excluders p.watch now
 
@@ -99,36 +94,33 @@ Takes bytes old new received =
     × (is_notice bytes ≡ true
     → HearsNotice (seal_of old) bytes (linked old) (pace_of old) (linked new) (pace_of new) received)
 
--- what is known of players by it: of each line, and how many of each player's commands are there
-abbrev pub lines_by : Link → List (Option Figures)
-lines_by link = lines_in (linked link) (pace_of link)
-
-abbrev pub counts_by : Link → List ℕ
-counts_by link = counts_in (linked link).node
+-- what is known of players by it: of each line, and how many of each player's commands are here
+abbrev pub known_by : Link → Known
+known_by link =
+    record { lines = lines_in (linked link) (pace_of link); counts = counts_in (linked link).node }
 
 -- a new datagram of a player is a sign of life of it, and so are more of its commands
-abbrev pub is_alive : Received → (old new : Link) → ℕ → Bool
-is_alive received old new player =
-    is_news_of (heard_of received) (lines_by old) (lines_by new) player
-    || has_more (counts_by old) (counts_by new) player
+abbrev pub is_alive : Received → (before after : Known) → ℕ → Bool
+is_alive received before after player =
+    is_news_of (heard_of received) before.lines after.lines player || has_more before.counts after.counts player
 
 abbrev pub hears_if : Bool → ℕ → ℕ → Watch → Watch
 hears_if true player now watch = record watch { heard = slice_set watch.heard player now }
 hears_if false player now watch = watch
 
-abbrev pub watch_after : Received → Link → Link → ℕ → Watch → Watch
-watch_after received old new now watch =
-    hears_if (is_alive received old new 3) 3 now
-    (hears_if (is_alive received old new 2) 2 now
-    (hears_if (is_alive received old new 1) 1 now
-    (hears_if (is_alive received old new 0) 0 now watch)))
+abbrev pub watch_after : Received → (before after : Known) → ℕ → Watch → Watch
+watch_after received before after now watch =
+    hears_if (is_alive received before after 3) 3 now
+    (hears_if (is_alive received before after 2) 2 now
+    (hears_if (is_alive received before after 1) 1 now
+    (hears_if (is_alive received before after 0) 0 now watch)))
 
--- where the player is whose datagram was heard, by what was known of the lines before it and after it
-abbrev pub place_after : Option ℕ → Address → ℕ → (before after : List (Option Figures)) → Places → Places
+-- where the player is whose datagram was heard
+abbrev pub place_after : Option ℕ → Address → ℕ → (before after : Known) → Places → Places
 place_after None from now before after places = places
 place_after (Some player) from now before after places =
-    heard_at player from now (is_new_in (line_of before player) (line_of after player))
-    (is_late_in (line_of before player) (line_of after player)) places
+    heard_at player from now (is_new_in (line_of before.lines player) (line_of after.lines player))
+    (is_late_in (line_of before.lines player) (line_of after.lines player)) places
 
 -- who has told that it has given up this player
 abbrev pub excluders_by : Received → List Bool → List Bool
@@ -140,22 +132,32 @@ abbrev pub is_told_since : ℕ → Option ℕ → Bool
 is_told_since now None = false
 is_told_since now (Some told) = nat_lt now (told + 1000)
 
-abbrev pub exclusions_by : Received → Address → ℕ → Exclusions → Exclusions
-exclusions_by (received.GivenUp player) from now e =
-    if is_told_since now e.told then e else record { told = Some now; next = Some (record { player = player; to = from }) }
-exclusions_by received from now e = e
+abbrev pub told_at : Address → ℕ → Exclusion → Exclusion
+told_at from now e = if is_told_since now e.told then e else record { to = Some from; told = Some now }
+
+abbrev pub exclusion_of : List Exclusion → ℕ → Exclusion
+exclusion_of all player = slice_index_or all player (record { to = None; told = None })
+
+abbrev pub exclusions_by : Received → Address → ℕ → List Exclusion → List Exclusion
+exclusions_by (received.GivenUp player) from now all =
+    slice_set all player (told_at from now (exclusion_of all player))
+exclusions_by received from now all = all
+
+-- what is noted of it, by what was known before it and after it
+abbrev pub noted : Received → Address → ℕ → (before after : Known) → Playing → Playing
+noted received from now before after p =
+    record p {
+      watch = watch_after received before after now p.watch;
+      places = place_after (heard_of received) from now before after p.places;
+      excluders = excluders_by received p.excluders;
+      exclusions = exclusions_by received from now p.exclusions;
+    }
 
 -- bytes come from an address at a time
 abbrev pub HearsBytes : Address → List ℕ → ℕ → Playing → Playing → Type 0
 HearsBytes from bytes now old new =
     (received : Received) × Takes bytes old.link new.link received
-    × (new ≡ record old {
-      link = new.link;
-      watch = watch_after received old.link new.link now old.watch;
-      places = place_after (heard_of received) from now (lines_by old.link) (lines_by new.link) old.places;
-      excluders = excluders_by received old.excluders;
-      exclusions = exclusions_by received from now old.exclusions;
-    })
+    × (new ≡ noted received from now (known_by old.link) (known_by new.link) (record old { link = new.link }))
 
 -- Ticks.
 
@@ -275,12 +277,16 @@ abbrev pub TicksWhen : Bool → ℕ → Playing → Playing → Type 0
 TicksWhen false now old new = new ≡ old
 TicksWhen true now old new = PassesTick (record old { ticks = resumed now old.ticks }) new
 
--- what a part does as time goes, by how far it is: one that plays gives up whom it must, and may end; one that leaves
--- does its ticks by itself, and waits
+-- whose game does not end gives up whom it must
+abbrev pub PlaysOn : Option Ending → ℕ → Playing → Playing → Type 0
+PlaysOn (Some end) now old new = EndsNow (Some end) now old new
+PlaysOn None now old new = GivesUpNow (due (patience old.policy) (view now old)) old new
+
+-- what a part does as time goes, by how far it is: one that plays looks, and ends or plays on; one that leaves does
+-- its ticks by itself, and waits
 abbrev pub PassesTime : Progress → ℕ → Playing → Playing → Type 0
 PassesTime progress.Playing now old new =
-    (mid : Playing) × GivesUpNow (due (patience old.policy) (view now (looks now old))) (looks now old) mid
-    × EndsNow (ending_of mid.policy (view now mid) (linked mid.link)) now mid new
+    PlaysOn (ending_of old.policy (view now (looks now old)) (linked old.link)) now (looks now old) new
 PassesTime (progress.Leaving end since free) now old new =
     (mid : Playing) × TicksWhen (is_due now old.ticks) now old mid
     × (new ≡ record mid { progress = waits (may_leave (linked mid.link)) end since free now })
@@ -307,7 +313,10 @@ Polls now old new = (mid : Playing) × PassesTime old.progress now old mid × (n
 abbrev pub QuitsBy : ℕ → Playing → Playing → Type 0
 QuitsBy now old new = EndsNow (if is_giving old.progress then Some ending.Left else None) now old new
 
--- it gives up another, if it may
+-- it looks, and gives up another, if it may
 abbrev pub given_up_at : ℕ → ℕ → Playing → Option ℕ
 given_up_at now player p =
-    if is_giving p.progress && may_give_up (view now p) player then Some player else None
+    if is_giving p.progress && may_give_up (view now (looks now p)) player then Some player else None
+
+abbrev pub GivesUpBy : ℕ → ℕ → Playing → Playing → Type 0
+GivesUpBy now player old new = GivesUpNow (given_up_at now player old) (looks now old) new

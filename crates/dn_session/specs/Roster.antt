@@ -1,5 +1,5 @@
 -- Which session plays which place of which game.
-use Rattle.std.specs.Prelude.{◌≡◌, ◌≢◌, ◌×◌, ℕ, ◌-◌, ◌==◌, true, false, if◌then◌else◌, List, [], ◌∷◌, length, replicate, slice_index_or, Option, Some, None, IfSome}
+use Rattle.std.specs.Prelude.{◌≡◌, ◌≢◌, ℕ, ◌-◌, ◌==◌, true, false, if◌then◌else◌, List, [], ◌∷◌, length, replicate, slice_index_or, Option, Some, None, IfSome}
 use Rattle.dn_session.specs.declared.greeting.Seating.{Seating}
 use Rattle.dn_session.specs.declared.joiner.Stage.{Stage}
 use Rattle.dn_session.specs.declared.joiner.Stage.TheVariants as stage

@@ -1,16 +1,15 @@
 -- What a player's part sends, and where to.
-use Rattle.std.specs.Prelude.{⊤, ◌≡◌, ◌×◌, ℕ, ◌&&◌, Bool, not, false, if◌then◌else◌, List, position, slice_index_or, slice_set, Option, Some, None, is_some, option_map}
+use Rattle.std.specs.Prelude.{⊤, ◌≡◌, ℕ, ◌&&◌, Bool, not, false, if◌then◌else◌, List, position, slice_index_or, slice_set, Option, Some, None, is_some}
 use Rattle.dn_survivor.specs.Telling.{report_for}
-use Rattle.dn_link.specs.Linked.{Gives, remains, surviving_of}
+use Rattle.dn_link.specs.Linked.{Gives, has_given_up, is_peer, remains, surviving_of}
 use Rattle.dn_link.specs.Linking.{identity_of, linked, seal_of}
 use Rattle.dn_link.specs.Notices.{exclusion_for, notice_for}
 use Rattle.dn_link.specs.Pacing.{pace_of}
 use Rattle.dn_session.specs.declared.greeting.Address.{Address}
-use Rattle.dn_session.specs.declared.part.Exclusion.{Exclusion}
 use Rattle.dn_session.specs.declared.part.sending.Transmit.{Transmit}
 use Rattle.dn_session.specs.Places.{place_of}
 use Rattle.dn_session.specs.Players.{four}
-use Rattle.dn_session.specs.Playing.{KeepsGame, Playing}
+use Rattle.dn_session.specs.Playing.{exclusion_of, KeepsGame, Playing}
 
 -- bytes, and where they go to
 abbrev pub sent_of : Transmit → Address × List ℕ
@@ -56,16 +55,28 @@ Reports player old new sent =
     × (notice_for (seal_of old.link) (linked old.link) player ≡ Some bytes)
     × (new ≡ record old { owed = record old.owed { reports = slice_set old.owed.reports player false } })
 
--- one who is given up is told so, where it is to be told
-abbrev pub Excludes : Option Exclusion → Playing → Playing → Option (Address × List ℕ) → Type 0
+-- one is to be told that it is given up
+abbrev pub is_owed_exclusion : Playing → ℕ → Bool
+is_owed_exclusion p player =
+    is_some (exclusion_of p.exclusions player).to
+    && (is_peer (linked p.link).node player && has_given_up (linked p.link) player)
+
+abbrev pub first_owed_exclusion : Playing → Option ℕ
+first_owed_exclusion p = position (is_owed_exclusion p) four
+
+-- it is told so
+abbrev pub Excludes : Option ℕ → Playing → Playing → Option (Address × List ℕ) → Type 0
 Excludes None old new sent = (sent ≡ None) × (new ≡ old)
-Excludes (Some e) old new sent =
-    (sent ≡ option_map (λ bytes. (e.to, bytes)) (exclusion_for (seal_of old.link) (linked old.link) e.player))
-    × (new ≡ record old { exclusions = record old.exclusions { next = None } })
+Excludes (Some player) old new sent =
+    (address : Address) × (bytes : List ℕ) × ((exclusion_of old.exclusions player).to ≡ Some address)
+    × (sent ≡ Some (address, bytes)) × (exclusion_for (seal_of old.link) (linked old.link) player ≡ Some bytes)
+    × (new ≡ record old {
+      exclusions = slice_set old.exclusions player (record (exclusion_of old.exclusions player) { to = None });
+    })
 
 -- the reports go behind the datagrams, and that behind the reports
 abbrev pub SendsReport : Option ℕ → Playing → Playing → Option (Address × List ℕ) → Type 0
-SendsReport None old new sent = Excludes old.exclusions.next old new sent
+SendsReport None old new sent = Excludes (first_owed_exclusion old) old new sent
 SendsReport (Some player) old new sent = Reports player old new sent
 
 abbrev pub SendsFirst : Option ℕ → Playing → Playing → Option (Address × List ℕ) → Type 0

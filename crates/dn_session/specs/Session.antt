@@ -1,5 +1,5 @@
 -- A session: its lobby, and its part in the game once that has begun.
-use Rattle.std.specs.Prelude.{⊤, ⊥, ◌≡◌, ◌×◌, ℕ, ℤ, ◌&&◌, if◌then◌else◌, Bool, true, false, is_none, is_some, List, map, replicate, Option, Some, None, Result, Ok, Err}
+use Rattle.std.specs.Prelude.{⊤, ◌≡◌, ℕ, ℤ, ◌&&◌, if◌then◌else◌, Bool, true, false, is_none, is_some, List, map, replicate, Option, Some, None, Result, Ok, Err}
 use Rattle.std.specs.Option.{option_map}
 use Rattle.dn_seal.specs.declared.seal.Seal.{Seal}
 use Rattle.dn_seal.specs.declared.seal.Suite.TheVariants as suite
@@ -28,8 +28,6 @@ use Rattle.dn_session.specs.declared.host.Host.{Host}
 use Rattle.dn_session.specs.declared.host.HostConfig.{HostConfig}
 use Rattle.dn_session.specs.declared.joiner.JoinConfig.{JoinConfig}
 use Rattle.dn_session.specs.declared.joiner.Joiner.{Joiner}
-use Rattle.dn_session.specs.declared.joiner.Stage.{Stage}
-use Rattle.dn_session.specs.declared.joiner.Stage.TheVariants as stage
 use Rattle.dn_session.specs.declared.part.Part.{Part}
 use Rattle.dn_session.specs.declared.seats.Seat.{Seat}
 use Rattle.dn_session.specs.declared.seats.Seat.TheVariants as seat
@@ -38,10 +36,10 @@ use Rattle.dn_session.specs.declared.side.Begun.{Begun}
 use Rattle.dn_session.specs.declared.side.Side.{Side}
 use Rattle.dn_session.specs.declared.side.Side.TheVariants as side
 use Rattle.dn_session.specs.declared.terms.LobbyFault.{LobbyFault}
-use Rattle.dn_session.specs.Hosting.{game, holder_of, kicked, lobby, HearsCall, IsHostOf, Lobby}
-use Rattle.dn_session.specs.Joining.{game_in, is_heard, joining, on_time, HearsHost, IsJoinerOf, Joining}
+use Rattle.dn_session.specs.Hosting.{game_told, holder_of, kicked, lobby, HearsCall, IsHostOf, Lobby}
+use Rattle.dn_session.specs.Joining.{game_now, is_heard, joining, on_time, HearsHost, IsJoinerOf, Joining}
 use Rattle.dn_session.specs.Places.{places_of}
-use Rattle.dn_session.specs.Playing.{ended_as, given_up_at, may_give, owes_nobody, playing, GivesUpNow, GivesWhen, HearsBytes, Playing, Polls, QuitsBy, RunsNext}
+use Rattle.dn_session.specs.Playing.{ended_as, given_up_at, may_give, owes_nobody, playing, GivesUpBy, GivesWhen, HearsBytes, Playing, Polls, QuitsBy, RunsNext}
 use Rattle.dn_session.specs.Reading.{is_greeting}
 use Rattle.dn_session.specs.Sent.{sent_of, SendsNext}
 use Rattle.dn_session.specs.Ticks.{new_ticks}
@@ -57,11 +55,11 @@ abbrev pub address_shown : Option Shown → Option Address
 address_shown None = None
 address_shown (Some shown) = Some shown.holder.address
 
--- what the host begins
-abbrev pub begun_here : Lobby → Begun
-begun_here l =
+-- what the host begins, in a game of this number
+abbrev pub begun_here : Lobby → List ℕ → Begun
+begun_here l game =
     record {
-      game = game l;
+      game = game;
       terms = l.terms;
       me = 0;
       host = None;
@@ -69,24 +67,25 @@ begun_here l =
     }
 
 -- what one who joins begins, by what it was told
-abbrev pub begun_there : Joining → Seating → Begun
-begun_there j s =
+abbrev pub begun_there : Joining → List ℕ → Seating → Begun
+begun_there j game s =
     record {
-      game = game_in j.seal s;
+      game = game;
       terms = s.terms;
       me = s.seat;
       host = Some j.config.host;
       seats = map address_shown s.seats;
     }
 
-abbrev pub begun_with : Joining → Stage → Option Seating → Option Begun
-begun_with j stage.Playing (Some s) = Some (begun_there j s)
-begun_with j stage seating = None
+abbrev pub begun_with : Joining → Option (List ℕ) → Option Seating → Option Begun
+begun_with j (Some game) (Some s) = Some (begun_there j game s)
+begun_with j game seating = None
 
 -- the game of a lobby, once it has begun
 abbrev pub begun_in : Side → Option Begun
-begun_in (side.Host host) = if (lobby host).begun then Some (begun_here (lobby host)) else None
-begun_in (side.Joiner joiner) = begun_with (joining joiner) (joining joiner).stage (joining joiner).seating
+begun_in (side.Host host) = option_map (begun_here (lobby host)) (game_told (lobby host))
+begun_in (side.Joiner joiner) =
+    begun_with (joining joiner) (game_now (joining joiner)) (joining joiner).seating
 
 -- The link of a game.
 
@@ -122,7 +121,7 @@ pub record IsPartOf (secret : Option (List ℕ)) (b : Begun) (now : ℕ) (p : Pl
   pub watch : p.watch ≡ new_watch now
   pub places : p.places ≡ places_of b.host b.seats now
   pub excluders : p.excluders ≡ replicate 4 false
-  pub exclusions : p.exclusions ≡ record { next = None; told = None }
+  pub exclusions : p.exclusions ≡ replicate 4 (record { to = None; told = None })
   pub owed : p.owed ≡ owes_nobody
   pub progress : p.progress ≡ progress.Playing
   pub policy : p.policy ≡ b.terms.policy
@@ -210,7 +209,7 @@ BeginsAs (Some b) now old new =
 -- it has a part then, once; and none for want of memory, or of terms that are no game's
 abbrev pub IsRefusedAs : Option Begun → NodeFault → Type 0
 IsRefusedAs None fault = ⊥
-IsRefusedAs (Some b) fault = IsAdmittedWithin {Part} (keyed (config_of b) b.terms.settings) b.terms.ahead (Err fault)
+IsRefusedAs (Some b) fault = IsAdmittedWithin {A = Part} (keyed (config_of b) b.terms.settings) b.terms.ahead (Err fault)
 
 abbrev pub Begins : ℕ → Meeting → Meeting → Result Bool NodeFault → Type 0
 Begins now old new (Ok true) = (may_begin old ≡ true) × BeginsAs (begun_in old.lobby) now old new
@@ -276,7 +275,7 @@ abbrev pub GivesUpPart : ℕ → ℕ → Option Part → Option Part → Bool �
 GivesUpPart player now None new gave = (new ≡ None) × (gave ≡ false)
 GivesUpPart player now (Some old) None gave = ⊥
 GivesUpPart player now (Some old) (Some new) gave =
-    GivesUpNow (given_up_at now player (playing old)) (playing old) (playing new)
+    GivesUpBy now player (playing old) (playing new)
     × (gave ≡ is_some (given_up_at now player (playing old)))
 
 abbrev pub ending_in : Option Part → Option Ending

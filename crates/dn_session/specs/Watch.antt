@@ -1,21 +1,24 @@
 -- For how long others were silent, and for how long the game stood still.
-use Rattle.std.specs.Prelude.{ℕ, ◌+◌, ◌-◌, ◌==◌, ◌||◌, Bool, not, nat_lt, if◌then◌else◌, List, map, replicate, slice_index_or, false}
+use Rattle.std.specs.Prelude.{ℕ, ◌+◌, ◌-◌, ◌==◌, ◌||◌, Bool, not, nat_lt, if◌then◌else◌, List, map, min, replicate, slice_index_or, false}
 use Rattle.std.specs.Bool.{beq}
 use Rattle.std.specs.Cmp.Lexicographic.{pointwise}
 use Rattle.dn_session.specs.declared.watch.Watch.{Watch}
-use Rattle.dn_session.specs.Ticks.{later}
 
 -- the last look was more than a second ago: the machine slept, or its caller did not call
 abbrev pub has_slept : ℕ → Watch → Bool
 has_slept now watch = nat_lt (watch.looked + 1000) now
 
--- that time counts as nobody's silence, and not as standing still
+-- that time counts as nobody's silence, and not as standing still; what came since then came now
+abbrev pub moved : ℕ → ℕ → ℕ → ℕ
+moved now slept time = min (time + slept) now
+
 abbrev pub woken : ℕ → Watch → Watch
 woken now watch =
     if has_slept now watch
     then record watch {
-      heard = map (λ time. later time (now - watch.looked)) watch.heard;
-      since = later watch.since (now - watch.looked);
+      heard = map (moved now (now - watch.looked)) watch.heard;
+      since = moved now (now - watch.looked) watch.since;
+      looked = now;
     }
     else watch
 

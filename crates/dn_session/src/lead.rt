@@ -149,7 +149,8 @@ pub(crate) fn late(patience: u32, view: &View) -> Option<usize>
     from_above(late_from_above(patience, view))
 }
 
-/// Of those whom one that leads has awaited for the patience, whom it gives up.
+/// Where one that leads has awaited anybody for the patience, whom it gives up: of the silent the highest, or else of
+/// those that it awaits.
 fn late_due(patience: u32, view: &View) -> Option<usize>
     ensures value { result ≡ late_due patience view.now }
     ensures within { IfSome result (λ n. n < 4) }

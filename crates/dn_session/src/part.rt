@@ -51,19 +51,18 @@ fn gone_from(link: &Link) -> [bool; 4]
     ]
 }
 
-/// One who is given up, and where it is to be told so.
+/// Where one who is given up is to be told so, if it is, and when it was told last.
 #[derive(Clone, Copy, Debug, PartialEq, Eq)]
 pub(crate) struct Exclusion {
-    player: u8,
-    to: Address,
-}
-
-/// Who is to be told next that it is given up, and when anybody was told last.
-#[derive(Clone, Copy, Debug, PartialEq, Eq)]
-pub(crate) struct Exclusions {
-    next: Option<Exclusion>,
+    to: Option<Address>,
     told: Option<u32>,
 }
+
+/// Nobody is to be told.
+const NO_EXCLUSION: Exclusion = Exclusion {
+    to: None,
+    told: None,
+};
 
 /// A player's part in its game: its link, when its ticks are due, where the others are, whom it waits for, what is to
 /// be sent, and how far it is.
@@ -74,14 +73,15 @@ pub struct Part {
     watch: Watch,
     places: Places,
     excluders: [bool; 4],
-    exclusions: Exclusions,
+    exclusions: [Exclusion; 4],
     owed: Owed,
     progress: Progress,
     policy: Policy,
 }
 
 impl Part {
-    ghost use Rattle.dn_session.specs.{Playing.ended_as, Playing.owes_nobody, Playing.playing, Ticks.new_ticks, Watch.new_watch, declared.ending.Progress.TheVariants as progress};
+    ghost use Rattle.dn_session.specs.{Playing.ended_as, Playing.owes_nobody, Playing.playing, Ticks.new_ticks, Watch.new_watch};
+    ghost use Rattle.dn_session.specs.declared.ending.Progress.TheVariants as progress;
 
     /// The part that plays by this link from now on, in a game of this rate and policy, with the others at these places.
     pub(crate) fn new(link: Link, rate: u8, policy: Policy, places: Places, now: u32) -> Part
@@ -91,7 +91,7 @@ impl Part {
             watch = new_watch now;
             places = places;
             excluders = replicate 4 false;
-            exclusions = record { next = None; told = None };
+            exclusions = replicate 4 (record { to = None; told = None });
             owed = owes_nobody;
             progress = progress.Playing;
             policy = policy;
@@ -103,10 +103,7 @@ impl Part {
             watch: Watch::new(now),
             places,
             excluders: [false; 4],
-            exclusions: Exclusions {
-                next: None,
-                told: None,
-            },
+            exclusions: [NO_EXCLUSION; 4],
             owed: Owed {
                 datagrams: [false; 4],
                 reports: [false; 4],

@@ -1,9 +1,9 @@
 //! What a player sees of the others in its game.
 
-ghost use Rattle.std.specs.{Prelude.◌≡◌, Prelude.◌<◌, List.list_any, List.list_all};
+ghost use Rattle.std.specs.{Prelude.◌≡◌, Prelude.◌&&◌, Prelude.not, Prelude.◌<◌, List.list_any, List.list_all};
 ghost use Rattle.dn_lockstep.specs.Contents.{contents};
 ghost use Rattle.dn_link.specs.{Linked.has_given_up, Linking.linked};
-ghost use Rattle.dn_session.specs.Players.{four, has_gone, is_abandoned, is_any_awaited, is_awaited, is_gone_from, is_it, lacks, names_by, owes_report, own_standing, seen_of, standing_beside, standing_of, view_of};
+ghost use Rattle.dn_session.specs.Players.{count_in, ends_by, four, has_gone, is_abandoned, is_any_awaited, is_awaited, is_gone_from, is_it, is_whole, lacks, names_by, owes_report, own_standing, seen_of, standing_beside, standing_of, view_of};
 
 use crate::lead::{Seen, Standing, View};
 use crate::watch::Watch;
@@ -29,13 +29,38 @@ pub(crate) fn is_gone_from(link: &Link, player: u8) -> bool
     player >= lockstep.players() || player == lockstep.me() || link.has_given_up(player)
 }
 
+/// How many commands of a player are here.
+pub(crate) fn count_in(lockstep: &Lockstep, player: u8) -> u32
+    ensures { result ≡ count_in (contents lockstep.now) player }
+{
+    lockstep.got(player).unwrap_or(0)
+}
+
+/// Whether all commands before an end are here, if it is known.
+fn ends_by(end: Option<u32>, count: u32) -> bool
+    ensures { result ≡ ends_by end count }
+{
+    match end {
+        Some(end) => end <= count,
+        None => false,
+    }
+}
+
+/// Whether a player's last command is known, and all before it are here.
+fn is_whole(link: &Link, player: u8) -> bool
+    ensures { result ≡ is_whole (linked link.now) player }
+{
+    let lockstep = link.lockstep();
+    ends_by(lockstep.end(player), count_in(lockstep, player))
+}
+
 /// What another is.
 fn standing_beside(link: &Link, player: u8) -> Standing
     ensures { result ≡ standing_beside (linked link.now) player }
 {
     if is_gone_from(link, player) {
         Standing::Gone
-    } else if link.lockstep().end(player).is_some() {
+    } else if is_whole(link, player) {
         Standing::Closed
     } else {
         Standing::Open
@@ -55,11 +80,10 @@ fn standing_of(link: &Link, player: u8) -> Standing
 
 /// Whether the own command of the next tic is there, and this player's is not.
 fn lacks(lockstep: &Lockstep, player: u8) -> bool
-    requires { player < (contents lockstep.now).players }
     ensures { result ≡ lacks (contents lockstep.now) player }
 {
     let ran = lockstep.ran();
-    ran < lockstep.made() && lockstep.got(player).unwrap_or(0) <= ran
+    ran < lockstep.made() && count_in(lockstep, player) <= ran
 }
 
 /// Whether somebody is given up.
@@ -86,15 +110,25 @@ fn owes_report(link: &Link, player: u8) -> bool
     has_gone(link) && is_it(player, link.undecided())
 }
 
+/// The same of a link's.
+fn lacks_in(link: &Link, player: u8) -> bool
+    ensures { result ≡ lacks (linked link.now).node player }
+{
+    lacks(link.lockstep(), player)
+}
+
+/// Whether a command of a player is awaited.
+fn wants_command(link: &Link, player: u8) -> bool
+    ensures { result ≡ (not (is_whole (linked link.now) player) && lacks (linked link.now).node player) }
+{
+    !is_whole(link, player) && lacks_in(link, player)
+}
+
 /// Whether a command or a report of a player is awaited.
 fn is_awaited(link: &Link, player: u8) -> bool
     ensures { result ≡ is_awaited (linked link.now) player }
 {
-    if is_gone_from(link, player) {
-        return false;
-    }
-    let lockstep = link.lockstep();
-    (lockstep.end(player).is_none() && lacks(lockstep, player)) || owes_report(link, player)
+    !is_gone_from(link, player) && (wants_command(link, player) || owes_report(link, player))
 }
 
 /// Whether anybody's is.

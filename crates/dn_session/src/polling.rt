@@ -71,7 +71,6 @@ fn earlier(one: Option<u32>, two: Option<u32>) -> Option<u32>
 }
 
 impl Joiner {
-    ghost use Rattle.dn_session.specs.Roster.{IsJoining};
     ghost use Rattle.dn_session.specs.Joining.{acts, call_of, called, calling_again, given_up_by, interval, is_due, joining, on_time};
 
     /// How long it waits after its last call.
@@ -141,7 +140,6 @@ impl Joiner {
     pub fn poll(&mut self, now: u32) -> Option<ArrayVec<u8, 581>>
         ensures joiner { joining self.new ≡ (on_time now (joining self.old)).0 }
         ensures call { option_map (λ call. call.items) result ≡ (on_time now (joining self.old)).1 }
-        ensures fits { IsJoining (joining self.old) → IsJoining (joining self.new) }
         ensures read { IfSome result (λ call.
             IsCallIn (joining self.new).seal call.items (Ok (call_of (joining self.new)))) }
     {

@@ -85,7 +85,6 @@ fn numbers_of(seats: &[Option<Shown>; 3]) -> [[u8; 16]; 3]
 }
 
 impl Joiner {
-    ghost use Rattle.dn_session.specs.Roster.{IsJoining};
     ghost use Rattle.dn_session.specs.Joining.{answered, game_now, is_answer, is_heard, is_own, is_sure, joining, on_hinted, on_refused, on_reply, on_seating, HearsHost};
 
     /// Whether it is the newest reply to the calls that it has made.
@@ -190,7 +189,6 @@ impl Joiner {
         ensures hears { is_heard from.now (joining self.old) ≡ true
             → HearsHost bytes.now now (joining self.old) (joining self.new) }
         ensures deaf { is_heard from.now (joining self.old) ≡ false → joining self.new ≡ joining self.old }
-        ensures fits { IsJoining (joining self.old) → IsJoining (joining self.new) }
     {
         if !self.is_heard(from) {
             return;

@@ -1,6 +1,6 @@
 //! A session of one player: its lobby, and then its part in the game.
 
-ghost use Rattle.std.specs.Prelude.{◌≡◌, ◌×◌, IfErr, IfOk};
+ghost use Rattle.std.specs.Prelude.{◌≡◌, IfErr, IfOk};
 
 use crate::ending::Ending;
 use crate::greeting::Address;
@@ -30,6 +30,8 @@ pub struct Session {
 
 impl Session {
     ghost use Rattle.std.specs.Option.{option_map};
+    ghost use Rattle.std.specs.Prelude.{ℕ};
+    ghost use Rattle.dn_machine.specs.declared.answers.Ran.TheVariants as ran;
     ghost use Rattle.dn_lockstep.specs.Steps.{told_by};
     ghost use Rattle.dn_lockstep.specs.declared.config.NodeFault.TheVariants as faults;
     ghost use Rattle.dn_session.specs.{Roster.IsSide, Sent.sent_of};
@@ -152,8 +154,10 @@ impl Session {
 
     /// Runs the next tic, if it can be run, with the marks of the world.
     pub fn run(&mut self, marks: &[i16; 4], row: &mut [Option<Move>; 4]) -> Ran
-        ensures { RunsPart marks.now (meeting self.old).part (meeting self.new).part result (told_by result row.new)
+        ensures runs { RunsPart marks.now (meeting self.old).part (meeting self.new).part result (told_by result row.new)
             × (meeting self.new ≡ record (meeting self.old) { part = (meeting self.new).part }) }
+        ensures waits { (player : ℕ) → result ≡ ran.Waiting player → row.new ≡ row.old }
+        ensures idle { result ≡ ran.NotPlaying → row.new ≡ row.old }
     {
         match &mut self.part {
             Some(part) => part.run(marks, row),

@@ -1,7 +1,9 @@
 //! The lobby of a session: that of its host, or of one who joins; and the game that it begins.
 
-ghost use Rattle.std.specs.Prelude.{◌≡◌, map};
-ghost use Rattle.dn_session.specs.Session.{address_in, address_shown, config_of, game_seal};
+ghost use Rattle.std.specs.{Prelude.◌≡◌, Prelude.ℕ, Prelude.List, Prelude.Option, Prelude.map, Option.option_map};
+ghost use Rattle.dn_session.specs.declared.side.Side.TheVariants as side;
+ghost use Rattle.dn_session.specs.{Hosting.lobby, Hosting.HearsCall, Hosting.IsLobby, Joining.joining, Joining.on_time, Roster.IsJoining, Roster.IsSide, Sent.sent_of};
+ghost use Rattle.dn_session.specs.Session.{address_in, address_shown, begun_here, begun_in, begun_with, call_to, config_of, game_seal, reply_to};
 
 use crate::greeting::{Address, Shown};
 use crate::host::Host;
@@ -10,6 +12,7 @@ use crate::part::{Transmit, widened};
 use crate::places::Places;
 use crate::seats::Seat;
 use crate::terms::Terms;
+use arrayvec::ArrayVec;
 use dn_lockstep::Config;
 use dn_seal::Seal;
 
@@ -107,25 +110,34 @@ impl Begun {
     }
 }
 
+/// What the host begins, in a game of this number.
+fn told_here(host: &Host, game: Option<[u8; 16]>) -> Option<Begun>
+    ensures { result ≡ option_map (begun_here (lobby host.now)) game }
+{
+    match game {
+        Some(game) => Some(Begun {
+            game,
+            terms: *host.terms(),
+            me: 0,
+            host: None,
+            seats: addresses_in(host.seats()),
+        }),
+        None => None,
+    }
+}
+
 /// The game of a host, once it has begun.
 fn begun_here(host: &Host) -> Option<Begun>
     ensures { result ≡ begun_in (side.Host host.now) }
 {
-    let game = host.game()?;
-    Some(Begun {
-        game,
-        terms: *host.terms(),
-        me: 0,
-        host: None,
-        seats: addresses_in(host.seats()),
-    })
+    told_here(host, host.game())
 }
 
-/// The game of one who joins, once it has begun.
-fn begun_there(joiner: &Joiner) -> Option<Begun>
-    ensures { result ≡ begun_in (side.Joiner joiner.now) }
+/// What one who joins begins, in a game of this number.
+fn told_there(joiner: &Joiner, game: Option<[u8; 16]>) -> Option<Begun>
+    ensures { result ≡ begun_with (joining joiner.now) game (joining joiner.now).seating }
 {
-    let game = joiner.game()?;
+    let game = game?;
     match joiner.seating() {
         Some(seating) => Some(Begun {
             game,
@@ -138,9 +150,49 @@ fn begun_there(joiner: &Joiner) -> Option<Begun>
     }
 }
 
+/// The game of one who joins, once it has begun.
+fn begun_there(joiner: &Joiner) -> Option<Begun>
+    ensures { result ≡ begun_in (side.Joiner joiner.now) }
+{
+    told_there(joiner, joiner.game())
+}
+
+/// Bytes that go to an address, if there are any.
+fn addressed(to: &Address, bytes: &Option<ArrayVec<u8, 581>>) -> Option<Transmit>
+    ensures { option_map sent_of result ≡ reply_to to.now (option_map (λ bytes. bytes.items) bytes.now) }
+{
+    match bytes {
+        Some(bytes) => Some(Transmit {
+            to: *to,
+            bytes: widened(bytes),
+        }),
+        None => None,
+    }
+}
+
+/// A host takes bytes that came from an address, and returns what is sent back.
+fn host_hears(host: &mut Host, from: &Address, bytes: &[u8], now: u32) -> Option<Transmit>
+    ensures hears { (reply : Option (List ℕ)) × HearsCall from.now bytes.now now (lobby host.old) (lobby host.new) reply
+        × (option_map sent_of result ≡ reply_to from.now reply) }
+    ensures fits { IsLobby (lobby host.old) → IsLobby (lobby host.new) }
+{
+    let reply = host.hear(from, bytes, now);
+    addressed(from, &reply)
+}
+
+/// One who joins calls, if a call is due.
+fn joiner_polls(joiner: &mut Joiner, now: u32) -> Option<Transmit>
+    ensures joiner { joining joiner.new ≡ (on_time now (joining joiner.old)).0 }
+    ensures call { option_map sent_of result ≡ call_to (joining joiner.old) (on_time now (joining joiner.old)).1 }
+    ensures fits { IsJoining (joining joiner.old) → IsJoining (joining joiner.new) }
+{
+    let to = joiner.config.host;
+    let call = joiner.poll(now);
+    addressed(&to, &call)
+}
+
 impl Side {
-    ghost use Rattle.std.specs.{Prelude.None, Option.option_map};
-    ghost use Rattle.dn_session.specs.{declared.side.Side.TheVariants as side, Roster.IsSide, Session.begun_in, Session.reply_to, Session.Calls, Session.HearsGreeting, Sent.sent_of};
+    ghost use Rattle.dn_session.specs.Session.{Calls, HearsGreeting};
 
     /// The game, once it has begun.
     pub(crate) fn begun(&self) -> Option<Begun>
@@ -159,13 +211,7 @@ impl Side {
         ensures fits { IsSide self.old → IsSide self.new }
     {
         match self {
-            Side::Host(host) => match host.hear(from, bytes, now) {
-                Some(reply) => Some(Transmit {
-                    to: *from,
-                    bytes: widened(&reply),
-                }),
-                None => None,
-            },
+            Side::Host(host) => host_hears(host, from, bytes, now),
             Side::Joiner(joiner) => {
                 joiner.hear(from, bytes, now);
                 None
@@ -180,16 +226,7 @@ impl Side {
     {
         match self {
             Side::Host(_) => None,
-            Side::Joiner(joiner) => {
-                let to = joiner.config.host;
-                match joiner.poll(now) {
-                    Some(call) => Some(Transmit {
-                        to,
-                        bytes: widened(&call),
-                    }),
-                    None => None,
-                }
-            }
+            Side::Joiner(joiner) => joiner_polls(joiner, now),
         }
     }
 }

@@ -1,7 +1,7 @@
 //! For how long others were silent, and for how long the game stood still.
 
 ghost use Rattle.std.specs.Prelude.{◌≡◌, slice_set};
-ghost use Rattle.dn_session.specs.Watch.{goes_on, has_slept, looked_at, new_watch, silence, stalled, woken};
+ghost use Rattle.dn_session.specs.Watch.{goes_on, has_slept, looked_at, moved, new_watch, silence, stalled, woken};
 
 /// How many milliseconds at most may pass between two looks. A machine that does not look for longer sleeps.
 const AWAKE: u32 = 1000;
@@ -52,6 +52,13 @@ impl Watch {
         now > self.looked && now - self.looked > AWAKE
     }
 
+    /// The time that comes so much later, but not after now.
+    fn moved(now: u32, slept: u32, time: u32) -> u32
+        ensures { result ≡ moved now slept time }
+    {
+        time.saturating_add(slept).min(now)
+    }
+
     /// Time that it slept does not count. [`Watch::look`] sees to that itself.
     pub fn wake(&mut self, now: u32)
         ensures { self.new ≡ woken now self.old }
@@ -60,12 +67,13 @@ impl Watch {
             let slept = now - self.looked;
             let [zero, one, two, three] = self.heard;
             self.heard = [
-                zero.saturating_add(slept),
-                one.saturating_add(slept),
-                two.saturating_add(slept),
-                three.saturating_add(slept),
+                Watch::moved(now, slept, zero),
+                Watch::moved(now, slept, one),
+                Watch::moved(now, slept, two),
+                Watch::moved(now, slept, three),
             ];
-            self.since = self.since.saturating_add(slept);
+            self.since = Watch::moved(now, slept, self.since);
+            self.looked = now;
         }
     }
 

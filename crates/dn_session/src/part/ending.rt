@@ -1,45 +1,43 @@
 //! How its game ends.
 
-ghost use Rattle.std.specs.Prelude.{◌≡◌, is_some};
-ghost use Rattle.dn_session.specs.Playing.{LeavesGame};
+ghost use Rattle.std.specs.Prelude.{◌≡◌, ◌&&◌, if◌then◌else◌, None, Some, is_some};
+ghost use Rattle.dn_link.specs.Pacing.{pace_of};
+ghost use Rattle.dn_session.specs.Playing.{without_lost, KeepsGame, LeavesGame};
 
 use super::Part;
 use super::giving::is_giving;
-use crate::ending::{Ending, ended_by, ending_of, may_give_up};
+use crate::ending::{Ending, ended_by, may_give_up};
 use dn_link::Link;
 
-/// Its player leaves the game, as far as it has not ended; who is lost is not waited for.
-fn leave(link: &mut Link, ending: Ending)
-    ensures { LeavesGame ending link.old link.new }
+/// Who is lost is not waited for.
+fn let_go(link: &mut Link, ending: Ending)
+    ensures lost { without_lost ending link.old link.new }
+    ensures game { KeepsGame link.old link.new }
+    ensures pace { pace_of link.new ≡ pace_of link.old }
 {
     if let Ending::Lost(player) = ending {
         link.forget(player);
     }
+}
+
+/// Its player leaves the game, as far as it has not ended.
+fn leave(link: &mut Link, ending: Ending)
+    ensures { LeavesGame ending link.old link.new }
+{
+    let_go(link, ending);
     let _ = link.quit();
 }
 
 impl Part {
-    ghost use Rattle.dn_link.specs.Linking.{linked};
-    ghost use Rattle.dn_session.specs.Ending.{ending_of};
-    ghost use Rattle.dn_session.specs.Playing.{given_up_at, playing, view, EndsNow, GivesUpNow, QuitsBy};
+    ghost use Rattle.dn_session.specs.Ending.{may_give_up};
+    ghost use Rattle.dn_session.specs.Playing.{given_up_at, is_giving, playing, view, EndsNow, GivesUpBy, GivesUpNow, QuitsBy};
 
-    /// The game ends for it, if it does.
-    fn end(&mut self, ending: Option<Ending>, now: u32)
-        ensures { EndsNow ending now (playing self.old) (playing self.new) }
+    /// The game ends for it.
+    pub(super) fn end(&mut self, ending: Ending, now: u32)
+        ensures { EndsNow (Some ending) now (playing self.old) (playing self.new) }
     {
-        if let Some(ending) = ending {
-            leave(&mut self.link, ending);
-            self.progress = ended_by(ending, now);
-        }
-    }
-
-    /// The game ends for it, where it is to.
-    pub(super) fn end_if_due(&mut self, now: u32)
-        ensures { EndsNow (ending_of (playing self.old).policy (view now (playing self.old))
-            (linked (playing self.old).link)) now (playing self.old) (playing self.new) }
-    {
-        let ending = ending_of(self.policy, &self.view(now), &self.link);
-        self.end(ending, now);
+        leave(&mut self.link, ending);
+        self.progress = ended_by(ending, now);
     }
 
     /// Its player leaves, if it plays.
@@ -47,19 +45,34 @@ impl Part {
         ensures { QuitsBy now (playing self.old) (playing self.new) }
     {
         if is_giving(self.progress) {
-            self.end(Some(Ending::Left), now);
+            self.end(Ending::Left, now);
         }
     }
 
-    /// Its player gives up another, if it may. Whether it may: else nothing changes.
+    /// Whether its player may give up another, as it last looked.
+    fn may_give_up(&self, player: u8, now: u32) -> bool
+        ensures { result ≡ (is_giving (playing self.now).progress && may_give_up (view now (playing self.now)) player) }
+    {
+        is_giving(self.progress) && may_give_up(&self.view(now), player)
+    }
+
+    /// Its player gives up another, if it may.
+    fn give_up_if(&mut self, may: bool, player: u8)
+        ensures { GivesUpNow (if may then Some player else None) (playing self.old) (playing self.new) }
+    {
+        if may {
+            self.give_up_now(Some(player));
+        }
+    }
+
+    /// It looks, and its player gives up another, if it may. Whether it may.
     pub(crate) fn give_up(&mut self, player: u8, now: u32) -> bool
-        ensures gives { GivesUpNow (given_up_at now player (playing self.old)) (playing self.old) (playing self.new) }
+        ensures gives { GivesUpBy now player (playing self.old) (playing self.new) }
         ensures is { result ≡ is_some (given_up_at now player (playing self.old)) }
     {
-        if !is_giving(self.progress) || !may_give_up(&self.view(now), player) {
-            return false;
-        }
-        self.give_up_now(Some(player));
-        true
+        self.look(now);
+        let may = self.may_give_up(player, now);
+        self.give_up_if(may, player);
+        may
     }
 }

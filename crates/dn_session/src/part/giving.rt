@@ -30,6 +30,7 @@ fn build(link: &mut Link, input: Input)
 }
 
 impl Part {
+    ghost use Rattle.std.specs.Prelude.{true};
     ghost use Rattle.dn_session.specs.Playing.{playing, may_give, GivesWhen, PassesTick};
 
     /// The tick that is due goes by.
@@ -48,17 +49,31 @@ impl Part {
         is_giving(self.progress) && self.ticks.is_due(now)
     }
 
+    /// The input of the tick that is due is built.
+    fn give_due(&mut self, input: Input, now: u32)
+        ensures { GivesWhen true now input (playing self.old) (playing self.new) }
+    {
+        self.ticks.resume(now);
+        build(&mut self.link, input);
+        self.pass_tick();
+    }
+
+    /// The same where it is wanted.
+    fn give_when(&mut self, is_wanted: bool, input: Input, now: u32)
+        ensures { GivesWhen is_wanted now input (playing self.old) (playing self.new) }
+    {
+        if is_wanted {
+            self.give_due(input, now);
+        }
+    }
+
     /// Its player gives the input of the tick that is due. Whether one was: else nothing changes.
     pub(crate) fn give(&mut self, input: Input, now: u32) -> bool
         ensures gives { GivesWhen (may_give now (playing self.old)) now input (playing self.old) (playing self.new) }
         ensures is { result ≡ may_give now (playing self.old) }
     {
-        if !self.wants_input(now) {
-            return false;
-        }
-        self.ticks.resume(now);
-        build(&mut self.link, input);
-        self.pass_tick();
-        true
+        let wanted = self.wants_input(now);
+        self.give_when(wanted, input, now);
+        wanted
     }
 }

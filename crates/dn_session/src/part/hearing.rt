@@ -1,24 +1,18 @@
 //! What comes in.
 
-ghost use Rattle.std.specs.Prelude.{◌≡◌, ◌||◌};
+ghost use Rattle.std.specs.Prelude.{◌≡◌};
 ghost use Rattle.dn_lockstep.specs.Contents.{contents};
-ghost use Rattle.dn_session.specs.{Coming.count_in, Coming.counts_in, Coming.has_more, Coming.heard_of, Coming.is_news_of, Playing.is_told_since};
+ghost use Rattle.dn_session.specs.{Coming.counts_in, Coming.has_more, Playing.is_alive, Playing.is_told_since, Playing.known_by, Playing.told_at};
 
-use super::{Exclusion, Exclusions, Part};
+use super::{Exclusion, Part};
 use crate::coming::{Lines, heard_of, is_late_in, is_new_in, is_news_of, line_of, lines_of};
 use crate::greeting::Address;
+use crate::players::count_in;
 use dn_link::{Link, Received};
 use dn_lockstep::Lockstep;
 use dn_survivor::Reported;
 
-/// How many commands of a player are there.
-fn count_in(lockstep: &Lockstep, player: u8) -> u32
-    ensures { result ≡ count_in (contents lockstep.now) player }
-{
-    lockstep.got(player).unwrap_or(0)
-}
-
-/// Of four players.
+/// How many commands of each player are here.
 fn counts_in(lockstep: &Lockstep) -> [u32; 4]
     ensures { result ≡ counts_in (contents lockstep.now) }
 {
@@ -40,33 +34,26 @@ fn has_more(before: &[u32; 4], after: &[u32; 4], player: u8) -> bool
     before[player as usize] < after[player as usize]
 }
 
-/// What is known of players: of each line, and how many of each player's commands are there.
+/// What is known of players: of each line, and how many of each player's commands are here.
 #[derive(Clone, Copy)]
-struct Known {
+pub(crate) struct Known {
     lines: Lines,
     counts: [u32; 4],
 }
 
-impl Known {
-    ghost use Rattle.dn_link.specs.Linking.{linked};
-    ghost use Rattle.dn_session.specs.Playing.{counts_by, lines_by};
-
-    /// What a link knows.
-    fn by(link: &Link) -> Known
-        ensures lines { result.lines ≡ lines_by link.now }
-        ensures counts { result.counts ≡ counts_by link.now }
-    {
-        Known {
-            lines: lines_of(link),
-            counts: counts_in(link.lockstep()),
-        }
+/// What a link knows.
+fn known_by(link: &Link) -> Known
+    ensures { result ≡ known_by link.now }
+{
+    Known {
+        lines: lines_of(link),
+        counts: counts_in(link.lockstep()),
     }
 }
 
 /// Whether a player gave a sign of life with what was received.
 fn is_alive(received: &Received, before: &Known, after: &Known, player: u8) -> bool
-    ensures { result ≡ (is_news_of (heard_of received.now) before.now.lines after.now.lines player
-        || has_more before.now.counts after.now.counts player) }
+    ensures { result ≡ is_alive received.now before.now after.now player }
 {
     is_news_of(
         heard_of(received),
@@ -86,8 +73,21 @@ fn is_told_since(now: u32, told: Option<u32>) -> bool
     }
 }
 
+/// Where one who is given up is to be told so whose datagram came from here.
+fn told_at(from: &Address, now: u32, exclusion: &Exclusion) -> Exclusion
+    ensures { result ≡ told_at from.now now exclusion.now }
+{
+    if is_told_since(now, exclusion.told) {
+        return *exclusion;
+    }
+    Exclusion {
+        to: Some(*from),
+        told: Some(now),
+    }
+}
+
 impl Part {
-    ghost use Rattle.dn_session.specs.Playing.{excluders_by, exclusions_by, hears_if, place_after, playing, HearsBytes};
+    ghost use Rattle.dn_session.specs.Playing.{excluders_by, exclusions_by, hears_if, noted, place_after, playing, watch_after, HearsBytes};
 
     /// Notes that a player was heard, if it was.
     fn note(&mut self, is_heard: bool, player: u8, now: u32)
@@ -96,6 +96,39 @@ impl Part {
     {
         if is_heard {
             self.watch.hear(player, now);
+        }
+    }
+
+    /// Notes who gave a sign of life.
+    fn note_alive(&mut self, received: &Received, now: u32, before: &Known, after: &Known)
+        ensures { playing self.new ≡ record (playing self.old) {
+            watch = watch_after received.now before.now after.now now (playing self.old).watch } }
+    {
+        self.note(is_alive(received, before, after, 0), 0, now);
+        self.note(is_alive(received, before, after, 1), 1, now);
+        self.note(is_alive(received, before, after, 2), 2, now);
+        self.note(is_alive(received, before, after, 3), 3, now);
+    }
+
+    /// Notes where a player is whose datagram was heard.
+    fn note_place(
+        &mut self,
+        heard: Option<u8>,
+        from: &Address,
+        now: u32,
+        before: &Known,
+        after: &Known,
+    )
+        ensures { playing self.new ≡ record (playing self.old) {
+            places = place_after heard from.now now before.now after.now (playing self.old).places } }
+    {
+        if let Some(player) = heard {
+            let (old, new) = (
+                line_of(&before.lines, player),
+                line_of(&after.lines, player),
+            );
+            let (is_new, is_late) = (is_new_in(&old, &new), is_late_in(&old, &new));
+            self.places.hear(player, from, now, is_new, is_late);
         }
     }
 
@@ -121,43 +154,37 @@ impl Part {
             exclusions = exclusions_by received.now from.now now (playing self.old).exclusions } }
     {
         if let Received::GivenUp(player) = received {
-            if !is_told_since(now, self.exclusions.told) {
-                self.exclusions = Exclusions {
-                    next: Some(Exclusion {
-                        player: *player,
-                        to: *from,
-                    }),
-                    told: Some(now),
-                };
+            if *player < 4 {
+                let exclusion = self.exclusions[usize::from(*player)];
+                self.exclusions[usize::from(*player)] = told_at(from, now, &exclusion);
             }
         }
     }
 
-    /// Notes where a player is whose datagram was heard.
-    fn note_place(&mut self, heard: Option<u8>, from: &Address, now: u32, before: &Lines, after: &Lines)
-        ensures { playing self.new ≡ record (playing self.old) {
-            places = place_after heard from.now now before.now after.now (playing self.old).places } }
+    /// Notes all that is to be noted of what was received.
+    fn note_all(
+        &mut self,
+        received: &Received,
+        from: &Address,
+        now: u32,
+        before: &Known,
+        after: &Known,
+    )
+        ensures { playing self.new ≡ noted received.now from.now now before.now after.now (playing self.old) }
     {
-        if let Some(player) = heard {
-            let (old, new) = (line_of(before, player), line_of(after, player));
-            let (is_new, is_late) = (is_new_in(&old, &new), is_late_in(&old, &new));
-            self.places.hear(player, from, now, is_new, is_late);
-        }
+        self.note_alive(received, now, before, after);
+        self.note_place(heard_of(received), from, now, before, after);
+        self.note_excluder(received);
+        self.note_excluded(received, from, now);
     }
 
     /// Takes any bytes that came from an address.
     pub(crate) fn hear(&mut self, from: &Address, bytes: &[u8], now: u32)
         ensures { HearsBytes from.now bytes.now now (playing self.old) (playing self.new) }
     {
-        let before = Known::by(&self.link);
+        let before = known_by(&self.link);
         let received = self.link.receive(bytes);
-        let after = Known::by(&self.link);
-        self.note(is_alive(&received, &before, &after, 0), 0, now);
-        self.note(is_alive(&received, &before, &after, 1), 1, now);
-        self.note(is_alive(&received, &before, &after, 2), 2, now);
-        self.note(is_alive(&received, &before, &after, 3), 3, now);
-        self.note_place(heard_of(&received), from, now, &before.lines, &after.lines);
-        self.note_excluder(&received);
-        self.note_excluded(&received, from, now);
+        let after = known_by(&self.link);
+        self.note_all(&received, from, now, &before, &after);
     }
 }

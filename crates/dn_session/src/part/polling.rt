@@ -3,7 +3,7 @@
 ghost use Rattle.std.specs.Prelude.{◌≡◌, ◌<◌, IfSome};
 
 use super::{Part, gone_from};
-use crate::ending::{Ending, Progress, patience, waits};
+use crate::ending::{Ending, Progress, ending_of, patience, waits};
 use crate::lead::{View, due};
 use crate::players::{is_any_awaited, view_of};
 
@@ -20,7 +20,8 @@ fn number_of(player: Option<usize>) -> Option<u8>
 
 impl Part {
     ghost use Rattle.dn_session.specs.declared.ending.Progress.TheVariants as progress;
-    ghost use Rattle.dn_session.specs.Playing.{after_half, looks, playing, view, GivesUpNow, PassesTime, Polls};
+    ghost use Rattle.dn_session.specs.{Ending.patience, Lead.due, Ticks.is_due};
+    ghost use Rattle.dn_session.specs.Playing.{after_half, looks, playing, view, GivesUpNow, PassesTime, PlaysOn, Polls, TicksWhen};
 
     /// What it sees of all players.
     pub(super) fn view(&self, now: u32) -> View
@@ -30,7 +31,7 @@ impl Part {
     }
 
     /// Looks who is awaited.
-    fn look(&mut self, now: u32)
+    pub(super) fn look(&mut self, now: u32)
         ensures { playing self.new ≡ looks now (playing self.old) }
     {
         let ran = self.link.lockstep().ran();
@@ -48,24 +49,49 @@ impl Part {
         }
     }
 
+    /// Gives up whom it must.
+    fn give_up_due(&mut self, now: u32)
+        ensures { GivesUpNow (due (patience (playing self.old).policy) (view now (playing self.old)))
+            (playing self.old) (playing self.new) }
+    {
+        let player = due(patience(self.policy), &self.view(now));
+        self.give_up_now(number_of(player));
+    }
+
+    /// Its game ends so, or it plays on.
+    fn play_on(&mut self, ending: Option<Ending>, now: u32)
+        ensures { PlaysOn ending now (playing self.old) (playing self.new) }
+    {
+        match ending {
+            Some(ending) => self.end(ending, now),
+            None => self.give_up_due(now),
+        }
+    }
+
     /// As time goes while it plays.
     fn play(&mut self, now: u32)
         ensures { PassesTime progress.Playing now (playing self.old) (playing self.new) }
     {
         self.look(now);
-        let player = due(patience(self.policy), &self.view(now));
-        self.give_up_now(number_of(player));
-        self.end_if_due(now);
+        let ending = ending_of(self.policy, &self.view(now), &self.link);
+        self.play_on(ending, now);
+    }
+
+    /// A tick of one who leaves, if one is due.
+    fn tick_if_due(&mut self, now: u32)
+        ensures { TicksWhen (is_due now (playing self.old).ticks) now (playing self.old) (playing self.new) }
+    {
+        if self.ticks.is_due(now) {
+            self.ticks.resume(now);
+            self.pass_tick();
+        }
     }
 
     /// As time goes while it leaves.
     fn wait(&mut self, ending: Ending, since: u32, free: Option<u32>, now: u32)
         ensures { PassesTime (progress.Leaving ending since free) now (playing self.old) (playing self.new) }
     {
-        if self.ticks.is_due(now) {
-            self.ticks.resume(now);
-            self.pass_tick();
-        }
+        self.tick_if_due(now);
         self.progress = waits(self.link.may_leave(), ending, since, free, now);
     }
 
@@ -84,9 +110,9 @@ impl Part {
         }
     }
 
-    /// What is due at this time.
-    pub(crate) fn poll(&mut self, now: u32)
-        ensures { Polls now (playing self.old) (playing self.new) }
+    /// As time goes, by how far it is.
+    fn pass(&mut self, now: u32)
+        ensures { PassesTime (playing self.old).progress now (playing self.old) (playing self.new) }
     {
         match self.progress {
             Progress::Playing => self.play(now),
@@ -97,6 +123,13 @@ impl Part {
             } => self.wait(ending, since, free, now),
             Progress::Over(_) => {}
         }
+    }
+
+    /// What is due at this time.
+    pub(crate) fn poll(&mut self, now: u32)
+        ensures { Polls now (playing self.old) (playing self.new) }
+    {
+        self.pass(now);
         self.owe_second(now);
     }
 }

@@ -1,9 +1,9 @@
 //! How tics are run.
 
 ghost use Rattle.std.specs.Prelude.{◌≡◌};
-ghost use Rattle.dn_session.specs.Playing.{is_made};
+ghost use Rattle.dn_session.specs.Playing.{is_made, owed_by};
 
-use super::{Part, owes_all};
+use super::{Owed, Part, owes_all};
 use dn_machine::{Made, Ran};
 use dn_tic::Move;
 
@@ -14,19 +14,28 @@ fn is_made(made: Option<Made>) -> bool
     matches!(made, Some(Made::Made(_)))
 }
 
+/// To whom something is owed, where this command was built.
+fn owed_by(made: Option<Made>, owed: Owed) -> Owed
+    ensures { result ≡ owed_by made owed }
+{
+    if is_made(made) { owes_all() } else { owed }
+}
+
 impl Part {
+    ghost use Rattle.std.specs.Prelude.{ℕ};
+    ghost use Rattle.dn_machine.specs.declared.answers.Ran.TheVariants as ran;
     ghost use Rattle.dn_lockstep.specs.Steps.{told_by};
-    ghost use Rattle.dn_session.specs.Playing.{playing, owed_by, RunsNext};
+    ghost use Rattle.dn_session.specs.Playing.{playing, RunsNext};
 
     /// Runs the next tic, if it can be run, with the marks of the world; and builds the command that was owed, if there
     /// is room for it now. Call it again while it runs.
     pub(crate) fn run(&mut self, marks: &[i16; 4], row: &mut [Option<Move>; 4]) -> Ran
-        ensures { RunsNext marks.now (playing self.old) (playing self.new) result (told_by result row.new) }
+        ensures runs { RunsNext marks.now (playing self.old) (playing self.new) result (told_by result row.new) }
+        ensures waits { (player : ℕ) → result ≡ ran.Waiting player → row.new ≡ row.old }
+        ensures idle { result ≡ ran.NotPlaying → row.new ≡ row.old }
     {
         let ran = self.link.run_into(marks, row);
-        if is_made(self.link.catch_up()) {
-            self.owed = owes_all();
-        }
+        self.owed = owed_by(self.link.catch_up(), self.owed);
         ran
     }
 }

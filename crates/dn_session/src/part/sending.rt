@@ -28,8 +28,8 @@ pub(crate) fn widened<const ROOM: usize>(bytes: &ArrayVec<u8, ROOM>) -> ArrayVec
 }
 
 impl Part {
-    ghost use Rattle.std.specs.Prelude.{option_map, is_some, true};
-    ghost use Rattle.dn_session.specs.Sent.{first_owed, first_owed_report, is_owed, is_owed_report, sent_of, Excludes, Reports, SendsNext, SendsReport, SendsTo};
+    ghost use Rattle.std.specs.Prelude.{option_map, true, Some};
+    ghost use Rattle.dn_session.specs.Sent.{first_owed, first_owed_exclusion, first_owed_report, is_owed, is_owed_exclusion, is_owed_report, sent_of, Excludes, Reports, SendsNext, SendsReport, SendsTo};
     ghost use Rattle.dn_session.specs.Playing.{playing};
 
     /// Whether a datagram is owed to a player.
@@ -99,18 +99,49 @@ impl Part {
         })
     }
 
-    /// What one is told who is given up, if one is to be told.
-    fn exclude(&mut self) -> Option<Transmit>
-        ensures { Excludes (playing self.old).exclusions.next (playing self.old) (playing self.new)
-            (option_map sent_of result) }
+    /// Whether a player is to be told that it is given up.
+    fn is_owed_exclusion(&self, player: u8) -> bool
+        requires { player < 4 }
+        ensures { result ≡ is_owed_exclusion (playing self.now) player }
     {
-        let exclusion = self.exclusions.next?;
-        self.exclusions.next = None;
-        let bytes = self.link.exclusion_datagram(exclusion.player)?;
+        self.exclusions[player as usize].to.is_some()
+            && self.link.exclusion_datagram(player).is_some()
+    }
+
+    /// The lowest who is.
+    fn first_owed_exclusion(&self) -> Option<usize>
+        ensures value { result ≡ first_owed_exclusion (playing self.now) }
+        ensures within { IfSome result (λ n. n < 4) }
+    {
+        [0, 1, 2, 3]
+            .iter()
+            .position(|player| self.is_owed_exclusion(*player))
+    }
+
+    /// It is told so.
+    fn exclude_one(&mut self, player: u8) -> Option<Transmit>
+        requires few { player < 4 }
+        requires owed { is_owed_exclusion (playing self.old) player ≡ true }
+        ensures { Excludes (Some player) (playing self.old) (playing self.new) (option_map sent_of result) }
+    {
+        let to = self.exclusions[player as usize].to?;
+        self.exclusions[player as usize].to = None;
+        let bytes = self.link.exclusion_datagram(player)?;
         Some(Transmit {
-            to: exclusion.to,
+            to,
             bytes: widened(&bytes),
         })
+    }
+
+    /// What one is told who is given up, if one is to be told.
+    fn exclude(&mut self) -> Option<Transmit>
+        ensures { Excludes (first_owed_exclusion (playing self.old)) (playing self.old) (playing self.new)
+            (option_map sent_of result) }
+    {
+        match self.first_owed_exclusion() {
+            Some(player) => self.exclude_one(player as u8),
+            None => None,
+        }
     }
 
     /// The report that is to be sent next, if one is; or what one is told who is given up.

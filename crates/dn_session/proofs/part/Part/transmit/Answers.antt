@@ -1,0 +1,9 @@
+use Rattle.std.proofs.Common.{sym}
+use Rattle.dn_session.specs.Playing.{playing}
+use Rattle.dn_session.specs.Sent.{is_owed}
+use Rattle.dn_session.proofs.Firsts.{first_passes}
+use Rattle.dn_session.proofs.part.Part.transmit.Goals as goal
+
+pub send-requires-clause-owed : goal.send-requires-clause-owed
+send-requires-clause-owed c =
+    first_passes (is_owed (playing c.args.self.now)) c.in-Some.player (sym c.in-Some.ensures.value)
