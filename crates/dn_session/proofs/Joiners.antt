@@ -15,22 +15,22 @@ use Rattle.std.specs.Str.{bytes_eq}
 
 by_test : (test : Bool) (one two : Joining) → (test ≡ true → IsJoining one) → IsJoining two
     → IsJoining (if test then one else two)
-by_test true one two yes no = yes refl
-by_test false one two yes no = no
+by_test true one two first second = first refl
+by_test false one two first second = second
 
 module _ (now : ℕ) (j : Joining) (fits : IsJoining j) where
   seated : (s : Seating) → IsSeating s → IsJoining (on_seating s now j)
   seated s is = by_test (is_answer s.number s.count j && is_own s j) _ j
-      (λ yes. record { number = fits.number; seating = is; own = (and_parts (is_answer s.number s.count j) (is_own s j) yes).1 })
+      (λ passed. record { number = fits.number; seating = is; own = (and_parts (is_answer s.number s.count j) (is_own s j) passed).1 })
       fits
 
   refused : (r : Refused) → IsJoining (on_refused r now j)
   refused r = by_test (is_answer r.number r.count j && not (is_sure now j)) _ j
-      (λ yes. record { number = fits.number; seating = fits.seating; own = fits.own }) fits
+      (λ passed. record { number = fits.number; seating = fits.seating; own = fits.own }) fits
 
   hinted : (h : Hinted) → IsJoining (on_hinted h now j)
   hinted h = by_test (bytes_eq h.number j.number) _ j
-      (λ yes. record { number = fits.number; seating = fits.seating; own = fits.own }) fits
+      (λ passed. record { number = fits.number; seating = fits.seating; own = fits.own }) fits
 
   replied : (bytes : List ℕ) (s : Result Seating GreetingFault) (r : Result Refused GreetingFault)
       (h : Result Hinted GreetingFault) → IsSeatingIn j.seal bytes s → IsJoining (on_reply s r h now j)
@@ -47,11 +47,11 @@ heard_fits bytes now old new hears fits =
 ended : (now : ℕ) (hinted : Option (Hint × ℕ)) (j : Joining) → IsJoining j → IsJoining (given_up_by now hinted j)
 ended now None j fits = fits
 ended now (Some hinted) j fits = by_test (calls_on j.stage && has_passed now hinted.1 3000) _ j
-    (λ yes. record { number = fits.number; seating = fits.seating; own = fits.own }) fits
+    (λ passed. record { number = fits.number; seating = fits.seating; own = fits.own }) fits
 
 again : (now : ℕ) (j : Joining) → IsJoining j → IsJoining (calling_again now j)
 again now j fits = by_test (is_unanswered now j) _ j
-    (λ yes. record { number = fits.number; seating = fits.seating; own = fits.own }) fits
+    (λ passed. record { number = fits.number; seating = fits.seating; own = fits.own }) fits
 
 called_if : (now : ℕ) (j : Joining) → IsJoining j → IsJoining (calls_if_due now j).0
 called_if now j fits = elim (cases_Bool (is_due now j)) [
@@ -64,3 +64,9 @@ pub timed_fits : (now : ℕ) (j : Joining) → IsJoining j → IsJoining (on_tim
 timed_fits now j fits =
     called_if now (calling_again now (given_up_by now j.hinted j))
     (again now (given_up_by now j.hinted j) (ended now j.hinted j fits))
+
+-- or does not say to it
+pub deaf_fits : (test : Bool) (bytes : List ℕ) (now : ℕ) (old new : Joining)
+    → (test ≡ true → HearsHost bytes now old new) → (test ≡ false → new ≡ old) → IsJoining old → IsJoining new
+deaf_fits true bytes now old new hears deaf fits = heard_fits bytes now old new (hears refl) fits
+deaf_fits false bytes now old new hears deaf fits = subst IsJoining (sym (deaf refl)) fits

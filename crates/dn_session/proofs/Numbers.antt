@@ -60,14 +60,14 @@ pub same_game : (host other : List ℕ) (terms others : Terms) (one two three fo
     → game_text host terms (one ∷ two ∷ three ∷ []) ≡ game_text other others (four ∷ five ∷ six ∷ [])
     → (host ≡ other) × (terms ≡ others) × (one ≡ four) × (two ≡ five) × (three ≡ six)
 same_game host other terms others one two three four five six h o t u l1 l2 l3 l4 l5 l6 e = (
-      sym (host_of host terms one two three h t l1 l2 l3) ∙ ap (λ (x : List ℕ). take 16 (drop 13 x)) e
-          ∙ host_of other others four five six o u l4 l5 l6,
-      sym (terms_of host terms one two three h t l1 l2 l3) ∙ ap (λ (x : List ℕ). told_terms (take 288 (drop 29 x))) e
-          ∙ terms_of other others four five six o u l4 l5 l6,
-      sym (one_of host terms one two three h t l1 l2 l3) ∙ ap (λ (x : List ℕ). take 16 (drop 317 x)) e
-          ∙ one_of other others four five six o u l4 l5 l6,
-      sym (two_of host terms one two three h t l1 l2 l3) ∙ ap (λ (x : List ℕ). take 16 (drop 333 x)) e
-          ∙ two_of other others four five six o u l4 l5 l6,
-      sym (three_of host terms one two three h t l1 l2 l3) ∙ ap (λ (x : List ℕ). take 16 (drop 349 x)) e
-          ∙ three_of other others four five six o u l4 l5 l6,
-    )
+  sym (host_of host terms one two three h t l1 l2 l3) ∙ ap (λ (x : List ℕ). take 16 (drop 13 x)) e
+      ∙ host_of other others four five six o u l4 l5 l6,
+  sym (terms_of host terms one two three h t l1 l2 l3) ∙ ap (λ (x : List ℕ). told_terms (take 288 (drop 29 x))) e
+      ∙ terms_of other others four five six o u l4 l5 l6,
+  sym (one_of host terms one two three h t l1 l2 l3) ∙ ap (λ (x : List ℕ). take 16 (drop 317 x)) e
+      ∙ one_of other others four five six o u l4 l5 l6,
+  sym (two_of host terms one two three h t l1 l2 l3) ∙ ap (λ (x : List ℕ). take 16 (drop 333 x)) e
+      ∙ two_of other others four five six o u l4 l5 l6,
+  sym (three_of host terms one two three h t l1 l2 l3) ∙ ap (λ (x : List ℕ). take 16 (drop 349 x)) e
+      ∙ three_of other others four five six o u l4 l5 l6,
+)

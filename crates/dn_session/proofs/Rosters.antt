@@ -64,13 +64,21 @@ pub ones_game : (side : Side) (begun : Begun) → begun_in side ≡ Some begun �
     × (place_in side ≡ Some place) × (begun.game ≡ number_of_game (key_of side) place.game)
     × (begun.terms ≡ place.game.terms) × (begun.me ≡ place.me)
 ones_game (side.Host host) begun e =
-    let both = here (lobby host) (lobby host).begun begun e in
-    (place_here (lobby host), ap (λ (t : Bool). if t then Some (place_here (lobby host)) else None) both.0, sym (ap (λ (b : Begun). b.game) both.1),
-    sym (ap (λ (b : Begun). b.terms) both.1), sym (ap (λ (b : Begun). b.me) both.1))
+    let both = here (lobby host) (lobby host).begun begun e in (
+      place_here (lobby host),
+      ap (λ (t : Bool). if t then Some (place_here (lobby host)) else None) both.0,
+      sym (ap (λ (b : Begun). b.game) both.1),
+      sym (ap (λ (b : Begun). b.terms) both.1),
+      sym (ap (λ (b : Begun). b.me) both.1),
+    )
 ones_game (side.Joiner joiner) begun e =
-    let told = there (joining joiner) (joining joiner).stage (joining joiner).seating begun e in
-    (place_told told.0, (λ i. place_by (told.1 i) (told.2 i)), sym (ap (λ (b : Begun). b.game) told.3),
-    sym (ap (λ (b : Begun). b.terms) told.3), sym (ap (λ (b : Begun). b.me) told.3))
+    let told = there (joining joiner) (joining joiner).stage (joining joiner).seating begun e in (
+      place_told told.0,
+      (λ i. place_by (told.1 i) (told.2 i)),
+      sym (ap (λ (b : Begun). b.game) told.3),
+      sym (ap (λ (b : Begun). b.terms) told.3),
+      sym (ap (λ (b : Begun). b.me) told.3),
+    )
 
 -- who holds a seat that is held by a number has that number
 held_by : (number : List ℕ) (shown : Option Shown) → holds number shown ≡ true → number_of shown ≡ number
@@ -189,6 +197,8 @@ pub one_link : (one two : Side) (a b : Place) → IsSide one → IsSide two → 
     → number_of_game (key_of one) a.game ≡ number_of_game (key_of two) b.game
     → (a.game ≡ b.game) × (a.me ≡ b.me → own_number one ≡ own_number two)
 one_link one two a b f1 f2 key pa pb apart same =
-    let game : a.game ≡ b.game = one_game a.game b.game (fixed one a f1 pa) (fixed two b f2 pb) (apart same) in
-    (game, λ me. sym (ones_own one a f1 pa)
-    ∙ (λ i. session_at (record { game = game i; me = me i })) ∙ ones_own two b f2 pb)
+    let game : a.game ≡ b.game = one_game a.game b.game (fixed one a f1 pa) (fixed two b f2 pb) (apart same) in (
+      game,
+      λ me. sym (ones_own one a f1 pa)
+          ∙ (λ i. session_at (record { game = game i; me = me i })) ∙ ones_own two b f2 pb,
+    )

@@ -241,7 +241,7 @@ abbrev pub looks : ℕ → Playing → Playing
 looks now p =
     record p {
       watch = looked_at now (linked p.link).node.ran (map (has_given_up (linked p.link)) four)
-        (is_any_awaited (linked p.link)) p.watch;
+          (is_any_awaited (linked p.link)) p.watch;
     }
 
 -- a player is given up, if any is

@@ -1,5 +1,5 @@
 -- A session: its lobby, and its part in the game once that has begun.
-use Rattle.std.specs.Prelude.{⊤, ◌≡◌, ℕ, ℤ, ◌&&◌, if◌then◌else◌, Bool, true, false, is_none, is_some, List, map, replicate, Option, Some, None, Result, Ok, Err}
+use Rattle.std.specs.Prelude.{⊤, ◌≡◌, ℕ, ℤ, if◌then◌else◌, Bool, true, false, is_some, List, map, replicate, Option, Some, None, Result, Ok, Err}
 use Rattle.std.specs.Option.{option_map}
 use Rattle.dn_seal.specs.declared.seal.Seal.{Seal}
 use Rattle.dn_seal.specs.declared.seal.Suite.TheVariants as suite
@@ -198,23 +198,24 @@ HearsAny from bytes now old new = HearsWhen (is_greeting bytes) from bytes now o
 
 -- the game begins for it
 
-abbrev pub may_begin : Meeting → Bool
-may_begin m = is_some (begun_in m.lobby) && is_none m.part
+-- a part is made, or refused as its link is: for want of memory, or for terms that are no game's
+abbrev pub IsMadeAs : Option (List ℕ) → Begun → ℕ → Result Part NodeFault → Type 0
+IsMadeAs secret b now (Ok part) = IsPartOf secret b now (playing part)
+IsMadeAs secret b now (Err fault) =
+    IsAdmittedWithin {A = Part} (keyed (config_of b) b.terms.settings) b.terms.ahead (Err fault)
 
-abbrev pub BeginsAs : Option Begun → ℕ → Meeting → Meeting → Type 0
-BeginsAs None now old new = ⊥
-BeginsAs (Some b) now old new =
-    (part : Part) × IsPartOf old.secret b now (playing part) × (new ≡ record old { part = Some part })
+abbrev pub BeginsAs : Option Begun → ℕ → Meeting → Meeting → Result Bool NodeFault → Type 0
+BeginsAs None now old new result = (result ≡ Ok false) × (new ≡ old)
+BeginsAs (Some b) now old new (Ok began) =
+    (part : Part) × IsMadeAs old.secret b now (Ok part) × (began ≡ true) × (new ≡ record old { part = Some part })
+BeginsAs (Some b) now old new (Err fault) = IsMadeAs old.secret b now (Err fault) × (new ≡ old)
 
--- it has a part then, once; and none for want of memory, or of terms that are no game's
-abbrev pub IsRefusedAs : Option Begun → NodeFault → Type 0
-IsRefusedAs None fault = ⊥
-IsRefusedAs (Some b) fault = IsAdmittedWithin {A = Part} (keyed (config_of b) b.terms.settings) b.terms.ahead (Err fault)
+-- the game that begins, where there is no part yet
+abbrev pub begins_now : Meeting → Option Begun
+begins_now m = if is_some m.part then None else begun_in m.lobby
 
 abbrev pub Begins : ℕ → Meeting → Meeting → Result Bool NodeFault → Type 0
-Begins now old new (Ok true) = (may_begin old ≡ true) × BeginsAs (begun_in old.lobby) now old new
-Begins now old new (Ok false) = (may_begin old ≡ false) × (new ≡ old)
-Begins now old new (Err fault) = (may_begin old ≡ true) × IsRefusedAs (begun_in old.lobby) fault × (new ≡ old)
+Begins now old new result = BeginsAs (begins_now old) now old new result
 
 -- time
 

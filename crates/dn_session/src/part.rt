@@ -11,9 +11,6 @@ mod polling;
 mod running;
 mod sending;
 
-pub use sending::Transmit;
-pub(crate) use sending::widened;
-
 use crate::ending::{Ending, Progress};
 use crate::greeting::Address;
 use crate::places::Places;
@@ -21,6 +18,8 @@ use crate::terms::Policy;
 use crate::ticks::Ticks;
 use crate::watch::Watch;
 use dn_link::Link;
+pub use sending::Transmit;
+pub(crate) use sending::widened;
 
 /// To whom a datagram is owed, and to whom a report.
 #[derive(Clone, Copy, Debug, PartialEq, Eq)]
@@ -86,15 +85,15 @@ impl Part {
     /// The part that plays by this link from now on, in a game of this rate and policy, with the others at these places.
     pub(crate) fn new(link: Link, rate: u8, policy: Policy, places: Places, now: u32) -> Part
         ensures { playing result ≡ record {
-            link = link;
-            ticks = new_ticks rate now;
-            watch = new_watch now;
-            places = places;
-            excluders = replicate 4 false;
-            exclusions = replicate 4 (record { to = None; told = None });
-            owed = owes_nobody;
-            progress = progress.Playing;
-            policy = policy;
+          link = link;
+          ticks = new_ticks rate now;
+          watch = new_watch now;
+          places = places;
+          excluders = replicate 4 false;
+          exclusions = replicate 4 (record { to = None; told = None });
+          owed = owes_nobody;
+          progress = progress.Playing;
+          policy = policy;
         } }
     {
         Part {

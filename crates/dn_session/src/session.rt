@@ -1,6 +1,10 @@
 //! A session of one player: its lobby, and then its part in the game.
 
-ghost use Rattle.std.specs.Prelude.{◌≡◌, IfErr, IfOk};
+ghost use Rattle.std.specs.{Prelude.◌≡◌, Prelude.ℕ, Prelude.IfOk, Option.option_map};
+ghost use Rattle.dn_machine.specs.declared.answers.Ran.TheVariants as ran;
+ghost use Rattle.dn_lockstep.specs.Steps.{told_by};
+ghost use Rattle.dn_session.specs.{Playing.HearsBytes, Playing.Polls, Playing.QuitsBy, Sent.sent_of};
+ghost use Rattle.dn_session.specs.Session.{GivesPart, GivesUpPart, IfPlaying, IsMadeAs, RunsPart, SendsPart};
 
 use crate::ending::Ending;
 use crate::greeting::Address;
@@ -16,6 +20,93 @@ use dn_machine::Ran;
 use dn_tic::{Input, Move};
 use std::alloc::Global;
 
+/// The part of a player in a game that begins now.
+fn part_of(
+    alloc: Global,
+    secret: Option<[u8; 32]>,
+    begun: &Begun,
+    now: u32,
+) -> Result<Part, NodeFault>
+    ensures { IsMadeAs secret begun.now now result }
+{
+    let terms = begun.terms;
+    let seal = game_seal(secret, begun.game);
+    let places = begun.places(now);
+    match Link::started(alloc, begun.config(), terms.settings, terms.ahead, seal) {
+        Ok(link) => Ok(Part::new(link, terms.rate, terms.policy, places, now)),
+        Err(fault) => Err(fault),
+    }
+}
+
+/// A part takes any bytes that came from an address, if there is one.
+fn part_hears(part: &mut Option<Part>, from: &Address, bytes: &[u8], now: u32)
+    ensures { IfPlaying (HearsBytes from.now bytes.now now) part.old part.new }
+{
+    if let Some(part) = part {
+        part.hear(from, bytes, now);
+    }
+}
+
+/// It does what is due, if there is one.
+fn poll_part(part: &mut Option<Part>, now: u32)
+    ensures { IfPlaying (Polls now) part.old part.new }
+{
+    if let Some(part) = part {
+        part.poll(now);
+    }
+}
+
+/// What it sends next.
+fn transmit_part(part: &mut Option<Part>) -> Option<Transmit>
+    ensures { SendsPart part.old part.new (option_map sent_of result) }
+{
+    match part {
+        Some(part) => part.transmit(),
+        None => None,
+    }
+}
+
+/// It is given an input.
+fn give_part(part: &mut Option<Part>, input: Input, now: u32) -> bool
+    ensures { GivesPart now input part.old part.new result }
+{
+    match part {
+        Some(part) => part.give(input, now),
+        None => false,
+    }
+}
+
+/// It runs the next tic.
+fn run_part(part: &mut Option<Part>, marks: &[i16; 4], row: &mut [Option<Move>; 4]) -> Ran
+    ensures runs { RunsPart marks.now part.old part.new result (told_by result row.new) }
+    ensures waits { (player : ℕ) → result ≡ ran.Waiting player → row.new ≡ row.old }
+    ensures idle { result ≡ ran.NotPlaying → row.new ≡ row.old }
+{
+    match part {
+        Some(part) => part.run(marks, row),
+        None => Ran::NotPlaying,
+    }
+}
+
+/// Its player leaves.
+fn quit_part(part: &mut Option<Part>, now: u32)
+    ensures { IfPlaying (QuitsBy now) part.old part.new }
+{
+    if let Some(part) = part {
+        part.quit(now);
+    }
+}
+
+/// Its player gives up another.
+fn give_up_in(part: &mut Option<Part>, player: u8, now: u32) -> bool
+    ensures { GivesUpPart player now part.old part.new result }
+{
+    match part {
+        Some(part) => part.give_up(player, now),
+        None => false,
+    }
+}
+
 /// A session of one player: of a host, or of one who joins. It has no socket and no clock: what comes is given to it
 /// with the address that it came from, and what goes is taken from it with the address that it goes to. Times are
 /// milliseconds of the player's own clock, and never go back.
@@ -29,12 +120,7 @@ pub struct Session {
 }
 
 impl Session {
-    ghost use Rattle.std.specs.Option.{option_map};
-    ghost use Rattle.std.specs.Prelude.{ℕ};
-    ghost use Rattle.dn_machine.specs.declared.answers.Ran.TheVariants as ran;
-    ghost use Rattle.dn_lockstep.specs.Steps.{told_by};
-    ghost use Rattle.dn_lockstep.specs.declared.config.NodeFault.TheVariants as faults;
-    ghost use Rattle.dn_session.specs.{Roster.IsSide, Sent.sent_of};
+    ghost use Rattle.dn_session.specs.Roster.{IsSide};
     ghost use Rattle.dn_session.specs.Session.{begun_in, can_give, ending_in, meeting, new_meeting, Begins, GivesPart, GivesUpPart, HearsAny, IsHostSession, IsJoinSession, Kicks, PassesTo, QuitsPart, RunsPart, Sends};
 
     /// The session of a host, or the first fault of its terms.
@@ -76,8 +162,8 @@ impl Session {
     {
         if is_greeting(bytes) {
             self.reply = self.side.hear(from, bytes, now);
-        } else if let Some(part) = &mut self.part {
-            part.hear(from, bytes, now);
+        } else {
+            part_hears(&mut self.part, from, bytes, now);
         }
     }
 
@@ -90,8 +176,7 @@ impl Session {
 
     /// Makes its part in the game, once that has begun: whether it did. All memory of a session is taken here.
     pub fn begin(&mut self, alloc: Global, now: u32) -> Result<bool, NodeFault>
-        ensures begins { Begins now (meeting self.old) (meeting self.new) result }
-        ensures fits { IsSide (meeting self.old).lobby → IfErr result (λ fault. fault ≡ faults.Memory) }
+        ensures { Begins now (meeting self.old) (meeting self.new) result }
     {
         if self.part.is_some() {
             return Ok(false);
@@ -99,12 +184,13 @@ impl Session {
         let Some(begun) = self.begun() else {
             return Ok(false);
         };
-        let terms = begun.terms;
-        let seal = game_seal(self.secret, begun.game);
-        let link = Link::started(alloc, begun.config(), terms.settings, terms.ahead, seal)?;
-        let places = begun.places(now);
-        self.part = Some(Part::new(link, terms.rate, terms.policy, places, now));
-        Ok(true)
+        match part_of(alloc, self.secret, &begun, now) {
+            Ok(part) => {
+                self.part = Some(part);
+                Ok(true)
+            }
+            Err(fault) => Err(fault),
+        }
     }
 
     /// Its part in the game, once it has one.
@@ -120,9 +206,7 @@ impl Session {
         ensures fits { IsSide (meeting self.old).lobby → IsSide (meeting self.new).lobby }
     {
         self.call = self.side.poll(now);
-        if let Some(part) = &mut self.part {
-            part.poll(now);
-        }
+        poll_part(&mut self.part, now);
     }
 
     /// What is to be sent next. Call it until there is nothing, after each other call.
@@ -135,10 +219,7 @@ impl Session {
         if self.call.is_some() {
             return self.call.take();
         }
-        match &mut self.part {
-            Some(part) => part.transmit(),
-            None => None,
-        }
+        transmit_part(&mut self.part)
     }
 
     /// Its player gives the input of the tick that is due: whether one was. Else nothing changes.
@@ -146,10 +227,7 @@ impl Session {
         ensures { GivesPart now input (meeting self.old).part (meeting self.new).part result
             × (meeting self.new ≡ record (meeting self.old) { part = (meeting self.new).part }) }
     {
-        match &mut self.part {
-            Some(part) => part.give(input, now),
-            None => false,
-        }
+        give_part(&mut self.part, input, now)
     }
 
     /// Runs the next tic, if it can be run, with the marks of the world.
@@ -159,10 +237,7 @@ impl Session {
         ensures waits { (player : ℕ) → result ≡ ran.Waiting player → row.new ≡ row.old }
         ensures idle { result ≡ ran.NotPlaying → row.new ≡ row.old }
     {
-        match &mut self.part {
-            Some(part) => part.run(marks, row),
-            None => Ran::NotPlaying,
-        }
+        run_part(&mut self.part, marks, row)
     }
 
     /// Its lobby.
@@ -187,11 +262,7 @@ impl Session {
         ensures kicks { Kicks seat (meeting self.old) (meeting self.new) }
         ensures fits { IsSide (meeting self.old).lobby → IsSide (meeting self.new).lobby }
     {
-        if let Side::Host(host) = &mut self.side {
-            if let Some(number) = host.holder(seat) {
-                host.kick(&number);
-            }
-        }
+        self.side.kick(seat);
     }
 
     /// Its player leaves the game, if it plays. Poll it and send on until it is over.
@@ -199,9 +270,7 @@ impl Session {
         ensures { QuitsPart now (meeting self.old).part (meeting self.new).part
             × (meeting self.new ≡ record (meeting self.old) { part = (meeting self.new).part }) }
     {
-        if let Some(part) = &mut self.part {
-            part.quit(now);
-        }
+        quit_part(&mut self.part, now);
     }
 
     /// Its player gives up another, for whom the game has waited three seconds: anybody if it leads, and else the one
@@ -210,10 +279,7 @@ impl Session {
         ensures { GivesUpPart player now (meeting self.old).part (meeting self.new).part result
             × (meeting self.new ≡ record (meeting self.old) { part = (meeting self.new).part }) }
     {
-        match &mut self.part {
-            Some(part) => part.give_up(player, now),
-            None => false,
-        }
+        give_up_in(&mut self.part, player, now)
     }
 
     /// How its game ended, once it is over.

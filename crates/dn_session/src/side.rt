@@ -2,8 +2,8 @@
 
 ghost use Rattle.std.specs.{Prelude.◌≡◌, Prelude.ℕ, Prelude.List, Prelude.Option, Prelude.map, Option.option_map};
 ghost use Rattle.dn_session.specs.declared.side.Side.TheVariants as side;
-ghost use Rattle.dn_session.specs.{Hosting.lobby, Hosting.HearsCall, Hosting.IsLobby, Joining.joining, Joining.on_time, Roster.IsJoining, Roster.IsSide, Sent.sent_of};
-ghost use Rattle.dn_session.specs.Session.{address_in, address_shown, begun_here, begun_in, begun_with, call_to, config_of, game_seal, reply_to};
+ghost use Rattle.dn_session.specs.{Hosting.holder_of, Hosting.lobby, Hosting.HearsCall, Hosting.IsLobby, Joining.joining, Joining.on_time, Roster.IsJoining, Roster.IsSide, Sent.sent_of};
+ghost use Rattle.dn_session.specs.Session.{address_in, address_shown, begun_here, begun_in, begun_with, call_to, config_of, game_seal, kicked_as, reply_to};
 
 use crate::greeting::{Address, Shown};
 use crate::host::Host;
@@ -191,8 +191,18 @@ fn joiner_polls(joiner: &mut Joiner, now: u32) -> Option<Transmit>
     addressed(&to, &call)
 }
 
+/// A host turns away who holds this seat.
+fn host_kicks(host: &mut Host, seat: u8)
+    ensures kicks { lobby host.new ≡ kicked_as (holder_of (lobby host.old) seat) (lobby host.old) }
+    ensures fits { IsLobby (lobby host.old) → IsLobby (lobby host.new) }
+{
+    if let Some(number) = host.holder(seat) {
+        host.kick(&number);
+    }
+}
+
 impl Side {
-    ghost use Rattle.dn_session.specs.Session.{Calls, HearsGreeting};
+    ghost use Rattle.dn_session.specs.Session.{Calls, HearsGreeting, KicksFrom};
 
     /// The game, once it has begun.
     pub(crate) fn begun(&self) -> Option<Begun>
@@ -227,6 +237,17 @@ impl Side {
         match self {
             Side::Host(_) => None,
             Side::Joiner(joiner) => joiner_polls(joiner, now),
+        }
+    }
+
+    /// Turns away who holds this seat, 1 to 3, if it is the host and the game has not begun.
+    pub(crate) fn kick(&mut self, seat: u8)
+        ensures kicks { KicksFrom seat self.old self.new }
+        ensures fits { IsSide self.old → IsSide self.new }
+    {
+        match self {
+            Side::Host(host) => host_kicks(host, seat),
+            Side::Joiner(_) => {}
         }
     }
 }

@@ -55,12 +55,8 @@ fn known_by(link: &Link) -> Known
 fn is_alive(received: &Received, before: &Known, after: &Known, player: u8) -> bool
     ensures { result ≡ is_alive received.now before.now after.now player }
 {
-    is_news_of(
-        heard_of(received),
-        &before.lines,
-        &after.lines,
-        player,
-    ) || has_more(&before.counts, &after.counts, player)
+    is_news_of(heard_of(received), &before.lines, &after.lines, player)
+        || has_more(&before.counts, &after.counts, player)
 }
 
 /// Whether somebody was told in the last second that it is given up.
@@ -92,7 +88,8 @@ impl Part {
     /// Notes that a player was heard, if it was.
     fn note(&mut self, is_heard: bool, player: u8, now: u32)
         ensures { playing self.new ≡ record (playing self.old) {
-            watch = hears_if is_heard player now (playing self.old).watch } }
+          watch = hears_if is_heard player now (playing self.old).watch;
+        } }
     {
         if is_heard {
             self.watch.hear(player, now);
@@ -102,7 +99,8 @@ impl Part {
     /// Notes who gave a sign of life.
     fn note_alive(&mut self, received: &Received, now: u32, before: &Known, after: &Known)
         ensures { playing self.new ≡ record (playing self.old) {
-            watch = watch_after received.now before.now after.now now (playing self.old).watch } }
+          watch = watch_after received.now before.now after.now now (playing self.old).watch;
+        } }
     {
         self.note(is_alive(received, before, after, 0), 0, now);
         self.note(is_alive(received, before, after, 1), 1, now);
@@ -120,7 +118,8 @@ impl Part {
         after: &Known,
     )
         ensures { playing self.new ≡ record (playing self.old) {
-            places = place_after heard from.now now before.now after.now (playing self.old).places } }
+          places = place_after heard from.now now before.now after.now (playing self.old).places;
+        } }
     {
         if let Some(player) = heard {
             let (old, new) = (
@@ -135,7 +134,8 @@ impl Part {
     /// Notes who has told that it has given up this player.
     fn note_excluder(&mut self, received: &Received)
         ensures { playing self.new ≡ record (playing self.old) {
-            excluders = excluders_by received.now (playing self.old).excluders } }
+          excluders = excluders_by received.now (playing self.old).excluders;
+        } }
     {
         if let Received::Reported {
             from,
@@ -151,7 +151,8 @@ impl Part {
     /// Notes that one is to be told who is given up, if its datagram came.
     fn note_excluded(&mut self, received: &Received, from: &Address, now: u32)
         ensures { playing self.new ≡ record (playing self.old) {
-            exclusions = exclusions_by received.now from.now now (playing self.old).exclusions } }
+          exclusions = exclusions_by received.now from.now now (playing self.old).exclusions;
+        } }
     {
         if let Received::GivenUp(player) = received {
             if *player < 4 {

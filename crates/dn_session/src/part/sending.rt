@@ -1,6 +1,6 @@
 //! What goes out.
 
-ghost use Rattle.std.specs.Prelude.{◌≡◌, ◌<◌, ◌≤◌, length, IfSome};
+ghost use Rattle.std.specs.Prelude.{◌≡◌, ◌<◌, ◌≤◌, IfSome};
 
 use super::Part;
 use crate::greeting::Address;
@@ -19,7 +19,7 @@ pub struct Transmit {
 
 /// The same bytes, in room for any.
 pub(crate) fn widened<const ROOM: usize>(bytes: &ArrayVec<u8, ROOM>) -> ArrayVec<u8, 1200>
-    requires { length bytes.now.items ≤ 1200 }
+    requires { ROOM ≤ 1200 }
     ensures { result.items ≡ bytes.now.items }
 {
     let mut wide = ArrayVec::new();
@@ -57,9 +57,7 @@ impl Part {
         ensures value { result ≡ first_owed (playing self.now) }
         ensures within { IfSome result (λ n. n < 4) }
     {
-        [0, 1, 2, 3]
-            .iter()
-            .position(|player| self.is_owed(*player))
+        [0, 1, 2, 3].iter().position(|player| self.is_owed(*player))
     }
 
     /// The lowest to whom a report is.

@@ -1,14 +1,28 @@
-use Rattle.std.proofs.Common.{◌≡◌, ap, ◌∙◌}
-use Rattle.dn_session.specs.declared.part.hearing.Known.{Known}
-use Rattle.dn_session.specs.Playing.{noted, playing}
+use Rattle.std.proofs.Common.{◌≡◌, refl, subst, sym, ◌∙◌}
+use Rattle.dn_session.specs.Playing.{known_by, noted, playing, Playing, Takes}
 use Rattle.dn_session.proofs.part.Part.hear.Goals as goal
 
 pub returns : goal.returns
-returns c = (
-  c.receive-received.result,
-  (record { seal = c.receive-received.ensures.seal; identity = c.receive-received.ensures.identity },
-  c.receive-received.ensures.heard, c.receive-received.ensures.pace, c.receive-received.ensures.told),
-  c.note_all.ensures ∙ (λ i. noted c.receive-received.result c.args.from.now c.args.now
-  (c.known_by-before.ensures i) (c.known_by-after.ensures i)
-  (record (playing c.args.self.now) { link = c.receive-received.new.self })),
-)
+returns c =
+    let old = playing c.args.self.now in
+    let link = c.receive-received.new.self in
+    let received = c.receive-received.result in
+    let end : playing c.note_all.new.self
+    ≡ noted received c.args.from.now c.args.now (known_by old.link) (known_by link) (record old { link = link }) =
+    c.note_all.ensures ∙ (λ i. noted received c.args.from.now c.args.now (c.known_by-before.ensures i)
+    (c.known_by-after.ensures i) (record old { link = link })) in
+    let both : Takes c.args.bytes.now old.link (playing c.note_all.new.self).link received
+    × (playing c.note_all.new.self ≡ noted received c.args.from.now c.args.now (known_by old.link)
+    (known_by (playing c.note_all.new.self).link) (record old { link = (playing c.note_all.new.self).link })) =
+    subst (λ (p : Playing). Takes c.args.bytes.now old.link p.link received
+    × (p ≡ noted received c.args.from.now c.args.now (known_by old.link) (known_by p.link) (record old { link = p.link })))
+    (sym end) (
+      (
+        record { seal = c.receive-received.ensures.seal; identity = c.receive-received.ensures.identity },
+        c.receive-received.ensures.heard,
+        c.receive-received.ensures.pace,
+        c.receive-received.ensures.told,
+      ),
+      refl,
+    ) in
+    (received, both.0, both.1)

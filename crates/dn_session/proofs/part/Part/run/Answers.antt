@@ -4,10 +4,21 @@ use Rattle.dn_session.proofs.part.Part.run.Goals as goal
 
 pub returns-clause-runs : goal.returns-clause-runs
 returns-clause-runs c = (
-  c.run_into-ran.new.self, c.catch_up.result,
-  (record { seal = c.run_into-ran.ensures.seal; identity = c.run_into-ran.ensures.identity },
-  c.run_into-ran.ensures.but, c.run_into-ran.ensures.others, c.run_into-ran.ensures.peers, c.run_into-ran.ensures.pace),
-  (record { seal = c.catch_up.ensures.seal; identity = c.catch_up.ensures.identity },
-  c.catch_up.ensures.others, c.catch_up.ensures.peers, c.catch_up.ensures.none, c.catch_up.ensures.owed),
+  c.run_into-ran.new.self,
+  c.catch_up.result,
+  (
+    record { seal = c.run_into-ran.ensures.seal; identity = c.run_into-ran.ensures.identity },
+    c.run_into-ran.ensures.but,
+    c.run_into-ran.ensures.others,
+    c.run_into-ran.ensures.peers,
+    c.run_into-ran.ensures.pace,
+  ),
+  (
+    record { seal = c.catch_up.ensures.seal; identity = c.catch_up.ensures.identity },
+    c.catch_up.ensures.others,
+    c.catch_up.ensures.peers,
+    c.catch_up.ensures.none,
+    c.catch_up.ensures.owed,
+  ),
   ap (λ owed. record (playing c.args.self.now) { link = c.catch_up.new.self; owed = owed }) c.owed_by-self.ensures,
 )

@@ -8,7 +8,8 @@ use Rattle.dn_session.proofs.part.Part.wait.Goals as goal
 
 pub returns : goal.returns
 returns c = (
-  playing c.tick_if_due.new.self, c.tick_if_due.ensures,
+  playing c.tick_if_due.new.self,
+  c.tick_if_due.ensures,
   ap (λ (p : Progress). record (playing c.tick_if_due.new.self) { progress = p })
-  (c.waits-self.ensures ∙ ap (λ (free : Bool). waits free c.args.ending c.args.since c.args.free c.args.now) c.may_leave.ensures),
+      (c.waits-self.ensures ∙ ap (λ (free : Bool). waits free c.args.ending c.args.since c.args.free c.args.now) c.may_leave.ensures),
 )

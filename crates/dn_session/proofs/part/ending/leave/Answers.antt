@@ -8,6 +8,9 @@ returns c = (
     identity = c.quit.ensures.identity ∙ c.let_go.ensures.game.identity;
   },
   c.quit.ensures.pace ∙ c.let_go.ensures.pace,
-  (c.let_go.new.link, c.let_go.ensures.lost,
-  ((c.quit.result, c.quit.ensures.step), c.quit.ensures.others, c.quit.ensures.peers)),
+  (
+    c.let_go.new.link,
+    c.let_go.ensures.lost,
+    ((c.quit.result, c.quit.ensures.step), c.quit.ensures.others, c.quit.ensures.peers),
+  ),
 )
