@@ -15,7 +15,7 @@ use Rattle.dn_session.specs.declared.terms.Policy.TheVariants as policy
 use Rattle.dn_session.specs.Lead.{due, highest, is_given_up, is_late, is_open, is_there, lead}
 use Rattle.dn_session.specs.Players.{has_gone, is_abandoned}
 
--- longer than any clock of a session runs
+-- so long nobody waits: silence for half of it is 24 days
 abbrev pub for_ever : ℕ
 for_ever = 4294967295
 

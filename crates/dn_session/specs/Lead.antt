@@ -46,9 +46,10 @@ highest is = option_map (λ n. 3 - n) (position is (3 ∷ 2 ∷ 1 ∷ 0 ∷ []))
 abbrev pub lead : View → Option ℕ
 lead view = lowest (is_open view)
 
--- a player names another as gone; what one who has left told before counts no more
+-- a player names another as gone; what one who has left told before counts no more, nor what one tells of itself
 abbrev pub names : View → ℕ → ℕ → Bool
-names view player other = is_open view player && slice_index_or (seen view player).names other false
+names view player other =
+    is_open view player && (not (other == player) && slice_index_or (seen view player).names other false)
 
 -- somebody else does
 abbrev pub is_named : View → ℕ → Bool

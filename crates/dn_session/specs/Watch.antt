@@ -8,7 +8,10 @@ use Rattle.dn_session.specs.declared.watch.Watch.{Watch}
 abbrev pub has_slept : ℕ → Watch → Bool
 has_slept now watch = nat_lt (watch.looked + 1000) now
 
--- that time counts as nobody's silence, and not as standing still; what came since then came now
+-- the time beyond that second counts as nobody's silence, and not as standing still; what came since then came now
+abbrev pub slept_for : ℕ → Watch → ℕ
+slept_for now watch = now - (watch.looked + 1000)
+
 abbrev pub moved : ℕ → ℕ → ℕ → ℕ
 moved now slept time = min (time + slept) now
 
@@ -16,8 +19,8 @@ abbrev pub woken : ℕ → Watch → Watch
 woken now watch =
     if has_slept now watch
     then record watch {
-      heard = map (moved now (now - watch.looked)) watch.heard;
-      since = moved now (now - watch.looked) watch.since;
+      heard = map (moved now (slept_for now watch)) watch.heard;
+      since = moved now (slept_for now watch) watch.since;
       looked = now;
     }
     else watch

@@ -21,7 +21,7 @@ pub enum Ending {
     Full,
     /// It found that this player's world differs from its own.
     Inconsistent(u8),
-    /// The others have given it up.
+    /// The one that leads has told that it has given it up.
     GivenUp,
     /// It has given up others, and nobody is left.
     Alone,

@@ -1,5 +1,5 @@
-//! A session: its lobby, that is what a host and those who join tell each other until their game begins; and whom a
-//! player gives up in the game. No clock and no socket.
+//! A session: its lobby, that is what a host and those who join tell each other until their game begins; and then its
+//! player's part in the game. No clock and no socket.
 #![tactic(auto)]
 
 mod calls;

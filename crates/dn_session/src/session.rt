@@ -1,6 +1,6 @@
 //! A session of one player: its lobby, and then its part in the game.
 
-ghost use Rattle.std.specs.{Prelude.◌≡◌, Prelude.ℕ, Prelude.IfOk, Option.option_map};
+ghost use Rattle.std.specs.{Prelude.◌≡◌, Prelude.ℕ, Prelude.ℤ, Prelude.IfOk, Option.option_map};
 ghost use Rattle.dn_machine.specs.declared.answers.Ran.TheVariants as ran;
 ghost use Rattle.dn_lockstep.specs.Steps.{told_by};
 ghost use Rattle.dn_session.specs.{Playing.HearsBytes, Playing.Polls, Playing.QuitsBy, Sent.sent_of};
@@ -81,6 +81,8 @@ fn run_part(part: &mut Option<Part>, marks: &[i16; 4], row: &mut [Option<Move>; 
     ensures runs { RunsPart marks.now part.old part.new result (told_by result row.new) }
     ensures waits { (player : ℕ) → result ≡ ran.Waiting player → row.new ≡ row.old }
     ensures idle { result ≡ ran.NotPlaying → row.new ≡ row.old }
+    ensures off { (player : ℕ) (was should : ℤ) → result ≡ ran.Inconsistent player was should
+        → row.new ≡ row.old }
 {
     match part {
         Some(part) => part.run(marks, row),
@@ -236,6 +238,8 @@ impl Session {
             × (meeting self.new ≡ record (meeting self.old) { part = (meeting self.new).part }) }
         ensures waits { (player : ℕ) → result ≡ ran.Waiting player → row.new ≡ row.old }
         ensures idle { result ≡ ran.NotPlaying → row.new ≡ row.old }
+        ensures off { (player : ℕ) (was should : ℤ) → result ≡ ran.Inconsistent player was should
+            → row.new ≡ row.old }
     {
         run_part(&mut self.part, marks, row)
     }

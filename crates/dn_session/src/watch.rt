@@ -64,7 +64,7 @@ impl Watch {
         ensures { self.new ≡ woken now self.old }
     {
         if self.has_slept(now) {
-            let slept = now - self.looked;
+            let slept = now - self.looked - AWAKE;
             let [zero, one, two, three] = self.heard;
             self.heard = [
                 Watch::moved(now, slept, zero),

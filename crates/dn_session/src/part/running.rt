@@ -22,7 +22,7 @@ fn owed_by(made: Option<Made>, owed: Owed) -> Owed
 }
 
 impl Part {
-    ghost use Rattle.std.specs.Prelude.{ℕ};
+    ghost use Rattle.std.specs.Prelude.{ℕ, ℤ};
     ghost use Rattle.dn_machine.specs.declared.answers.Ran.TheVariants as ran;
     ghost use Rattle.dn_lockstep.specs.Steps.{told_by};
     ghost use Rattle.dn_session.specs.Playing.{playing, RunsNext};
@@ -33,6 +33,8 @@ impl Part {
         ensures runs { RunsNext marks.now (playing self.old) (playing self.new) result (told_by result row.new) }
         ensures waits { (player : ℕ) → result ≡ ran.Waiting player → row.new ≡ row.old }
         ensures idle { result ≡ ran.NotPlaying → row.new ≡ row.old }
+        ensures off { (player : ℕ) (was should : ℤ) → result ≡ ran.Inconsistent player was should
+            → row.new ≡ row.old }
     {
         let ran = self.link.run_into(marks, row);
         self.owed = owed_by(self.link.catch_up(), self.owed);
