@@ -71,9 +71,7 @@ fn names(view: &View, player: u8, other: u8) -> bool
     requires { (player < 4) × (other < 4) }
     ensures { result ≡ names view.now player other }
 {
-    is_open(view, player)
-        && other != player
-        && view.players[player as usize].names[other as usize]
+    is_open(view, player) && other != player && view.players[player as usize].names[other as usize]
 }
 
 /// Whether somebody else does.
