@@ -29,14 +29,14 @@ PLACES = [
     ('machine', 1, 294, [['dn_lockstep']]),
     ('machine', 1, 430, [['dn_survivor']]),
     ('machine', 2, 290, [['dn_node']]),
-    ('promise', 0, 598, [['dn_link'], ['dn_open']]),
+    ('promise', 0, 602, [['dn_link'], ['dn_open']]),
     ('promise', 1, 375, [['dn_game']]),
-    ('promise', 1, 511, [['dn_link_game']]),
+    ('promise', 1, 480, [['dn_link_game']]),
     ('promise', 2, 394, [['dn_remain_game']]),
-    ('promise', 2, 556, [['zirmegat']]),
-    ('promise', 2, 690, [['dn_session']]),
+    ('promise', 2, 508, [['zirmegat']]),
+    ('promise', 2, 602, [['dn_session']]),
     ('promise', 3, 262, [['dn_netgame', 'dn_program', 'netgame']]),
-    ('promise', 3, 650, [['dn_host']]),
+    ('promise', 3, 680, [['dn_host']]),
 ]
 WIDTH, RISE, LINE, MARGIN = 740, 48, 17, 10
 
