@@ -19,18 +19,24 @@ local THIRD, MAX_HEAD = 32, 159 -- of a run's first byte: the unit of a third pl
 local EXIT, RETRANSMIT, SETUP, KILL = 8, 4, 2, 1
 local SUM = 0x10000000 -- the checksum word has the flags in units of this
 local HEAD, TAG = 12, 16 -- bytes of the head that all but greetings have, and of the tag
-local PACKET, LINK, REPORT, GREETING = 1, 2, 3, 4 -- the kinds
-local KINDS = { "one datagram", "a link's datagram", "a report", "a greeting" }
+local PACKET, REPORT, GREETING, LINK = 1, 3, 4, 5 -- the kinds
+local KINDS = { [PACKET] = "one datagram", [REPORT] = "a report", [GREETING] = "a greeting",
+    [LINK] = "a link's datagram" }
 local SUITES = { [0] = "none: a hint", "shared secret", "open game" }
-local PROTOCOLS = { seal, link, report }
+local PROTOCOLS = { [PACKET] = seal, [LINK] = link, [REPORT] = report }
 local SIZES = { [PACKET] = { 37, 141 }, [LINK] = { 60, 1200 }, [REPORT] = { 29, 425 } }
-local MESSAGES = { [0] = "hello", "game", "goodbye" }
-local MESSAGE_SIZES = { [0] = 24, 1, 2 }
-local NAME, VERSION = "zirmegat", 1 -- of greetings
-local CALL, ANSWER, REFUSAL, HINT, RETRY = 1, 2, 3, 4, 5 -- their sorts
-local SORTS = { "call", "answer", "refusal", "hint", "retry" }
-local LENGTHS = { [CALL] = 130, [ANSWER] = 130, [REFUSAL] = 46, [HINT] = 29, [RETRY] = 64 }
-local REASONS = { "no seat is free", "the seat is taken", "another number of players", "it has begun" }
+-- behind the head of a link's datagram: where the parts stand; and the highest cause
+local PARTS, MAX_CAUSE = 31, 3
+local CAUSES = { [0] = "plays", "quit", "full demo", "world differs" }
+local NAME, VERSION = "zirmegat", 2 -- of greetings
+local CALL, SEATING, REFUSAL, HINT = 1, 2, 3, 4 -- their sorts
+local SORTS = { "call", "seating", "refusal", "hint" }
+local LENGTHS = { [CALL] = 581, [SEATING] = 581, [REFUSAL] = 66, [HINT] = 29 }
+local TERMS, SEATS, SEAT = 82, 370, 65 -- where terms and seats stand in a seating, and the bytes of a seat
+local REASONS = { "the cookie is not good", "no seat is to be had", "the game has begun",
+    "another number of players", "another identity", "turned away" }
+local POLICIES = { "the others wait", "it is given up", "the game ends" }
+local HELD = { [0] = "by nobody", "by one who was not heard", "by one who was heard" }
 local HINTS = { "another suite or key", "another version" }
 
 local P = ProtoField
@@ -90,16 +96,10 @@ local l = {
     number = P.uint32("doom_link.number", "Number"),
     lead = P.int8("doom_link.lead", "Lead over the receiver"),
     holes = P.uint8("doom_link.holes", "Datagrams missing"),
+    cause = named("doom_link.cause", "Why its sender ended", CAUSES),
     made = P.uint32("doom_link.made", "Commands made"),
     ran = P.uint32("doom_link.ran", "Tics run"),
     got = P.uint32("doom_link.got", "Commands that it has"),
-    message = named("doom_link.message", "Message", MESSAGES),
-    players = P.uint8("doom_link.players", "Players"),
-    extra = P.uint8("doom_link.extra", "Packets repeat commands"),
-    ahead = P.uint8("doom_link.ahead", "Window"),
-    limit = P.uint32("doom_link.limit", "Most bytes of the demo"),
-    host = P.bytes("doom_link.host", "The host's own"),
-    cause = named("doom_link.cause", "Cause", { [0] = "given up", "quit", "full demo", "world differs" }),
     parts = P.uint8("doom_link.parts", "Number of parts"),
     part = P.none("doom_link.part", "Part"),
     run = P.uint8("doom_link.part.run", "Packets in the run, or 0 for one as it is"),
@@ -128,21 +128,34 @@ local g = {
     name = P.string("doom_greeting.name", "Name"),
     version = P.uint8("doom_greeting.version", "Version"),
     sort = named("doom_greeting.what", "What", SORTS),
-    mark = P.bytes("doom_greeting.mark", "Mark of who joins"),
-    number = P.uint32("doom_greeting.number", "Number of the call"),
+    number = P.bytes("doom_greeting.number", "Number of the joiner's session"),
+    count = P.uint32("doom_greeting.count", "Count of the call"),
+    cookie = P.bytes("doom_greeting.cookie", "Cookie"),
     seat = P.uint8("doom_greeting.seat", "Seat"),
     players = P.uint8("doom_greeting.players", "Players"),
-    cookie = P.bytes("doom_greeting.cookie", "Cookie of the address"),
+    identity = P.bytes("doom_greeting.identity", "Identity of the engine"),
+    called = P.bytes("doom_greeting.called", "What the sender's player is called"),
     zeros = P.bytes("doom_greeting.zeros", "Zeros"),
+    host = P.bytes("doom_greeting.host", "Number of the host's session"),
+    begun = P.uint8("doom_greeting.begun", "The game has begun"),
     extra = P.uint8("doom_greeting.extra", "Packets repeat commands"),
     ahead = P.uint8("doom_greeting.ahead", "Window"),
     rate = P.uint8("doom_greeting.rate", "Tics a second"),
     limit = P.uint32("doom_greeting.limit", "Most bytes of the demo"),
-    game = P.bytes("doom_greeting.game", "Game, its number"),
-    place = P.none("doom_greeting.place", "Place"),
-    told = P.uint8("doom_greeting.place.told", "Told who holds it"),
-    ip = P.ipv6("doom_greeting.place.ip", "Address"),
-    port = P.uint16("doom_greeting.place.port", "Port"),
+    skill = P.uint8("doom_greeting.skill", "Skill"),
+    deathmatch = P.uint8("doom_greeting.deathmatch", "Deathmatch"),
+    nomonsters = P.uint8("doom_greeting.nomonsters", "No monsters"),
+    respawn = P.uint8("doom_greeting.respawn", "Monsters respawn"),
+    episode = P.uint8("doom_greeting.episode", "Episode"),
+    map = P.uint8("doom_greeting.map", "Map"),
+    policy = named("doom_greeting.policy", "What becomes of a player who vanishes", POLICIES),
+    seconds = P.uint8("doom_greeting.seconds", "After so many seconds"),
+    own = P.bytes("doom_greeting.own", "The host's own"),
+    holder = P.none("doom_greeting.holder", "Holder"),
+    held = named("doom_greeting.holder.held", "Held", HELD),
+    session = P.bytes("doom_greeting.holder.number", "Number of its session"),
+    address = P.bytes("doom_greeting.holder.address", "Address"),
+    holder_called = P.bytes("doom_greeting.holder.called", "What its player is called"),
     reason = named("doom_greeting.reason", "Reason", REASONS),
     hint = named("doom_greeting.hint", "Hint", HINTS),
     tag = P.bytes("doom_greeting.tag", "Tag, not checked"),
@@ -292,14 +305,10 @@ local function part_in(r)
     return { run = 0, all = r(0, 11 + size), exact = exact, packet = from(r(0, 11 + size), 11) }
 end
 
--- The parts behind a message, as far as they have the form; and whether all behind the message has it.
+-- The parts, as far as they have the form; and whether all bytes have it.
 local function parts_in(r)
-    local message, parts = r(0, 1):uint(), {}
-    local place = MESSAGE_SIZES[message]
-    if not place or r:len() <= place or message == 0 and r(2, 1):uint() > 1 then return parts, false end
-    local count = r(place, 1):uint()
+    local count, parts, place = r(0, 1):uint(), {}, 1
     if count > MAX_PARTS then return parts, false end
-    place = place + 1
     for k = 1, count do
         parts[k] = part_in(from(r, place))
         if not parts[k] then return parts, false end
@@ -325,34 +334,20 @@ local function add_part(tree, part, sender)
     return words_of(part.packet, part.exact)
 end
 
-local function add_message(root, r)
-    local message = r(0, 1):uint()
-    local size = MESSAGE_SIZES[message]
-    root:add(l.message, r(0, 1))
-    if not size or r:len() <= size then return end
-    if message == 0 then
-        for place, field in ipairs({ l.players, l.extra, l.ahead }) do root:add(field, r(place, 1)) end
-        root:add_le(l.limit, r(4, 4))
-        root:add(l.host, r(8, 16))
-    elseif message == 2 then
-        root:add(l.cause, r(1, 1))
-    end
-    root:add(l.parts, r(size, 1))
-end
-
 -- What stands between the head of a link's datagram and its tag; and what it says, in few words.
 local function add_link(tree, r, sender)
     local root = tree:add(link, r)
     root:add_le(l.number, r(0, 4))
     root:add(l.lead, r(4, 1))
     root:add(l.holes, r(5, 1))
-    root:add_le(l.made, r(6, 4))
-    root:add_le(l.ran, r(10, 4))
-    for player = 0, 3 do root:add_le(l.got, r(14 + 4 * player, 4)):append_text(" of player " .. player) end
-    add_message(root, r(30))
-    local words = ("number %d, %s, made %d, ran %d"):format(r(0, 4):le_uint(), MESSAGES[r(30, 1):uint()] or "?",
-        r(6, 4):le_uint(), r(10, 4):le_uint())
-    for _, part in ipairs((parts_in(r(30)))) do words = words .. "; " .. add_part(root, part, sender) end
+    root:add(l.cause, r(6, 1))
+    root:add_le(l.made, r(7, 4))
+    root:add_le(l.ran, r(11, 4))
+    for player = 0, 3 do root:add_le(l.got, r(15 + 4 * player, 4)):append_text(" of player " .. player) end
+    root:add(l.parts, r(PARTS, 1))
+    local words = ("number %d, %s, made %d, ran %d"):format(r(0, 4):le_uint(), CAUSES[r(6, 1):uint()] or "?",
+        r(7, 4):le_uint(), r(11, 4):le_uint())
+    for _, part in ipairs((parts_in(r(PARTS)))) do words = words .. "; " .. add_part(root, part, sender) end
     return words
 end
 
@@ -424,7 +419,9 @@ local function seal_fault(r)
     if r:len() < sizes[1] or r:len() > sizes[2] then return "length" end
     if kind == REPORT then return report_fault(r) end
     local is_formed = exact_in(body_of(r)(0, 9))
-    if kind == LINK then is_formed = select(2, parts_in(from(body_of(r), 30))) end
+    if kind == LINK then
+        is_formed = body_of(r)(6, 1):uint() <= MAX_CAUSE and select(2, parts_in(from(body_of(r), PARTS)))
+    end
     if not is_formed then return "form" end
 end
 
@@ -461,25 +458,36 @@ end
 
 local function is_zero(r) return r:raw() == ("\0"):rep(r:len()) end
 
-local function is_place(r) return is_in(r, 0, 1, 1) or is_zero(r) end
+local function is_holder(r) return is_in(r, 0, 1, 2) or is_zero(r) end
+
+-- Whether the terms of a game are in range.
+local function are_terms(r)
+    local limit = r(4, 4):le_uint()
+    return is_in(r, 0, 2, 4) and is_in(r, 1, 0, 1) and is_in(r, 2, 1, 12) and is_in(r, 3, 1, 35)
+        and 1024 <= limit and limit <= 16777216 and is_in(r, 8, 0, 4) and is_in(r, 9, 0, 2)
+        and is_in(r, 10, 0, 1) and is_in(r, 11, 0, 1) and is_in(r, 12, 1, 3) and is_in(r, 13, 1, 32)
+        and (is_in(r, 14, 1, 1) and is_in(r, 15, 0, 0) or is_in(r, 14, 2, 3) and is_in(r, 15, 3, 255))
+end
 
 -- Whether a greeting of each sort, which has its length, has its form.
 local FORMS = {
     [CALL] = function(r)
-        return is_in(r, 32, 0, 3) and is_in(r, 33, 0, 4) and not is_in(r, 33, 1, 1) and is_zero(r(50, 64))
+        return is_in(r, 48, 0, 3) and is_in(r, 49, 0, 4) and not is_in(r, 49, 1, 1) and is_zero(r(82, 483))
     end,
-    [ANSWER] = function(r)
-        return is_in(r, 33, 2, 4) and is_in(r, 32, 1, r(33, 1):uint() - 1) and is_in(r, 34, 0, 1)
-            and is_in(r, 35, 1, 12) and is_in(r, 36, 1, 35)
-            and is_place(r(57, 19)) and is_place(r(76, 19)) and is_place(r(95, 19))
+    [SEATING] = function(r)
+        if not are_terms(r(TERMS, 288)) or not is_in(r, 81, 0, 1) then return false end
+        for seat = 0, 2 do
+            if not is_holder(r(SEATS + SEAT * seat, SEAT)) then return false end
+        end
+        return is_in(r, 80, 1, r(TERMS, 1):uint() - 1)
     end,
     [REFUSAL] = function(r)
-        return is_in(r, 28, 1, 4) and (is_in(r, 28, 3, 3) or is_in(r, 29, 0, 0))
+        return is_in(r, 48, 1, 6) and (is_in(r, 48, 4, 4) or is_in(r, 49, 0, 0))
     end,
     [HINT] = function(r)
-        return is_in(r, 0, 0, 0) and is_in(r, 28, 1, 2) and (is_in(r, 28, 2, 2) or is_in(r, 10, 1, 1))
+        return is_in(r, 0, 0, 0) and is_in(r, 28, 1, 2)
+            and (is_in(r, 28, 2, 2) or is_in(r, 10, VERSION, VERSION))
     end,
-    [RETRY] = function() return true end,
 }
 
 -- Whether bytes are taken for a greeting: by their kind and name, or, if the name is bad, their kind and suite.
@@ -499,56 +507,71 @@ local function greeting_fault(r)
     if not FORMS[sort](r) then return "form" end
 end
 
--- What calls and answers have behind the mark; and what it says, in few words.
-local function add_seat(root, r, words)
-    root:add_le(g.number, r(28, 4))
-    words = ("%s %d"):format(words, r(28, 4):le_uint())
-    for place, name in ipairs({ "seat", "players" }) do
-        local item, number = root:add(g[name], r(31 + place, 1)), r(31 + place, 1):uint()
-        if number == 0 then item:append_text(": any") else words = ("%s, %s %d"):format(words, name, number) end
-    end
-    return words
+-- What calls, seatings and refusals have behind the number; and the first words of them.
+local function add_count(root, r, sort)
+    root:add_le(g.count, r(28, 4))
+    root:add(g.cookie, r(32, 16))
+    return ("%s %d"):format(sort, r(28, 4):le_uint())
 end
 
-local function add_place(root, r, seat)
-    local item = root:add(g.place, r):append_text((" of seat %d"):format(seat))
-    item:add(g.told, r(0, 1))
+-- Bytes one after another, each a field.
+local function add_bytes(root, r, fields)
+    for place, field in ipairs(fields) do root:add(field, r(place - 1, 1)) end
+end
+
+local function add_terms(root, r)
+    add_bytes(root, r(0, 4), { g.players, g.extra, g.ahead, g.rate })
+    root:add_le(g.limit, r(4, 4))
+    local choice = { g.skill, g.deathmatch, g.nomonsters, g.respawn, g.episode, g.map, g.policy, g.seconds }
+    add_bytes(root, r(8, 8), choice)
+    root:add(g.identity, r(16, 16))
+    root:add(g.own, r(32, 256))
+end
+
+local function add_holder(root, r, seat)
+    local item = root:add(g.holder, r):append_text((" of seat %d"):format(seat))
+    item:add(g.held, r(0, 1))
     if is_in(r, 0, 0, 0) then return end
-    item:add(g.ip, r(1, 16))
-    item:add_le(g.port, r(17, 2))
+    item:add(g.session, r(1, 16))
+    item:add(g.address, r(17, 32))
+    item:add(g.holder_called, r(49, 16))
 end
 
--- The fields of a greeting of each sort between the mark and the tag; and what they say, in few words.
+-- The fields of a greeting of each sort between the number and the tag; and what they say, in few words.
 local ADDERS = {
     [CALL] = function(root, r)
-        local words = add_seat(root, r, "call")
-        root:add(g.cookie, r(34, 16))
-        root:add(g.zeros, r(50, 64))
+        local words = add_count(root, r, "call")
+        for place, name in ipairs({ "seat", "players" }) do
+            local item, number = root:add(g[name], r(47 + place, 1)), r(47 + place, 1):uint()
+            if number == 0 then item:append_text(": any") end
+            if number > 0 then words = ("%s, %s %d"):format(words, name, number) end
+        end
+        root:add(g.identity, r(50, 16))
+        root:add(g.called, r(66, 16))
+        root:add(g.zeros, r(82, 483))
         return words
     end,
-    [ANSWER] = function(root, r)
-        local words = add_seat(root, r, "answer")
-        for place, field in ipairs({ g.extra, g.ahead, g.rate }) do root:add(field, r(33 + place, 1)) end
-        root:add_le(g.limit, r(37, 4))
-        root:add(g.game, r(41, 16))
-        for seat = 1, 3 do add_place(root, r(38 + 19 * seat, 19), seat) end
-        return words
+    [SEATING] = function(root, r)
+        local words = add_count(root, r, "seating")
+        root:add(g.host, r(48, 16))
+        root:add(g.called, r(64, 16))
+        root:add(g.seat, r(80, 1))
+        root:add(g.begun, r(81, 1))
+        add_terms(root, r(TERMS, 288))
+        for seat = 1, 3 do add_holder(root, r(SEATS + SEAT * (seat - 1), SEAT), seat) end
+        words = ("%s, seat %d, players %d"):format(words, r(80, 1):uint(), r(TERMS, 1):uint())
+        return words .. (is_in(r, 81, 1, 1) and ", begun" or "")
     end,
     [REFUSAL] = function(root, r)
-        local reason, players = r(28, 1):uint(), r(29, 1):uint()
-        root:add(g.reason, r(28, 1))
-        root:add(g.players, r(29, 1))
-        return "refusal, " .. (REASONS[reason] or "?") .. (reason == 3 and (": %d"):format(players) or "")
+        local words, reason, players = add_count(root, r, "refusal"), r(48, 1):uint(), r(49, 1):uint()
+        root:add(g.reason, r(48, 1))
+        root:add(g.players, r(49, 1))
+        return words .. ", " .. (REASONS[reason] or "?") .. (reason == 4 and (": %d"):format(players) or "")
     end,
     [HINT] = function(root, r)
         local hint, version = r(28, 1):uint(), r(10, 1):uint()
         root:add(g.hint, r(28, 1))
         return "hint, " .. (HINTS[hint] or "?") .. (hint == 2 and (": %d"):format(version) or "")
-    end,
-    [RETRY] = function(root, r)
-        root:add_le(g.number, r(28, 4))
-        root:add(g.cookie, r(32, 16))
-        return ("retry %d"):format(r(28, 4):le_uint())
     end,
 }
 
@@ -562,7 +585,7 @@ local function add_greeting(tree, r)
     root:add(g.name, r(2, 8))
     root:add(g.version, r(10, 1))
     root:add(g.sort, r(11, 1))
-    root:add(g.mark, r(12, 16))
+    root:add(g.number, r(12, 16))
     if fault and fault ~= "suite" and fault ~= "form" then return "refused, " .. fault end
     local sort = r(11, 1):uint()
     local words = ADDERS[sort](root, r)

@@ -20,7 +20,6 @@ PLACES = [
     ('bytes', 0, 574, [['dn_seal']]),
     ('bytes', 1, 248, [['dn_ring']]),
     ('bytes', 1, 355, [['dn_setup']]),
-    ('bytes', 1, 638, [['dn_greeting']]),
     ('bytes', 2, 291, [['dn_demo']]),
     ('bytes', 2, 384, [['dn_world']]),
     ('bytes', 2, 686, [['dn_measure']]),

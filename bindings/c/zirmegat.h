@@ -1,10 +1,14 @@
 /* zirmegat.h: vanilla Doom's network play for an engine that has a world of its own. C99 and C++.
  *
+ * A session (zmg_session) is one player of a netgame: its lobby, and then its part in the game. It has all
+ * that an engine needs beside a socket and a clock, and is the place to begin. Links and locksteps, below it,
+ * are for those who have a transport, a lobby or a pace of their own.
+ *
  * A node is one player's part of a game of two to four players. A lockstep (zmg_lockstep) is a node whose
  * world is the caller's. For each tic it takes a command, or builds one from keys. It writes and reads Doom's
  * datagrams, reports when a tic runs and by which moves, checks the marks of the worlds, and records a demo.
  * Maps, monsters and physics stay yours, and so does the network: the library opens nothing, never waits, and
- * prints nothing. A tic is 1/35 second.
+ * prints nothing. A tic is 1/35 second, or as long as the rate of a session says.
  *
  *     zmg_lockstep node = ZMG_LOCKSTEP_NONE;
  *     if (zmg_lockstep_new(&node, &config) != ZMG_NEW_OK) there is no node
@@ -22,9 +26,9 @@
  *     all.
  *   - Pointers are valid and aligned for what they point to, and not NULL, even if a length is 0. Memory that
  *     a call writes overlaps nothing else that the call is given.
- *   - A handle (zmg_lockstep, zmg_link, zmg_demo) is ZMG_LOCKSTEP_NONE, ZMG_LINK_NONE or ZMG_DEMO_NONE at
- *     first, and then as the library left it. You may move it in memory; if you copy it, use only one of the
- *     copies.
+ *   - A handle (zmg_session, zmg_lockstep, zmg_link, zmg_demo) is ZMG_SESSION_NONE, ZMG_LOCKSTEP_NONE,
+ *     ZMG_LINK_NONE or ZMG_DEMO_NONE at first, and then as the library left it. You may move it in memory; if
+ *     you copy it, use only one of the copies.
  *   - Only one thread at a time uses a handle. A handle may pass from one thread to another if something
  *     orders the calls of the first before those of the second: a lock, or a thread's start or end. Different
  *     threads may use different handles at once.
@@ -43,8 +47,9 @@
  * call. Those that make something in a handle do so in this one too. Of the others build, give and run return
  * NOT_PLAYING; zmg_lockstep_receive ZMG_RECEIVE_DROPPED with ZMG_DROP_NOT_PLAYING; zmg_link_receive
  * ZMG_LINK_RECEIVE_UNOPENED with reason 0; zmg_link_catch_up ZMG_BUILD_NONE_OWED; zmg_link_give_up
- * ZMG_GIVE_UP_NOT_PLAYING; every other call on locksteps and links ZMG_PHASE_NONE or 0; every other call on
- * demos ZMG_DEMO_NO_READER or 0.
+ * ZMG_GIVE_UP_NOT_PLAYING; zmg_session_poll ZMG_STATUS_NO_SESSION, zmg_session_run ZMG_TIC_NOT_PLAYING; every
+ * other call on sessions 0, or a record of zeros; every other call on locksteps and links ZMG_PHASE_NONE or 0;
+ * every other call on demos ZMG_DEMO_NO_READER or 0.
  *
  * Most codes carry the name of a call that returns them: ZMG_RUN_ are those of zmg_lockstep_run. ZMG_DEMO_ are
  * those of the calls on demos. ZMG_DROP_ says why zmg_lockstep_receive or zmg_packet_decode refused a datagram,
@@ -68,6 +73,387 @@ extern "C" {
  * 65536. */
 uint32_t zmg_version(void);
 
+/* ---- What sessions, links and locksteps share -------------------------------------------------------- */
+
+/* The choice of game. skill: 0 to 4, 0 the easiest. deathmatch: 0 for cooperative play, 1, or 2 for
+ * deathmatch 2.0. no_monsters and respawn: 0 for no, else yes. episode: 1 to 3. map: 1 to 32. Monsters are
+ * never fast. */
+typedef struct zmg_settings {
+    uint8_t skill, deathmatch, no_monsters, respawn, episode, map;
+} zmg_settings;
+
+/* A tic command. forward and side: in units of 2048 in a world of 16 fractional bits, side to the right. turn:
+ * to the left, in 65,536ths of a full turn. mark: the consistency mark of the player's own world twelve tics
+ * before, 0 below tic 12. chat: a letter of chat, which the library carries and does not read. buttons: bit 0
+ * is attack, bit 1 use, bit 2 a change to the weapon in bits 3 to 5; other players' commands may set any bits. */
+typedef struct zmg_command {
+    int16_t turn, mark;
+    int8_t forward, side;
+    uint8_t chat, buttons;
+} zmg_command;
+
+/* A command, if known is 1; if there is none, all fields are 0. */
+typedef struct zmg_known_command {
+    uint32_t known;
+    zmg_command command;
+} zmg_known_command;
+
+/* A number, if known is 1; if there is none, both fields are 0. */
+typedef struct zmg_number {
+    uint32_t known, value;
+} zmg_number;
+
+/* What is known of the line to another player, if known is 1; for a number that is not another player's all
+ * fields are 0. came: how many of its datagrams came, copies and too old ones not counted. lost: how many of
+ * the numbers between the first datagram that came and the newest did not come within 64; a datagram that was
+ * sent before the first and came after it takes one off. repeated: how many copies came, less than 64 behind
+ * the newest. too_old: how many came 64 or more behind the newest.
+ * missing_there: how many of the last datagrams to it did not come there, or came after newer ones. lead,
+ * lead_there: how many commands this player was ahead of it, and it of this player, each at its own last tick.
+ * Counts stop at the largest number. To know when a player was last heard, note the time whenever `came` has
+ * risen. */
+typedef struct zmg_line {
+    uint32_t known, came, lost, repeated, too_old;
+    uint8_t missing_there;
+    int8_t lead, lead_there;
+} zmg_line;
+/* What came of a run: see zmg_lockstep_run and zmg_session_run. */
+typedef struct zmg_ran {
+    uint32_t code, tic;
+    int16_t was, should;
+    uint8_t player;
+} zmg_ran;
+
+/* ---- A session ----------------------------------------------------------------------------------------- */
+
+/* A session is one player of a netgame: its lobby, and then its part in the game. One player hosts, the others
+ * join; each player has a seat, 0 to 3, and the host has seat 0. A session opens no socket and reads no clock:
+ * it is given what comes, and the time, and returns what is to be sent. Times are milliseconds of the player's
+ * own clock, which never goes back. Count them from the making of the session, not from the machine's start: at
+ * 2^32 - 1, after 49 days, they stop, and the game with them.
+ *
+ *     zmg_session session = ZMG_SESSION_NONE;
+ *     zmg_session_host(&session, &config) or zmg_session_join(&session, &config, now)
+ *     until the state's stage is ZMG_STAGE_OVER, at each datagram and as often as you draw:
+ *         each datagram: zmg_session_receive(&session, &from, bytes, n, now), and send
+ *         zmg_session_poll(&session, now); with ZMG_STATUS_NO_MEMORY free memory, or end
+ *         while (zmg_session_wants_input(&session, now)) zmg_session_give(&session, &command, now)
+ *         send: while ((n = zmg_session_transmit(&session, &to, bytes, sizeof bytes))) send n bytes to `to`
+ *         each event: zmg_session_event(&session); with ZMG_EVENT_BEGAN begin the world
+ *         while (zmg_session_run(&session, marks, row).code == ZMG_TIC_RAN) step the world by row; then send
+ *     zmg_session_free(&session)
+ *
+ * This is a handle that holds a session, or none; what is said of zmg_lockstep holds for it. */
+typedef struct zmg_session {
+    uint8_t live;
+    void *at;
+} zmg_session;
+#define ZMG_SESSION_NONE { 0, NULL }
+
+/* Where a datagram comes from or goes to. The bytes are the caller's own, filled up with zeros: they are
+ * compared, handed to the other players by the host, and never read. All players pack them the same way. UDP:
+ * the 16 bytes of an IPv6 address, or ::ffff:a.b.c.d for one of IPv4, then the port, its high byte first. */
+typedef struct zmg_address {
+    uint8_t bytes[32];
+} zmg_address;
+
+/* What making a session returns, the first fault of its config; and zmg_session_poll. */
+typedef enum zmg_status {
+    ZMG_STATUS_OK = 0,
+    ZMG_STATUS_NO_MEMORY = 1,
+    ZMG_STATUS_BAD_KEY = 2,        /* all bytes of the key are 0, and keyless is 0 */
+    ZMG_STATUS_BAD_RANDOM = 3,     /* all random bytes are 0 */
+    ZMG_STATUS_BAD_PLAYERS = 4,    /* not 2 to 4 players */
+    ZMG_STATUS_BAD_WINDOW = 5,     /* not 1 to 12 commands */
+    ZMG_STATUS_BAD_RATE = 6,       /* not 1 to 35 tics a second */
+    ZMG_STATUS_BAD_LIMIT = 7,      /* not 1,024 to 16,777,216 bytes */
+    ZMG_STATUS_BAD_POLICY = 8,     /* no policy, or one of fewer than three seconds */
+    ZMG_STATUS_BAD_SEAT = 9,       /* a seat above 3 */
+    ZMG_STATUS_BAD_SKILL = 10,     /* this and the next three: the settings are out of range */
+    ZMG_STATUS_BAD_DEATHMATCH = 11,
+    ZMG_STATUS_BAD_EPISODE = 12,
+    ZMG_STATUS_BAD_MAP = 13,
+    ZMG_STATUS_NO_SESSION = 14     /* the handle holds none */
+} zmg_status;
+
+/* What becomes of a player who vanishes. ZMG_POLICY_WAIT: the others wait, until the one of them that leads
+ * calls zmg_session_give_up; if it is the leader who vanishes, until each of them has done so.
+ * ZMG_POLICY_GIVE_UP: it is given up after so many seconds, and they play on; of two who vanish together the
+ * second is given up so many seconds after the first. ZMG_POLICY_END: the game ends then. The player leads who
+ * has the lowest number of those who are neither given up nor have left.
+ * A player whose engine does not call for so long has vanished too: while it loads a level, let it poll, give
+ * and send on, or choose more seconds. */
+typedef enum zmg_policy { ZMG_POLICY_WAIT = 1, ZMG_POLICY_GIVE_UP = 2, ZMG_POLICY_END = 3 } zmg_policy;
+
+/* What is the same at all players: the host chooses, and the others are told with their seat. limit: how many
+ * bytes the demo may have, 1,024 to 16,777,216, as in zmg_config. policy, seconds: what becomes of a player
+ * who vanishes, after 3 to 255 seconds. players: 2 to 4. extra: as in zmg_config. window: how many commands a
+ * player may be ahead of the tics that it ran, 1 to 12; see zmg_lockstep_new_within. rate: how many tics a
+ * second are played, 1 to 35. settings: what is played. identity: a digest of what must be the same: the
+ * engine's version, WAD files, patches. A joiner with another one gets no seat. own: what the host's engine
+ * tells the others: a time limit, a seed, a level of compatibility. */
+typedef struct zmg_terms {
+    uint32_t limit;
+    zmg_policy policy;
+    uint8_t seconds, players, extra, window, rate;
+    zmg_settings settings;
+    uint8_t identity[16], own[256];
+} zmg_terms;
+
+/* key: 32 secret bytes that those share who may join; all zeros are refused. keyless: if not 0, anybody who
+ * can send to the host may join, send as anybody and end the game, and key is not read. random: 32 bytes from
+ * the system's generator, drawn anew for each session and told to nobody. name: what the player is called,
+ * UTF-8, filled up with zeros. */
+typedef struct zmg_host_config {
+    zmg_terms terms;
+    uint8_t key[32], random[32], name[16], keyless;
+} zmg_host_config;
+
+/* host: where the host is. identity: as in zmg_terms. seat: the seat that it wants, 1 to 3, or 0 for any.
+ * players: how many players the game must have, or 0 for any number. The rest is as in zmg_host_config. */
+typedef struct zmg_join_config {
+    uint8_t key[32], random[32];
+    zmg_address host;
+    uint8_t identity[16], name[16], keyless, seat, players;
+} zmg_join_config;
+
+/* Fill in all fields: key, random, name, identity and own with zeros; two players, a window of 8, 35 tics a
+ * second, a demo of 16 MiB, the first map at skill 2 in cooperative play, ZMG_POLICY_WAIT; any seat, any
+ * number of players. */
+void zmg_host_config_init(zmg_host_config *config);
+void zmg_join_config_init(zmg_join_config *config);
+
+/* Make a session in the handle, after freeing the one that it holds. If they return anything but
+ * ZMG_STATUS_OK, the handle holds nothing. */
+zmg_status zmg_session_host(zmg_session *session, const zmg_host_config *config);
+zmg_status zmg_session_join(zmg_session *session, const zmg_join_config *config, uint32_t now);
+/* Frees the session and its memory. Before the game that is how to leave. In it the others see a player vanish
+ * who has not left: see zmg_session_quit. */
+void zmg_session_free(zmg_session *session);
+
+/* Takes in any bytes that came from an address. Send what zmg_session_transmit returns before the next one: a
+ * reply takes the place of one that was not sent. */
+void zmg_session_receive(zmg_session *session, const zmg_address *from, const uint8_t *bytes, size_t length,
+                         uint32_t now);
+
+/* Does what is due: calls of a joiner, who is awaited, given up and told so, second datagrams, the ticks of
+ * one who leaves. Once the game has begun, makes the player's part in it: this alone allocates memory after
+ * the session was made. If there is none, it returns ZMG_STATUS_NO_MEMORY, nothing is lost, and the next call
+ * tries again. Look at what it returns: the others wait for a player who has no part in the game. A machine
+ * that did not call for more than a second counts as asleep: that time is nobody's silence. */
+zmg_status zmg_session_poll(zmg_session *session, uint32_t now);
+
+/* Returns when zmg_session_poll has something to do or a tick is due, if known is 1; with 0 the session waits
+ * for what comes. A time that is past is now. */
+zmg_number zmg_session_due(const zmg_session *session);
+
+/* How many bytes of room zmg_session_transmit needs: a datagram has no more. */
+#define ZMG_SESSION_SIZE 1200u
+
+/* Writes the next datagram to the front of out, and where it goes to into *to, and returns how many bytes it
+ * has. Returns 0, and leaves *to and out as they are, if there is none or room is below ZMG_SESSION_SIZE. */
+size_t zmg_session_transmit(zmg_session *session, zmg_address *to, uint8_t *out, size_t room);
+
+/* Why a session is over, and what number belongs to it. */
+typedef enum zmg_reason {
+    ZMG_OVER_NOT = 0,           /* it is not */
+    ZMG_OVER_LEFT = 1,          /* its player left: zmg_session_quit */
+    ZMG_OVER_FULL = 2,          /* the demo is full */
+    ZMG_OVER_INCONSISTENT = 3,  /* number: the player whose world differs from its own */
+    ZMG_OVER_GIVEN_UP = 4,      /* the others have given this player up */
+    ZMG_OVER_ALONE = 5,         /* all others are given up */
+    ZMG_OVER_LOST = 6,          /* number: the player who vanished, under ZMG_POLICY_END */
+    ZMG_OVER_NO_SEAT = 16,      /* never returned: a joiner waits for its seat */
+    ZMG_OVER_BEGUN = 17,        /* the game has begun without it */
+    ZMG_OVER_PLAYERS = 18,      /* number: how many players the game has: not as many as it must have, or it has
+                                 * no such seat */
+    ZMG_OVER_IDENTITY = 19,     /* the host has another engine or other files */
+    ZMG_OVER_KICKED = 20,       /* the host has turned it away */
+    ZMG_OVER_COOKIE = 21,       /* never returned */
+    ZMG_OVER_OTHER_KEY = 32,    /* the host has another key, or none. Nobody vouches for this and the next */
+    ZMG_OVER_VERSION = 33       /* number: the host's version of the lobby's datagrams */
+} zmg_reason;
+typedef struct zmg_over {
+    zmg_reason reason;
+    uint32_t number;
+} zmg_over;
+
+/* What has happened, each thing once. player: whose seat it is or who has gone, else 0. over: with
+ * ZMG_EVENT_OVER. */
+typedef enum zmg_event_kind {
+    ZMG_EVENT_NONE = 0,     /* nothing that was not told */
+    ZMG_EVENT_SEATED = 1,   /* a joiner has the seat `player` */
+    ZMG_EVENT_UNSEATED = 2, /* it does not count on its seat any more. ZMG_EVENT_OVER follows, or it calls
+                             * again */
+    ZMG_EVENT_BEGAN = 3,    /* the game has begun: begin the world by the state's terms */
+    ZMG_EVENT_LEFT = 4,     /* `player` has left, and all its commands are here. It may still be given up. Where
+                             * all others have left, the session plays on alone until its player quits */
+    ZMG_EVENT_GIVEN_UP = 5, /* `player` is given up */
+    ZMG_EVENT_OVER = 6      /* the last event */
+} zmg_event_kind;
+typedef struct zmg_event {
+    zmg_event_kind kind;
+    uint32_t player;
+    zmg_over over;
+} zmg_event;
+
+/* Returns the first of what is so and was not told yet. Call it until there is nothing. What came and went
+ * again between two calls is not told: a seat that was lost and had again, say. */
+zmg_event zmg_session_event(zmg_session *session);
+
+/* Returns 1 if a tick is due, for which the player gives a command; else 0. Ask before you consume the motion
+ * of a mouse. More than one may be due after a pause: missed ticks are made up for, up to eight. */
+uint32_t zmg_session_wants_input(const zmg_session *session, uint32_t now);
+/* Takes the command of the tick that is due, and returns 1; returns 0, and takes nothing, if none is. mark is
+ * not read. If as many commands wait to be run as the window allows, the state's `made` stays, and the command
+ * is owed: it is made by zmg_session_run as soon as there is room, unless a later one takes its place. */
+uint32_t zmg_session_give(zmg_session *session, const zmg_command *command, uint32_t now);
+
+/* What zmg_session_run returns as code; the other fields are as in zmg_ran. */
+typedef enum zmg_tic {
+    ZMG_TIC_NOT_PLAYING = 0,
+    ZMG_TIC_RAN = 1,
+    ZMG_TIC_WAITING = 2,     /* the command of `player` is missing */
+    ZMG_TIC_DEMO_FULL = 3,   /* this call ended the game here */
+    ZMG_TIC_INCONSISTENT = 4 /* so did this one: the mark of `player` was `was` in place of `should` */
+} zmg_tic;
+
+/* Runs the next tic, if it can, by each player's mark in the caller's world as it stands. With ZMG_TIC_RAN,
+ * row has the whole command of each player who has one in the tic, chat included, and the world is stepped by
+ * it; with any other code row stays as it is. Call it until it does not run, and send then: a run may make the
+ * command that is owed. */
+zmg_ran zmg_session_run(zmg_session *session, const int16_t marks[4], zmg_known_command row[4]);
+
+/* The player leaves the game. Poll, receive and send until ZMG_EVENT_OVER, so that the others learn where its
+ * commands end: ten seconds at most. It does nothing before the game, or after its end: in the lobby free the
+ * session. */
+void zmg_session_quit(zmg_session *session, uint32_t now);
+/* Gives up another player, for good, and returns 1; else returns 0. The game must have stood still for three
+ * seconds; for whom it waits does not matter. The player who leads (see zmg_policy) may then give up any other,
+ * and the others follow; one who follows may give up the leader alone. So if the leader is missing, each of the
+ * others has to give it up. */
+uint32_t zmg_session_give_up(zmg_session *session, uint8_t player, uint32_t now);
+/* Turns away who holds a seat, 1 to 3, if this is the host and the game has not begun. */
+void zmg_session_kick(zmg_session *session, uint8_t seat);
+
+/* Where a session stands. */
+typedef enum zmg_stage {
+    ZMG_STAGE_NONE = 0,    /* the handle holds none */
+    ZMG_STAGE_HOSTING = 1, /* a host, until its game begins */
+    ZMG_STAGE_CALLING = 2, /* a joiner that has not been answered, or not by a seat */
+    ZMG_STAGE_WAITING = 3, /* a joiner for whom no seat is free yet */
+    ZMG_STAGE_SEATED = 4,
+    ZMG_STAGE_PLAYING = 5,
+    ZMG_STAGE_LEAVING = 6, /* its game has ended, and others may still need its commands. ZMG_EVENT_OVER comes
+                            * two seconds after none does, and ten seconds after the end at most */
+    ZMG_STAGE_OVER = 7
+} zmg_stage;
+
+/* made: how many commands it built. ran: how many tics it ran. unacknowledged, may_leave: as
+ * zmg_link_unacknowledged and zmg_link_may_leave. was, should: the marks with ZMG_TIC_INCONSISTENT, else 0.
+ * All 0 before the game. */
+typedef struct zmg_session_game {
+    uint32_t made, ran, unacknowledged, may_leave;
+    int16_t was, should;
+} zmg_session_game;
+
+/* why: why it is over, or with ZMG_STAGE_LEAVING will be. me: the number of its player, 0 until that has a
+ * seat. terms: all 0 until they are known, so terms.players is too. After ZMG_EVENT_UNSEATED me and terms stay
+ * as they were told last. */
+typedef struct zmg_state {
+    zmg_stage stage;
+    zmg_over why;
+    zmg_session_game game;
+    uint32_t me;
+    zmg_terms terms;
+} zmg_state;
+void zmg_session_state(const zmg_session *session, zmg_state *out);
+
+/* A seat in the lobby, as it was told last, also after ZMG_EVENT_UNSEATED; once the game has begun its state
+ * means nothing any more. known: whether address is. name: what its holder is called; zeros of the host's own
+ * seat, at the host. */
+typedef enum zmg_seat_state {
+    ZMG_SEAT_NONE = 0,  /* the game has no such seat, or it is not known yet */
+    ZMG_SEAT_FREE = 1,
+    ZMG_SEAT_THERE = 2,
+    ZMG_SEAT_SILENT = 3 /* its holder was not heard by the host for two seconds */
+} zmg_seat_state;
+typedef struct zmg_seat {
+    zmg_seat_state state;
+    uint32_t known;
+    zmg_address address;
+    uint8_t name[16];
+} zmg_seat;
+
+/* A player in the game. awaited: for how many milliseconds the game has waited for its command or its report
+ * of who is gone, or 0. silent: for how many milliseconds nothing new of it came, by any way; of the own player
+ * it means nothing. got: how many of its commands are here. end: the tic after its last one. line: of the own
+ * player and before the game all 0. */
+typedef enum zmg_standing {
+    ZMG_STANDING_NONE = 0, /* the game has no such player, or has not begun */
+    ZMG_STANDING_PLAYS = 1,
+    ZMG_STANDING_LEFT = 2,
+    ZMG_STANDING_GIVEN_UP = 3
+} zmg_standing;
+typedef struct zmg_player_in_game {
+    zmg_standing standing;
+    uint32_t awaited, silent;
+    zmg_number got, end;
+    zmg_line line;
+} zmg_player_in_game;
+typedef struct zmg_player {
+    zmg_seat seat;
+    zmg_player_in_game game;
+} zmg_player;
+void zmg_session_player(const zmg_session *session, uint8_t player, uint32_t now, zmg_player *out);
+
+/* Copies the demo from this byte on, as many bytes as there is room for, and returns how many. */
+size_t zmg_session_demo(const zmg_session *session, size_t from, uint8_t *out, size_t room);
+
+/* Return what a code means, in English. */
+static inline const char *zmg_status_text(zmg_status status)
+{
+    switch (status) {
+    case ZMG_STATUS_OK: return "done";
+    case ZMG_STATUS_NO_MEMORY: return "there is no memory";
+    case ZMG_STATUS_BAD_KEY: return "the key was never set";
+    case ZMG_STATUS_BAD_RANDOM: return "the random bytes were never set";
+    case ZMG_STATUS_BAD_PLAYERS: return "a game has two to four players";
+    case ZMG_STATUS_BAD_WINDOW: return "the window is one to twelve commands";
+    case ZMG_STATUS_BAD_RATE: return "one to 35 tics a second are played";
+    case ZMG_STATUS_BAD_LIMIT: return "a demo has 1,024 to 16,777,216 bytes";
+    case ZMG_STATUS_BAD_POLICY: return "nobody is given up, and no game ends, in fewer than three seconds";
+    case ZMG_STATUS_BAD_SEAT: return "there are seats 1 to 3 for those who join";
+    case ZMG_STATUS_BAD_SKILL: return "this skill is not possible";
+    case ZMG_STATUS_BAD_DEATHMATCH: return "this deathmatch is not possible";
+    case ZMG_STATUS_BAD_EPISODE: return "episodes 1 to 3 are possible";
+    case ZMG_STATUS_BAD_MAP: return "maps 1 to 32 are possible";
+    case ZMG_STATUS_NO_SESSION: return "there is no session";
+    }
+    return "unknown";
+}
+static inline const char *zmg_reason_text(zmg_reason reason)
+{
+    switch (reason) {
+    case ZMG_OVER_NOT: return "it is not over";
+    case ZMG_OVER_LEFT: return "this player left";
+    case ZMG_OVER_FULL: return "the demo is full";
+    case ZMG_OVER_INCONSISTENT: return "the worlds differ";
+    case ZMG_OVER_GIVEN_UP: return "the others have given this player up";
+    case ZMG_OVER_ALONE: return "nobody else is left";
+    case ZMG_OVER_LOST: return "a player has vanished";
+    case ZMG_OVER_NO_SEAT: return "no seat is free, or not the one that was asked for";
+    case ZMG_OVER_BEGUN: return "the game has begun";
+    case ZMG_OVER_PLAYERS: return "the game has another number of players";
+    case ZMG_OVER_IDENTITY: return "the host has another version or other files";
+    case ZMG_OVER_KICKED: return "the host has turned this player away";
+    case ZMG_OVER_COOKIE: return "the address was not confirmed";
+    case ZMG_OVER_OTHER_KEY: return "the host has another key, or none";
+    case ZMG_OVER_VERSION: return "the host has another version of the library";
+    }
+    return "unknown";
+}
+
 /* ---- A lockstep --------------------------------------------------------------------------------------- */
 
 /* A lockstep is a node whose world is the caller's: all that is said of a node holds for it. This is a handle
@@ -79,13 +465,6 @@ typedef struct zmg_lockstep {
     void *at;
 } zmg_lockstep;
 #define ZMG_LOCKSTEP_NONE { 0, NULL }
-
-/* The choice of game. skill: 0 to 4, 0 the easiest. deathmatch: 0 for cooperative play, 1, or 2 for
- * deathmatch 2.0. no_monsters and respawn: 0 for no, else yes. episode: 1 to 3. map: 1 to 32. Monsters are
- * never fast. */
-typedef struct zmg_settings {
-    uint8_t skill, deathmatch, no_monsters, respawn, episode, map;
-} zmg_settings;
 
 /* limit: how many bytes the demo may have, 1,024 to 16,777,216. The same for all players. A tic takes 5
  *     bytes for each player, and the node ends at a tic of all players that does not fit: 1 MiB lasts 50
@@ -101,10 +480,10 @@ typedef struct zmg_config {
     zmg_settings settings;
 } zmg_config;
 
-/* What the calls return that make a lockstep or a link: the first fault, or ZMG_NEW_OK. Player 0's settings
- * are checked first, then the window, then the rest; zmg_link_new checks its secret before all else.
- * ZMG_NEW_BAD_KEY is never returned, ZMG_NEW_BAD_AHEAD only by calls with a window, and ZMG_NEW_BAD_SECRET
- * only by zmg_link_new. */
+/* What the calls return that make a lockstep or a link: the first fault, or ZMG_NEW_OK. Player 0's settings,
+ * and a link's whoever its player is, are checked first, then the window, then the rest; zmg_link_new checks
+ * its secret before all else. ZMG_NEW_BAD_KEY is never returned, ZMG_NEW_BAD_AHEAD only by calls with a window,
+ * and ZMG_NEW_BAD_SECRET only by zmg_link_new. */
 #define ZMG_NEW_OK 0u
 #define ZMG_NEW_BAD_PLAYERS 1u    /* not 2 to 4 players */
 #define ZMG_NEW_BAD_ME 2u         /* me is not below players */
@@ -163,15 +542,6 @@ zmg_made zmg_lockstep_build(zmg_lockstep *node, uint32_t keys);
 /* The window of zmg_lockstep_new: how many commands of the node's own player may be waiting to be run. */
 #define ZMG_MOST_AHEAD 5u
 
-/* A tic command. The fields of the move are as in zmg_move. mark: the consistency mark of the player's own
- * world twelve tics before, 0 below tic 12. chat: a letter of chat, which the library carries and does not
- * read. */
-typedef struct zmg_command {
-    int16_t turn, mark;
-    int8_t forward, side;
-    uint8_t chat, buttons;
-} zmg_command;
-
 /* Takes a whole command for the next tic, instead of zmg_lockstep_build: for an engine that makes its commands
  * itself, from a mouse, a stick, keys of its own, chat, pause or save. Returns what zmg_lockstep_build returns.
  * All numbers are taken as they are except two: mark is not read, since the node puts in its own; and a
@@ -184,12 +554,6 @@ zmg_made zmg_lockstep_give(zmg_lockstep *node, const zmg_command *command);
  * its commands are waiting to be run than its window allows. Else returns 0. Ask before you consume the motion
  * of a mouse or a letter of chat, which would be lost with a command that is not made. */
 uint32_t zmg_lockstep_can_build(zmg_lockstep *node);
-
-/* A command, if known is 1; if there is none, all fields are 0. */
-typedef struct zmg_known_command {
-    uint32_t known;
-    zmg_command command;
-} zmg_known_command;
 
 /* Returns a player's command for a tic, with its chat and mark, which zmg_move lacks. The last twelve
  * commands that the node has of each player are known, its own among them, or twice the window if that is
@@ -205,11 +569,6 @@ zmg_known_command zmg_lockstep_command(zmg_lockstep *node, uint8_t player, uint3
  * ZMG_PACKET_SIZE or if there is no packet: to the node's own player, to a number that belongs to no player,
  * at ZMG_PHASE_LISTENING, and at ZMG_PHASE_ENDED if no game had started. */
 size_t zmg_lockstep_packet(zmg_lockstep *node, uint8_t to, uint8_t *out, size_t room);
-
-/* A number, if known is 1; if there is none, both fields are 0. */
-typedef struct zmg_number {
-    uint32_t known, value;
-} zmg_number;
 
 /* The full tic numbers of a packet, which itself carries only their low bytes. known: 1, or 0 if there is no
  * packet, and then all fields are 0. ask: the first tic whose command is asked for again, if any; as long as
@@ -298,11 +657,6 @@ typedef struct zmg_move {
 #define ZMG_RUN_DEMO_FULL 2u
 #define ZMG_RUN_INCONSISTENT 3u
 #define ZMG_RUN_NOT_PLAYING 4u
-typedef struct zmg_ran {
-    uint32_t code, tic;
-    int16_t was, should;
-    uint8_t player;
-} zmg_ran;
 
 /* Runs the next tic, if it can. marks: each player's mark in the caller's world as it stands; any number for
  * a seat without a player. With ZMG_RUN_RAN, row has the moves by which the world is stepped next; with any
@@ -364,21 +718,23 @@ size_t zmg_lockstep_demo(zmg_lockstep *node, size_t from, uint8_t *out, size_t r
 
 /* ---- A link -------------------------------------------------------------------------------------------- */
 
-/* A node for an untrusted network, which seals what it sends and takes care of delivery, pace and the lobby. It
- * keeps packets with new commands until the peer has acknowledged them, and gives each peer one datagram a tick
- * with everything that is kept for the peer, as far as it fits: commands of a lost datagram are in the next
- * one, and nobody has to ask for them. A datagram is sealed: it has its sender, its receiver and full tic
- * numbers, under a tag that only the players of the game can make (HMAC-SHA-256, of which 16 bytes are sent).
- * Any bytes may come in, from anywhere and at any time. Those that are not a datagram to this player in this
- * game are dropped, so no table of senders is needed. As long as nobody without the secret makes a tag, the
- * games of the links agree, whatever the network loses, repeats, reorders, delays, alters, forges or gives
- * another sender. Instead of what zmg_lockstep_receive requires, the caller owes:
+/* A node for an untrusted network, which plays from the beginning on, seals what it sends, and takes care of
+ * delivery and pace. Who is in the game, with which settings, was agreed on elsewhere. It keeps packets with
+ * new commands until the peer has acknowledged them, and gives each peer one datagram a tick with everything
+ * that is kept for the peer, as far as it fits: commands of a lost datagram are in the next one, and nobody has
+ * to ask for them. A datagram is sealed: it has its sender, its receiver and full tic numbers, under a tag that
+ * only the players of the game can make (HMAC-SHA-256, of which 16 bytes are sent). Any bytes may come in, from
+ * anywhere and at any time. Those that are not a datagram to this player in this game are dropped, so no table
+ * of senders is needed. As long as nobody without the secret makes a tag, the games of the links agree,
+ * whatever the network loses, repeats, reorders, delays, alters, forges or gives another sender. Instead of
+ * what zmg_lockstep_receive requires, the caller owes:
  *   - Delivery. If nothing gets through, the game waits, and nothing worse happens.
- *   - One link of a player at a time: no second one once the first has been given the settings, and none that
- *     goes on from a copy of memory. All that is sealed comes from zmg_link_datagram and zmg_link_report: a
+ *   - One link of each player: no second one with the same number, and none that goes on from a copy of
+ *     memory. All that is sealed comes from zmg_link_datagram and zmg_link_report: a
  *     player who seals datagrams other than by these calls can send the others different commands.
- *   - One number for each game. Player 0's machine draws sixteen random bytes and sends them to the others.
- *     The number need not be secret, but each player must get the one that was drawn: whoever can hand a
+ *   - One number for each game, its players, its settings and all else that must be the same at all of them:
+ *     sixteen random bytes that one draws and sends to the others, or what a session makes of its terms. The
+ *     number need not be secret, but each player must get the one that was drawn: whoever can hand a
  *     player an old number can replay that old game to the player. Send it over a channel that nobody can
  *     alter. If a number is used again, the datagrams of the old game open in the new one.
  *   - A secret that is kept: 32 random bytes, known to the players alone and used for nothing else. Whoever
@@ -387,7 +743,7 @@ size_t zmg_lockstep_demo(zmg_lockstep *node, size_t from, uint8_t *out, size_t r
  * marks of zmg_link_run are owed as those of zmg_lockstep_run are. A link and a lockstep do not read each
  * other's datagrams: either all players of a game have links, or none has.
  *
- *     a tick, 35 times a second by the caller's own clock, from the start: so the players find each other:
+ *     a tick, 35 times a second by the caller's own clock:
  *         zmg_link_build(&link, keys);  or zmg_link_give
  *         later = zmg_link_lean(&link);  the next tick is due (1 + later / 32.0) / 35 s after this one was
  *         send to each other player what zmg_link_datagram gives
@@ -395,22 +751,21 @@ size_t zmg_lockstep_demo(zmg_lockstep *node, size_t from, uint8_t *out, size_t r
  *     half a tick later:
  *         send one more datagram to each player for whom zmg_link_wants_second(&link, player)
  *     whenever bytes come, also between ticks:
- *         if (zmg_link_receive(&link, bytes, n).started) begin the world
+ *         zmg_link_receive(&link, bytes, n);
  *         run
  *     to run:
  *         while (zmg_link_run(&link, marks of the world, row).code == ZMG_RUN_RAN) step the world by row
  *         if (zmg_link_catch_up(&link).code == ZMG_BUILD_MADE) send to each other player, and run once more
  *     where a player has vanished for good, and the others are to play on, at each of them:
- *         zmg_link_give_up(&link, player);  if the game starts by it, begin the world
+ *         zmg_link_give_up(&link, player);
  *         from then on also send to each other player, at each tick, what zmg_link_report gives
  *     to leave:
  *         zmg_link_quit(&link);
  *         go on with ticks and bytes until zmg_link_may_leave(&link), but not for ever, and two seconds more
  *         zmg_link_free(&link);
  *
- * A mouse: if zmg_link_catch_up returns ZMG_BUILD_FULL before a tick's zmg_link_give, the last command was
- * not made, and this one takes its place. So put the motion of both into it, as the loop in EMBEDDING.md
- * does.
+ * A mouse: if zmg_link_catch_up returns ZMG_BUILD_FULL before a tick's zmg_link_give, the last command was not
+ * made, and this one takes its place. So put the motion of both into it, as the loop in EMBEDDING.md does.
  *
  * The calls that are not described here do and return what the calls of a lockstep with the same names do. A
  * call on a handle that holds no link returns what it returns on a handle that holds no lockstep. */
@@ -424,19 +779,15 @@ typedef struct zmg_link {
 #define ZMG_SECRET_SIZE 32
 #define ZMG_NUMBER_SIZE 16
 
-/* How many bytes the engine adds to a link's identity. */
-#define ZMG_HOST_SIZE 16u
-
-/* Makes a link in the handle, with a window of `ahead` commands: ZMG_MOST_AHEAD is that of zmg_lockstep_new.
- * game: the game's number, sixteen random bytes. All players of a game have the same secret and number. host:
- * what else must be the same for all players, such as a digest of the engine's version, files and options. A
- * player whose players, extra, limit, window or host differ takes no part: see zmg_link_presence. Returns
- * ZMG_NEW_BAD_SECRET if all bytes of the secret are 0, as in a buffer that was never filled; else returns what
- * zmg_lockstep_new_within returns. A link that the handle holds is freed first. All memory is allocated here.
- * If the call returns anything but ZMG_NEW_OK, the handle holds no link. Nothing is kept by reference. */
+/* Makes a link in the handle, which plays with the settings of config from the beginning on, whoever its player
+ * is, with a window of `ahead` commands: ZMG_MOST_AHEAD is that of zmg_lockstep_new. game: the game's number.
+ * All players of a game have the same secret and number, and players, extra, limit, settings and window. The
+ * caller begins its world at once. Returns ZMG_NEW_BAD_SECRET if all bytes of the secret are 0, as in a buffer
+ * that was never filled; else returns what zmg_lockstep_new_within returns. A link that the handle holds is
+ * freed first. All memory is allocated here. If the call returns anything but ZMG_NEW_OK, the handle holds no
+ * link. Nothing is kept by reference. */
 uint32_t zmg_link_new(zmg_link *link, const zmg_config *config, uint8_t ahead,
-    const uint8_t secret[ZMG_SECRET_SIZE], const uint8_t game[ZMG_NUMBER_SIZE],
-    const uint8_t host[ZMG_HOST_SIZE]);
+    const uint8_t secret[ZMG_SECRET_SIZE], const uint8_t game[ZMG_NUMBER_SIZE]);
 
 void zmg_link_free(zmg_link *link);
 
@@ -492,11 +843,9 @@ size_t zmg_link_datagram(zmg_link *link, uint8_t to, uint8_t *out, size_t room);
 #define ZMG_LINK_RECEIVE_HEARD 0u     /* a datagram of `player`, which was taken in */
 #define ZMG_LINK_RECEIVE_STRANGER 1u  /* sealed in this game, under a number that is not another player's */
 #define ZMG_LINK_RECEIVE_UNOPENED 2u  /* not a datagram to this player in this game; reason says why */
-#define ZMG_LINK_RECEIVE_DIFFERENT 3u /* `player`, or whoever was `player` before, has another identity; none
-                                       * of its commands was taken */
-#define ZMG_LINK_RECEIVE_GIVEN_UP 4u  /* sealed in this game by `player`, who is given up by zmg_link_give_up */
-#define ZMG_LINK_RECEIVE_REPORTED 5u  /* the report of `player`; reason says what became of it (ZMG_REPORT_) */
-#define ZMG_LINK_RECEIVE_UNREPORTED 6u /* of the kind of reports, but not another player's to this one in this
+#define ZMG_LINK_RECEIVE_GIVEN_UP 3u  /* sealed in this game by `player`, who is given up by zmg_link_give_up */
+#define ZMG_LINK_RECEIVE_REPORTED 4u  /* the report of `player`; reason says what became of it (ZMG_REPORT_) */
+#define ZMG_LINK_RECEIVE_UNREPORTED 5u /* of the kind of reports, but not another player's to this one in this
                                        * game; reason says why (ZMG_BUNDLE_) */
 
 /* Why bytes are not a datagram: the first of these that holds. */
@@ -512,7 +861,7 @@ size_t zmg_link_datagram(zmg_link *link, uint8_t to, uint8_t *out, size_t room);
 #define ZMG_BUNDLE_SENDER 9u   /* of a report: its sender is no player, or this one */
 
 /* What became of a report. One that is dropped has its ZMG_DROP_: _STRANGER where its sender is not another
- * player, _NOT_PLAYING where the link listens or has ended, _GIVEN_UP. Nothing changed but with the first two and
+ * player, _NOT_PLAYING where the link has ended, _GIVEN_UP. Nothing changed but with the first two and
  * from ZMG_REPORT_UNTAKEN on. */
 #define ZMG_REPORT_KEPT 0u     /* it is kept; reports are missing, if somebody is given up */
 #define ZMG_REPORT_DECIDED 1u  /* it is kept, and where the commands of all who are given up end is known */
@@ -522,70 +871,20 @@ size_t zmg_link_datagram(zmg_link *link, uint8_t to, uint8_t *out, size_t room);
 #define ZMG_REPORT_UNTAKEN 16u /* it is kept, but an end cannot be taken: this plus a ZMG_SETTLE_. Some report
                                 * is false, but it need not be this one */
 
-/* reason: see ZMG_BUNDLE_ and ZMG_REPORT_; 0 except with ZMG_LINK_RECEIVE_UNOPENED, _REPORTED and _UNREPORTED, and
- * with the first of them too if the handle holds no link. player: the sender; 0 with ZMG_LINK_RECEIVE_UNOPENED
- * and ZMG_LINK_RECEIVE_UNREPORTED. started: 1 if the game started with these bytes,
- * and then the caller begins its world with zmg_link_settings; else 0. */
+/* reason: see ZMG_BUNDLE_ and ZMG_REPORT_; 0 except with ZMG_LINK_RECEIVE_UNOPENED, _REPORTED and _UNREPORTED,
+ * and with the first of them too if the handle holds no link. player: the sender; 0 with
+ * ZMG_LINK_RECEIVE_UNOPENED and ZMG_LINK_RECEIVE_UNREPORTED. */
 typedef struct zmg_received {
     uint32_t code, reason;
-    uint8_t player, started;
+    uint8_t player;
 } zmg_received;
 
 /* Takes in any bytes, whoever sent them and whenever they come. */
 zmg_received zmg_link_receive(zmg_link *link, const uint8_t *bytes, size_t length);
 
-/* Who is there. state is one of these, as far as this link has heard: */
-#define ZMG_PRESENCE_UNKNOWN 0u   /* nothing came from the player, or there is no such other player */
-#define ZMG_PRESENCE_THERE 1u     /* it is there, with the same identity */
-#define ZMG_PRESENCE_PLAYING 2u   /* its game has started */
-#define ZMG_PRESENCE_DIFFERENT 3u /* it said hello with another identity, which the other fields have; its
-                                   * goodbye before its game changes nothing */
-#define ZMG_PRESENCE_AWAY 4u      /* it left before its game started, or was forgotten before the game of this
-                                   * link did; another may take its place, with a link of its own, and is
-                                   * heard once 64 of its datagrams have come, or before; but if cause is 0,
-                                   * only if the link that was forgotten is gone, and never if player 0 gave
-                                   * it the settings, or if the player is given up (zmg_link_has_given_up) */
-#define ZMG_PRESENCE_LEFT 5u      /* it has played, and left */
-#define ZMG_PRESENCE_FORGOTTEN 6u /* it was forgotten when this link played or had ended, or had given it the
-                                   * settings, or had heard that it plays: nobody takes its place */
-/* cause: with ZMG_PRESENCE_AWAY and ZMG_PRESENCE_LEFT why it left, as at ZMG_PHASE_ENDED (ZMG_CAUSE_QUIT,
- * _FULL, _INCONSISTENT); 0 if it was forgotten, and in other states. The other fields: with
- * ZMG_PRESENCE_DIFFERENT those of its zmg_config, its window and its host, else 0. */
-typedef struct zmg_presence {
-    uint32_t state, limit;
-    uint8_t cause, players, extra, ahead;
-    uint8_t host[ZMG_HOST_SIZE];
-} zmg_presence;
-
-/* Returns what is known of another player. Player 0 gives its settings once all others are there: until then a
- * player may come, go, and come again. Once they were given, nobody else may take the place of player 0, nor of
- * a player who was given them, whatever that player said since: a goodbye may be an old one that comes again.
- * Player 0's link sees to the latter: it hears no hello of a player whom it gave the settings. To learn of a
- * player who is ZMG_PRESENCE_AWAY whether its place is free, player 0 forgets it (zmg_link_forget): the place
- * is free if the player is ZMG_PRESENCE_AWAY still. Other links do not know whom player 0 gave the settings. */
-zmg_presence zmg_link_presence(zmg_link *link, uint8_t player);
-
-/* Forgets a player who has not been heard for too long (`came` of zmg_link_line rises with each new one of
- * its datagrams). What becomes of the player:
- *
- * - It cannot have started: this link listens or gathers, has not given it the settings, and has not heard that
- *   it plays. Then it is ZMG_PRESENCE_AWAY, with cause 0, until a new hello or goodbye comes, or a datagram of
- *   its game or a goodbye after its game, of any age; and another may take its place.
- * - Else it may have started, and it is ZMG_PRESENCE_FORGOTTEN, until a datagram of its game comes that is
- *   newer than its newest, or 64 or more behind it, or a goodbye after its game, of any age. zmg_link_may_leave
- *   does not wait for it. Nobody takes its place, since its commands may have reached others: for another
- *   player, make a new game with a new number. Its commands are still missing: the game goes on without it only
- *   if its end is known, or after zmg_link_give_up.
- *
- * At a player 0 that still gathers the second case may end this game's number. If the player has not started,
- * as when the settings were lost on the way, it goes on saying hello, and that is not heard; nor is another's
- * hello; and player 0 gives nobody the settings while one is missing. So all wait for good, though every
- * datagram comes: make a new game with a new number, or give the player up by zmg_link_give_up, and the others
- * play without it.
- *
- * A player who is ZMG_PRESENCE_LEFT stays so. Of one who is given up by zmg_link_give_up nothing is heard any
- * more, and nobody takes its place. For a number that is not another player's nothing happens. */
-void zmg_link_forget(zmg_link *link, uint8_t player);
+/* Returns why another player has left, if known is 1: ZMG_CAUSE_QUIT, _FULL or _INCONSISTENT, as its datagrams
+ * told with all of its commands and its end. */
+zmg_number zmg_link_left(zmg_link *link, uint8_t player);
 
 /* What zmg_link_give_up returns. */
 #define ZMG_GIVE_UP_WAITING 0u      /* the player is given up; reports are missing */
@@ -596,11 +895,11 @@ void zmg_link_forget(zmg_link *link, uint8_t player);
                                      * report is false, and reason says how it shows, but nothing says whose */
 #define ZMG_GIVE_UP_ALREADY 3u      /* the player was given up before */
 #define ZMG_GIVE_UP_NOT_A_PLAYER 4u /* the number is not another player's */
-#define ZMG_GIVE_UP_NOT_PLAYING 5u  /* the link listens or has ended, or the handle holds none */
+#define ZMG_GIVE_UP_NOT_PLAYING 5u  /* the link has ended, or the handle holds none */
 
 /* Why an end cannot be taken. */
 #define ZMG_SETTLE_NOT_A_PLAYER 1u  /* the number is not another player's */
-#define ZMG_SETTLE_NOT_PLAYING 2u   /* the link listens or has ended */
+#define ZMG_SETTLE_NOT_PLAYING 2u   /* the link has ended */
 #define ZMG_SETTLE_GAP 3u           /* a command before the end is missing, and no report has it */
 #define ZMG_SETTLE_BEHIND 4u        /* the end lies before the last command that is there */
 #define ZMG_SETTLE_OVERRUN 5u       /* there is no room for the commands yet */
@@ -613,14 +912,11 @@ typedef struct zmg_given_up {
     uint8_t player;
 } zmg_given_up;
 
-/* Gives up a player who vanished, for good, so that the others play on. Unlike zmg_link_forget it cannot be
- * undone: from here on no datagram goes to the player, nothing of it is taken, zmg_link_run compares no mark of
- * it, and zmg_link_may_leave does not wait for it. Its presence becomes what zmg_link_forget makes of it; then
- * nothing that comes changes it, and nobody takes the player's place. All who play on must give it up, and hear
- * each other's reports; until then zmg_link_run waits whenever it lacks a command of the player. Then its
- * commands end at the same tic at all of them, and the game goes on from there without it. If the link gathered
- * before the call, and plays after it, the game has started: the caller begins its world with
- * zmg_link_settings. */
+/* Gives up a player who vanished, for good, so that the others play on: from here on no datagram goes to the
+ * player, nothing of it is taken, zmg_link_run compares no mark of it, and zmg_link_may_leave does not wait for
+ * it. All who play on must give it up, and hear each other's reports; until then zmg_link_run waits whenever it
+ * lacks a command of the player. Then its commands end at the same tic at all of them, and the game goes on
+ * from there without it. */
 zmg_given_up zmg_link_give_up(zmg_link *link, uint8_t player);
 
 /* Returns 1 if the player is given up by zmg_link_give_up, else 0. */
@@ -630,45 +926,30 @@ uint32_t zmg_link_has_given_up(zmg_link *link, uint8_t player);
  * play on together have to give up the same players. A teller who is given up reports nobody: 0. */
 uint32_t zmg_link_reports_gone(zmg_link *link, uint8_t teller, uint8_t player);
 
-/* Returns which player's report is missing, the lowest number of them, if known is 1: of those who are not given
- * up one who has not given up the same players, as far as it reported. Ask it while somebody is given up. */
+/* Returns which player's report is missing, the lowest number of them, if known is 1: of those who are not
+ * given up one who has not given up the same players, as far as it reported. Ask it while somebody is given
+ * up. */
 zmg_number zmg_link_undecided(zmg_link *link);
 
 /* How many bytes of room zmg_link_report needs: a report has no more. */
 #define ZMG_REPORT_SIZE 425u
 
-/* Writes the report to player `to` to the front of out, and returns how many bytes it has: what this link has of
- * the others, whom it has given up, and whether it has left. Send one to each other player at each tick while
- * somebody is given up, also once the link has left; zmg_link_receive takes it. Returns 0, and leaves out as it
- * was, if room is below ZMG_REPORT_SIZE, if `to` is not another player's number or is given up, or while this
- * link has given up nobody and has not left. */
+/* Writes the report to player `to` to the front of out, and returns how many bytes it has: what this link has
+ * of the others, whom it has given up, and whether it has left. Send one to each other player at each tick
+ * while somebody is given up, also once the link has left; zmg_link_receive takes it. Returns 0, and leaves out
+ * as it was, if room is below ZMG_REPORT_SIZE, if `to` is not another player's number or is given up, or while
+ * this link has given up nobody and has not left. */
 size_t zmg_link_report(zmg_link *link, uint8_t to, uint8_t *out, size_t room);
 
-/* Returns 1 if no other player needs anything more from this one: each has played and left, is
- * ZMG_PRESENCE_FORGOTTEN, or has acknowledged all commands of this one and that it has left; or player 0 is
- * ZMG_PRESENCE_AWAY with a cause above 0: without another player 0 there will be no game. Also returns 1 for a
- * link that ended before its game started. Else returns 0, and 0 if the handle holds no link.
+/* Returns 1 if no other player needs anything more from this one: each has left, or is given up, or has
+ * acknowledged all commands of this one and that it has left. Else returns 0, and 0 if the handle holds no
+ * link.
  *
  * A peer that has left waits for this link in the same way: give it some more datagrams before the link is
- * freed, and limit the wait, since the last datagram may be lost. A player who started, and quits while
- * player 0 still gathers, must stay until the game of all has started, else the game waits for it. A player
- * who never played may go at once; some 64 more datagrams, in two seconds, let the others see it go. */
+ * freed, and limit the wait, since the last datagram may be lost. */
 uint32_t zmg_link_may_leave(zmg_link *link);
 
-/* What is known of the line to another player, if known is 1; for a number that is not another player's all
- * fields are 0. came: how many of its datagrams came, copies and too old ones not counted. lost: how many of
- * the numbers between the first datagram that came and the newest did not come within 64; a datagram that was
- * sent before the first and came after it takes one off. repeated: how many copies came, less than 64 behind
- * the newest. too_old: how many came 64 or more behind the newest, unless the line began anew with them.
- * missing_there: how many of the last datagrams to it did not come there, or came after newer ones. lead,
- * lead_there: how many commands this player was ahead of it, and it of this player, each at its own last tick.
- * Counts stop at the largest number. To know when a player was last heard, note the time whenever `came` has
- * risen. */
-typedef struct zmg_line {
-    uint32_t known, came, lost, repeated, too_old;
-    uint8_t missing_there;
-    int8_t lead, lead_there;
-} zmg_line;
+/* Returns what is known of the line to another player. */
 zmg_line zmg_link_line(zmg_link *link, uint8_t player);
 
 /* Returns how often bytes came that were not a datagram to this player in this game: damaged, forged, of

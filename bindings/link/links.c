@@ -7,12 +7,11 @@ static zmg_link links[4];
 
 void player_open(uint8_t me, uint8_t players, uint8_t ahead) {
     static const uint8_t secret[ZMG_SECRET_SIZE] = { 1 }, game[ZMG_NUMBER_SIZE] = { 2 };
-    static const uint8_t host[ZMG_HOST_SIZE] = { 3 };
     zmg_config c = { 1 << 22, 0, 0, 0, { 3, 0, 0, 0, 1, 1 } };
     uint32_t code;
     c.players = players;
     c.me = me;
-    code = zmg_link_new(&links[me], &c, ahead, secret, game, host);
+    code = zmg_link_new(&links[me], &c, ahead, secret, game);
     if (code != ZMG_NEW_OK) {
         fprintf(stderr, "sim: no link: %u\n", code);
         exit(1);
@@ -34,7 +33,7 @@ int player_receive(uint8_t me, uint8_t from, const uint8_t *bytes, size_t length
         fprintf(stderr, "sim: player %u does not open a datagram of player %u\n", me, from);
         exit(1);
     }
-    return received.started;
+    return 0;
 }
 
 zmg_ran player_run(uint8_t me, const int16_t marks[4], zmg_move row[4]) {

@@ -7,7 +7,7 @@
 
 #define ROOM 1200u
 
-/* All players of a game have the same window. */
+/* All players of a game have the same window. Links play from the beginning on. */
 void player_open(uint8_t me, uint8_t players, uint8_t ahead);
 void player_close(uint8_t me);
 

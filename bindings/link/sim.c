@@ -224,6 +224,7 @@ static void open_player(uint8_t me) {
     p->hungry = 0;
     for (uint32_t tic = 0; tic < tics; tic++) p->made_at[tic] = p->ran_at[tic] = -1;
     player_open(me, players, ahead);
+    if (player_phase(me) == ZMG_PHASE_PLAYING) walk_begin(&p->world, players);
     wait_for(TICK, me, p->next);
 }
 

@@ -22,7 +22,7 @@ enum { TAG = 16, GAME = 2, BATCH = 200, MOST_ROUNDS = 500 };
 
 static const char LABEL[] = "zirmegat game key 1";
 
-static uint8_t secret[ZMG_SECRET_SIZE], number[ZMG_NUMBER_SIZE], host[ZMG_HOST_SIZE], key[32];
+static uint8_t secret[ZMG_SECRET_SIZE], number[ZMG_NUMBER_SIZE], key[32];
 static uint8_t datagram[ZMG_LINK_SIZE], forged[ZMG_LINK_SIZE], stray[ZMG_LINK_SIZE], code[32];
 static size_t length;
 static unsigned commands;
@@ -142,18 +142,11 @@ static void begin_nodes(void) {
     }
 }
 
-static zmg_received pass(zmg_link *links, uint8_t from) {
-    length = zmg_link_datagram(&links[from], 1 - from, datagram, sizeof datagram);
-    return zmg_link_receive(&links[1 - from], datagram, length);
-}
-
 static void begin_links(zmg_link *links) {
     for (uint8_t me = 0; me < 2; me++) {
         zmg_config c = config_of(me);
-        must(zmg_link_new(&links[me], &c, ZMG_WIDEST_AHEAD, secret, number, host) == ZMG_NEW_OK, "a link");
+        must(zmg_link_new(&links[me], &c, ZMG_WIDEST_AHEAD, secret, number) == ZMG_NEW_OK, "a link");
     }
-    pass(links, 1);
-    must(pass(links, 0).started && pass(links, 1).started, "started, with links");
 }
 
 /* Games that have begun. Of the links that stay, player 1 has heard a datagram of player 0 with all commands, each

@@ -7,7 +7,7 @@
 import socket
 import sys
 
-VERSION = 2  # the program's is 1
+VERSION = 3  # the program's is 2
 HINT, ANOTHER_VERSION = 4, 2
 
 host = socket.socket(socket.AF_INET, socket.SOCK_DGRAM)

@@ -12,7 +12,6 @@ import argparse
 import collections
 import dataclasses
 import functools
-import ipaddress
 import subprocess
 import sys
 
@@ -26,18 +25,20 @@ SETUP = ["doom.setup." + name for name in
 EXACT = ["doom.exact." + name for name in ("start", "asked", "ask")]
 SEAL = ["doom_seal." + name for name in ("suite", "kind", "from", "to")]
 LINK = ["doom_link." + name for name in
-        ("number", "lead", "holes", "made", "ran", "got", "message", "players", "extra", "ahead", "limit",
-         "host", "cause", "parts", "part.run", "part.player", "part.length")]
+        ("number", "lead", "holes", "cause", "made", "ran", "got", "parts", "part.run", "part.player",
+         "part.length")]
 REPORT = ["doom_report." + name for name in
           ("gone", "gone.player0", "gone.player1", "gone.player2", "gone.player3", "left", "player", "count",
            "last")]
 GREETING = ["doom_greeting." + name for name in
-            ("suite", "kind", "name", "version", "what", "mark", "number", "seat", "players", "cookie", "zeros",
-             "extra", "ahead", "rate", "limit", "game", "place.told", "place.ip", "place.port", "reason",
-             "hint", "tag")]
-BYTES = ["doom_link.host", "doom_seal.tag", "doom_seal.game"]
-BYTES += ["doom_greeting." + name for name in ("name", "mark", "cookie", "zeros", "game", "tag")]
-ADDRESS = "doom_greeting.place.ip"
+            ("suite", "kind", "name", "version", "what", "number", "count", "cookie", "seat", "players",
+             "identity", "called", "zeros", "host", "begun", "extra", "ahead", "rate", "limit", "skill",
+             "deathmatch", "nomonsters", "respawn", "episode", "map", "policy", "seconds", "own", "holder.held",
+             "holder.number", "holder.address", "holder.called", "reason", "hint", "tag")]
+BYTES = ["doom_seal.tag", "doom_seal.game"]
+BYTES += ["doom_greeting." + name for name in
+          ("name", "number", "cookie", "identity", "called", "zeros", "host", "own", "holder.number",
+           "holder.address", "holder.called", "tag")]
 SEAL_FAULTS = ["doom_seal.unlike", "doom_seal.refused", "doom_greeting.refused"]
 FIELDS = (FAULTS + PACKET + COMMAND + FLAGS + BUTTONS + SETUP + EXACT + SEAL + LINK + REPORT + GREETING
           + SEAL_FAULTS + ["doom.checksum", "doom.checksum.calculated", "doom.retransmit"]
@@ -45,7 +46,8 @@ FIELDS = (FAULTS + PACKET + COMMAND + FLAGS + BUTTONS + SETUP + EXACT + SEAL + L
 NAMES = ["doom." + name for name in ("flags", "ask", "start", "player", "count")]
 PROTOCOLS = {"packet": "DOOM_SEAL", "link": "DOOM_LINK", "report": "DOOM_REPORT",
              "greeting": "DOOM_GREETING"}
-REASONS = ["no seat is free", "the seat is taken", "another number of players", "it has begun"]
+REASONS = ["the cookie is not good", "no seat is to be had", "the game has begun", "another number of players",
+           "another identity", "turned away"]
 SHOWN = {"dropped 1 short": "doom.short", "dropped 2 many": "doom.many", "dropped 3 length": "doom.length",
          "dropped 4 sum": "doom.sum"}
 LOADED = "tools/doom.lua"
@@ -53,8 +55,6 @@ LOADED = "tools/doom.lua"
 
 def value(field, word):
     """A field's value as a number, or as its bytes."""
-    if field == ADDRESS:
-        return ipaddress.IPv6Address(word).packed.hex()
     if field in BYTES:
         return word
     return int(word == "True") if word in ("True", "False") else int(word, 0)
@@ -213,7 +213,7 @@ def told(line):
         elif not sign:
             assert field == "inner", line
             is_inner = True
-        elif field in BYTES + [ADDRESS]:
+        elif field in BYTES:
             wanted[field].append(bytes_in(word).hex())
         elif field in FAULTS + SEAL_FAULTS:
             wanted[field] = True
@@ -229,7 +229,7 @@ def with_frame(line):
         return wanted | {"doom_seal.tag": [payload[-16:].hex()], "doom_seal.game": [payload[2:10].hex()]}
     wanted |= {"doom_greeting.kind": [4], "doom_greeting.name": ["zirmegat"]}
     if wanted["doom_greeting.what"] == [1]:
-        wanted["doom_greeting.zeros"] = ["00" * 64]
+        wanted["doom_greeting.zeros"] = ["00" * 483]
     if wanted["doom_greeting.what"] != [4]:
         wanted["doom_greeting.tag"] = [payload[-16:].hex()]
     return wanted
@@ -247,14 +247,14 @@ def report_info(wanted):
 def greeting_info(wanted):
     """The words of a greeting in the Info column."""
     said = {field.split(".", 1)[1]: values[0] for field, values in wanted.items() if field in GREETING}
-    if said["what"] == 3:
-        players = f": {said['players']}" if said["reason"] == 3 else ""
-        return f"refusal, {REASONS[said['reason'] - 1]}{players}"
     if said["what"] == 4:
         return ["hint, another suite or key", f"hint, another version: {said['version']}"][said["hint"] - 1]
-    sort = {1: "call", 2: "answer", 5: "retry"}[said["what"]]
-    words = f"{sort} {said['number']}"
-    return words + "".join(f", {name} {said[name]}" for name in ("seat", "players") if said.get(name))
+    if said["what"] == 3:
+        players = f": {said['players']}" if said["reason"] == 4 else ""
+        return f"refusal {said['count']}, {REASONS[said['reason'] - 1]}{players}"
+    words = f"{['call', 'seating'][said['what'] - 1]} {said['count']}"
+    words += "".join(f", {name} {said[name]}" for name in ("seat", "players") if said[name])
+    return words + (", begun" if said.get("begun") else "")
 
 
 def is_wrong(line):

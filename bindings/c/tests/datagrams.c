@@ -4,11 +4,12 @@
  * With N, every Nth request for memory is refused.
  *
  * Each link has two twins. A link that is given the same calls must answer the same, and give the same
- * datagrams. A plain node that is given the packets of the datagrams that were heard, one by one, those of third
- * players among them, must come to the same; they are read here from the bytes. Bytes that a link does not open are counted, and change nothing
- * else of it. Now and then a player quits, or a link gives another player up. All links of a game run the same
- * rows, tell the same ends and record the same demos. Each datagram has every command that its receiver has not
- * acknowledged. C99 and C++. Ends with status 0, or names the line that failed. */
+ * datagrams. A plain node that has started with those of the others, and is given the packets of the datagrams
+ * that were heard, one by one, those of third players among them, must come to the same; they are read here
+ * from the bytes. Bytes that a link does not open are counted, and change nothing else of it. Now and then a
+ * player quits. All links of a game run the same rows, tell the same ends and record the same demos. Each
+ * datagram has every command that its receiver has not acknowledged. C99 and C++. Ends with status 0, or names
+ * the line that failed. */
 #include "agreed.h"
 #include "chance.h"
 #include "engine.h"
@@ -21,9 +22,8 @@
 
 enum { GAMES = 2, NODES = 4, BAG = 64, MOST = ZMG_LINK_SIZE + 100, NEAR = 64, PART = 24 * 8 };
 
-/* Places in a datagram: its sender, what the sender has of each player, and what it is for. The bytes of a
- * tag. */
-enum { FROM = 10, GOT = 26, MESSAGE = 42, TAG = 16 };
+/* Places in a datagram: its sender, what the sender has of each player, and the parts. The bytes of a tag. */
+enum { FROM = 10, GOT = 27, PARTS = 43, TAG = 16 };
 
 static unsigned long received;
 
@@ -34,15 +34,13 @@ typedef struct datagram {
     uint8_t from, to, bytes[MOST];
 } datagram;
 
-/* A link and its twins; the keys or the command of its last build, and whether it is owed; how many of its
- * commands each other player has told that it has; and the last datagram with a packet that came from each
- * before the start. */
+/* A link and its twins; the keys or the command of its last build, and whether it is owed; and how many of its
+ * commands each other player has told that it has. */
 typedef struct seat {
     zmg_link link, twin;
     zmg_lockstep node;
     uint32_t keys, is_given, owes, acknowledged[NODES], ahead;
     zmg_command command;
-    datagram noted[NODES];
 } seat;
 
 /* The last datagrams of a game, and what its players have in common. */
@@ -50,7 +48,7 @@ typedef struct game {
     seat seats[NODES];
     datagram bag[BAG];
     uint32_t players, given, age, limit;
-    uint8_t ahead, secret[ZMG_SECRET_SIZE], number[ZMG_NUMBER_SIZE], host[ZMG_HOST_SIZE];
+    uint8_t ahead, secret[ZMG_SECRET_SIZE], number[ZMG_NUMBER_SIZE];
     agreement common;
 } game;
 
@@ -58,15 +56,14 @@ typedef struct game {
 typedef struct told {
     zmg_phase phase;
     uint32_t me, players, made, ran, can_build, may_leave, unacknowledged, wants_second[NODES + 1];
-    zmg_number got[NODES + 1], end[NODES + 1];
-    zmg_presence presence[NODES + 1];
+    zmg_number got[NODES + 1], end[NODES + 1], left[NODES + 1];
     zmg_line line[NODES + 1];
     size_t demo_length;
 } told;
 
 static game games[GAMES];
 static uint8_t out[MOST], again[MOST];
-static unsigned long answers[16], reasons[16], starts, ran, without, caught_up, quits, full, forgotten;
+static unsigned long answers[16], reasons[16], ran, without, caught_up, quits, full;
 
 /* ---- Links and their twins ---- */
 
@@ -86,18 +83,13 @@ static told tell(zmg_link *link) {
         t.wants_second[p] = zmg_link_wants_second(link, p);
         t.got[p] = zmg_link_got(link, p);
         t.end[p] = zmg_link_end(link, p);
-        t.presence[p] = zmg_link_presence(link, p);
+        t.left[p] = zmg_link_left(link, p);
         t.line[p] = zmg_link_line(link, p);
     }
     return t;
 }
 
 static int is_same_number(zmg_number a, zmg_number b) { return a.known == b.known && a.value == b.value; }
-
-static int is_same_presence(const zmg_presence *a, const zmg_presence *b) {
-    return a->state == b->state && a->limit == b->limit && a->cause == b->cause && a->players == b->players
-        && a->extra == b->extra && a->ahead == b->ahead && memcmp(a->host, b->host, sizeof a->host) == 0;
-}
 
 static int is_same_line(const zmg_line *a, const zmg_line *b) {
     return a->known == b->known && a->came == b->came && a->lost == b->lost && a->repeated == b->repeated
@@ -117,7 +109,7 @@ static int is_same(const told *a, const told *b) {
         && a->demo_length == b->demo_length;
     for (unsigned p = 0; p <= NODES; p++)
         same = same && a->wants_second[p] == b->wants_second[p] && is_same_number(a->got[p], b->got[p])
-            && is_same_number(a->end[p], b->end[p]) && is_same_presence(&a->presence[p], &b->presence[p])
+            && is_same_number(a->end[p], b->end[p]) && is_same_number(a->left[p], b->left[p])
             && is_same_line(&a->line[p], &b->line[p]);
     return same;
 }
@@ -135,7 +127,7 @@ static void watch(seat *s) {
         MUST(is_same_number(link.end[p], zmg_lockstep_end(&s->node, p)));
         MUST(link.wants_second[p] <= link.line[p].known);
         MUST(link.line[p].known == (p < link.players && p != link.me));
-        MUST(link.presence[p].state <= ZMG_PRESENCE_FORGOTTEN);
+        MUST(link.left[p].value <= ZMG_CAUSE_INCONSISTENT && (link.left[p].value > 0) == link.left[p].known);
     }
     MUST(zmg_link_refused(&s->link) == zmg_link_refused(&s->twin) && link.unacknowledged <= link.made);
 }
@@ -162,14 +154,36 @@ static void sit(game *g, uint8_t me) {
     zmg_config c = config_of(g->limit, g->players, me);
     uint32_t codes[3];
     memset(s->acknowledged, 0, sizeof s->acknowledged);
-    memset(s->noted, 0, sizeof s->noted);
     s->owes = 0;
     s->ahead = g->ahead;
-    codes[0] = zmg_link_new(&s->link, &c, g->ahead, g->secret, g->number, g->host);
-    codes[1] = zmg_link_new(&s->twin, &c, g->ahead, g->secret, g->number, g->host);
+    codes[0] = zmg_link_new(&s->link, &c, g->ahead, g->secret, g->number);
+    codes[1] = zmg_link_new(&s->twin, &c, g->ahead, g->secret, g->number);
     codes[2] = zmg_lockstep_new_within(&s->node, &c, g->ahead);
     for (unsigned k = 0; k < 3; k++) MUST(codes[k] == ZMG_NEW_OK || codes[k] == ZMG_NEW_NO_MEMORY);
     if (codes[0] | codes[1] | codes[2]) leave(g, s);
+}
+
+/* A player has its link and its twins. */
+static int is_seated(game *g, uint8_t me) { return zmg_link_phase(&g->seats[me].link).code != ZMG_PHASE_NONE; }
+
+static uint32_t packet_comes(game *g, uint8_t from, uint8_t to) {
+    uint8_t packet[ZMG_PACKET_SIZE];
+    size_t size = zmg_lockstep_packet(&g->seats[from].node, to, packet, sizeof packet);
+    return zmg_lockstep_receive(&g->seats[to].node, from, packet, size).code;
+}
+
+/* Player 0's node gives the others the settings, and each answers: all have started, as links have. Where there
+ * was no memory for some seat, nobody plays. */
+static void start_nodes(game *g) {
+    uint32_t seated = 0;
+    for (uint8_t me = 0; me < g->players; me++) seated += (unsigned)is_seated(g, me);
+    if (seated < g->players) {
+        for (uint8_t me = 0; me < g->players; me++) leave(g, &g->seats[me]);
+        return;
+    }
+    for (uint8_t p = 1; p < g->players; p++) MUST(packet_comes(g, 0, p) == ZMG_RECEIVE_STARTED);
+    for (uint8_t p = 1; p < g->players; p++)
+        MUST((packet_comes(g, p, 0) == ZMG_RECEIVE_STARTED) == (p + 1u == g->players));
 }
 
 static void begin(game *g) {
@@ -182,8 +196,8 @@ static void begin(game *g) {
     g->age = 0;
     fill(g->secret, sizeof g->secret);
     fill(g->number, sizeof g->number);
-    fill(g->host, sizeof g->host);
     for (uint8_t me = 0; me < g->players; me++) sit(g, me);
+    start_nodes(g);
 }
 
 /* ---- What a datagram carries ---- */
@@ -243,8 +257,7 @@ static const uint8_t *read_run(const uint8_t *at, uint8_t from, carried *packets
 
 /* Reads all packets of a datagram that was heard or given: how many. Those of third players stand last. */
 static size_t read_packets(const uint8_t *bytes, size_t length, carried *packets) {
-    static const uint8_t message_bytes[3] = { 24, 1, 2 };
-    const uint8_t *at = bytes + MESSAGE + message_bytes[bytes[MESSAGE]], *end = bytes + length - TAG;
+    const uint8_t *at = bytes + PARTS, *end = bytes + length - TAG;
     size_t count = 0;
     for (unsigned parts = *at++; parts; parts--) {
         if (*at == 0) {
@@ -269,9 +282,9 @@ static int is_near(zmg_lockstep *node, uint32_t tic) {
     return -NEAR <= away && away <= NEAR;
 }
 
-static int node_starts(zmg_lockstep *node, const carried *packet) {
-    if (!is_near(node, packet->start) || (packet->ask.known && !is_near(node, packet->ask.value))) return 0;
-    return zmg_lockstep_receive(node, packet->from, packet->bytes, packet->length).code == ZMG_RECEIVE_STARTED;
+static void node_takes(zmg_lockstep *node, const carried *packet) {
+    if (!is_near(node, packet->start) || (packet->ask.known && !is_near(node, packet->ask.value))) return;
+    zmg_lockstep_receive(node, packet->from, packet->bytes, packet->length);
 }
 
 /* Leaves out the packets of third players whose runs begin past what the node has: how many remain. */
@@ -282,29 +295,11 @@ static size_t taken(zmg_lockstep *node, const uint8_t *bytes, carried *packets, 
     return kept;
 }
 
-/* Hands a node the packets, up to the one that starts its game, and then all again. Whether it starts. */
-static int node_hears(zmg_lockstep *node, const uint8_t *bytes, size_t length) {
+/* Hands a node the packets. */
+static void node_hears(zmg_lockstep *node, const uint8_t *bytes, size_t length) {
     static carried packets[PART + 1];
-    size_t count = taken(node, bytes, packets, read_packets(bytes, length, packets)), k = 0;
-    while (k < count && !node_starts(node, &packets[k])) k++;
-    if (k == count) return 0;
-    for (k = 0; k < count; k++) node_starts(node, &packets[k]);
-    return 1;
-}
-
-/* Player 0's link says what it hears before the start, so its node hears all of it at the start. */
-static int node_starts_with(seat *s, const uint8_t *bytes, size_t length, int starts) {
-    static carried packets[PART + 1];
-    datagram *noted = &s->noted[bytes[FROM]];
-    if (zmg_lockstep_phase(&s->node).code != ZMG_PHASE_GATHERING) return node_hears(&s->node, bytes, length);
-    if (read_packets(bytes, length, packets) > 0) {
-        noted->length = length;
-        memcpy(noted->bytes, bytes, length);
-    }
-    if (!starts) return 0;
-    for (uint8_t p = 0; p < NODES; p++)
-        if (p != bytes[FROM] && s->noted[p].length) node_hears(&s->node, s->noted[p].bytes, s->noted[p].length);
-    return node_hears(&s->node, bytes, length);
+    size_t count = taken(node, bytes, packets, read_packets(bytes, length, packets));
+    for (size_t k = 0; k < count; k++) node_takes(node, &packets[k]);
 }
 
 /* An end that is known counts as one more. */
@@ -331,12 +326,9 @@ static int is_last(const carried *packets, size_t count, const uint8_t *packet, 
         && memcmp(packets[count - 1].bytes, packet, size) == 0;
 }
 
-/* A peer that has left takes no packet; one that plays, or was given up, none without commands and flags. */
+/* A peer that has left takes no packet, and nobody one without commands and flags. */
 static int takes(seat *s, uint8_t to, const uint8_t *packet, size_t size) {
-    uint32_t state = zmg_link_presence(&s->link, to).state;
-    int tells_nothing = size == 8 && packet[3] < 16;
-    if (state == ZMG_PRESENCE_LEFT) return 0;
-    return !tells_nothing || (state != ZMG_PRESENCE_PLAYING && state != ZMG_PRESENCE_FORGOTTEN);
+    return !zmg_link_left(&s->link, to).known && (size > 8 || packet[3] >= 16);
 }
 
 /* The packets to a player who has not left have every command that it has not acknowledged, oldest first, up to
@@ -352,14 +344,14 @@ static void is_complete(const seat *s, uint8_t to, uint32_t made, const carried 
     MUST(next == made || commands == ZMG_MOST_COMMANDS);
 }
 
-/* A player has neither ended nor been given up. */
+/* A player has not ended. */
 static int is_there(game *g, uint8_t player) {
     uint32_t phase = zmg_link_phase(&g->seats[player].link).code;
     return phase != ZMG_PHASE_NONE && phase != ZMG_PHASE_ENDED;
 }
 
-/* The datagram is the twin's. In a game that has started, and to a player who is there, the last packet in it
- * is the node's, if the player takes it. */
+/* The datagram is the twin's. To a player who is there the last packet in it is the node's, if the player takes
+ * it. */
 static size_t give(game *g, uint8_t me, uint8_t to) {
     static carried packets[PART + 1];
     seat *s = &g->seats[me];
@@ -373,7 +365,7 @@ static size_t give(game *g, uint8_t me, uint8_t to) {
     MUST(memcmp(out, again, length) == 0 && out[FROM] == me && out[FROM + 1] == to);
     count = own_packets(out, packets, read_packets(out, length, packets));
     size = zmg_lockstep_packet(&s->node, to, packet, sizeof packet);
-    if (is_there(g, to) && zmg_link_phase(&s->link).code >= ZMG_PHASE_PLAYING) {
+    if (is_there(g, to)) {
         MUST(size == 0 || is_last(packets, count, packet, size) == takes(s, to, packet, size));
         is_complete(s, to, zmg_link_made(&s->link), packets, count);
     }
@@ -470,19 +462,6 @@ static void quit(seat *s) {
     watch(s);
 }
 
-/* A player is given up in the game, perhaps itself or one that it has not: nothing that is heard changes. */
-static void forget(seat *s) {
-    uint8_t player = (uint8_t)below(NODES + 1);
-    uint32_t phase = zmg_link_phase(&s->link).code, state = zmg_link_presence(&s->link, player).state;
-    if (phase != ZMG_PHASE_PLAYING && phase != ZMG_PHASE_ENDED) return;
-    zmg_link_forget(&s->link, player);
-    zmg_link_forget(&s->twin, player);
-    if (state != ZMG_PRESENCE_LEFT && zmg_link_line(&s->link, player).known) state = ZMG_PRESENCE_FORGOTTEN;
-    MUST(zmg_link_presence(&s->link, player).state == state);
-    forgotten += state == ZMG_PRESENCE_FORGOTTEN;
-    watch(s);
-}
-
 /* What is read of the settings, of commands and of the demo is the same. */
 static void read_all(seat *s) {
     uint8_t player = (uint8_t)below(6);
@@ -511,17 +490,16 @@ static zmg_received receive(seat *s, const uint8_t *bytes, size_t length) {
     zmg_received answer = zmg_link_receive(&s->link, bytes, length);
     zmg_received twin = zmg_link_receive(&s->twin, bytes, length);
     MUST(answer.code == twin.code && answer.reason == twin.reason && answer.player == twin.player);
-    MUST(answer.started == twin.started && answer.code < 16 && answer.reason < 16);
+    MUST(answer.code < 16 && answer.reason < 16);
     received++;
     MUST(zmg_link_refused(&s->link) == refused + is_refused(answer));
     if (answer.code == ZMG_LINK_RECEIVE_HEARD) {
         acknowledge(s, bytes);
-        MUST(answer.started == node_starts_with(s, bytes, length, answer.started));
+        node_hears(&s->node, bytes, length);
         acknowledge_by_commands(s);
-        starts += answer.started;
     } else {
         after = tell(&s->link);
-        MUST(is_same(&before, &after) && answer.started == 0);
+        MUST(is_same(&before, &after));
     }
     answers[answer.code]++;
     reasons[answer.reason]++;
@@ -631,7 +609,6 @@ static void turn(unsigned which) {
     if (below(4)) catch_up(s);
     if (below(8) == 0) read_all(s);
     if (below(3000) == 0) quit(s);
-    if (below(300) == 0) forget(s);
     if (below(6000) == 0) leave(g, s);
     if (++g->age > 1500) begin(g);
 }
@@ -645,9 +622,9 @@ int main(int argc, char **argv) {
     for (unsigned k = 0; k < GAMES; k++)
         for (unsigned p = 0; p < NODES; p++) leave(&games[k], &games[k].seats[p]);
     MUST(blocks_held() == 0);
-    printf("%lu datagrams: heard %lu, unopened %lu, starts %lu, ran %lu, without a player %lu, caught up %lu,"
-        " quits %lu, full %lu, forgotten %lu\nreasons", received, answers[ZMG_LINK_RECEIVE_HEARD],
-        answers[ZMG_LINK_RECEIVE_UNOPENED], starts, ran, without, caught_up, quits, full, forgotten);
+    printf("%lu datagrams: heard %lu, unopened %lu, ran %lu, without a player %lu, caught up %lu,"
+        " quits %lu, full %lu\nreasons", received, answers[ZMG_LINK_RECEIVE_HEARD],
+        answers[ZMG_LINK_RECEIVE_UNOPENED], ran, without, caught_up, quits, full);
     for (unsigned k = 1; k < 16; k++) printf(" %lu", reasons[k]);
     printf("\n");
     return 0;

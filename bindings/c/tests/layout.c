@@ -18,13 +18,24 @@ static void sizes(void) {
     IS(sizeof(zmg_lockstep), 2 * sizeof(void *));
     IS(sizeof(zmg_link), 2 * sizeof(void *));
     IS(sizeof(zmg_demo), 2 * sizeof(void *));
+    IS(sizeof(zmg_session), 2 * sizeof(void *));
+    IS(sizeof(zmg_address), 32);
+    IS(sizeof(zmg_terms), 292);
+    IS(sizeof(zmg_host_config), 376);
+    IS(sizeof(zmg_join_config), 131);
+    IS(sizeof(zmg_over), 8);
+    IS(sizeof(zmg_event), 16);
+    IS(sizeof(zmg_session_game), 20);
+    IS(sizeof(zmg_state), 328);
+    IS(sizeof(zmg_seat), 56);
+    IS(sizeof(zmg_player_in_game), 52);
+    IS(sizeof(zmg_player), 108);
     IS(sizeof(zmg_settings), 6);
     IS(sizeof(zmg_config), 16);
     IS(sizeof(zmg_made), 8);
     IS(sizeof(zmg_heard), 8);
     IS(sizeof(zmg_received), 12);
     IS(sizeof(zmg_given_up), 12);
-    IS(sizeof(zmg_presence), 28);
     IS(sizeof(zmg_line), 24);
     IS(sizeof(zmg_number), 8);
     IS(sizeof(zmg_aim), 20);
@@ -46,20 +57,61 @@ static void offsets(void) {
     IS(offsetof(zmg_lockstep, at), sizeof(size_t));
     IS(offsetof(zmg_link, live), 0);
     IS(offsetof(zmg_link, at), sizeof(size_t));
+    IS(offsetof(zmg_terms, limit), 0);
+    IS(offsetof(zmg_terms, policy), 4);
+    IS(offsetof(zmg_terms, seconds), 8);
+    IS(offsetof(zmg_terms, players), 9);
+    IS(offsetof(zmg_terms, extra), 10);
+    IS(offsetof(zmg_terms, window), 11);
+    IS(offsetof(zmg_terms, rate), 12);
+    IS(offsetof(zmg_terms, settings), 13);
+    IS(offsetof(zmg_terms, identity), 19);
+    IS(offsetof(zmg_terms, own), 35);
+    IS(offsetof(zmg_host_config, terms), 0);
+    IS(offsetof(zmg_host_config, key), 292);
+    IS(offsetof(zmg_host_config, random), 324);
+    IS(offsetof(zmg_host_config, name), 356);
+    IS(offsetof(zmg_host_config, keyless), 372);
+    IS(offsetof(zmg_join_config, key), 0);
+    IS(offsetof(zmg_join_config, random), 32);
+    IS(offsetof(zmg_join_config, host), 64);
+    IS(offsetof(zmg_join_config, identity), 96);
+    IS(offsetof(zmg_join_config, name), 112);
+    IS(offsetof(zmg_join_config, keyless), 128);
+    IS(offsetof(zmg_join_config, seat), 129);
+    IS(offsetof(zmg_join_config, players), 130);
+    IS(offsetof(zmg_event, kind), 0);
+    IS(offsetof(zmg_event, player), 4);
+    IS(offsetof(zmg_event, over), 8);
+    IS(offsetof(zmg_session_game, made), 0);
+    IS(offsetof(zmg_session_game, ran), 4);
+    IS(offsetof(zmg_session_game, unacknowledged), 8);
+    IS(offsetof(zmg_session_game, may_leave), 12);
+    IS(offsetof(zmg_session_game, was), 16);
+    IS(offsetof(zmg_session_game, should), 18);
+    IS(offsetof(zmg_state, stage), 0);
+    IS(offsetof(zmg_state, why), 4);
+    IS(offsetof(zmg_state, game), 12);
+    IS(offsetof(zmg_state, me), 32);
+    IS(offsetof(zmg_state, terms), 36);
+    IS(offsetof(zmg_seat, state), 0);
+    IS(offsetof(zmg_seat, known), 4);
+    IS(offsetof(zmg_seat, address), 8);
+    IS(offsetof(zmg_seat, name), 40);
+    IS(offsetof(zmg_player_in_game, standing), 0);
+    IS(offsetof(zmg_player_in_game, awaited), 4);
+    IS(offsetof(zmg_player_in_game, silent), 8);
+    IS(offsetof(zmg_player_in_game, got), 12);
+    IS(offsetof(zmg_player_in_game, end), 20);
+    IS(offsetof(zmg_player_in_game, line), 28);
+    IS(offsetof(zmg_player, seat), 0);
+    IS(offsetof(zmg_player, game), 56);
     IS(offsetof(zmg_received, code), 0);
     IS(offsetof(zmg_received, reason), 4);
     IS(offsetof(zmg_received, player), 8);
-    IS(offsetof(zmg_received, started), 9);
     IS(offsetof(zmg_given_up, code), 0);
     IS(offsetof(zmg_given_up, reason), 4);
     IS(offsetof(zmg_given_up, player), 8);
-    IS(offsetof(zmg_presence, state), 0);
-    IS(offsetof(zmg_presence, limit), 4);
-    IS(offsetof(zmg_presence, cause), 8);
-    IS(offsetof(zmg_presence, players), 9);
-    IS(offsetof(zmg_presence, extra), 10);
-    IS(offsetof(zmg_presence, ahead), 11);
-    IS(offsetof(zmg_presence, host), 12);
     IS(offsetof(zmg_line, known), 0);
     IS(offsetof(zmg_line, came), 4);
     IS(offsetof(zmg_line, lost), 8);
@@ -538,8 +590,7 @@ static void packets(void) {
 }
 
 static zmg_link key_link = ZMG_LINK_NONE, other_link = ZMG_LINK_NONE;
-static uint8_t secret[ZMG_SECRET_SIZE] = { 1, 2, 3 }, number[ZMG_NUMBER_SIZE] = { 4, 5, 6 },
-    host[ZMG_HOST_SIZE] = { 7, 8, 9 };
+static uint8_t secret[ZMG_SECRET_SIZE] = { 1, 2, 3 }, number[ZMG_NUMBER_SIZE] = { 4, 5, 6 };
 
 static size_t datagram(zmg_link *from, uint8_t to) {
     return zmg_link_datagram(from, to, bytes, sizeof bytes);
@@ -550,7 +601,6 @@ static void no_datagram(size_t length, uint32_t why) {
     IS(received.code, ZMG_LINK_RECEIVE_UNOPENED);
     IS(received.reason, why);
     IS(received.player, 0);
-    IS(received.started, 0);
 }
 
 /* A handle that holds nothing answers as a node that does not play. */
@@ -563,11 +613,10 @@ static void no_link(void) {
     IS(zmg_link_catch_up(&other_link).code, ZMG_BUILD_NONE_OWED);
     IS(zmg_link_lean(&other_link), 0);
     IS(zmg_link_wants_second(&other_link, 1), 0);
-    IS(zmg_link_presence(&other_link, 1).state, ZMG_PRESENCE_UNKNOWN);
+    IS(zmg_link_left(&other_link, 1).known, 0);
     IS(zmg_link_line(&other_link, 1).known, 0);
     IS(zmg_link_refused(&other_link), 0);
     IS(zmg_link_unacknowledged(&other_link), 0);
-    zmg_link_forget(&other_link, 1);
     IS(zmg_link_give_up(&other_link, 1).code, ZMG_GIVE_UP_NOT_PLAYING);
     IS(zmg_link_has_given_up(&other_link, 1), 0);
     IS(zmg_link_reports_gone(&other_link, 0, 1), 0);
@@ -598,58 +647,20 @@ static zmg_received heard_by(zmg_link *link, zmg_link *from) {
     return zmg_link_receive(link, bytes, n);
 }
 
-static void is_there(uint32_t state, uint32_t cause) {
-    zmg_presence p = zmg_link_presence(&other_link, 0);
-    IS(p.state, state);
-    IS(p.cause, cause);
-    IS(p.players + p.extra + p.ahead + (int)p.limit + p.host[0], 0);
-}
-
-/* Every answer of zmg_link_presence, as the other link tells it of player 0. */
-static void presences(void) {
-    uint8_t another[ZMG_HOST_SIZE] = { 1 };
+/* Why player 0 has left, as the other link tells it. */
+static void leaves(void) {
     zmg_config c = config_of(1);
-    zmg_presence p;
-    IS(zmg_link_new(&other_link, &c, ZMG_MOST_AHEAD, secret, number, host), ZMG_NEW_OK);
-    is_there(ZMG_PRESENCE_UNKNOWN, 0);
-    IS(zmg_link_presence(&other_link, 1).state, ZMG_PRESENCE_UNKNOWN);
-    IS(zmg_link_presence(&other_link, 2).state, ZMG_PRESENCE_UNKNOWN);
+    IS(zmg_link_new(&other_link, &c, ZMG_MOST_AHEAD, secret, number), ZMG_NEW_OK);
     c = config_of(0);
-    c.limit++;
-    c.extra = 1;
-    IS(zmg_link_new(&key_link, &c, ZMG_WIDEST_AHEAD, secret, number, another), ZMG_NEW_OK);
-    IS(heard_by(&other_link, &key_link).code, ZMG_LINK_RECEIVE_DIFFERENT);
-    p = zmg_link_presence(&other_link, 0);
-    IS(p.state, ZMG_PRESENCE_DIFFERENT);
-    IS(p.limit, c.limit);
-    IS(p.cause, 0);
-    IS(p.players, 2);
-    IS(p.extra, 1);
-    IS(p.ahead, ZMG_WIDEST_AHEAD);
-    IS(memcmp(p.host, another, sizeof another), 0);
-    zmg_link_forget(&other_link, 0);
-    is_there(ZMG_PRESENCE_AWAY, 0);
-    c = config_of(0);
-    IS(zmg_link_new(&key_link, &c, ZMG_MOST_AHEAD, secret, number, host), ZMG_NEW_OK);
-    /* its first number is not newer than that of the one before it */
+    IS(zmg_link_new(&key_link, &c, ZMG_MOST_AHEAD, secret, number), ZMG_NEW_OK);
     IS(heard_by(&other_link, &key_link).code, ZMG_LINK_RECEIVE_HEARD);
-    is_there(ZMG_PRESENCE_AWAY, 0);
-    IS(heard_by(&other_link, &key_link).started, 0);
-    is_there(ZMG_PRESENCE_THERE, 0);
-    IS(heard_by(&key_link, &other_link).code, ZMG_LINK_RECEIVE_HEARD);
-    IS(heard_by(&other_link, &key_link).started, 1);
-    IS(heard_by(&key_link, &other_link).started, 1);
-    IS(heard_by(&other_link, &key_link).code, ZMG_LINK_RECEIVE_HEARD);
-    is_there(ZMG_PRESENCE_PLAYING, 0);
-    zmg_link_forget(&other_link, 0);
-    is_there(ZMG_PRESENCE_FORGOTTEN, 0);
-    IS(heard_by(&other_link, &key_link).code, ZMG_LINK_RECEIVE_HEARD);
-    is_there(ZMG_PRESENCE_PLAYING, 0);
+    for (uint8_t of = 0; of < 3; of++) IS(zmg_link_left(&other_link, of).known, 0);
     IS(zmg_link_quit(&key_link), 1);
     IS(heard_by(&other_link, &key_link).code, ZMG_LINK_RECEIVE_HEARD);
-    is_there(ZMG_PRESENCE_LEFT, ZMG_CAUSE_QUIT);
-    zmg_link_forget(&other_link, 0);
-    is_there(ZMG_PRESENCE_LEFT, ZMG_CAUSE_QUIT);
+    IS(zmg_link_left(&other_link, 0).known, 1);
+    IS(zmg_link_left(&other_link, 0).value, ZMG_CAUSE_QUIT);
+    IS(zmg_link_may_leave(&other_link), 1);
+    IS(zmg_link_may_leave(&key_link), 0);
 }
 
 static void line_is(zmg_line line, uint32_t came, uint32_t lost, uint32_t repeated, uint32_t too_old) {
@@ -660,20 +671,20 @@ static void line_is(zmg_line line, uint32_t came, uint32_t lost, uint32_t repeat
     IS(line.too_old, too_old);
 }
 
-/* Of the datagrams of player 0 two are missing, one comes late and then twice, and one comes too late to tell. */
+/* Of the datagrams of player 0 two are missing, one comes late and then twice, and one comes too late to
+ * tell. */
 static void figures(void) {
     zmg_config c = config_of(0);
     uint8_t first[ZMG_LINK_SIZE], late[ZMG_LINK_SIZE];
     size_t length, late_length;
-    IS(zmg_link_new(&key_link, &c, ZMG_MOST_AHEAD, secret, number, host), ZMG_NEW_OK);
+    IS(zmg_link_new(&key_link, &c, ZMG_MOST_AHEAD, secret, number), ZMG_NEW_OK);
     c = config_of(1);
-    IS(zmg_link_new(&other_link, &c, ZMG_MOST_AHEAD, secret, number, host), ZMG_NEW_OK);
+    IS(zmg_link_new(&other_link, &c, ZMG_MOST_AHEAD, secret, number), ZMG_NEW_OK);
     line_is(zmg_link_line(&other_link, 0), 0, 0, 0, 0);
     IS(zmg_link_line(&other_link, 1).known, 0);
     IS(zmg_link_line(&other_link, 2).known, 0);
     heard_by(&key_link, &other_link);
     heard_by(&other_link, &key_link);
-    heard_by(&key_link, &other_link);
     length = datagram(&key_link, 1);
     memcpy(first, bytes, length);
     late_length = datagram(&key_link, 1);
@@ -703,22 +714,6 @@ static void figures(void) {
     line_is(zmg_link_line(&other_link, 0), 67, 1, 1, 1);
 }
 
-/* Another player 0 takes the place of the first, and begins with number 0: nothing is missing, nor too old. */
-static void line_begins_anew(void) {
-    zmg_config c = config_of(1);
-    IS(zmg_link_new(&other_link, &c, ZMG_MOST_AHEAD, secret, number, host), ZMG_NEW_OK);
-    c = config_of(0);
-    IS(zmg_link_new(&key_link, &c, ZMG_MOST_AHEAD, secret, number, host), ZMG_NEW_OK);
-    for (unsigned k = 0; k < 65; k++) heard_by(&other_link, &key_link);
-    datagram(&key_link, 1);
-    heard_by(&other_link, &key_link);
-    line_is(zmg_link_line(&other_link, 0), 66, 1, 0, 0);
-    IS(zmg_link_new(&key_link, &c, ZMG_MOST_AHEAD, secret, number, host), ZMG_NEW_OK);
-    for (unsigned k = 0; k < 3; k++) heard_by(&other_link, &key_link);
-    line_is(zmg_link_line(&other_link, 0), 69, 1, 0, 0);
-    is_there(ZMG_PRESENCE_THERE, 0);
-}
-
 /* A link is owed the input for which it has no room. */
 static void owed(void) {
     IS(zmg_link_catch_up(&key_link).code, ZMG_BUILD_NONE_OWED);
@@ -734,12 +729,12 @@ static void owed(void) {
 /* A secret of zeros is refused before all, and gives up what the handle held; one with any other byte is not. */
 static void unset_secrets(const zmg_config *c) {
     uint8_t zeros[ZMG_SECRET_SIZE] = { 0 };
-    IS(zmg_link_new(&key_link, c, ZMG_MOST_AHEAD, secret, number, host), ZMG_NEW_OK);
-    IS(zmg_link_new(&key_link, c, 0, zeros, number, host), ZMG_NEW_BAD_SECRET);
+    IS(zmg_link_new(&key_link, c, ZMG_MOST_AHEAD, secret, number), ZMG_NEW_OK);
+    IS(zmg_link_new(&key_link, c, 0, zeros, number), ZMG_NEW_BAD_SECRET);
     IS(zmg_link_phase(&key_link).code, ZMG_PHASE_NONE);
     for (unsigned k = 0; k < sizeof zeros; k++) {
         zeros[k] = 1;
-        IS(zmg_link_new(&key_link, c, 0, zeros, number, host), ZMG_NEW_BAD_AHEAD);
+        IS(zmg_link_new(&key_link, c, 0, zeros, number), ZMG_NEW_BAD_AHEAD);
         zeros[k] = 0;
     }
 }
@@ -758,12 +753,9 @@ static void link_tic(void) {
 /* What links tell of a game of 66 tics, at whose end player 0 leaves. */
 static void link_tics(void) {
     zmg_config c = config_of(0);
-    IS(zmg_link_new(&key_link, &c, ZMG_MOST_AHEAD, secret, number, host), ZMG_NEW_OK);
+    IS(zmg_link_new(&key_link, &c, ZMG_MOST_AHEAD, secret, number), ZMG_NEW_OK);
     c = config_of(1);
-    IS(zmg_link_new(&other_link, &c, ZMG_MOST_AHEAD, secret, number, host), ZMG_NEW_OK);
-    heard_by(&key_link, &other_link);
-    IS(heard_by(&other_link, &key_link).started, 1);
-    IS(heard_by(&key_link, &other_link).started, 1);
+    IS(zmg_link_new(&other_link, &c, ZMG_MOST_AHEAD, secret, number), ZMG_NEW_OK);
     for (int k = 0; k < 66; k++) link_tic();
     IS(zmg_link_made(&key_link), 66);
     IS(zmg_link_ran(&other_link), 66);
@@ -794,28 +786,31 @@ static void links(void) {
     no_link();
     unset_secrets(&c);
     c.settings.map = 0;
-    IS(zmg_link_new(&key_link, &c, 0, secret, number, host), ZMG_NEW_BAD_MAP);
+    IS(zmg_link_new(&key_link, &c, 0, secret, number), ZMG_NEW_BAD_MAP);
+    /* whoever its player is */
+    c.me = 1;
+    IS(zmg_link_new(&key_link, &c, 0, secret, number), ZMG_NEW_BAD_MAP);
     c = config_of(2);
-    IS(zmg_link_new(&key_link, &c, 0, secret, number, host), ZMG_NEW_BAD_AHEAD);
-    IS(zmg_link_new(&key_link, &c, ZMG_WIDEST_AHEAD, secret, number, host), ZMG_NEW_BAD_ME);
+    IS(zmg_link_new(&key_link, &c, 0, secret, number), ZMG_NEW_BAD_AHEAD);
+    IS(zmg_link_new(&key_link, &c, ZMG_WIDEST_AHEAD, secret, number), ZMG_NEW_BAD_ME);
     c.players = 3;
-    IS(zmg_link_new(&key_link, &c, ZMG_MOST_AHEAD, secret, number, host), ZMG_NEW_OK);
+    IS(zmg_link_new(&key_link, &c, ZMG_MOST_AHEAD, secret, number), ZMG_NEW_OK);
     c = config_of(1);
-    IS(zmg_link_new(&other_link, &c, ZMG_MOST_AHEAD, secret, number, host), ZMG_NEW_OK);
+    IS(zmg_link_new(&other_link, &c, ZMG_MOST_AHEAD, secret, number), ZMG_NEW_OK);
     n = datagram(&key_link, 1);
     received = zmg_link_receive(&other_link, bytes, n);
     IS(received.code, ZMG_LINK_RECEIVE_STRANGER);
     IS(received.player, 2);
     IS(zmg_link_refused(&other_link), 0);
     c = config_of(0);
-    IS(zmg_link_new(&key_link, &c, ZMG_MOST_AHEAD, secret, number, host), ZMG_NEW_OK);
+    IS(zmg_link_new(&key_link, &c, ZMG_MOST_AHEAD, secret, number), ZMG_NEW_OK);
     IS(zmg_link_datagram(&key_link, 1, bytes, ZMG_LINK_SIZE - 1), 0);
     IS(datagram(&key_link, 0), 0);
     IS(datagram(&key_link, 2), 0);
     n = datagram(&key_link, 1);
     no_datagram(59, ZMG_BUNDLE_SHORT);
     no_datagram(ZMG_LINK_SIZE + 1, ZMG_BUNDLE_LONG);
-    no_datagram(n - 1, ZMG_BUNDLE_TAG);
+    no_datagram(n + 1, ZMG_BUNDLE_TAG);
     for (unsigned k = 0; k < sizeof places; k++) {
         bytes[places[k]] ^= 64;
         no_datagram(n, faults[k]);
@@ -825,19 +820,16 @@ static void links(void) {
     no_datagram(n, ZMG_BUNDLE_SUITE);
     bytes[0] = bytes[1] = 1; /* one packet in an envelope */
     no_datagram(n, ZMG_BUNDLE_KIND);
-    bytes[1] = 2;
+    bytes[1] = 5;
     IS(zmg_link_receive(&key_link, bytes, n).reason, ZMG_BUNDLE_RECEIVER);
     received = zmg_link_receive(&other_link, bytes, n);
     IS(received.code, ZMG_LINK_RECEIVE_HEARD);
     IS(received.reason, 0);
     IS(received.player, 0);
-    IS(received.started, 0);
-    IS(heard_by(&key_link, &other_link).started, 0);
-    IS(heard_by(&other_link, &key_link).started, 1);
     IS(zmg_link_settings(&other_link).settings.map, 9);
     n = datagram(&other_link, 0);
-    IS(zmg_link_receive(&key_link, bytes, n).started, 1);
-    IS(zmg_link_receive(&key_link, bytes, n).started, 0);
+    IS(zmg_link_receive(&key_link, bytes, n).code, ZMG_LINK_RECEIVE_HEARD);
+    IS(zmg_link_receive(&key_link, bytes, n).code, ZMG_LINK_RECEIVE_HEARD);
     IS(zmg_link_phase(&key_link).code, ZMG_PHASE_PLAYING);
     IS(zmg_link_may_leave(&key_link), 0);
     owed();
@@ -846,11 +838,10 @@ static void links(void) {
     link_tics();
     zmg_link_free(&key_link);
     zmg_link_free(&other_link);
-    presences();
+    leaves();
     zmg_link_free(&key_link);
     zmg_link_free(&other_link);
     figures();
-    line_begins_anew();
     zmg_link_free(&key_link);
     zmg_link_free(&other_link);
     IS(zmg_link_phase(&key_link).code, ZMG_PHASE_NONE);
@@ -954,7 +945,7 @@ static void no_memory(void) {
     IS(blocks_held(), 0);
     ASKS(2, zmg_lockstep_new(&key, &c), ZMG_NEW_NO_MEMORY,
         zmg_lockstep_phase(&key).code == ZMG_PHASE_NONE && blocks_held() == 0);
-    ASKS(2, zmg_link_new(&key_link, &c, ZMG_MOST_AHEAD, secret, number, host), ZMG_NEW_NO_MEMORY,
+    ASKS(2, zmg_link_new(&key_link, &c, ZMG_MOST_AHEAD, secret, number), ZMG_NEW_NO_MEMORY,
         zmg_link_phase(&key_link).code == ZMG_PHASE_NONE);
     zmg_link_free(&key_link);
     ASKS(1, zmg_demo_new(&demo), ZMG_DEMO_NO_MEMORY, zmg_demo_tell(&demo).known == 0);

@@ -1,10 +1,8 @@
 /* Games of links: `link [SEED]`. Two links play 200 tics over a line in memory that loses, repeats and reorders
- * datagrams; their demos must be the same, and at the end both may leave. Then short games of three on a line
- * that loses nothing: one comes, leaves before the last one has come, and another takes its place; one starts
- * and quits before the others; one has a world that differs; one has another `host`, or seems to; one vanishes,
- * and comes back; one vanishes, and is given up for good, of two players and of three. At last two on a line that
- * is longer than the window, who lose nothing of the motion of their mice. C99 and C++. Ends with status 0, or
- * names the line that failed. */
+ * datagrams; their demos must be the same, and at the end both may leave. Then short games on a line that loses
+ * nothing: one has a world that differs; one vanishes, and is given up for good, of two players and of three.
+ * At last two on a line that is longer than the window, who lose nothing of the motion of their mice. C99 and
+ * C++. Ends with status 0, or names the line that failed. */
 #include "chance.h"
 #include "must.h"
 #include "zirmegat.h"
@@ -27,16 +25,15 @@ static uint8_t demos[2][DEMO + 64];
 
 static void tell_where(FILE *out) { fprintf(out, "after %u lost datagrams", (unsigned)lost); }
 
-static void open_link(uint8_t me, uint8_t players, uint8_t host) {
+static void open_link(uint8_t me, uint8_t players) {
     const uint8_t secret[ZMG_SECRET_SIZE] = { 1, 2, 3 }, game[ZMG_NUMBER_SIZE] = { 4, 5, 6 };
-    uint8_t hosts[ZMG_HOST_SIZE] = { 7, 8, 9 };
     zmg_config c = { 16384, 2, 0, 1, { 2, 0, 0, 0, 1, 1 } };
     c.me = me;
     c.players = players;
-    hosts[ZMG_HOST_SIZE - 1] = host;
     memset(worlds[me], 0, sizeof worlds[me]);
-    MUST(zmg_link_new(&links[me], &c, ZMG_MOST_AHEAD, secret, game, hosts) == ZMG_NEW_OK);
+    MUST(zmg_link_new(&links[me], &c, ZMG_MOST_AHEAD, secret, game) == ZMG_NEW_OK);
     MUST(zmg_link_me(&links[me]) == me && zmg_link_players(&links[me]) == players);
+    MUST(zmg_link_settings(&links[me]).settings.map == 1);
 }
 
 /* Each datagram takes a place by chance: what was there before is lost, and the order is lost too. */
@@ -57,7 +54,6 @@ static void take(uint8_t me) {
         if (flights[k].length == 0 || flights[k].to != me || below(3) == 0) continue;
         received = zmg_link_receive(&links[me], flights[k].bytes, flights[k].length);
         MUST(received.code == ZMG_LINK_RECEIVE_HEARD && received.player == 1 - me && received.reason == 0);
-        if (received.started) MUST(zmg_link_settings(&links[me]).settings.map == 1);
         if (below(8)) flights[k].length = 0;
     }
 }
@@ -102,7 +98,7 @@ static void refused(void) {
 
 static uint32_t bad_line(void) {
     uint32_t now = 0;
-    for (uint8_t me = 0; me < 2; me++) open_link(me, 2, 0);
+    for (uint8_t me = 0; me < 2; me++) open_link(me, 2);
     while (zmg_link_ran(&links[0]) < TICS || zmg_link_ran(&links[1]) < TICS) {
         for (uint8_t me = 0; me < 2; me++) tick(me);
         MUST(++now < 100 * TICS);
@@ -157,38 +153,19 @@ static void turns(unsigned count, int first, int second, int third) {
 }
 
 static uint32_t phase(uint8_t me) { return zmg_link_phase(&links[me]).code; }
-static zmg_presence presence(uint8_t me, uint8_t of) { return zmg_link_presence(&links[me], of); }
+static zmg_number left(uint8_t me, uint8_t of) { return zmg_link_left(&links[me], of); }
 
 static void close_links(void) {
     for (uint8_t me = 0; me < LINKS; me++) zmg_link_free(&links[me]);
 }
 
-/* All of them play. Who has taken the place of another may have to give 64 datagrams before it is heard as a
- * new one. */
+/* All of them play. */
 static void all_play(void) {
-    turns(64 + SHORT, 1, 1, 1);
+    turns(SHORT, 1, 1, 1);
     for (uint8_t me = 0; me < LINKS; me++) {
         MUST(phase(me) == ZMG_PHASE_PLAYING && zmg_link_ran(&links[me]) >= SHORT - 10);
-        for (uint8_t of = 0; of < LINKS; of++) MUST(of == me || presence(me, of).state == ZMG_PRESENCE_PLAYING);
+        for (uint8_t of = 0; of < LINKS; of++) MUST(!left(me, of).known);
     }
-}
-
-/* Player 2 comes, leaves before player 1 has come, and says so. The game waits for another player 2. */
-static void one_leaves_the_lobby(void) {
-    open_link(0, LINKS, 0);
-    open_link(2, LINKS, 0);
-    turns(35, 1, 0, 1);
-    MUST(presence(0, 2).state == ZMG_PRESENCE_THERE && presence(0, 1).state == ZMG_PRESENCE_UNKNOWN);
-    MUST(zmg_link_quit(&links[2]) == 1 && zmg_link_may_leave(&links[2]) == 1);
-    turns(35, 1, 0, 1);
-    MUST(presence(0, 2).state == ZMG_PRESENCE_AWAY && presence(0, 2).cause == ZMG_CAUSE_QUIT);
-    zmg_link_free(&links[2]);
-    open_link(1, LINKS, 0);
-    turns(35, 1, 1, 0);
-    MUST(phase(0) == ZMG_PHASE_GATHERING && phase(1) == ZMG_PHASE_LISTENING);
-    open_link(2, LINKS, 0);
-    all_play();
-    close_links();
 }
 
 static size_t datagram(uint8_t from, uint8_t to, flight *f) {
@@ -199,65 +176,11 @@ static zmg_received arrives(uint8_t to, const flight *f) {
     return zmg_link_receive(&links[to], f->bytes, f->length);
 }
 
-/* Player 1 starts and quits while player 2 leaves and player 0 still gathers: it must stay until another player
- * 2 plays, and knows that it has left. */
-static void one_quits_before_the_start(void) {
-    flight f;
-    for (uint8_t me = 0; me < LINKS; me++) open_link(me, LINKS, 0);
-    for (uint8_t me = 1; me < LINKS; me++) MUST(datagram(me, 0, &f) && arrives(0, &f).player == me);
-    MUST(datagram(0, 1, &f) && arrives(1, &f).started);
-    MUST(zmg_link_quit(&links[1]) == 1 && zmg_link_quit(&links[2]) == 1);
-    MUST(zmg_link_may_leave(&links[2]) == 1 && zmg_link_made(&links[1]) == 0);
-    /* its goodbye comes before player 0 gives it the settings; else nobody could take its place */
-    MUST(datagram(2, 0, &f) && arrives(0, &f).player == 2);
-    turns(SHORT, 1, 1, 1);
-    MUST(phase(0) == ZMG_PHASE_GATHERING && presence(0, 1).state == ZMG_PRESENCE_LEFT);
-    MUST(presence(0, 2).state == ZMG_PRESENCE_AWAY && presence(1, 2).state == ZMG_PRESENCE_AWAY);
-    MUST(zmg_link_may_leave(&links[1]) == 0);
-    zmg_link_free(&links[2]);
-    turns(SHORT, 1, 1, 0);
-    MUST(zmg_link_may_leave(&links[1]) == 0);
-    open_link(2, LINKS, 0);
-    turns(64 + SHORT, 1, 1, 1);
-    MUST(zmg_link_may_leave(&links[1]) == 1 && zmg_link_end(&links[2], 1).known);
-    MUST(zmg_link_ran(&links[0]) > SHORT - 10 && zmg_link_ran(&links[2]) > SHORT - 10);
-    close_links();
-}
-
-/* Player 2 vanishes. The others give it up and may leave, until a datagram of its game comes. */
-static void one_vanishes(void) {
-    flight early, late;
-    for (uint8_t me = 0; me < LINKS; me++) open_link(me, LINKS, 0);
-    MUST(datagram(2, 0, &early));
-    zmg_link_forget(&links[0], 2);
-    MUST(presence(0, 2).state == ZMG_PRESENCE_AWAY && presence(0, 2).cause == 0);
-    all_play();
-    turns(SHORT, 1, 1, 0);
-    MUST(zmg_link_unacknowledged(&links[0]) > 0);
-    zmg_link_forget(&links[0], 2);
-    MUST(presence(0, 2).state == ZMG_PRESENCE_FORGOTTEN && presence(0, 2).cause == 0);
-    MUST(zmg_link_unacknowledged(&links[0]) == 0);
-    MUST(zmg_link_quit(&links[0]) == 1 && zmg_link_may_leave(&links[0]) == 0);
-    turns(1, 1, 1, 0);
-    MUST(zmg_link_may_leave(&links[0]) == 1);
-    /* its hello of before the game does not bring it back */
-    MUST(arrives(0, &early).code == ZMG_LINK_RECEIVE_HEARD && presence(0, 2).state == ZMG_PRESENCE_FORGOTTEN);
-    MUST(datagram(2, 0, &late) && arrives(0, &late).code == ZMG_LINK_RECEIVE_HEARD);
-    MUST(presence(0, 2).state == ZMG_PRESENCE_PLAYING && zmg_link_may_leave(&links[0]) == 0);
-    MUST(zmg_link_unacknowledged(&links[0]) > 0);
-    turns(SHORT, 1, 1, 1);
-    MUST(presence(1, 0).state == ZMG_PRESENCE_LEFT && zmg_link_may_leave(&links[0]) == 1);
-    /* who has left is not given up */
-    zmg_link_forget(&links[1], 0);
-    MUST(presence(1, 0).state == ZMG_PRESENCE_LEFT && presence(1, 0).cause == ZMG_CAUSE_QUIT);
-    close_links();
-}
-
 /* Player 1 vanishes from a game of two. Player 0 gives it up for good, and plays on without it. */
 static void one_is_given_up(void) {
     flight late;
     uint32_t ran, n = 0;
-    for (uint8_t me = 0; me < 2; me++) open_link(me, 2, 0);
+    for (uint8_t me = 0; me < 2; me++) open_link(me, 2);
     turns(SHORT, 1, 1, 0);
     turns(4, 1, 0, 0);
     ran = zmg_link_ran(&links[0]);
@@ -265,7 +188,7 @@ static void one_is_given_up(void) {
     MUST(zmg_link_give_up(&links[0], 0).code == ZMG_GIVE_UP_NOT_A_PLAYER && !zmg_link_has_given_up(&links[0], 1));
     MUST(zmg_link_give_up(&links[0], 1).code == ZMG_GIVE_UP_DECIDED && zmg_link_has_given_up(&links[0], 1));
     MUST(zmg_link_give_up(&links[0], 1).code == ZMG_GIVE_UP_ALREADY && !zmg_link_undecided(&links[0]).known);
-    MUST(presence(0, 1).state == ZMG_PRESENCE_FORGOTTEN && zmg_link_unacknowledged(&links[0]) == 0);
+    MUST(zmg_link_unacknowledged(&links[0]) == 0);
     MUST(zmg_link_end(&links[0], 1).value == zmg_link_got(&links[0], 1).value);
     MUST(arrives(0, &late).code == ZMG_LINK_RECEIVE_GIVEN_UP && !datagram(0, 1, &late));
     for (run(0); n < SHORT; n += zmg_link_build(&links[0], draw()).code == ZMG_BUILD_MADE) run(0);
@@ -284,7 +207,7 @@ static uint32_t reports(uint8_t from, uint8_t to) {
     f.length = zmg_link_report(&links[from], to, f.bytes, ZMG_REPORT_SIZE);
     MUST(f.length >= 29 && f.length <= ZMG_REPORT_SIZE);
     received = arrives(to, &f);
-    MUST(received.code == ZMG_LINK_RECEIVE_REPORTED && received.player == from && !received.started);
+    MUST(received.code == ZMG_LINK_RECEIVE_REPORTED && received.player == from);
     reason = received.reason;
     f.bytes[f.length - 1] ^= 1;
     received = arrives(to, &f);
@@ -292,12 +215,12 @@ static uint32_t reports(uint8_t from, uint8_t to) {
     return reason;
 }
 
-/* Player 2 vanishes from a game of three; player 0 alone has its last command. The others play on, with the same
- * commands of it. */
+/* Player 2 vanishes from a game of three; player 0 alone has its last command. The others play on, with the
+ * same commands of it. */
 static void two_play_on(void) {
     flight last;
     uint32_t got, ran;
-    for (uint8_t me = 0; me < LINKS; me++) open_link(me, LINKS, 0);
+    for (uint8_t me = 0; me < LINKS; me++) open_link(me, LINKS);
     all_play();
     got = zmg_link_got(&links[1], 2).value;
     MUST(zmg_link_build(&links[2], 1).code == ZMG_BUILD_MADE && datagram(2, 0, &last));
@@ -321,60 +244,20 @@ static void two_play_on(void) {
     close_links();
 }
 
-/* Player 1 has another host first, and comes back with the right one. A hello of before comes late: the game
- * starts all the same. */
-static void one_seems_to_differ(void) {
-    flight first, late, f;
-    open_link(0, 2, 0);
-    open_link(1, 2, 1);
-    MUST(datagram(1, 0, &first) && datagram(1, 0, &late));
-    zmg_link_free(&links[1]);
-    open_link(1, 2, 0);
-    MUST(datagram(1, 0, &f) && arrives(0, &f).code == ZMG_LINK_RECEIVE_HEARD);
-    MUST(datagram(0, 1, &f) && arrives(1, &f).started);
-    MUST(arrives(0, &late).code == ZMG_LINK_RECEIVE_DIFFERENT && phase(0) == ZMG_PHASE_GATHERING);
-    MUST(presence(0, 1).state == ZMG_PRESENCE_THERE);
-    MUST(datagram(1, 0, &f) && arrives(0, &f).started);
-    MUST(presence(0, 1).state == ZMG_PRESENCE_PLAYING && phase(0) == ZMG_PHASE_PLAYING);
-    close_links();
-}
-
 /* The world of player 0 comes to differ in its own mark. The others see it and end, and all know why: player 0
  * is told why they have left. */
 static void one_world_differs(void) {
-    for (uint8_t me = 0; me < LINKS; me++) open_link(me, LINKS, 0);
+    for (uint8_t me = 0; me < LINKS; me++) open_link(me, LINKS);
     all_play();
     worlds[0][0]++;
     turns(SHORT, 1, 1, 1);
     for (uint8_t me = 1; me < LINKS; me++) {
         MUST(phase(me) == ZMG_PHASE_ENDED && zmg_link_phase(&links[me]).cause == ZMG_CAUSE_INCONSISTENT);
-        MUST(presence(0, me).state == ZMG_PRESENCE_LEFT && presence(0, me).cause == ZMG_CAUSE_INCONSISTENT);
+        MUST(left(0, me).known && left(0, me).value == ZMG_CAUSE_INCONSISTENT);
         MUST(zmg_link_end(&links[0], me).known);
     }
-    MUST(presence(1, 2).state == ZMG_PRESENCE_LEFT && presence(1, 2).cause == ZMG_CAUSE_INCONSISTENT);
-    MUST(presence(1, 0).state == ZMG_PRESENCE_PLAYING && phase(0) == ZMG_PHASE_PLAYING);
-    close_links();
-}
-
-/* The host of player 1 differs, and it takes no part. Another takes its place. */
-static void one_host_differs(void) {
-    open_link(0, LINKS, 0);
-    open_link(1, LINKS, 1);
-    open_link(2, LINKS, 0);
-    turns(SHORT, 1, 1, 1);
-    for (uint8_t me = 0; me < LINKS; me++) {
-        MUST(phase(me) == (me ? ZMG_PHASE_LISTENING : ZMG_PHASE_GATHERING));
-        if (me == 1) continue;
-        MUST(presence(me, 1).state == ZMG_PRESENCE_DIFFERENT && presence(me, 1).host[ZMG_HOST_SIZE - 1] == 1);
-        MUST(presence(1, me).state == ZMG_PRESENCE_DIFFERENT && presence(1, me).host[ZMG_HOST_SIZE - 1] == 0);
-        MUST(presence(me, 1).players == LINKS && presence(me, 1).limit == presence(1, me).limit);
-        MUST(presence(me, (uint8_t)(2 - me)).state == ZMG_PRESENCE_THERE);
-    }
-    zmg_link_quit(&links[1]);
-    turns(1, 1, 1, 1);
-    MUST(presence(0, 1).state == ZMG_PRESENCE_DIFFERENT && presence(2, 1).state == ZMG_PRESENCE_DIFFERENT);
-    open_link(1, LINKS, 0);
-    all_play();
+    MUST(left(1, 2).known && left(1, 2).value == ZMG_CAUSE_INCONSISTENT);
+    MUST(!left(1, 0).known && phase(0) == ZMG_PHASE_PLAYING);
     close_links();
 }
 
@@ -417,7 +300,7 @@ static void long_line(void) {
     mouse mice[2];
     uint32_t owed = 0;
     memset(mice, 0, sizeof mice);
-    for (uint8_t me = 0; me < 2; me++) open_link(me, 2, 0);
+    for (uint8_t me = 0; me < 2; me++) open_link(me, 2);
     for (unsigned now = 0; now < LONG; now++)
         for (uint8_t me = 0; me < 2; me++) {
             flight *f = &late[me][now % LATE];
@@ -441,12 +324,7 @@ int main(int argc, char **argv) {
     MUST(zmg_link_receive(&links[0], demos[0], 0).code == ZMG_LINK_RECEIVE_UNOPENED);
     MUST(zmg_link_may_leave(&links[0]) == 0);
     now = bad_line();
-    one_leaves_the_lobby();
-    one_quits_before_the_start();
     one_world_differs();
-    one_host_differs();
-    one_seems_to_differ();
-    one_vanishes();
     one_is_given_up();
     two_play_on();
     long_line();

@@ -1,12 +1,11 @@
-/* Games of two to four links on an untrusted network: `links [GAMES [SEED]]`. Players come one after
- * another, stop for a while, and quit at any time, also before the start, where others take their places;
- * some games end with a full demo. The network loses, repeats and reorders datagrams, holds some back for
- * 500 turns, alters, cuts, forges, names other senders, and brings datagrams to players that they are not
- * for, those of another game and of who is no player of this one, and those that were on the way when the
- * game before ended, which may have had the same secret. All who run a tic must run it by the same row, all
- * who tell where a player ends must tell the same, all demos must be the same as far as they go, nobody may
- * wait for ever, and who has quit must be told that it may leave, unless player 0 is gone for good, and not
- * before the others have all of its commands. C99 and C++. Ends with status 0, or names the line that failed. */
+/* Games of two to four links on an untrusted network: `links [GAMES [SEED]]`. Players come one after another,
+ * stop for a while, and quit at any time; some games end with a full demo. The network loses, repeats and
+ * reorders datagrams, holds some back for 500 turns, alters, cuts, forges, names other senders, and brings
+ * datagrams to players that they are not for, those of another game and of who is no player of this one, and
+ * those that were on the way when the game before ended, which may have had the same secret. All who run a tic
+ * must run it by the same row, all who tell where a player ends must tell the same, all demos must be the same
+ * as far as they go, nobody may wait for ever, and who has quit must be told that it may leave, and not before
+ * the others have all of its commands. C99 and C++. Ends with status 0, or names the line that failed. */
 #include "agreed.h"
 #include "chance.h"
 #include "due.h"
@@ -17,7 +16,7 @@
 #include <stdlib.h>
 #include <string.h>
 
-enum { NODES = 4, HELD = 500, HELLO = 83 };
+enum { NODES = 4, HELD = 500 };
 
 /* In turns, of which each player takes one: how late a player comes or quits at most, how long it stops, how
  * long it gives datagrams after it may leave; how long it waits at most for a tic, and for leave; and how long
@@ -31,22 +30,21 @@ enum { FORGER = NODES, OTHER_GAME, OUTSIDER, LINKS };
 typedef enum stage { ABSENT, HERE, LEAVING, GONE } stage;
 
 /* A player's part of a game: when it comes, quits, runs again after a stop, last ran a tic, has quit and may
- * leave; how many turns it took; and a sum of its rows, which is its world. has_settings: player 0 gave them to
- * this number. */
+ * leave; how many turns it took; and a sum of its rows, which is its world. */
 typedef struct player {
     stage is;
     uint32_t comes, quits, stopped, last_run, quit_at, left_at, turns;
     uint16_t world;
-    uint8_t may_leave, is_replaced, gives_up, has_settings;
+    uint8_t may_leave;
 } player;
 
 static uint32_t players, lost, slowest;
 static zmg_link links[LINKS];
 static player all[NODES];
-static uint8_t secret[ZMG_SECRET_SIZE], number[ZMG_NUMBER_SIZE], host[ZMG_HOST_SIZE], ahead;
+static uint8_t secret[ZMG_SECRET_SIZE], number[ZMG_NUMBER_SIZE], ahead;
 static uint32_t limit;
-static unsigned long games, heard, unopened[16], strangers, full, caught_up, seconds, alone, replaced,
-    given_up, early, carried;
+static unsigned long games, heard, unopened[16], strangers, full, caught_up, seconds, alone, early,
+    carried;
 
 static void tell_where(FILE *out) { fprintf(out, "in game %lu at turn %u", games, (unsigned)now); }
 
@@ -56,7 +54,7 @@ static agreement common;
 
 static void make(unsigned k, uint8_t me, uint32_t of, const uint8_t *with, const uint8_t *in) {
     zmg_config c = config_of(limit, of, me);
-    MUST(zmg_link_new(&links[k], &c, ahead, with, in, host) == ZMG_NEW_OK);
+    MUST(zmg_link_new(&links[k], &c, ahead, with, in) == ZMG_NEW_OK);
 }
 
 static void make_strangers(void) {
@@ -105,15 +103,11 @@ static void open_game(void) {
     begin_agreement(&common);
     if (games == 0 || below(2)) fill(secret, sizeof secret);
     fill(number, sizeof number);
-    fill(host, sizeof host);
     memset(all, 0, sizeof all);
     carry_over();
     for (uint32_t p = 0; p < players; p++) {
         all[p].comes = below(3) ? 0 : below(LATEST);
         all[p].quits = late + below(LAST);
-        all[p].is_replaced = p > 0 && below(3) == 0;
-        all[p].gives_up = p == 0 && below(10) == 0;
-        if (all[p].is_replaced || all[p].gives_up) all[p].quits = all[p].comes + below(LATEST);
     }
     make_strangers();
 }
@@ -156,9 +150,6 @@ static void give(unsigned from, uint8_t to) {
     MUST(f.length <= ZMG_LINK_SIZE);
     MUST(f.length == 0 || to != zmg_link_me(&links[from]));
     if (f.length == 0) return;
-    /* a hello of player 0 that carries anything carries the settings */
-    if (from == 0 && zmg_link_phase(&links[0]).code == ZMG_PHASE_GATHERING && f.length > HELLO)
-        all[to].has_settings = 1;
     f.from = (uint8_t)from;
     f.to = to;
     f.changed = from == FORGER || from == OTHER_GAME;
@@ -268,13 +259,11 @@ static void hear_other(const flight *f) {
     MUST(zmg_link_refused(&links[f->to]) == refused + f->changed);
 }
 
-/* The sender of what was heard is known, with the same identity, and the cause is its own. */
+/* Where the sender of what was heard has left, the cause is its own. */
 static void look_at_sender(const flight *f) {
-    zmg_presence p = zmg_link_presence(&links[f->to], f->from);
+    zmg_number left = zmg_link_left(&links[f->to], f->from);
     zmg_phase phase = zmg_link_phase(&links[f->from]);
-    MUST(p.state != ZMG_PRESENCE_UNKNOWN && p.state != ZMG_PRESENCE_DIFFERENT);
-    if (p.state == ZMG_PRESENCE_LEFT && all[f->from].is != GONE)
-        MUST(phase.code == ZMG_PHASE_ENDED && phase.cause == p.cause);
+    if (left.known && all[f->from].is != GONE) MUST(phase.code == ZMG_PHASE_ENDED && phase.cause == left.value);
 }
 
 static void hear(const flight *f) {
@@ -285,7 +274,6 @@ static void hear(const flight *f) {
     }
     r = zmg_link_receive(&links[f->to], f->bytes, f->length);
     MUST(r.code == ZMG_LINK_RECEIVE_HEARD && r.player == f->from);
-    if (r.started) all[f->to].last_run = now;
     heard++;
     look_at_sender(f);
     run_and_catch_up(f->to);
@@ -311,17 +299,12 @@ static void come(uint8_t me) {
     make(me, me, players, secret, number);
     all[me].is = HERE;
     all[me].stopped = 0;
+    all[me].last_run = now;
 }
 
-/* It quits once its game runs. One whose place another takes quits before, and perhaps player 0, without whom
- * there is no game. */
 static void quit(uint8_t me) {
     player *p = &all[me];
-    uint32_t phase = zmg_link_phase(&links[me]).code;
-    int ended = phase == ZMG_PHASE_ENDED;
-    if (phase >= ZMG_PHASE_PLAYING) p->is_replaced = p->gives_up = 0;
-    if (phase < ZMG_PHASE_PLAYING && !p->is_replaced && !all[0].gives_up) return;
-    given_up += phase < ZMG_PHASE_PLAYING && p->gives_up;
+    int ended = zmg_link_phase(&links[me]).code == ZMG_PHASE_ENDED;
     full += (unsigned)ended;
     MUST(zmg_link_quit(&links[me]) == !ended);
     MUST(zmg_link_quit(&links[me]) == 0);
@@ -330,21 +313,14 @@ static void quit(uint8_t me) {
     p->quit_at = now;
 }
 
-/* It has ended before its game started. */
-static int never_played(uint8_t me) {
-    return zmg_link_phase(&links[me]).code == ZMG_PHASE_ENDED && !zmg_link_end(&links[me], me).known;
-}
-
-/* Who may leave is needed by nobody: it never played; or each other player has quit in the game, or has all its
- * commands and the end, also one that has yet to come in another's place; or there is no game, since player 0
- * has given up. */
+/* Who may leave is needed by nobody: each other player has quit, or has all its commands and the end. */
 static void look_for_leave(uint8_t me) {
     player *p = &all[me];
     int was = p->may_leave;
     p->may_leave = zmg_link_may_leave(&links[me]) != 0;
-    MUST(p->may_leave || !was || p->is == HERE || all[0].gives_up);
+    MUST(p->may_leave || !was || p->is == HERE);
     if (p->may_leave && !was) p->left_at = now;
-    if (!p->may_leave || all[0].gives_up || never_played(me)) return;
+    if (!p->may_leave) return;
     early += zmg_link_made(&links[me]) == 0;
     MUST(zmg_link_unacknowledged(&links[me]) == 0);
     for (uint8_t k = 0; k < players; k++)
@@ -354,36 +330,17 @@ static void look_for_leave(uint8_t me) {
         }
 }
 
-/* Who has not played has no demo. */
 static void look_at_demo(uint8_t me) {
     static uint8_t demo[MOST_DEMO];
     size_t length = zmg_link_demo(&links[me], 0, demo, sizeof demo);
-    MUST(length == zmg_link_demo_length(&links[me]) && (length == 0) == never_played(me));
-    if (length) tells_demo(&common, players, zmg_link_ran(&links[me]), 1, demo, length);
-}
-
-/* Nobody takes the place of one who was given the settings: if that one is away, there is no game. */
-static void look_for_places(void) {
-    for (uint8_t p = 1; p < players; p++)
-        if (all[p].has_settings && zmg_link_presence(&links[0], p).state == ZMG_PRESENCE_AWAY) {
-            all[0].gives_up = 1;
-            all[0].quits = now;
-        }
+    MUST(length == zmg_link_demo_length(&links[me]));
+    tells_demo(&common, players, zmg_link_ran(&links[me]), 1, demo, length);
 }
 
 static void go(uint8_t me) {
-    player *p = &all[me];
-    uint8_t has_settings = p->has_settings;
     look_at_demo(me);
     zmg_link_free(&links[me]);
-    p->is = GONE;
-    if (!p->is_replaced) return;
-    /* another takes its place */
-    memset(p, 0, sizeof *p);
-    p->has_settings = has_settings;
-    p->comes = now + below(LATEST);
-    p->quits = p->comes + below(LAST);
-    replaced++;
+    all[me].is = GONE;
 }
 
 /* It ends by itself where its demo is full. */
@@ -391,22 +348,16 @@ static int wants_to_quit(uint8_t me) {
     return now >= all[me].quits || zmg_link_phase(&links[me]).code == ZMG_PHASE_ENDED;
 }
 
-/* Player 0 has given up the game, and is gone. Settings that it gave before may still come, long after its
- * goodbyes, and start a game in which it answers nobody. */
-static int is_deserted(void) { return all[0].gives_up && all[0].is == GONE; }
-
 static void live(uint8_t me) {
     player *p = &all[me];
     if (p->is == ABSENT && now >= p->comes) come(me);
-    if (me == 0 && p->is == HERE && zmg_link_phase(&links[0]).code == ZMG_PHASE_GATHERING) look_for_places();
     if (p->is == HERE && wants_to_quit(me)) quit(me);
-    if (p->is == HERE && zmg_link_phase(&links[me]).code == ZMG_PHASE_PLAYING && !all[0].gives_up)
-        MUST(now - p->last_run < PATIENCE);
+    if (p->is == HERE) MUST(now - p->last_run < PATIENCE);
     if (p->is != HERE && p->is != LEAVING) return;
     look_for_leave(me);
     if (p->is != LEAVING) return;
-    MUST(p->may_leave || now - p->quit_at < PATIENCE || is_deserted());
-    if (p->may_leave ? now > p->left_at + FAREWELL : now - p->quit_at >= PATIENCE) go(me);
+    MUST(p->may_leave || now - p->quit_at < PATIENCE);
+    if (p->may_leave && now > p->left_at + FAREWELL) go(me);
 }
 
 /* ---- A game ---- */
@@ -444,15 +395,15 @@ int main(int argc, char **argv) {
     unsigned long count = argc > 1 ? strtoul(argv[1], NULL, 10) : 300;
     if (argc > 2) begin_chance(argv[2]);
     while (games < count) game();
-    printf("%lu games: heard %lu, strangers %lu, full %lu, caught up %lu, second %lu, alone %lu, replaced %lu,"
-        " given up %lu, without a command %lu, carried over %lu\nunopened",
-        games, heard, strangers, full, caught_up, seconds, alone, replaced, given_up, early, carried);
+    printf("%lu games: heard %lu, strangers %lu, full %lu, caught up %lu, second %lu, alone %lu,"
+        " without a command %lu, carried over %lu\nunopened",
+        games, heard, strangers, full, caught_up, seconds, alone, early, carried);
     for (unsigned k = 1; k < 16; k++) printf(" %lu", unopened[k]);
     printf("\n");
     if (games < 100) return 0;
     /* in so many games all of it comes */
     MUST(unopened[ZMG_BUNDLE_TAG] > 0 && unopened[ZMG_BUNDLE_RECEIVER] > 0 && unopened[ZMG_BUNDLE_GAME] > 0);
     MUST(strangers > 0 && full > 0 && caught_up > 0 && seconds > 0 && alone > 0);
-    MUST(replaced > 0 && given_up > 0 && early > 0 && carried > 0);
+    MUST(early > 0 && carried > 0);
     return 0;
 }

@@ -1,10 +1,11 @@
-/* Games of two to four links of which players vanish: `vanish [GAMES [SEED]]`. A line loses, delays and reorders
- * datagrams. Players crash, one or two of them, also while the others decide about another; one leaves and its
- * farewell is lost; one stands still, for a shorter or a longer time than the others' patience; and the line
- * parts two from two. Each engine gives up whom it has not heard for PATIENCE turns, and whom another has given
- * up that it goes on with. Players neither of whom has given up the other must run the same rows, and of their
- * demos one must be the beginning of the other; of any two at all the moves of a player must be the same wherever
- * both have them; and who remains must play on. C99 and C++. Ends with status 0, or names the line that failed. */
+/* Games of two to four links of which players vanish: `vanish [GAMES [SEED]]`. A line loses, delays and
+ * reorders datagrams. Players crash, one or two of them, also while the others decide about another; one leaves
+ * and its farewell is lost; one stands still, for a shorter or a longer time than the others' patience; and the
+ * line parts two from two. Each engine gives up whom it has not heard for PATIENCE turns, and whom another has
+ * given up that it goes on with. Players neither of whom has given up the other must run the same rows, and of
+ * their demos one must be the beginning of the other; of any two at all the moves of a player must be the same
+ * wherever both have them; and who remains must play on. C99 and C++. Ends with status 0, or names the line
+ * that failed. */
 #include "chance.h"
 #include "due.h"
 #include "engine.h"
@@ -167,11 +168,11 @@ static void arrive(void) {
 /* ---- A game ---- */
 
 static void make(uint8_t me) {
-    static const uint8_t secret[ZMG_SECRET_SIZE] = { 1 }, host[ZMG_HOST_SIZE] = { 3 };
+    static const uint8_t secret[ZMG_SECRET_SIZE] = { 1 };
     uint8_t number[ZMG_NUMBER_SIZE] = { 2 };
     zmg_config c = config_of(1 << 20, players, me);
     memcpy(number + 1, &games, sizeof games);
-    MUST(zmg_link_new(&links[me], &c, (uint8_t)(5 + games % 8), secret, number, host) == ZMG_NEW_OK);
+    MUST(zmg_link_new(&links[me], &c, (uint8_t)(5 + games % 8), secret, number) == ZMG_NEW_OK);
 }
 
 /* Who does what, and when. */
@@ -255,10 +256,9 @@ static void compare(uint8_t one, uint8_t other) {
     apart += (unsigned)have_parted(one, other);
 }
 
-/* Who neither crashed nor left plays on, if its game has begun. */
+/* Who neither crashed nor left plays on. */
 static void look_for_progress(uint8_t me) {
     if (all[me].crashes != UINT32_MAX || all[me].leaves != UINT32_MAX) return;
-    if (what == EARLY && zmg_link_phase(&links[me]).code < ZMG_PHASE_PLAYING) return;
     MUST(all[me].last_run + LATELY > LENGTH);
 }
 

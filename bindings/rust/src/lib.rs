@@ -99,17 +99,20 @@ mod lockstep;
 mod node;
 mod packet;
 mod raw;
+mod raw_session;
+mod session;
 mod surviving;
 mod values;
 
 pub use demo::{upgrade, Demo, DemoError, Reader, UpgradeError};
-pub use link::{
-    BundleError, Identity, Line, Link, LinkDatagram, LinkNode, LinkReport, Parting, Presence,
-    Received,
-};
+pub use link::{BundleError, Line, Link, LinkDatagram, LinkNode, LinkReport, Parting, Received};
 pub use lockstep::{Datagram, Lockstep, NodeError};
 pub use node::{Node, World};
 pub use packet::{Command, Packet, PacketError, EXIT, KILL, RETRANSMIT, SETUP};
+pub use session::{
+    Address, Event, Me, Over, Player, Policy, Session, SessionError, Stage, Standing, State, Terms,
+    Tic, Transmit, Wish,
+};
 pub use surviving::{GivenUp, Reported, SettleError};
 pub use values::{
     Aim, Cause, Config, Dropped, Heard, Keys, Made, Move, Phase, Ran, Settings, Start, MOST_AHEAD,

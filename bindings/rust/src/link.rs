@@ -1,4 +1,5 @@
-//! A link, which seals what it sends and takes care of delivery, pace and the lobby; and a node with one.
+//! A link, which plays from the beginning on, seals what it sends, and takes care of delivery and pace; and a
+//! node with one.
 
 use crate::calls::{lockstep_calls, node_calls};
 use crate::given::given_bytes;
@@ -15,8 +16,8 @@ use std::fmt;
 ///
 /// A link keeps packets with new commands until the peer has acknowledged them, and gives each peer one
 /// datagram a tick with everything that is kept for the peer, as far as it fits: commands of a lost datagram
-/// are in the next one, and nobody has to ask for them. Before the game the datagrams show who is there. Player
-/// 0 gives its settings once all others are.
+/// are in the next one, and nobody has to ask for them. It plays from the beginning on: who is in the game,
+/// with which settings, was agreed on elsewhere.
 ///
 /// A datagram is sealed: it has its sender, its receiver and full tic numbers, under a tag that only the
 /// players of the game can make (HMAC-SHA-256, of which 16 bytes are sent). Any bytes may come in, from
@@ -27,14 +28,14 @@ use std::fmt;
 /// [`Lockstep::receive`](crate::Lockstep::receive) requires, the caller owes:
 ///
 /// - Delivery. If nothing gets through, the game waits, and nothing worse happens.
-/// - One link of a player at a time: no second one once the first has been given the settings, and none that
-///   goes on from a copy of memory. All that is sealed comes from [`datagram`](Link::datagram) and
-///   [`report`](Link::report): a player who seals datagrams other than by these calls can send the others
-///   different commands.
-/// - One number for each game: 16 random bytes, drawn anew on player 0's machine and sent to the others. It
-///   need not be secret, but each player must get the one that was drawn: whoever can hand a player an old
-///   number can replay that old game to the player. Send it over a channel that nobody can alter. If a number
-///   is used again, the datagrams of the old game open in the new one.
+/// - One link of each player: no second one with the same number, and none that goes on from a copy of memory.
+///   All that is sealed comes from [`datagram`](Link::datagram) and [`report`](Link::report): a player who
+///   seals datagrams other than by these calls can send the others different commands.
+/// - One number for each game, its players, its settings and all else that must be the same at all of them: 16
+///   random bytes that one draws and sends to the others, or what a session makes of its terms. It need not be
+///   secret, but each player must get the one that was drawn: whoever can hand a player an old number can
+///   replay that old game to the player. Send it over a channel that nobody can alter. If a number is used
+///   again, the datagrams of the old game open in the new one.
 /// - A secret that is kept: 32 random bytes, known to the players alone and used for nothing else. Whoever has
 ///   it can send as any player, and whoever records a datagram can try guesses against it.
 ///
@@ -49,9 +50,9 @@ impl Link {
     /// Makes a link with a window of `ahead` commands, as in [`Lockstep::within`](crate::Lockstep::within). All
     /// its memory is allocated here; of the later calls on it only [`demo`](Link::demo) allocates.
     ///
-    /// `game`: the game's number. All players of a game have the same secret and number. `host`: what else must
-    /// be the same for all players, such as a digest of the engine's version, files and options. A player whose
-    /// players, extra, limit, window or host differs takes no part: see [`Presence::Different`].
+    /// It plays with the settings of the configuration from the beginning on, whoever its player is
+    /// ([`Config::link`]); the caller begins its world at once. `game`: the game's number. All players of a
+    /// game have the same secret and number, and players, extra, limit, settings and window.
     ///
     /// Returns [`NodeError::Secret`] if all bytes of the secret are 0, as in a buffer that was never filled;
     /// else what [`Lockstep::within`](crate::Lockstep::within) returns.
@@ -60,15 +61,12 @@ impl Link {
         ahead: u8,
         secret: &[u8; 32],
         game: &[u8; 16],
-        host: &[u8; 16],
     ) -> Result<Link, NodeError> {
         let link = Link(raw::Held::nothing());
-        let (secret, game, host) = (secret.as_ptr(), game.as_ptr(), host.as_ptr());
+        let (secret, game) = (secret.as_ptr(), game.as_ptr());
         // SAFETY: the call has exclusive use of the handle (`Held`), the configuration is valid for the call,
-        // and so are the arrays, of 32, 16 and 16 bytes.
-        opened(unsafe {
-            raw::zmg_link_new(link.0.at(), &config.raw(), ahead, secret, game, host)
-        })?;
+        // and so are the arrays, of 32 and 16 bytes.
+        opened(unsafe { raw::zmg_link_new(link.0.at(), &config.raw(), ahead, secret, game) })?;
         Ok(link)
     }
 
@@ -115,9 +113,9 @@ impl Link {
     /// Returns the current datagram to player `to`. It has every packet that is kept for the player, oldest
     /// first, as far as they fit, also once the link has ended. Behind them, if there is room, it may hand on
     /// commands of third players of whom the player seems to hear nothing: so two who cannot reach each other
-    /// play on through a third. Send one to each other player at each tick, also before the game has started.
-    /// Returns None, and leaves the link as it was, if `to` is not another
-    /// player's number, or if that player is given up by [`give_up`](Link::give_up).
+    /// play on through a third. Send one to each other player at each tick. Returns None, and leaves the link
+    /// as it was, if `to` is not another player's number, or if that player is given up by
+    /// [`give_up`](Link::give_up).
     pub fn datagram(&mut self, to: u8) -> Option<LinkDatagram> {
         LinkDatagram::written(|out, room| {
             // SAFETY: the call has exclusive use of the handle (`Held`), and the array is valid for its length.
@@ -125,61 +123,24 @@ impl Link {
         })
     }
 
-    /// Takes in any bytes, whoever sent them and whenever they come. If it returns [`Received::Heard`] with
-    /// `started`, the caller begins its world with the start of [`settings`](Link::settings).
+    /// Takes in any bytes, whoever sent them and whenever they come.
     pub fn receive(&mut self, bytes: &[u8]) -> Received {
         // SAFETY: the call has exclusive use of the handle (`Held`), and the slice is valid for its length.
         received(unsafe { raw::zmg_link_receive(self.0.at(), bytes.as_ptr(), bytes.len()) })
     }
 
-    /// Returns what is known of another player, as far as this link has heard. Player 0 gives its settings
-    /// once all others are there: until then a player may come, go, and come again. Once they were given,
-    /// nobody else may take the place of player 0, nor of a player who was given them, whatever that player
-    /// said since: a goodbye may be an old one that comes again. Player 0's link sees to the latter: it hears
-    /// no hello of a player whom it gave the settings. To learn of a player who is [`Presence::Away`] whether
-    /// its place is free, player 0 forgets it ([`forget`](Link::forget)): the place is free if the player is
-    /// away still. Other links do not know whom player 0 gave the settings.
-    pub fn presence(&self, player: u8) -> Presence {
+    /// Returns why another player has left, as its datagrams told with all of its commands and its end; None if
+    /// they have not.
+    pub fn left(&self, player: u8) -> Option<Parting> {
         // SAFETY: the call has exclusive use of the handle (`Held`).
-        presence(unsafe { raw::zmg_link_presence(self.0.at(), player) })
+        values::number(unsafe { raw::zmg_link_left(self.0.at(), player) }).map(parting)
     }
 
-    /// Forgets a player who has not been heard for too long ([`came`](Line::came) rises with each new one of
-    /// its datagrams). What becomes of the player:
-    ///
-    /// - It cannot have started: this link listens or gathers, has not given it the settings, and has not heard
-    ///   that it plays. Then it is [`Presence::Away`], with [`Parting::Forgotten`], until a new hello or
-    ///   goodbye comes, or a datagram of its game or a goodbye after its game, of any age; and another may take
-    ///   its place.
-    /// - Else it may have started, and it is [`Presence::Forgotten`], until a datagram of its game comes that
-    ///   is newer than its newest, or 64 or more behind it, or a goodbye after its game, of any age.
-    ///   [`may_leave`](Link::may_leave) does not wait for it. Nobody takes its place, since its commands may
-    ///   have reached others: for another player, make a new game with a new number. Its commands are still
-    ///   missing: the game goes on without it only if its end is known, or after [`give_up`](Link::give_up).
-    ///
-    /// At a player 0 that still gathers the second case may end this game's number. If the player has not
-    /// started, as when the settings were lost on the way, it goes on saying hello, and that is not heard; nor
-    /// is another's hello; and player 0 gives nobody the settings while one is missing. So all wait for good,
-    /// though every datagram comes: make a new game with a new number, or give the player up by
-    /// [`give_up`](Link::give_up), and the others play without it.
-    ///
-    /// A player who has [left](Presence::Left) stays so. Of one who is given up by [`give_up`](Link::give_up)
-    /// nothing is heard any more, and nobody takes its place. For a number that is not another player's nothing
-    /// happens.
-    pub fn forget(&mut self, player: u8) {
-        // SAFETY: the call has exclusive use of the handle (`Held`).
-        unsafe { raw::zmg_link_forget(self.0.at(), player) }
-    }
-
-    /// Gives up a player who vanished, for good, so that the others play on. Unlike [`forget`](Link::forget) it
-    /// cannot be undone: from here on no datagram goes to the player, nothing of it is taken,
-    /// [`run`](Link::run) compares no mark of it, and [`may_leave`](Link::may_leave) does not wait for it. Its
-    /// presence becomes what `forget` makes of it; then nothing that comes changes it, and nobody takes the
-    /// player's place. All who play on must give it up, and hear each other's reports; until then
-    /// [`run`](Link::run) waits whenever it lacks a command of the player. Then its commands end at the same tic
-    /// at all of them, and the game goes on from there without it. If the link gathered before the call, and plays
-    /// after it, the game has started: the caller begins its world with the start of
-    /// [`settings`](Link::settings).
+    /// Gives up a player who vanished, for good, so that the others play on: from here on no datagram goes to
+    /// the player, nothing of it is taken, [`run`](Link::run) compares no mark of it, and
+    /// [`may_leave`](Link::may_leave) does not wait for it. All who play on must give it up, and hear each
+    /// other's reports; until then `run` waits whenever it lacks a command of the player. Then its commands end
+    /// at the same tic at all of them, and the game goes on from there without it.
     pub fn give_up(&mut self, player: u8) -> GivenUp {
         // SAFETY: the call has exclusive use of the handle (`Held`).
         given_up(unsafe { raw::zmg_link_give_up(self.0.at(), player) })
@@ -205,10 +166,10 @@ impl Link {
         values::number(unsafe { raw::zmg_link_undecided(self.0.at()) }).map(|player| player as u8)
     }
 
-    /// Returns the report to player `to`: what this link has of the others, whom it has given up, and whether it
-    /// has left. Send one to each other player at each tick while somebody is given up, also once the link has
-    /// left; [`receive`](Link::receive) takes it. Returns None if `to` is not another player's number or is given
-    /// up, and while this link has given up nobody and has not left.
+    /// Returns the report to player `to`: what this link has of the others, whom it has given up, and whether
+    /// it has left. Send one to each other player at each tick while somebody is given up, also once the link
+    /// has left; [`receive`](Link::receive) takes it. Returns None if `to` is not another player's number or is
+    /// given up, and while this link has given up nobody and has not left.
     pub fn report(&self, to: u8) -> Option<LinkReport> {
         LinkReport::written(|out, room| {
             // SAFETY: the call has exclusive use of the handle (`Held`), and the array is valid for its length.
@@ -216,16 +177,11 @@ impl Link {
         })
     }
 
-    /// Returns true if no other player needs anything more from this one: each has played and left, is
-    /// [`Presence::Forgotten`], or has acknowledged all commands of this one and that it has left; or player 0
-    /// is [`Presence::Away`] for another reason than [`Parting::Forgotten`]: without another player 0 there
-    /// will be no game. Also returns true for a link that ended before its game started.
+    /// Returns true if no other player needs anything more from this one: each has left, or is given up, or has
+    /// acknowledged all commands of this one and that it has left.
     ///
     /// A peer that has left waits for this link in the same way: give it some more datagrams before the link
-    /// is dropped, and limit the wait, since the last datagram may be lost. A player who started, and quits
-    /// while player 0 still gathers, must stay until the game of all has started, else the game waits for it.
-    /// A player who never played may go at once; some 64 more datagrams, in two seconds, let the others see it
-    /// go.
+    /// is dropped, and limit the wait, since the last datagram may be lost.
     pub fn may_leave(&self) -> bool {
         // SAFETY: the call has exclusive use of the handle (`Held`).
         unsafe { raw::zmg_link_may_leave(self.0.at()) != 0 }
@@ -307,84 +263,35 @@ pub enum BundleError {
 #[derive(Clone, Copy, Debug, PartialEq, Eq)]
 #[non_exhaustive]
 pub enum Received {
-    /// They were a datagram of `player`, which was taken in. `started`: whether the game started with them,
-    /// and then the world begins.
-    #[allow(missing_docs)]
-    Heard { player: u8, started: bool },
+    /// They were a datagram of this player, which was taken in.
+    Heard(u8),
     /// They were sealed in this game, under this number, which is not another player's. Nothing changed.
     Stranger(u8),
     /// They are not a datagram to this player in this game. Nothing changed but the count of
     /// [`Link::refused`].
     Unopened(BundleError),
-    /// This player, or whoever was this player before, has another identity, and none of its commands was
-    /// taken.
-    Different(u8),
     /// They were sealed in this game by this player, who is given up by [`Link::give_up`]. Nothing changed.
     GivenUp(u8),
     /// They were the report of `player`, and this became of it.
     #[allow(missing_docs)]
     Reported { player: u8, reported: Reported },
-    /// They are of the kind of reports, but not another player's to this one in this game. Nothing changed but the
-    /// count of [`Link::refused`].
+    /// They are of the kind of reports, but not another player's to this one in this game. Nothing changed but
+    /// the count of [`Link::refused`].
     Unreported(BundleError),
     /// A code that this crate has no name for.
     Unknown(u32),
 }
 
-/// What must be the same for all players of a game: the identity of a link.
-#[derive(Clone, Copy, Debug, PartialEq, Eq)]
-pub struct Identity {
-    /// How many players the game has.
-    pub players: u8,
-    /// Whether each packet repeats the last command.
-    pub extra: bool,
-    /// The window.
-    pub ahead: u8,
-    /// How many bytes the demo may have.
-    pub limit: u32,
-    /// What the engine adds: the `host` of [`Link::new`].
-    pub host: [u8; 16],
-}
-
-/// Why another player is away or has left.
+/// Why another player has left.
 #[derive(Clone, Copy, Debug, PartialEq, Eq)]
 #[non_exhaustive]
 pub enum Parting {
-    /// It was forgotten by [`Link::forget`], before the game of this link had started. It may be heard again,
-    /// unless it is given up by [`Link::give_up`].
-    Forgotten,
     /// It quit.
     Quit,
     /// Its node ended with [`Cause::Full`](crate::Cause::Full).
     Full,
     /// Its node ended with [`Cause::Inconsistent`](crate::Cause::Inconsistent).
     Inconsistent,
-    /// A code that this crate has no name for.
-    Unknown(u32),
-}
-
-/// Whether another player is there.
-#[derive(Clone, Copy, Debug, PartialEq, Eq)]
-#[non_exhaustive]
-pub enum Presence {
-    /// Nothing came from it, or there is no such other player.
-    Unheard,
-    /// It is there, with the same identity.
-    There,
-    /// Its game has started.
-    Playing,
-    /// It said hello with this other identity, and takes no part. Its goodbye before its game changes nothing.
-    Different(Identity),
-    /// It left before its game started, or was forgotten before the game of this link did. Another may take its
-    /// place, with a link of its own, and is heard once 64 of its datagrams have come, or before; but if it was
-    /// forgotten ([`Parting::Forgotten`]), only if the link that was forgotten is gone, and never if player 0
-    /// gave it the settings, or if the player is given up ([`Link::has_given_up`]).
-    Away(Parting),
-    /// It has played and left.
-    Left(Parting),
-    /// It was forgotten when this link played or had ended, or had given it the settings, or had heard that it
-    /// plays: nobody takes its place.
-    Forgotten,
     /// A code that this crate has no name for.
     Unknown(u32),
 }
@@ -400,7 +307,7 @@ pub struct Line {
     pub lost: u32,
     /// How many copies came, less than 64 behind the newest.
     pub repeated: u32,
-    /// How many came 64 or more behind the newest, unless the line began anew with them.
+    /// How many came 64 or more behind the newest.
     pub too_old: u32,
     /// How many of the last datagrams to it did not come there, or came after newer ones.
     pub missing_there: u8,
@@ -429,32 +336,12 @@ fn owed(raw: raw::Coded) -> Option<Made> {
     }
 }
 
-fn parting(cause: u8) -> Parting {
+pub(crate) fn parting(cause: u32) -> Parting {
     match cause {
-        0 => Parting::Forgotten,
         1 => Parting::Quit,
         2 => Parting::Full,
         3 => Parting::Inconsistent,
-        code => Parting::Unknown(u32::from(code)),
-    }
-}
-
-pub(crate) fn presence(raw: raw::Presence) -> Presence {
-    match raw.state {
-        0 => Presence::Unheard,
-        1 => Presence::There,
-        2 => Presence::Playing,
-        3 => Presence::Different(Identity {
-            players: raw.players,
-            extra: raw.extra != 0,
-            ahead: raw.ahead,
-            limit: raw.limit,
-            host: raw.host,
-        }),
-        4 => Presence::Away(parting(raw.cause)),
-        5 => Presence::Left(parting(raw.cause)),
-        6 => Presence::Forgotten,
-        code => Presence::Unknown(code),
+        code => Parting::Unknown(code),
     }
 }
 
@@ -475,19 +362,15 @@ fn bundle_error(reason: u32) -> BundleError {
 
 pub(crate) fn received(raw: raw::Received) -> Received {
     match raw.code {
-        0 => Received::Heard {
-            player: raw.player,
-            started: raw.started != 0,
-        },
+        0 => Received::Heard(raw.player),
         1 => Received::Stranger(raw.player),
         2 => Received::Unopened(bundle_error(raw.reason)),
-        3 => Received::Different(raw.player),
-        4 => Received::GivenUp(raw.player),
-        5 => Received::Reported {
+        3 => Received::GivenUp(raw.player),
+        4 => Received::Reported {
             player: raw.player,
             reported: reported(raw.reason),
         },
-        6 => Received::Unreported(bundle_error(raw.reason)),
+        5 => Received::Unreported(bundle_error(raw.reason)),
         code => Received::Unknown(code),
     }
 }
@@ -499,7 +382,7 @@ pub(crate) fn received(raw: raw::Received) -> Received {
 /// ```
 /// use zirmegat::{Keys, LinkNode, Made, World};
 ///
-/// /// Sends a datagram to each other player, as each tick does, also before the game has started.
+/// /// Sends a datagram to each other player, as each tick does.
 /// fn send_all<W: World>(node: &mut LinkNode<W>, send: &mut impl FnMut(u8, &[u8])) {
 ///     for to in 0..node.players() {
 ///         if let Some(datagram) = node.datagram(to) {
@@ -555,9 +438,9 @@ pub(crate) fn received(raw: raw::Received) -> Received {
 /// #     }
 /// # }
 /// # let settings = zirmegat::Settings { skill: 2, episode: 1, map: 1, ..Default::default() };
-/// # let configs = [zirmegat::Config::key(2, settings), zirmegat::Config::other(2, 1)];
+/// # let configs = [0, 1].map(|me| zirmegat::Config::link(2, me, settings));
 /// # let mut nodes = configs
-/// #     .map(|config| LinkNode::new(config, 5, &[1; 32], &[2; 16], &[3; 16], Still).unwrap());
+/// #     .map(|config| LinkNode::new(config, 5, &[1; 32], &[2; 16], Still).unwrap());
 /// # for _ in 0..100 {
 /// #     for me in 0..2 {
 /// #         let mut sent = Vec::new();
@@ -578,20 +461,19 @@ pub struct LinkNode<W> {
 }
 
 impl<W: World> LinkNode<W> {
-    /// Makes a node, with a link as [`Link::new`] makes it. The world begins when the game starts. Returns
-    /// what `Link::new` returns.
+    /// Makes a node, with a link as [`Link::new`] makes it, and begins the world. Returns what `Link::new`
+    /// returns.
     pub fn new(
         config: Config,
         ahead: u8,
         secret: &[u8; 32],
         game: &[u8; 16],
-        host: &[u8; 16],
         world: W,
     ) -> Result<LinkNode<W>, NodeError> {
-        Ok(LinkNode {
-            node: Link::new(config, ahead, secret, game, host)?,
-            world,
-        })
+        let node = Link::new(config, ahead, secret, game)?;
+        let mut node = LinkNode { node, world };
+        node.begin();
+        Ok(node)
     }
 
     /// Makes the command of the input that is owed, and returns what [`Link::catch_up`] returns.
@@ -617,34 +499,19 @@ impl<W: World> LinkNode<W> {
         self.node.datagram(to)
     }
 
-    /// Takes in any bytes, whoever sent them and whenever they come, and begins the world if the game starts.
+    /// Takes in any bytes, whoever sent them and whenever they come.
     pub fn receive(&mut self, bytes: &[u8]) -> Received {
-        let received = self.node.receive(bytes);
-        if let Received::Heard { started: true, .. } = received {
-            self.begin();
-        }
-        received
+        self.node.receive(bytes)
     }
 
-    /// Returns what is known of another player, as [`Link::presence`] does.
-    pub fn presence(&self, player: u8) -> Presence {
-        self.node.presence(player)
+    /// Returns why another player has left, as [`Link::left`] does.
+    pub fn left(&self, player: u8) -> Option<Parting> {
+        self.node.left(player)
     }
 
-    /// Forgets a player who has not been heard for too long, as [`Link::forget`] does.
-    pub fn forget(&mut self, player: u8) {
-        self.node.forget(player)
-    }
-
-    /// Gives up a player who vanished, for good, as [`Link::give_up`] does, and begins the world if the game
-    /// starts without that player.
+    /// Gives up a player who vanished, for good, as [`Link::give_up`] does.
     pub fn give_up(&mut self, player: u8) -> GivenUp {
-        let gathered = self.node.phase() == Phase::Gathering;
-        let given_up = self.node.give_up(player);
-        if gathered && self.node.phase() == Phase::Playing {
-            self.begin();
-        }
-        given_up
+        self.node.give_up(player)
     }
 
     /// Returns true if the player is given up, as [`Link::has_given_up`] does.

@@ -67,7 +67,6 @@ pub struct Received {
     pub code: u32,
     pub reason: u32,
     pub player: u8,
-    pub started: u8,
 }
 
 #[repr(C)]
@@ -75,17 +74,6 @@ pub struct GivenUp {
     pub code: u32,
     pub reason: u32,
     pub player: u8,
-}
-
-#[repr(C)]
-pub struct Presence {
-    pub state: u32,
-    pub limit: u32,
-    pub cause: u8,
-    pub players: u8,
-    pub extra: u8,
-    pub ahead: u8,
-    pub host: [u8; 16],
 }
 
 #[repr(C)]
@@ -162,6 +150,7 @@ pub struct Command {
 }
 
 #[repr(C)]
+#[derive(Clone, Copy)]
 pub struct KnownCommand {
     pub known: u32,
     pub command: Command,
@@ -232,15 +221,13 @@ extern "C" {
         ahead: u8,
         secret: *const u8,
         game: *const u8,
-        host: *const u8,
     ) -> u32;
     pub fn zmg_link_datagram(link: *mut Handle, to: u8, out: *mut u8, room: usize) -> usize;
     pub fn zmg_link_receive(link: *mut Handle, bytes: *const u8, length: usize) -> Received;
     pub fn zmg_link_catch_up(link: *mut Handle) -> Coded;
     pub fn zmg_link_lean(link: *mut Handle) -> i32;
     pub fn zmg_link_wants_second(link: *mut Handle, player: u8) -> u32;
-    pub fn zmg_link_presence(link: *mut Handle, player: u8) -> Presence;
-    pub fn zmg_link_forget(link: *mut Handle, player: u8);
+    pub fn zmg_link_left(link: *mut Handle, player: u8) -> Number;
     pub fn zmg_link_give_up(link: *mut Handle, player: u8) -> GivenUp;
     pub fn zmg_link_has_given_up(link: *mut Handle, player: u8) -> u32;
     pub fn zmg_link_reports_gone(link: *mut Handle, teller: u8, player: u8) -> u32;

@@ -73,7 +73,6 @@ fn the_header_has_these_sizes() {
     assert_eq!(size_of::<raw::Config>(), 16);
     assert_eq!(size_of::<raw::Received>(), 12);
     assert_eq!(size_of::<raw::GivenUp>(), 12);
-    assert_eq!(size_of::<raw::Presence>(), 28);
     assert_eq!(size_of::<raw::Line>(), 24);
     assert_eq!(size_of::<raw::Aim>(), 20);
     assert_eq!(size_of::<raw::Ran>(), 16);
@@ -284,17 +283,9 @@ fn fields_stand_where_the_header_has_them() {
     assert_eq!(offset_of!(raw::Received, code), 0);
     assert_eq!(offset_of!(raw::Received, reason), 4);
     assert_eq!(offset_of!(raw::Received, player), 8);
-    assert_eq!(offset_of!(raw::Received, started), 9);
     assert_eq!(offset_of!(raw::GivenUp, code), 0);
     assert_eq!(offset_of!(raw::GivenUp, reason), 4);
     assert_eq!(offset_of!(raw::GivenUp, player), 8);
-    assert_eq!(offset_of!(raw::Presence, state), 0);
-    assert_eq!(offset_of!(raw::Presence, limit), 4);
-    assert_eq!(offset_of!(raw::Presence, cause), 8);
-    assert_eq!(offset_of!(raw::Presence, players), 9);
-    assert_eq!(offset_of!(raw::Presence, extra), 10);
-    assert_eq!(offset_of!(raw::Presence, ahead), 11);
-    assert_eq!(offset_of!(raw::Presence, host), 12);
     assert_eq!(offset_of!(raw::Line, known), 0);
     assert_eq!(offset_of!(raw::Line, came), 4);
     assert_eq!(offset_of!(raw::Line, lost), 8);

@@ -80,7 +80,8 @@ pub struct Config {
     /// for each player, and the node ends at a tic of all players that does not fit: 1 MiB lasts 50 minutes
     /// for two players, 25 for four. The memory for the demo is allocated when the node is made.
     pub limit: u32,
-    /// The settings of player 0, who sends them to the others. Those of other players are not read.
+    /// The settings of player 0, who sends them to the others. Those of other players are not read, but that a
+    /// link reads its own whoever its player is: they are the same for all players.
     pub settings: Settings,
 }
 
@@ -105,6 +106,15 @@ impl Config {
             extra: false,
             limit: 1 << 20,
             settings: Settings::default(),
+        }
+    }
+
+    /// Returns the configuration of a link's player, with these settings, which are those of all players, no
+    /// `extra`, and a `limit` of 1 MiB.
+    pub fn link(players: u8, me: u8, settings: Settings) -> Config {
+        Config {
+            me,
+            ..Config::key(players, settings)
         }
     }
 

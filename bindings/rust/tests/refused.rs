@@ -73,15 +73,18 @@ fn refused<T, E: PartialEq + std::fmt::Debug>(want: E, call: impl Fn() -> Result
     unreachable!()
 }
 
-/// The demo of a game of two that ran five tics.
-fn demo() -> Vec<u8> {
-    let settings = Settings {
+fn settings() -> Settings {
+    Settings {
         skill: 2,
         episode: 1,
         map: 1,
         ..Settings::default()
-    };
-    let mut key = Lockstep::new(Config::key(2, settings)).unwrap();
+    }
+}
+
+/// The demo of a game of two that ran five tics.
+fn demo() -> Vec<u8> {
+    let mut key = Lockstep::new(Config::key(2, settings())).unwrap();
     let mut other = Lockstep::new(Config::other(2, 1)).unwrap();
     for _ in 0..6 {
         key.build(Keys::FORWARD);
@@ -107,11 +110,10 @@ fn refused_memory_is_told_and_given_back() {
     assert_eq!(refused(NodeError::Memory, node), 2);
     let link = || {
         Link::new(
-            Config::other(2, 1),
+            Config::link(2, 1, settings()),
             MOST_AHEAD,
             &[1; 32],
             &[2; 16],
-            &[3; 16],
         )
     };
     assert_eq!(refused(NodeError::Memory, link), 2);

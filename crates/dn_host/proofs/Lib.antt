@@ -1,4 +1,3 @@
-pub mod Playing
-pub mod Greeted
-pub mod Counted
-pub mod Following
+pub mod Hosts
+pub mod Turned
+pub mod Sockets

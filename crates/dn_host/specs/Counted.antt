@@ -1,50 +1,53 @@
--- What is counted of a game: what its link builds and runs, from its beginning on.
-use Rattle.std.specs.Prelude.{◌≡◌, ◌<◌, ◌^◌, ℕ, ◌+◌, List, [], ◌∷◌, ◌++◌, length, replicate, Option, Some, None}
-use Rattle.std.specs.List.{AllByRecursion}
+-- What is counted of a game from its beginning on, and how it stands.
+use Rattle.std.specs.Prelude.{◌≡◌, ℕ, ◌-◌, List, [], ◌++◌, nat_lt, if◌then◌else◌, replicate, Option, None}
+use Rattle.dn_link.specs.Linked.{Linked}
+use Rattle.dn_link.specs.Pacing.{PaceState}
+use Rattle.dn_lockstep.specs.Contents.{Contents}
+use Rattle.dn_lockstep.specs.Tables.{count_of}
 use Rattle.dn_measure.specs.declared.measure.Told.{Told}
 use Rattle.dn_measure.specs.declared.measure.Told.TheVariants.{Built, Ran}
+use Rattle.dn_measure.specs.declared.status.Status.{Status}
 use Rattle.dn_measure.specs.Measure.{IsMeasureOf}
-use Rattle.dn_measure.specs.Runs.{as_count}
-use Rattle.dn_measure.specs.Told.{builds_of, runs_of}
-use Rattle.dn_lockstep.specs.Contents.{Contents}
+use Rattle.dn_measure.specs.Runs.{is_gap}
 use Rattle.dn_host.specs.declared.counts.Counts.{Counts}
-use Rattle.dn_host.specs.declared.play.Done.{Done}
-use Rattle.dn_host.specs.Played.{Plays}
+use Rattle.dn_host.specs.Arrived.{figures_by, standings_in}
 
--- what was done at a time: so many commands were built, and then so many tics run
-abbrev pub told_of : Done → (now : ℕ) → List Told
-told_of done now = replicate done.built (Built now) ++ replicate done.ran (Ran now)
+-- nothing was counted yet of a game that begins now
+pub record IsFresh (now : ℕ) (counts : Counts) : Type 0 where
+  pub measure : IsMeasureOf counts.measure now []
+  pub late : counts.late ≡ replicate 4 0
+  pub made : counts.made ≡ 0
+  pub ran : counts.ran ≡ 0
+  pub moved : counts.moved ≡ now
+  pub shown : counts.shown ≡ 0
+  pub since : counts.since ≡ now
 
--- when the last tic was run
-abbrev pub last_run : List Told → (before : ℕ) → ℕ
-last_run [] before = before
-last_run (Built at ∷ told) before = last_run told before
-last_run (Ran at ∷ told) before = last_run told at
+-- what a node built and ran since it was counted last, all of it now, and each command and each tic once
+abbrev pub told_since : (now made ran : ℕ) → Counts → List Told
+told_since now made ran counts = replicate (ran - counts.ran) (Ran now) ++ replicate (made - counts.made) (Built now)
 
--- this was counted since
-pub record TellsMore (told : List Told) (old new : Counts) : Type 0 where
-  pub measure : (start : ℕ) (before : List Told) → IsMeasureOf old.measure start before
-      → IsMeasureOf new.measure start (before ++ told)
-  pub tics : old.tics < 2 ^ 64 → new.tics ≡ as_count (old.tics + length (runs_of told))
-  pub ran : new.ran ≡ last_run told old.ran
+pub record NotesMore (now : ℕ) (node : Contents) (old new : Counts) : Type 0 where
+  pub measure : (start : ℕ) (before : List Told) → IsMeasureOf old.measure start before → IsMeasureOf new.measure start
+      (before ++ told_since now (count_of node.rings node.me) node.ran old)
+  pub late : new.late ≡ old.late
+  pub made : new.made ≡ count_of node.rings node.me
+  pub ran : new.ran ≡ node.ran
+  pub moved : new.moved ≡ (if nat_lt old.ran node.ran then now else old.moved)
   pub shown : new.shown ≡ old.shown
   pub since : new.since ≡ old.since
-  pub before : new.before ≡ old.before
-  pub late : new.late ≡ old.late
 
--- and nothing, before the game began
-abbrev pub CountsMore : List Told → Option Counts → Option Counts → Type 0
-CountsMore told None new = new ≡ None
-CountsMore told (Some old) None = ⊥
-CountsMore told (Some old) (Some new) = TellsMore told old new
+-- the tics since they were last told, and in how long; for whom the next tic waits, if the time since the last one is
+-- a gap; and how the others stand
+abbrev pub status_at : Counts → Linked → PaceState → (waiting : Option ℕ) → (now : ℕ) → Status
+status_at counts link pace waiting now =
+    record {
+      tics = counts.ran - counts.shown;
+      micros = now - counts.since;
+      waiting = if is_gap (now - counts.moved) then waiting else None;
+      refused = pace.refused;
+      peers = standings_in (figures_by link pace) counts.late;
+    }
 
--- it was at this time
-abbrev pub IsAt : (now : ℕ) → Told → Type 0
-IsAt now (Built at) = at ≡ now
-IsAt now (Ran at) = at ≡ now
-
--- what the link built and ran since, all of it at this time, was counted, each command and each tic once
-abbrev pub IsCounted : (now : ℕ) → (before after : Option Counts) → (old new : Contents) → Type 0
-IsCounted now before after old new =
-    (told : List Told) × AllByRecursion (IsAt now) told × CountsMore told before after
-    × Plays (length (builds_of told)) (length (runs_of told)) old new
+-- all tics are told now, and nothing else changes
+abbrev pub AreTold : ℕ → Counts → Counts → Type 0
+AreTold now old new = new ≡ record old { shown = old.ran; since = now }

@@ -8,7 +8,7 @@ use Rattle.dn_measure.specs.declared.felt.Felt.{Felt}
 use Rattle.dn_measure.specs.declared.felt.Felt.TheVariants.{Never, Within, Longer}
 use Rattle.dn_measure.specs.declared.measure.Summary.{Summary}
 use Rattle.dn_measure.specs.Thresholds.{longest_calm}
-use Rattle.dn_host.specs.Coming.{figures_by_link}
+use Rattle.dn_host.specs.Arrived.{figures_by_link}
 
 -- what came of a player in the game is at most what its line counts in all; it is told of each peer, and of nobody
 -- else

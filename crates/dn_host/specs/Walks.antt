@@ -1,17 +1,14 @@
--- How the walk of a player goes with its link: what the law of linked games asks of a world.
-use Rattle.std.specs.Prelude.{◌≡◌, ℕ, ℤ, Bool, false, List, [], ◌∷◌, Option, Some, None, is_some}
+-- How the walk of a player goes with its session: what the law of linked games asks of a world.
+use Rattle.std.specs.Prelude.{◌≡◌, ℕ, ℤ, Bool, true, false, List, [], ◌∷◌, Option, Some, None, is_some}
 use Rattle.dn_tic.specs.declared.command.Move.{Move}
-use Rattle.dn_setup.specs.Settings.{Settings}
-use Rattle.dn_setup.specs.Settings.{start_of}
+use Rattle.dn_tic.specs.declared.input.Input.TheVariants.{Pressed}
+use Rattle.dn_tic.specs.declared.keys.Keys.{Keys}
+use Rattle.dn_setup.specs.Settings.{Settings, start_of}
 use Rattle.dn_world.specs.Plane.{Spots, walking}
-use Rattle.dn_machine.specs.Running.{on_run}
 use Rattle.dn_machine.specs.declared.answers.Ran.{Ran}
 use Rattle.dn_machine.specs.declared.answers.Ran.TheVariants.{Waiting}
-use Rattle.dn_lockstep.specs.Contents.{Contents}
 use Rattle.dn_lockstep.specs.Rows.{seats_of}
-use Rattle.dn_lockstep.specs.Steps.{RunsBy}
-use Rattle.dn_link.specs.declared.received.Received.{Received}
-use Rattle.dn_link.specs.declared.received.Received.TheVariants.{Heard}
+use Rattle.dn_session.specs.Session.{Meeting, GivesPart, RunsPart}
 
 -- the marks of all players, as the walk stands
 abbrev pub marks_of : Spots → List ℤ
@@ -28,21 +25,21 @@ abbrev pub waited_for : Ran → Option ℕ
 waited_for (Waiting player) = Some player
 waited_for answer = None
 
--- a run of the link's node with the marks of the walk as it stands, the walk after it, whether a tic was run, and for
--- whom the next one waits
-abbrev pub RunsWalk : Contents → Spots → Contents → Spots → (ran : Bool) → (waits : Option ℕ) → Type 0
-RunsWalk old before new after ran waits =
+-- the walk begins as the settings say; one that has not begun has nobody
+abbrev pub begun_by : Option Settings → ℕ → Spots
+begun_by None players = None ∷ None ∷ None ∷ None ∷ []
+begun_by (Some settings) players = walking.begin (start_of settings) (seats_of players)
+
+-- a run of the session with the marks of the walk as it stands, the walk after it, whether a tic was run, and for whom
+-- the next one waits
+abbrev pub RunsWalk : Spots → Meeting → Meeting → Spots → (has_run : Bool) → (waits : Option ℕ) → Type 0
+RunsWalk before old new after has_run waits =
     (answer : Ran) × (row : Option (List (Option Move)))
-    × RunsBy (marks_of before) old new (λ limits m marks. on_run limits m marks)
-    (λ given told. (answer ≡ given) × (row ≡ told))
-    × (after ≡ moved_by row before) × (ran ≡ is_some row) × (waits ≡ waited_for answer)
+    × RunsPart (marks_of before) old.part new.part answer row × (new ≡ record old { part = new.part })
+    × (after ≡ moved_by row before) × (has_run ≡ is_some row) × (waits ≡ waited_for answer)
 
--- the game started with what was received
-abbrev pub is_started : Received → Bool
-is_started (Heard from started) = started
-is_started received = false
-
--- the walk begins as the settings say
-abbrev pub begun_by : Option Settings → ℕ → Spots → Spots
-begun_by None players walk = walk
-begun_by (Some settings) players walk = walking.begin (start_of settings) (seats_of players)
+-- the session is given some keys, or nothing
+abbrev pub GivesInput : ℕ → Bool → Meeting → Meeting → Type 0
+GivesInput now false old new = new ≡ old
+GivesInput now true old new =
+    (keys : Keys) × GivesPart now (Pressed keys) old.part new.part true × (new ≡ record old { part = new.part })

@@ -1,66 +1,14 @@
-//! What is counted of a game from its beginning on: what came from each player, and how it stands.
+//! What is counted of a game from its beginning on, and how it stands.
 
-ghost use Rattle.std.specs.Prelude.{◌≡◌, ◌-◌, ◌++◌, ℕ, List, replicate};
+ghost use Rattle.std.specs.Prelude.{◌≡◌, ◌++◌, ℕ, List, replicate, nat_lt, if◌then◌else◌};
 ghost use Rattle.dn_link.specs.{Linking.linked, Pacing.pace_of};
-ghost use Rattle.dn_host.specs.{Arrived.came_from_each, Arrived.came_from, Arrived.since_then, Arrived.arrivals_by, Coming.figures_by_link, Standing.standing_in};
-ghost use Rattle.dn_measure.specs.{Measure.IsMeasureOf, Measure.IsSummaryOf, declared.measure.Told.Told, Runs.is_gap};
-ghost use Rattle.dn_host.specs.Measured.{IsSomeMeasure};
-ghost use Rattle.dn_host.specs.Summaries.{IsSummaryBy};
+ghost use Rattle.dn_measure.specs.{Measure.IsMeasureOf, Measure.IsSummaryOf, declared.measure.Told.Told};
+ghost use Rattle.dn_host.specs.{Arrived.arrivals_by, Arrived.late_in, Measured.IsSomeMeasure, Summaries.IsSummaryBy};
 
-use crate::play::Done;
+use crate::arrivals::{Lines, came_of_each, late_in, lines_of, standings_in};
 use dn_link::Link;
-use dn_measure::{Arrivals, Measure, PeerStatus, Status, Summary, Told};
-
-/// What came from each player.
-pub(crate) type Came = [Option<Arrivals>; 4];
-
-/// What came from a player so far, so much of it late.
-fn came_from(link: &Link, player: u8, late: u32) -> Option<Arrivals>
-    ensures { result ≡ came_from (linked link.now) (pace_of link.now) player late }
-{
-    let figures = link.figures(player)?;
-    Some(Arrivals {
-        came: figures.came,
-        lost: figures.lost,
-        late,
-        twice: figures.repeated,
-        old: figures.too_old,
-    })
-}
-
-/// What came from each player so far, so much of it late.
-pub(crate) fn came(link: &Link, late: [u32; 4]) -> Came
-    ensures { result ≡ came_from_each (linked link.now) (pace_of link.now) late }
-{
-    let [a, b, c, d] = late;
-    [
-        came_from(link, 0, a),
-        came_from(link, 1, b),
-        came_from(link, 2, c),
-        came_from(link, 3, d),
-    ]
-}
-
-/// What came from a player since there was that much.
-pub(crate) fn since(after: Option<Arrivals>, before: Option<Arrivals>) -> Option<Arrivals>
-    ensures { result ≡ since_then after before }
-{
-    match (after, before) {
-        (Some(after), Some(before)) => Some(after.since(&before)),
-        (after, _) => after,
-    }
-}
-
-/// How a player stands.
-fn standing(link: &Link, player: u8, arrivals: Option<Arrivals>) -> Option<PeerStatus>
-    ensures { result ≡ standing_in (figures_by_link (linked link.now) (pace_of link.now) player) arrivals }
-{
-    let figures = link.figures(player)?;
-    Some(PeerStatus {
-        lead: figures.lead,
-        arrivals: arrivals?,
-    })
-}
+use dn_lockstep::Lockstep;
+use dn_measure::{Arrivals, Measure, Status, Summary, Told};
 
 /// After how long without a tic it is told for whom the game waits, in microseconds.
 const GAP: u64 = 100_000;
@@ -69,15 +17,16 @@ const GAP: u64 = 100_000;
 #[derive(Drop)]
 pub(crate) struct Counts {
     measure: Measure,
-    before: Came,
-    /// How many tics were run up to the last line, and when that was.
-    shown: u64,
-    since: u64,
-    tics: u64,
-    /// When the last tic was run, or the game began.
-    ran: u64,
     /// How many datagrams of each player came late.
     late: [u32; 4],
+    /// How many commands were built, and how many tics run.
+    made: u32,
+    ran: u32,
+    /// When the last tic was run, or the game began.
+    moved: u64,
+    /// How many tics were run up to the last line, and when that was.
+    shown: u32,
+    since: u64,
     ghost measured: { IsSomeMeasure measure },
 }
 
@@ -91,118 +40,89 @@ fn tell(measure: &mut Measure, told: Told, times: u32)
     }
 }
 
+/// When the last tic was run, if so many are run now, and so many were before.
+fn moved_at(ran: u32, before: u32, now: u64, moved: u64) -> u64
+    ensures { result ≡ (if nat_lt before ran then now else moved) }
+{
+    if ran > before { now } else { moved }
+}
+
 impl Counts {
-    ghost use Rattle.dn_host.specs.{Coming.late_by, Coming.one_more, Counted.TellsMore, Counted.last_run, Counted.told_of, Taking.IsFresh, Telling.AreTold, Telling.status_at};
+    ghost use Rattle.dn_lockstep.specs.Contents.{contents};
+    ghost use Rattle.dn_host.specs.Counted.{AreTold, IsFresh, NotesMore, status_at};
 
     /// Nothing, of a game that begins now.
-    pub(crate) fn new(link: &Link, now: u64) -> Counts
-        ensures { IsFresh link.now now result }
+    pub(crate) fn new(now: u64) -> Counts
+        ensures { IsFresh now result }
     {
         Counts {
             measure: Measure::new(now),
-            before: came(link, [0; 4]),
+            late: [0; 4],
+            made: 0,
+            ran: 0,
+            moved: now,
             shown: 0,
             since: now,
-            tics: 0,
-            ran: now,
-            late: [0; 4],
         }
     }
 
-    /// When the last tic was run, if that was done now, and it was at this time before.
-    fn last_run(done: Done, now: u64, before: u64) -> u64
-        ensures { result ≡ last_run (told_of done now) before }
+    /// Counts the tics that were run since the last time, and the commands that were built after them.
+    pub(crate) fn note(&mut self, lockstep: &Lockstep, now: u64)
+        ensures { NotesMore now (contents lockstep.now) self.old self.new }
     {
-        if done.ran > 0 { now } else { before }
+        let (made, ran) = (lockstep.made(), lockstep.ran());
+        tell(
+            &mut self.measure,
+            Told::Ran(now),
+            ran.saturating_sub(self.ran),
+        );
+        tell(
+            &mut self.measure,
+            Told::Built(now),
+            made.saturating_sub(self.made),
+        );
+        self.moved = moved_at(ran, self.ran, now, self.moved);
+        self.made = made;
+        self.ran = ran;
     }
 
-    /// Counts what was done.
-    pub(crate) fn add(&mut self, done: Done, now: u64)
-        ensures { TellsMore (told_of done now) self.old self.new }
+    /// Counts the datagram that came between these figures of the lines, if it came late.
+    pub(crate) fn come(&mut self, before: &Option<Lines>, after: &Option<Lines>)
+        ensures { self.new ≡ record self.old { late = late_in before.now after.now self.old.late } }
     {
-        tell(&mut self.measure, Told::Built(now), done.built);
-        tell(&mut self.measure, Told::Ran(now), done.ran);
-        self.tics = self.tics.saturating_add(u64::from(done.ran));
-        self.ran = Counts::last_run(done, now, self.ran);
+        self.late = late_in(before, after, self.late);
     }
 
-    /// Counts a datagram of a player that came late.
-    fn come_late(&mut self, player: u8)
-        ensures { self.new ≡ record self.old { late = one_more player self.old.late } }
-    {
-        if player < 4 {
-            let late = &mut self.late;
-            late[usize::from(player)] = late[usize::from(player)].saturating_add(1);
-        }
-    }
-
-    /// Counts the datagram of a player that came late, if one did.
-    pub(crate) fn count_late(&mut self, late: Option<u8>)
-        ensures { self.new ≡ record self.old { late = late_by late self.old.late } }
-    {
-        if let Some(player) = late {
-            self.come_late(player);
-        }
-    }
-
-    /// How many tics were run.
-    pub(crate) fn tics(&self) -> u64
-        ensures { result ≡ self.now.tics }
-    {
-        self.tics
-    }
-
-    /// What came from each player since the game began.
-    fn arrivals(&self, link: &Link) -> Came
-        ensures { result ≡ arrivals_by (linked link.now) (pace_of link.now) self.now.late self.now.before }
-    {
-        let [a, b, c, d] = came(link, self.late);
-        let [e, f, g, h] = self.before;
-        [since(a, e), since(b, f), since(c, g), since(d, h)]
-    }
-
-    /// Whether no tic was run for so long that it is told for whom the game waits.
-    fn is_held_up(&self, now: u64) -> bool
-        ensures { result ≡ is_gap (now - self.now.ran) }
-    {
-        now.saturating_sub(self.ran) > GAP
-    }
-
-    /// How the game stands now, since the last time, if its next tic waits for this player.
-    fn standing(&self, link: &Link, waiting: Option<u8>, now: u64) -> Status
-        ensures { result ≡ status_at self.now (linked link.now) (pace_of link.now) waiting now }
-    {
-        let [a, b, c, d] = self.arrivals(link);
-        Status {
-            tics: self.tics.saturating_sub(self.shown),
-            micros: now.saturating_sub(self.since),
-            waiting: if self.is_held_up(now) { waiting } else { None },
-            refused: link.refused(),
-            peers: [
-                standing(link, 0, a),
-                standing(link, 1, b),
-                standing(link, 2, c),
-                standing(link, 3, d),
-            ],
-        }
-    }
-
-    /// How the game stands; from now on the tics are counted anew for the next time.
+    /// How the game stands, if its next tic waits for this player; from now on the tics are counted anew for the
+    /// next time.
     pub(crate) fn status(&mut self, link: &Link, waiting: Option<u8>, now: u64) -> Status
         ensures status { result ≡ status_at self.old (linked link.now) (pace_of link.now) waiting now }
         ensures told { AreTold now self.old self.new }
     {
-        let status = self.standing(link, waiting, now);
-        self.shown = self.tics;
+        let is_held_up = now.saturating_sub(self.moved) > GAP;
+        let status = Status {
+            tics: u64::from(self.ran.saturating_sub(self.shown)),
+            micros: now.saturating_sub(self.since),
+            waiting: if is_held_up { waiting } else { None },
+            refused: link.refused(),
+            peers: standings_in(&lines_of(link), self.late),
+        };
+        self.shown = self.ran;
         self.since = now;
         status
     }
 
+    /// What came of each player.
+    fn arrivals(&self, link: &Link) -> [Option<Arrivals>; 4]
+        ensures { result ≡ arrivals_by (linked link.now) (pace_of link.now) self.now.late }
+    {
+        came_of_each(&lines_of(link), self.late)
+    }
+
     /// What was measured up to now.
     pub(crate) fn summary(&self, link: &Link, now: u64, rate: u8) -> Summary
-        ensures own { (start : ℕ) (told : List Told) → IsMeasureOf self.now.measure start told
-            → IsSummaryOf start told now rate
-            (arrivals_by (linked link.now) (pace_of link.now) self.now.late self.now.before) result }
+        ensures own { (start : ℕ) (told : List Told) → IsMeasureOf self.now.measure start told → IsSummaryOf start
+            told now rate (arrivals_by (linked link.now) (pace_of link.now) self.now.late) result }
         ensures by { IsSummaryBy (linked link.now) (pace_of link.now) result }
     {
         self.measure.summary(now, rate, self.arrivals(link))

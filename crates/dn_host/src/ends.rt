@@ -1,12 +1,13 @@
 //! How a session ends.
 
 ghost use Rattle.std.specs.Prelude.{◌≡◌};
-ghost use Rattle.dn_host.specs.Offers.{fault_of};
+ghost use Rattle.dn_host.specs.Ends.{end_of};
+ghost use Rattle.dn_host.specs.declared.ends.HostFault.TheVariants as fault;
 
-use dn_greeting::{Hint, Refusal};
 use dn_link::Link;
 use dn_lockstep::NodeFault;
 use dn_measure::{End, Summary};
+use dn_session::{Ending as GameEnding, Hint, LobbyFault, Refusal};
 use thiserror::Error;
 
 /// How a session ended.
@@ -32,21 +33,26 @@ pub enum HostFault {
     /// The system gave no random bytes.
     #[error("no random bytes")]
     Random,
-    /// The terms that the host offers are those of no game: its number of players, the window, the rate or the
-    /// demo's limit is out of range. A host knows that before it waits for anybody, and a joiner by an answer with a
-    /// limit that no demo has, since it takes no answer in which another of these is out of range.
+    /// What the host offers, or the joiner asks for, is no game: the number of players, the window, the rate, the
+    /// demo's limit or the seat is out of range.
     #[error("the terms are those of no game")]
     Terms,
 }
 
+/// The terms that a session has are those of a game, so what its part wants is memory.
 impl From<NodeFault> for HostFault {
-    ghost from_gives = { λ fault e. e ≡ fault_of fault };
+    ghost from_gives = { λ f e. e ≡ fault.Memory };
 
-    fn from(fault: NodeFault) -> HostFault {
-        match fault {
-            NodeFault::Memory => HostFault::Memory,
-            _ => HostFault::Terms,
-        }
+    fn from(_fault: NodeFault) -> HostFault {
+        HostFault::Memory
+    }
+}
+
+impl From<LobbyFault> for HostFault {
+    ghost from_gives = { λ f e. e ≡ fault.Terms };
+
+    fn from(_fault: LobbyFault) -> HostFault {
+        HostFault::Terms
     }
 }
 
@@ -55,8 +61,21 @@ impl From<NodeFault> for HostFault {
 pub struct Outcome {
     /// How it ended.
     pub ending: Ending,
-    /// The link, with its demo, if there was one.
+    /// The link, with its demo, if the game began.
     pub link: Option<Link>,
-    /// What was measured, if the game began.
+    /// What was measured, if it did.
     pub summary: Option<Summary>,
+}
+
+/// How the game of a session ended. Nobody is given up in a game of these terms.
+pub(crate) fn end_of(ending: GameEnding) -> End
+    ensures { result ≡ end_of ending }
+{
+    match ending {
+        GameEnding::Left => End::Left,
+        GameEnding::Full => End::Full,
+        GameEnding::Inconsistent(player) => End::Inconsistent(player),
+        GameEnding::Lost(player) => End::Lost(player),
+        GameEnding::GivenUp | GameEnding::Alone => End::OthersLeft,
+    }
 }

@@ -1,17 +1,16 @@
 //! Joining a game.
 
-ghost use Rattle.std.specs.Prelude.{IfOk, IfSome};
-ghost use Rattle.dn_host.specs.{Outcomes.HasLink, Outcomes.IsOutcome, Seals.IsSealedUnder};
+ghost use Rattle.std.specs.Prelude.{IfOk};
+ghost use Rattle.dn_host.specs.Outcomes.{HasLink, IsJoined};
 
-use crate::caller::new_caller;
-use crate::clock::now;
 use crate::ends::{HostFault, Outcome};
+use crate::host::PROGRAM;
 use crate::plan::Plan;
+use crate::random::draw;
 use crate::screen::Screen;
-use crate::session::Session;
-use crate::turns::run;
+use crate::turns::Turns;
 use crate::wire::Wire;
-use dn_greeting::Address;
+use dn_session::{Address, JoinConfig, Session};
 use std::alloc::Global;
 use std::random::RandomSource;
 use std::time::Clock;
@@ -21,7 +20,7 @@ use std::time::Clock;
 pub struct Guest {
     /// Where the host is.
     pub host: Address,
-    /// The seat that it wants, if it wants a certain one.
+    /// The seat that it wants, 1 to 3, if it wants a certain one.
     pub seat: Option<u8>,
     /// How many players there must be, if it was told.
     pub players: Option<u8>,
@@ -36,12 +35,18 @@ pub fn join_game<R: Clock + RandomSource, W: Wire, S: Screen>(
     plan: &Plan,
     guest: &Guest,
 ) -> Result<Outcome, HostFault>
-    ensures outcome { IfOk result IsOutcome }
+    ensures played { IfOk result (IsJoined W.polls W.sends plan.now guest.now wire.old wire.new) }
     ensures linked { IfOk result HasLink }
-    ensures sealed { IfOk result (λ o. IfSome o.link (IsSealedUnder plan.now.secret)) }
 {
-    let start = now(rt)?;
-    let lobby = new_caller(rt, alloc, plan, guest, start)?;
-    let session = Session::new(lobby, None, plan.seconds, start);
-    run(rt, wire, screen, session)
+    let config = JoinConfig {
+        secret: plan.secret,
+        random: draw(rt)?,
+        host: guest.host,
+        seat: guest.seat,
+        players: guest.players,
+        identity: PROGRAM,
+        name: [0; 16],
+    };
+    let session = Session::join(&config, 0)?;
+    Turns::new(session, plan).run(rt, alloc, wire, screen)
 }

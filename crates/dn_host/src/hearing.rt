@@ -1,22 +1,13 @@
-//! A datagram that came, and taking those that are there.
+//! Taking the datagrams that are there, and sending what is owed.
 
-ghost use Rattle.std.specs.Prelude.{◌≡◌, ◌≤◌, ◌&&◌, ℕ, List, Option, Bool, length, false, IfOk, IfErr, IfSome};
-ghost use Rattle.dn_host.specs.{Begun.has_begun, Greetings.GreetsFew, Greetings.Opens, Greetings.TakesSome, Greetings.is_greeting, Greetings.is_hint, Greetings.is_named, Greetings.is_opened, Parts.IsPart};
-ghost use Rattle.dn_host.specs.{Stages.IfEnding};
+ghost use Rattle.std.specs.Prelude.{◌≡◌, ◌-◌, ◌&&◌, ℕ, Option, Some, not, nat_le, if◌then◌else◌};
+ghost use Rattle.dn_session.specs.{Reading.is_greeting, Session.meeting, Session.HearsAny};
+ghost use Rattle.dn_host.specs.{Playing.millis, Playing.ComesIn, Turns.Goes, Turns.IfGame, declared.game.Game.Game};
 
-use crate::ends::{Ending, HostFault};
-use crate::game::{Game, has_begun};
-use crate::lobby::{Greeted, Lobby};
+use crate::clock::millis;
+use crate::game::Game;
 use crate::wire::{MOST, Wire};
-use dn_greeting::Address;
-
-/// A datagram: bytes that came from an address at a time.
-#[derive(Clone, Copy, Debug, PartialEq, Eq)]
-pub(crate) struct Letter<'a> {
-    pub(crate) from: Address,
-    pub(crate) bytes: &'a [u8],
-    pub(crate) now: u64,
-}
+use dn_session::{Address, Session, is_greeting};
 
 /// The most datagrams that are read between two looks at the clock.
 const POLLS: u32 = 64;
@@ -24,114 +15,118 @@ const POLLS: u32 = 64;
 /// The most greetings that are opened between two looks at the clock: each may cost the time of three tags.
 const GREETINGS: u32 = 2;
 
-/// What stands behind the kind of every greeting.
-const NAME: [u8; 8] = *b"zirmegat";
+/// The most datagrams that a session owes at once: two to each player, a reply and a call.
+const OWED: u32 = 10;
 
-/// The fewest bytes of a greeting.
-const SHORTEST: usize = 29;
-
-/// Whether bytes may be a greeting: nothing else has this kind.
-fn is_greeting(bytes: &[u8]) -> bool
-    ensures { result ≡ is_greeting bytes.now }
+/// Whether bytes are taken, if so many greetings still are.
+fn is_taken(left: &mut u32, bytes: &[u8]) -> bool
+    ensures taken { result ≡ not (is_greeting bytes.now && nat_le left.old 0) }
+    ensures left { left.new ≡ (if is_greeting bytes.now then left.old - 1 else left.old) }
 {
-    bytes.len() >= 2 && bytes[1] == 4
+    if !is_greeting(bytes) {
+        return true;
+    }
+    let is_taken = *left > 0;
+    *left = left.saturating_sub(1);
+    is_taken
 }
 
-/// Whether they have the name of greetings too, and may be as long as one: others are none, and cost nothing.
-fn is_named(bytes: &[u8]) -> bool
-    ensures { result ≡ is_named bytes.now }
+/// Sends what a session owes next: whether it owed anything.
+fn send_next<W: Wire>(session: &mut Session, wire: &mut W) -> bool
+    ensures { (now : ℕ) (game : Option Game) → Goes W.polls W.sends now
+        (record { session = meeting session.old; game = game; wire = wire.old })
+        (record { session = meeting session.new; game = game; wire = wire.new }) }
 {
-    bytes.len() >= SHORTEST && bytes[2..10] == NAME[..]
-}
-
-/// Whether bytes may be a hint: no other greeting says that it is one.
-fn is_hint(bytes: &[u8]) -> bool
-    ensures { result ≡ is_hint bytes.now }
-{
-    bytes.len() >= 12 && bytes[11] == 4
-}
-
-/// Whether a greeting is opened, if so many still may be: no hint is in a game that has begun.
-fn is_opened(left: u32, begun: bool, bytes: &[u8]) -> bool
-    ensures { result ≡ is_opened left begun bytes.now }
-{
-    left > 0 && is_named(bytes) && !(is_hint(bytes) && begun)
-}
-
-/// What came of the datagrams that were read.
-#[derive(Clone, Copy, Debug, PartialEq, Eq)]
-pub(crate) enum Heard {
-    /// No more are there.
-    Calm,
-    /// There may be more.
-    Busy,
-    /// The session ends.
-    Ending(Ending),
-}
-
-/// Takes bytes that are no greeting, if there is a game.
-fn hear_datagram<W: Wire>(game: &mut Option<Game>, wire: &mut W, letter: Letter)
-    ensures { (hosts : Bool) (secret : Option (List ℕ)) → IsPart hosts secret game.old → IsPart hosts secret game.new }
-{
-    if let Some(game) = game {
-        game.hear(wire, letter.from, letter.bytes, letter.now);
+    match session.transmit() {
+        Some(out) => {
+            wire.send(&out.to, out.bytes.as_slice());
+            true
+        }
+        None => false,
     }
 }
 
-/// Takes any bytes. So many greetings may still be opened.
-fn hear_one<W: Wire, L: Lobby>(
-    lobby: &mut L,
+/// Sends what a session owes.
+pub(crate) fn send_all<W: Wire>(session: &mut Session, wire: &mut W)
+    ensures { (now : ℕ) (game : Option Game) → Goes W.polls W.sends now
+        (record { session = meeting session.old; game = game; wire = wire.old })
+        (record { session = meeting session.new; game = game; wire = wire.new }) }
+{
+    for _ in 0..OWED {
+        if !send_next(session, wire) {
+            return;
+        }
+    }
+}
+
+/// A session takes any bytes that came from an address.
+fn hear(session: &mut Session, game: &mut Option<Game>, from: &Address, bytes: &[u8], now: u64)
+    ensures hears { HearsAny from.now bytes.now (millis now) (meeting session.old) (meeting session.new) }
+    ensures comes { IfGame (ComesIn (meeting session.old) (meeting session.new)) game.old game.new }
+{
+    match game {
+        Some(game) => game.hear(session, from, bytes, now),
+        None => session.receive(from, bytes, millis(now)),
+    }
+}
+
+/// Takes a datagram that was read. A greeting is dropped if no more of them are taken. What a session owes is sent
+/// before it takes another one, so each greeting is answered.
+fn take<W: Wire>(
+    session: &mut Session,
     game: &mut Option<Game>,
     wire: &mut W,
-    letter: Letter,
     left: &mut u32,
-) -> Greeted
-    ensures ends { IfOk result (λ found. IfSome found (λ ending.
-        L.Refuses ending × (has_begun game.new ≡ false))) }
-    ensures opens { Opens (TakesSome L.Greets letter.entry.now)
-        (is_greeting letter.entry.bytes.now && is_opened left.old (has_begun game.old) letter.entry.bytes.now) left.old left.new lobby.old
-        lobby.new }
-    ensures faults { IfErr result L.Faults }
-    ensures secret { L.secret lobby.new ≡ L.secret lobby.old }
-    ensures part { IsPart L.hosts (L.secret lobby.old) game.old → IsPart L.hosts (L.secret lobby.old) game.new }
+    from: &Address,
+    bytes: &[u8],
+    now: u64,
+)
+    ensures { (before : W) → W.polls before (Some (from.now, bytes.now)) wire.old → Goes W.polls W.sends now
+        (record { session = meeting session.old; game = game.old; wire = before })
+        (record { session = meeting session.new; game = game.new; wire = wire.new }) }
 {
-    if !is_greeting(letter.bytes) {
-        hear_datagram(game, wire, letter);
-        return Ok(None);
+    if is_taken(left, bytes) {
+        hear(session, game, from, bytes, now);
+        send_all(session, wire);
     }
-    if !is_opened(*left, has_begun(game), letter.bytes) {
-        return Ok(None);
-    }
-    *left -= 1;
-    lobby.greet(game, wire, letter)
 }
 
-/// Takes the datagrams that are there, up to some number. Of more than two greetings the rest is dropped.
-#[tactic(auto, using(crate::proofs::Greeted::few, crate::proofs::Greeted::one_more))]
-pub(crate) fn hear_all<W: Wire, L: Lobby>(
-    lobby: &mut L,
+/// Takes the next datagram, if one is there: whether one was.
+fn hear_next<W: Wire>(
+    session: &mut Session,
+    game: &mut Option<Game>,
+    wire: &mut W,
+    left: &mut u32,
+    now: u64,
+) -> bool
+    ensures { Goes W.polls W.sends now (record { session = meeting session.old; game = game.old; wire = wire.old })
+        (record { session = meeting session.new; game = game.new; wire = wire.new }) }
+{
+    let mut room = [0; MOST];
+    match wire.poll(&mut room) {
+        Some((from, count)) => {
+            take(session, game, wire, left, &from, &room[..count], now);
+            true
+        }
+        None => false,
+    }
+}
+
+/// Takes the datagrams that are there, up to some number: whether there may be more.
+pub(crate) fn hear_all<W: Wire>(
+    session: &mut Session,
     game: &mut Option<Game>,
     wire: &mut W,
     now: u64,
-) -> Result<Heard, HostFault>
-    ensures ends { IfOk result (λ heard. IfEnding heard (λ ending.
-        L.Refuses ending × (has_begun game.new ≡ false))) }
-    ensures few { GreetsFew (TakesSome L.Greets now) lobby.old lobby.new }
-    ensures faults { IfErr result L.Faults }
-    ensures secret { L.secret lobby.new ≡ L.secret lobby.old }
-    ensures part { IsPart L.hosts (L.secret lobby.old) game.old → IsPart L.hosts (L.secret lobby.old) game.new }
+) -> bool
+    ensures { Goes W.polls W.sends now (record { session = meeting session.old; game = game.old; wire = wire.old })
+        (record { session = meeting session.new; game = game.new; wire = wire.new }) }
 {
-    let mut room = [0; MOST];
     let mut left = GREETINGS;
     for _ in 0..POLLS {
-        let Some((from, count)) = wire.poll(&mut room) else {
-            return Ok(Heard::Calm);
-        };
-        let bytes = &room[..count];
-        let letter = Letter { from, bytes, now };
-        if let Some(ending) = hear_one(lobby, game, wire, letter, &mut left)? {
-            return Ok(Heard::Ending(ending));
+        if !hear_next(session, game, wire, &mut left, now) {
+            return false;
         }
     }
-    Ok(Heard::Busy)
+    true
 }

@@ -1,36 +1,63 @@
 //! Hosting a game.
 
-ghost use Rattle.std.specs.Prelude.{◌≡◌, false, true, Err, IfErr, IfOk, IfSome, is_some};
-ghost use Rattle.dn_host.specs.{Offers.IsTerms, Outcomes.IsOutcome, Seals.IsSealedUnder, Stages.is_refusal};
+ghost use Rattle.std.specs.Prelude.{◌≡◌, ◌⊎◌, false, true, Err, IfErr, IfOk, is_some};
+ghost use Rattle.dn_host.specs.Offers.{terms_of, IsOffer};
+ghost use Rattle.dn_host.specs.Outcomes.{IsHosted, is_refusal};
 ghost use Rattle.dn_host.specs.declared.ends.HostFault.TheVariants as fault;
 
-use crate::clock::now;
 use crate::ends::{HostFault, Outcome};
-use crate::keeper::new_keeper;
-use crate::parts::Offer;
 use crate::plan::Plan;
+use crate::random::draw;
 use crate::screen::Screen;
-use crate::session::Session;
-use crate::turns::run;
+use crate::turns::Turns;
 use crate::wire::Wire;
-use dn_greeting::Terms;
+use dn_measure::SILENCE;
+use dn_session::{HostConfig, Policy, Session, Terms};
 use dn_setup::Settings;
 use std::alloc::Global;
 use std::random::RandomSource;
 use std::time::Clock;
 
+/// The identity of every program of this kind.
+pub(crate) const PROGRAM: [u8; 16] = *b"zirmegat netgame";
+
 /// What a host offers.
 #[derive(Clone, Copy, Debug, PartialEq, Eq)]
 pub struct Hosting {
-    /// What must be the same at all players.
-    pub terms: Terms,
+    /// How many players the game has: 2 to 4.
+    pub players: u8,
+    /// Whether packets repeat commands.
+    pub extra: bool,
+    /// How many commands a player makes ahead of its runs: 1 to 12.
+    pub ahead: u8,
+    /// How many tics a second are played: 1 to 35.
+    pub rate: u8,
+    /// How many bytes the demo may have: 1,024 to 16,777,216.
+    pub limit: u32,
     /// The choice of game.
     pub settings: Settings,
 }
 
-/// Hosts a game: waits until all are there, plays as player 0, and leaves. Where the terms are those of no game, it
-/// does nothing.
-pub fn host_game<R: Clock + RandomSource + Drop, W: Wire, S: Screen>(
+/// What must be the same at all players then: a player who vanishes ends the game.
+fn terms_of(hosting: &Hosting) -> Terms
+    ensures { result ≡ terms_of hosting.now }
+{
+    Terms {
+        players: hosting.players,
+        extra: hosting.extra,
+        ahead: hosting.ahead,
+        rate: hosting.rate,
+        limit: hosting.limit,
+        settings: hosting.settings,
+        policy: Policy::End(SILENCE),
+        identity: PROGRAM,
+        own: [0; 256],
+    }
+}
+
+/// Hosts a game: waits until all are there, plays as player 0, and leaves. Where what it offers is no game, it does
+/// nothing.
+pub fn host_game<R: Clock + RandomSource, W: Wire, S: Screen>(
     rt: &R,
     alloc: Global,
     wire: &mut W,
@@ -38,17 +65,18 @@ pub fn host_game<R: Clock + RandomSource + Drop, W: Wire, S: Screen>(
     plan: &Plan,
     hosting: &Hosting,
 ) -> Result<Outcome, HostFault>
-    ensures outcome { IfOk result IsOutcome }
-    ensures played { IfOk result (λ o. is_refusal o.ending ≡ false) }
+    ensures played { IfOk result (IsHosted W.polls W.sends plan.now hosting.now wire.old wire.new) }
+    ensures seated { IfOk result (λ o. is_refusal o.ending ≡ false) }
     ensures linked { IfOk result (λ o. is_some o.link ≡ true) }
-    ensures sealed { IfOk result (λ o. IfSome o.link (IsSealedUnder plan.now.secret)) }
-    ensures terms { IfErr result (λ f. f ≡ fault.Terms → ¬ IsTerms hosting.now.terms) }
-    ensures no_game { ¬ IsTerms hosting.now.terms → (result ≡ Err fault.Terms)
+    ensures terms { IfErr result (λ f. f ≡ fault.Terms → ¬ IsOffer hosting.now) }
+    ensures no_game { ¬ IsOffer hosting.now → ((result ≡ Err fault.Terms) ⊎ (result ≡ Err fault.Random))
         × (wire.new ≡ wire.old) × (screen.new ≡ screen.old) }
 {
-    let offer = Offer::of(hosting)?;
-    let start = now(rt)?;
-    let (lobby, game) = new_keeper(rt, alloc, plan, offer, start)?;
-    let session = Session::new(lobby, Some(game), plan.seconds, start);
-    run(rt, wire, screen, session)
+    let session = Session::host(&HostConfig {
+        secret: plan.secret,
+        random: draw(rt)?,
+        name: [0; 16],
+        terms: terms_of(hosting),
+    })?;
+    Turns::new(session, plan).run(rt, alloc, wire, screen)
 }

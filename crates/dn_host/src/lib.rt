@@ -1,30 +1,19 @@
-//! A session over a network: one player's link with its walk, its lobby, its clock and its socket.
+//! A session over a network: its socket, its clock and its screen, and the walk of its player.
 #![tactic(auto)]
 
-mod absence;
-mod caller;
+mod arrivals;
 mod clock;
-mod coming;
 mod counts;
 mod ends;
 mod game;
 mod guest;
 mod hearing;
 mod host;
-mod keeper;
-mod laws;
-mod leave;
-mod lobby;
-mod parts;
-mod peers;
+mod leaving;
+mod others;
 mod plan;
-mod play;
 mod random;
 mod screen;
-mod sending;
-mod session;
-mod showing;
-mod ticking;
 mod turns;
 mod walking;
 mod wire;
@@ -32,7 +21,6 @@ mod wire;
 pub use ends::{Ending, HostFault, Outcome};
 pub use guest::{Guest, join_game};
 pub use host::{Hosting, host_game};
-pub use laws::replays_are_not_new;
 pub use plan::Plan;
 pub use screen::Screen;
 pub use wire::{MOST, Udp, Wire, address_of};

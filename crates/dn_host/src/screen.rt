@@ -1,10 +1,10 @@
-//! What a session tells while it goes on, and what the screen is told of a joiner while it waits.
+//! What a session tells while it goes on, and what of a joiner that waits.
 
-ghost use Rattle.std.specs.Prelude.{◌≡◌, false, None};
-ghost use Rattle.dn_host.specs.Waiting.{is_silent, silent_since};
+ghost use Rattle.std.specs.Prelude.{◌≡◌, false};
+ghost use Rattle.dn_host.specs.Waiting.{has_no_seat, is_missed, misses, told_by};
 
-use dn_greeting::Refusal;
 use dn_measure::Status;
+use dn_session::{Joiner, Refusal, Side, Stage};
 
 /// Is told how a session goes on.
 pub trait Screen {
@@ -18,61 +18,60 @@ pub trait Screen {
     fn miss(&mut self);
 }
 
-/// After how long a silence of the host the screen is told.
-const QUIET: u64 = 10_000_000;
+/// Between two silences of the host that are told lie so many milliseconds at least.
+const QUIET: u32 = 10_000;
 
-/// Why a joiner has no seat, and since when its host is silent.
+/// What the screen was told of a joiner that waits.
 #[derive(Clone, Copy, Debug, PartialEq, Eq)]
-pub(crate) struct Waiting {
-    /// Since when the host is silent, or since the screen was told that it is.
-    quiet: u64,
-    /// Why it has no seat, while it goes on asking for one,
-    refusal: Option<Refusal>,
-    /// and what of that the screen was told.
-    told: Option<Refusal>,
+pub(crate) struct Told {
+    /// That it has no seat.
+    waits: bool,
+    /// When it was told last that the host is silent.
+    missed: u32,
 }
 
-impl Waiting {
-    /// It begins to call now.
-    pub(crate) fn new(now: u64) -> Waiting
-        ensures quiet { result.quiet ≡ now }
-        ensures refusal { result.refusal ≡ None }
-        ensures told { result.told ≡ None }
+impl Told {
+    /// Nothing; the session begins now.
+    pub(crate) fn nothing() -> Told
+        ensures waits { result.waits ≡ false }
+        ensures missed { result.missed ≡ 0 }
     {
-        Waiting {
-            quiet: now,
-            refusal: None,
-            told: None,
+        Told {
+            waits: false,
+            missed: 0,
         }
     }
 
-    /// The host was heard now. This is why there is no seat, if there is none.
-    pub(crate) fn hear(&mut self, refusal: Option<Refusal>, now: u64)
-        ensures quiet { self.new.quiet ≡ now }
-        ensures refusal { self.new.refusal ≡ refusal }
-        ensures told { self.new.told ≡ self.old.told }
+    /// Tells that it has no seat, if that is new.
+    fn wait<S: Screen>(&mut self, joiner: &Joiner, screen: &mut S)
+        ensures waits { self.new ≡ record self.old { waits = has_no_seat joiner.now } }
+        ensures still { has_no_seat joiner.now ≡ self.old.waits → screen.new ≡ screen.old }
     {
-        self.refusal = refusal;
-        self.quiet = now;
+        let waits = matches!(joiner.stage(), Stage::Waiting);
+        if waits && !self.waits {
+            screen.wait(Refusal::Full);
+        }
+        self.waits = waits;
     }
 
-    /// Tells why it has no seat, if that is new, and that the host is silent.
-    pub(crate) fn tell<S: Screen>(&mut self, screen: &mut S, now: u64)
-        ensures quiet { self.new.quiet ≡ silent_since self.old.quiet now }
-        ensures refusal { self.new.refusal ≡ self.old.refusal }
-        ensures told { self.new.told ≡ self.old.refusal }
-        ensures still { self.old.refusal ≡ self.old.told → is_silent self.old.quiet now ≡ false
-            → screen.new ≡ screen.old }
+    /// Tells that the host is silent, each ten seconds.
+    fn miss<S: Screen>(&mut self, joiner: &Joiner, screen: &mut S, now: u32)
+        ensures missed { self.new ≡ misses now joiner.now self.old }
+        ensures still { is_missed now joiner.now self.old.missed ≡ false → screen.new ≡ screen.old }
     {
-        if self.refusal != self.told {
-            self.told = self.refusal;
-            if let Some(refusal) = self.refusal {
-                screen.wait(refusal);
-            }
-        }
-        if now.saturating_sub(self.quiet) >= QUIET {
+        if joiner.is_unanswered(now) && now.saturating_sub(self.missed) >= QUIET {
             screen.miss();
-            self.quiet = now;
+            self.missed = now;
+        }
+    }
+
+    /// Tells how a session waits in its lobby.
+    pub(crate) fn tell<S: Screen>(&mut self, lobby: &Side, screen: &mut S, now: u32)
+        ensures { self.new ≡ told_by now lobby.now self.old }
+    {
+        if let Side::Joiner(joiner) = lobby {
+            self.wait(joiner, screen);
+            self.miss(joiner, screen, now);
         }
     }
 }

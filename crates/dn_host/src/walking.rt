@@ -1,10 +1,11 @@
-//! The walk of a player: what it tells its link, and what a link makes of it.
+//! The walk of a session's player: what its link is told of it, and how it begins.
 
-ghost use Rattle.std.specs.Prelude.{◌≡◌, is_some};
-ghost use Rattle.dn_host.specs.Walks.{is_started, marks_of, moved_by};
+ghost use Rattle.std.specs.Prelude.{◌≡◌};
+ghost use Rattle.dn_link.specs.Linking.{linked};
+ghost use Rattle.dn_host.specs.Walks.{begun_by, marks_of, waited_for};
 
-use dn_link::Received;
-use dn_tic::Move;
+use dn_link::Link;
+use dn_machine::Ran;
 use dn_world::{Walk, World};
 
 /// The marks of all players, as a walk stands.
@@ -14,23 +15,24 @@ pub(crate) fn marks_of(walk: &Walk) -> [i16; 4]
     [walk.mark(0), walk.mark(1), walk.mark(2), walk.mark(3)]
 }
 
-/// A walk goes on by a row, if there is one. Whether there was.
-pub(crate) fn go_on(walk: &mut Walk, row: Option<[Option<Move>; 4]>) -> bool
-    ensures goes { walk.new ≡ moved_by row walk.old }
-    ensures ran { result ≡ is_some row }
+/// For whom a run waits.
+pub(crate) fn waits_for(ran: Ran) -> Option<u8>
+    ensures { result ≡ waited_for ran }
 {
-    match row {
-        Some(row) => {
-            walk.step(&row);
-            true
-        }
-        None => false,
+    match ran {
+        Ran::Waiting(player) => Some(player),
+        _ => None,
     }
 }
 
-/// Whether the game started with what came in.
-pub(crate) fn is_started(received: &Received) -> bool
-    ensures { result ≡ is_started received.now }
+/// A walk at the beginning of a link's game.
+pub(crate) fn begun_by(link: &Link) -> Walk
+    ensures { result ≡ begun_by (linked link.now).node.settings (linked link.now).node.players }
 {
-    matches!(received, Received::Heard { started: true, .. })
+    let mut walk = Walk::new();
+    let lockstep = link.lockstep();
+    if let Some(settings) = lockstep.settings() {
+        walk.begin(&settings.start(), lockstep.present());
+    }
+    walk
 }

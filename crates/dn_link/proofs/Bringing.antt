@@ -8,7 +8,7 @@ use Rattle.std.proofs.lemmas.Bool.{cases_lt, lt-ltb, ne_eqb, true≢false}
 use Rattle.std.proofs.lemmas.List.{length-map}
 use Rattle.std.proofs.Math.Seq.{take-append_seam}
 use Rattle.dn_seal.specs.{declared.opened.Opened.Opened, declared.seal.Seal.Seal}
-use Rattle.dn_link.specs.{declared.bundle.Identity.Identity, declared.bundle.Part.Part, declared.bundle.Part.TheVariants.Whole, declared.bundle.Part.TheVariants.Run, declared.bundle.Part.TheVariants.Relay}
+use Rattle.dn_link.specs.{declared.bundle.Part.Part, declared.bundle.Part.TheVariants.Whole, declared.bundle.Part.TheVariants.Run, declared.bundle.Part.TheVariants.Relay}
 use Rattle.dn_link.specs.{Linked.Gives, Linked.Linked, Pacing.PaceState, Packets.own_in, Packets.own_of, Packets.packets_of, Packing.IsNeeded, Relays.Handed, Relays.handed_part, declared.bundle.Bundle.Bundle}
 use Rattle.dn_link.specs.{declared.bundle.Carried.Carried, Counting.has_ended, Hearing.carried_of, Kept.going, Kept.taken_by, Kept.takes_packet, LinkedGame.AreLinked, CaughtUp.next_to, Packets.opened_from}
 use Rattle.dn_link.specs.{Text.parts_bytes, CaughtUp.AreCaughtUp, CaughtUp.Brings, CaughtUp.HasGrown, CaughtUp.IsInStep, CaughtUp.last_end}
@@ -46,10 +46,10 @@ none_own : (from : ℕ) (handed : List Handed) → flat_map (own_of from) (map h
 none_own from [] = refl
 none_own from (one ∷ handed) = none_own from handed
 
-pub gives_own : (seal : Seal) (identity : Identity) (pace : PaceState) (to : ℕ) (old new : Linked) (bytes : List ℕ)
-    → (gives : Gives seal identity pace to old new bytes)
+pub gives_own : (seal : Seal) (pace : PaceState) (to : ℕ) (old new : Linked) (bytes : List ℕ)
+    → (gives : Gives seal pace to old new bytes)
     → own_in gives.bundle ≡ flat_map (packets_of old.node.me) gives.own
-gives_own seal identity pace to old new bytes gives =
+gives_own seal pace to old new bytes gives =
     (λ i. flat_map (own_of (gives.from i)) (gives.parts i))
     ∙ flat_map-append (own_of old.node.me) gives.own (map handed_part gives.handed)
     ∙ ap (λ (ps : List Opened). flat_map (own_of old.node.me) gives.own ++ ps) (none_own old.node.me gives.handed)
@@ -85,8 +85,8 @@ plays_sent limits me m to below apart plays = rw (lt-ltb to limits.players below
 module _ (marking : Marking) (limits : Limits) (settings : Settings) (session : Session) (links : ℕ → Linked)
     (player : ℕ) (linked : AreLinked marking limits settings session links) (mine : player < limits.players)
     (were : AreCaughtUp limits links) (to : ℕ) (below : to < limits.players) (apart : to ≢ player) (seal : Seal)
-    (identity : Identity) (pace : PaceState) (new : Linked) (bytes : List ℕ)
-    (gives : Gives seal identity pace to (links player) new bytes) (in_time : has_ended (links to).node ≡ false
+    (pace : PaceState) (new : Linked) (bytes : List ℕ)
+    (gives : Gives seal pace to (links player) new bytes) (in_time : has_ended (links to).node ≡ false
     → made (links player).node ≤ next_to (links player).node to + (links player).node.places)
     (near : made (links player).node ≤ next_to (links player).node to + 12)
     (plays : (links player).node.phase ≡ Playing)
@@ -101,7 +101,7 @@ module _ (marking : Marking) (limits : Limits) (settings : Settings) (session : 
   shows = base.shows marking limits settings session links player linked mine
 
   abbrev taken : Option Carried
-  taken = taken_by (old.peers to).presence gives.given
+  taken = taken_by (old.peers to).left gives.given
 
   -- it has room for all
   packets_are : own_in gives.bundle ≡ map (opened_from old.node.me) (going (old.peers to).kept taken)
@@ -114,7 +114,7 @@ module _ (marking : Marking) (limits : Limits) (settings : Settings) (session : 
         | inr none ↦ none
       ] in
       let count : gives.packed.count ≡ length told = omega (arith, long, all, gives.packed.some) in
-      gives_own seal identity pace to old new bytes gives ∙ gives.packed.front ∙ ap (λ (k : ℕ). take k told)
+      gives_own seal pace to old new bytes gives ∙ gives.packed.front ∙ ap (λ (k : ℕ). take k told)
       count ∙ ap (take (length told)) (sym (append-nil told)) ∙ take-append_seam told []
 
   -- the packet of the moment
@@ -134,7 +134,7 @@ module _ (marking : Marking) (limits : Limits) (settings : Settings) (session : 
   theirs = ap (put links player new) gives.goes ∙ put_off links player to new apart
 
   pub brings : Brings (made old.node) (put links player new) gives.bundle
-  brings e = go (takes_packet (old.peers to).presence packet) refl
+  brings e = go (takes_packet (old.peers to).left packet) refl
     where
       goes_on : has_ended (links to).node ≡ false
       goes_on = ap (λ (l : Linked). has_ended l.node) (sym theirs) ∙ e
@@ -143,10 +143,10 @@ module _ (marking : Marking) (limits : Limits) (settings : Settings) (session : 
       follows_on = follows limits player m to (sym shows.whose.most)
           (let time = in_time goes_on in omega (arith, time, next, count, shows.whose.places)) Play (request_to m to) false refl
 
-      taken_is : taken ≡ (if takes_packet (old.peers to).presence packet then Some packet else None)
-      taken_is = ap (taken_by (old.peers to).presence) given
+      taken_is : taken ≡ (if takes_packet (old.peers to).left packet then Some packet else None)
+      taken_is = ap (taken_by (old.peers to).left) given
 
-      go : (test : Bool) → takes_packet (old.peers to).presence packet ≡ test
+      go : (test : Bool) → takes_packet (old.peers to).left packet ≡ test
           → made old.node ≤ last_end (got (put links player new gives.bundle.to).node gives.bundle.from) (own_in gives.bundle)
       go true takes =
           let took : taken ≡ Some packet = taken_is ∙ rw takes refl in
@@ -159,7 +159,7 @@ module _ (marking : Marking) (limits : Limits) (settings : Settings) (session : 
       go false idle =
           let took : taken ≡ None = taken_is ∙ rw idle refl in
           let are = packets_are ∙ ap (λ (o : Option Carried). map (opened_from old.node.me) (going (old.peers to).kept o)) took in
-          elim (gone_or_idle (old.peers to).presence packet idle) [
+          elim (gone_or_idle (old.peers to).left packet idle) [
             | inl gone ↦
                 let ended = linked.left player to gone.0 mine gone.1 in
                 absurd (true≢false (sym ended ∙ ap has_ended (sym (linked.nodes to below)) ∙ goes_on))

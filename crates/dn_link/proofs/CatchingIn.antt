@@ -13,16 +13,12 @@ use Rattle.dn_lockstep.specs.Tables.{count_of}
 use Rattle.dn_lockstep.specs.Told.{got, made}
 use Rattle.dn_seal.specs.{declared.seal.Seal.Seal, Opening.Sealing}
 use Rattle.dn_open.specs.Sealed.{sealing_of}
-use Rattle.dn_link.specs.{declared.bundle.Bundle.Bundle, declared.bundle.BundleFault.BundleFault, declared.bundle.Identity.Identity, declared.presence.Presence.Presence, declared.received.Received.Received}
-use Rattle.dn_link.specs.{declared.received.Received.TheVariants.GivenUp, declared.received.Received.TheVariants.Stranger, declared.bundle.Message.Message, declared.bundle.Message.TheVariants.Game, LinkedGame.HasReached}
-use Rattle.dn_link.specs.{LinkedGame.IsGenuineDatagram, LinkedGame.WasGiven, Hearing.ByTest, Hearing.HearsAll, Kept.IsKeptRising, Kept.Unacknowledged, Kept.acknowledged, LinkedGame.AreLinked, LinkedGame.IsLater}
-use Rattle.dn_link.specs.{CaughtUp.next_to, Pacing.PaceState, Packets.heard_in, Packets.own_in, Packets.packets_in, Reading.IsBundledAs, Reading.IsDatagramOf, Text.IsBundle, Text.sealed_bytes}
-use Rattle.dn_link.specs.{declared.presence.Presence.TheVariants.Unknown, declared.presence.Presence.TheVariants.There, declared.presence.Presence.TheVariants.Playing, declared.presence.Presence.TheVariants.Different}
-use Rattle.dn_link.specs.{declared.presence.Presence.TheVariants.Away, declared.presence.Presence.TheVariants.Left, declared.presence.Presence.TheVariants.Forgotten, CaughtUp.AreCaughtUp, CaughtUp.Brings}
-use Rattle.dn_link.specs.{CaughtUp.HasNoGap, CaughtUp.IsCaughtUp, CaughtUp.IsInStep, CaughtUp.IsInStepTo, CaughtUp.IsKeptChain, CaughtUp.StayCaughtUp, CaughtUp.last_end, Counting.has_ended, Counting.has_of}
-use Rattle.dn_link.specs.{Counting.held_of, Counting.reached, Counting.with_end, Linked.IsTakenIn, Linked.Linked, Linked.PeerState, Linked.Receives, Linked.ReceivesAs, Linked.TakesIn, Linked.all_ready, Linked.certain}
-use Rattle.dn_link.specs.{Linked.done_with, Linked.has_given_up, Linked.hears, Linked.is_gathering, Linked.is_peer, Linked.known_by, Linked.met, Linked.takes, Presence.Becomes, Presence.Differs, Presence.is_fresh}
-use Rattle.dn_link.specs.{Presence.is_there, Presence.plays_on, Presence.takes_part}
+use Rattle.dn_link.specs.{declared.bundle.Bundle.Bundle, declared.bundle.BundleFault.BundleFault, declared.received.Received.Received, declared.received.Received.TheVariants.GivenUp, declared.received.Received.TheVariants.Heard}
+use Rattle.dn_link.specs.{declared.received.Received.TheVariants.Stranger, LinkedGame.HasReached, LinkedGame.IsGenuineDatagram, LinkedGame.WasGiven, LinkedGame.AreLinked, LinkedGame.IsLater, Hearing.ByTest, Hearing.HearsAll}
+use Rattle.dn_link.specs.{Kept.IsKeptRising, Kept.Unacknowledged, Kept.acknowledged, CaughtUp.next_to, Packets.heard_in, Packets.own_in, Packets.packets_in, Reading.IsBundledAs, Reading.IsDatagramOf, Text.IsBundle, Text.sealed_bytes}
+use Rattle.dn_link.specs.{CaughtUp.AreCaughtUp, CaughtUp.Brings, CaughtUp.HasNoGap, CaughtUp.IsCaughtUp, CaughtUp.IsInStep, CaughtUp.IsInStepTo, CaughtUp.IsKeptChain, CaughtUp.StayCaughtUp, CaughtUp.last_end}
+use Rattle.dn_link.specs.{Counting.has_ended, Counting.has_of, Counting.held_of, Counting.reached, Counting.with_end, Ends.left_by, Linked.Linked, Linked.PeerState, Linked.Receives, Linked.ReceivesAs, Linked.TakesIn}
+use Rattle.dn_link.specs.{Linked.after_report, Linked.certain, Linked.done_with, Linked.has_given_up, Linked.is_peer, Linked.met, Linked.takes}
 use Rattle.dn_link.proofs.{Arriving.all_hears, Catching.ends_on, Catching.not_yet, Catching.relinked, Catching.still, Makers.chain_past, Linking.same_bundle, Keeping.LettersKeep, Keeping.as_it_is}
 use Rattle.dn_link.proofs.{Leaving.at_most_there, Leaving.unended, Covered.rises_past, Makers.HaveNoGaps, Makers.ends_of, Makers.parts_ask, Makers.parts_go, Leaving.parts_heard}
 use Rattle.dn_machine.specs.declared.answers.Phase.TheVariants as phase
@@ -30,15 +26,10 @@ use Rattle.dn_link.specs.declared.bundle.Relay as relay
 use Rattle.dn_link.proofs.Linking as base
 
 -- no more is certain than this, unless the peer has left
-at_most : (presence : Presence) (node : Contents) (count bound : ℕ) → ((cause : ℕ) → presence ≢ Left cause)
-    → certain node count ≤ bound → done_with presence node count ≤ bound
-at_most (Left cause) node count bound stays less = absurd (stays cause refl)
-at_most Unknown node count bound stays less = less
-at_most There node count bound stays less = less
-at_most Playing node count bound stays less = less
-at_most (Different identity) node count bound stays less = less
-at_most (Away cause) node count bound stays less = less
-at_most Forgotten node count bound stays less = less
+at_most : (left : Option ℕ) (node : Contents) (count bound : ℕ) → ((cause : ℕ) → left ≢ Some cause)
+    → certain node count ≤ bound → done_with left node count ≤ bound
+at_most (Some cause) node count bound stays less = absurd (stays cause refl)
+at_most None node count bound stays less = less
 
 -- by what is there of four players there are no more of any
 held_most : (node : Contents) (player : ℕ) → slice_index (held_of node) player ≤ got node player
@@ -139,16 +130,6 @@ module _ (letters : LettersKeep) (marking : Marking) (limits : Limits) (settings
     none : (p : ℕ) → p < limits.players → p ≢ player → (old.node.peers p).want ≡ false
     none p l n = (were player p mine l n).asks
 
-    unheard : new.node ≡ old.node → Came
-    unheard same = record {
-      least = λ p l. omega (arith, ap (λ (n : Contents). got n p) same);
-      own = ap (λ (n : Contents). got n player) same;
-      idle = λ e p l. ap (λ (n : Contents). got n p) same;
-      sends = λ p l. ap (λ (n : Contents). next_to n p) same;
-      wants = λ p l n. ap (λ (n : Contents). (n.peers p).want) same ∙ none p l n;
-      ran = ap (λ (n : Contents). n.ran) same;
-    }
-
     -- one that has not ended has not left
     going : is_ended old.node.phase ≡ false → has_ended old.node ≡ false
     going e = and_right old.node.played (is_ended old.node.phase) e
@@ -212,21 +193,9 @@ module _ (letters : LettersKeep) (marking : Marking) (limits : Limits) (settings
     stays was = ap has_ended (sym (put_at session.locksteps player player new.node refl))
         ∙ later.ended player (ap has_ended (sym node) ∙ was)
 
-    module _ (identity : Identity) (fresh : Bool) (presence : Presence) (differs started : Bool)
-        (takes_it : TakesIn identity fresh bundle old new presence differs started) where
+    module _ (takes_it : TakesIn bundle old new) where
       came : Came
-      came = go differs takes_it.heard
-        where
-          by : (test : Bool) → ByTest test (HearsAll (heard_in (takes old) bundle) old.node new.node started)
-              ((new.node ≡ old.node) × (started ≡ false)) → Came
-          by true heard = (came_heard started heard).0
-          by false same = unheard same.0
-
-          go : (differs : Bool) → ByTest (not differs && hears (met differs bundle presence old) presence)
-              (HearsAll (heard_in (takes old) bundle) old.node new.node started) ((new.node ≡ old.node) × (started ≡ false))
-              → Came
-          go true same = unheard same.0
-          go false heard = by (hears (met false bundle presence old) presence) heard
+      came = (came_heard takes_it.started takes_it.heard).0
 
       -- what a peer that has not ended is known to have by its commands, it has
       has_reached : (peer : ℕ) → peer < limits.players → peer ≢ player → has_ended (links peer).node ≡ false
@@ -288,52 +257,47 @@ module _ (letters : LettersKeep) (marking : Marking) (limits : Limits) (settings
             more = omega (arith, ap (λ (k : Unacknowledged). k.covered) same);
           }
 
-      mid_known : (test : Bool) → differs ≡ test → IsMid from (known_by test old.node bundle presence (old.peers from))
-      mid_known true is = mid_same from below apart _ refl
-      mid_known false is =
+      abbrev mid_from : PeerState
+      mid_from = after_report old.node bundle (old.peers from)
+
+      mid_known : IsMid from mid_from
+      mid_known =
           let was = were player from mine below apart in
+          let left = left_by bundle (old.peers from).left in
           record {
-            rising = rises_past _ _ _ (done_with presence old.node count) was.rising;
-            chain = chain_past _ _ _ (done_with presence old.node count) was.rising was.chain;
+            rising = rises_past _ _ _ (done_with left old.node count) was.rising;
+            chain = chain_past _ _ _ (done_with left old.node count) was.rising was.chain;
             there = λ goes_on.
                 let before = was.there goes_on in
-                let less = at_most presence old.node count (got (links from).node player) (not_left goes_on)
+                let less = at_most left old.node count (got (links from).node player) (not_left goes_on)
                 (let sure = certain_there in omega (arith, sure, ap (λ (n : Contents). got n player) theirs)) in
                 omega (arith, before, less);
             more = omega arith;
           }
         where
-          not_left : has_ended (links from).node ≡ false → (cause : ℕ) → presence ≢ Left cause
+          not_left : has_ended (links from).node ≡ false → (cause : ℕ) → left_by bundle (old.peers from).left ≢ Some cause
           not_left goes_on cause left =
-              let here : ((put links player new player).peers from).presence ≡ Left cause =
-              ap (λ (l : Linked). (l.peers from).presence) (put_at links player player new refl) ∙ ap
-              (λ (f : ℕ → PeerState). (f from).presence) takes_it.peers ∙ ap (λ (t : PeerState). t.presence)
-              (put_at old.peers from from _ refl) ∙ known_presence differs ∙ left in
+              let here : ((put links player new player).peers from).left ≡ Some cause =
+              ap (λ (l : Linked). (l.peers from).left) (put_at links player player new refl) ∙ ap
+              (λ (f : ℕ → PeerState). (f from).left) takes_it.peers ∙ ap (λ (t : PeerState). t.left)
+              (put_at old.peers from from mid_from refl) ∙ left in
               let gone = after.left player from cause mine here in
               true≢false (sym gone ∙ ap has_ended (put_off session.locksteps player from new.node apart ∙ sym theirs)
               ∙ goes_on)
-            where
-              known_presence : (test : Bool)
-                  → (known_by test old.node bundle presence (old.peers from)).presence ≡ presence
-              known_presence true = refl
-              known_presence false = refl
 
-      mid_of : (peer : ℕ) → peer < limits.players → peer ≢ player
-          → IsMid peer ((met differs bundle presence old).peers peer)
+      mid_of : (peer : ℕ) → peer < limits.players → peer ≢ player → IsMid peer ((met bundle old).peers peer)
       mid_of peer l n = elim (cases_eq peer from) [
         | inl at ↦
-            subst (IsMid peer) (sym (put_at old.peers from peer (known_by differs old.node bundle presence (old.peers from)) at))
-            (subst (λ (k : ℕ). IsMid k (known_by differs old.node bundle presence (old.peers from))) (sym at)
-            (mid_known differs refl))
-        | inr off ↦ mid_same peer l n _ (ap (λ (t : PeerState). t.kept)
-            (put_off old.peers from peer (known_by differs old.node bundle presence (old.peers from)) off))
+            subst (IsMid peer) (sym (put_at old.peers from peer mid_from at))
+            (subst (λ (k : ℕ). IsMid k mid_from) (sym at) mid_known)
+        | inr off ↦ mid_same peer l n _ (ap (λ (t : PeerState). t.kept) (put_off old.peers from peer mid_from off))
       ]
 
       pub pair : (peer : ℕ) → peer < limits.players → peer ≢ player → IsCaughtUp limits player peer new (links peer)
       pair peer l n =
           let was = were player peer mine l n in
           let mid = mid_of peer l n in
-          let state = (met differs bundle presence old).peers peer in
+          let state = (met bundle old).peers peer in
           let kept : (new.peers peer).kept ≡ acknowledged state.kept (reached new.node peer) =
           ap (λ (f : ℕ → PeerState). (f peer).kept) takes_it.peers in
           let done = ap (λ (k : Unacknowledged). k.done) kept in
@@ -367,53 +331,12 @@ module _ (letters : LettersKeep) (marking : Marking) (limits : Limits) (settings
       taken_in = relinked limits links player new mine were pair came.least (omega (arith, came.ran))
           (λ which l off goes_on. let same = came.sends which l in omega (arith, same)) stays
 
-      -- of one that plays, a player that plays has all of them then
-      pub brings : bundle.message ≡ Game → new.node.phase ≡ phase.Playing
-          → last_end first (own_in bundle) ≤ got new.node from
-      brings game plays = go differs refl takes_it.heard
-        where
-          part : takes_part presence ≡ true
-          part =
-              ap takes_part (subst (λ (m : Message). Becomes identity (old.peers from).gave fresh bundle m
-              (old.peers from).presence presence) game takes_it.becomes) ∙ goes_on (old.peers from).presence
-            where
-              goes_on : (before : Presence) → takes_part (plays_on fresh before) ≡ true
-              goes_on (Left cause) = refl
-              goes_on Forgotten = by fresh
-                where
-                  by : (fresh : Bool) → takes_part (if fresh then Playing else Forgotten) ≡ true
-                  by true = refl
-                  by false = refl
-              goes_on Unknown = refl
-              goes_on There = refl
-              goes_on Playing = refl
-              goes_on (Different identity) = refl
-              goes_on (Away cause) = refl
-
-          alike : differs ≡ false
-          alike = subst (λ (m : Message). Differs identity m presence differs) game takes_it.alike ∙ ap not part
-
-          gathers : (test : Bool) → (is_gathering old.node.phase) ≡ test → new.node ≡ old.node
-              → (not test || (all_ready (met false bundle presence old) && is_there presence)) ≡ false
-              → last_end first (own_in bundle) ≤ got new.node from
-          gathers false is same e = absurd (true≢false e)
-          gathers true is same e = absurd (true≢false (sym is ∙ ap is_gathering (ap (λ (n : Contents). n.phase) (sym same) ∙ plays)))
-
-          by : (test : Bool) → hears (met false bundle presence old) presence ≡ test
-              → ByTest test (HearsAll (heard_in (takes old) bundle) old.node new.node started) ((new.node ≡ old.node) × (started ≡ false))
-              → last_end first (own_in bundle) ≤ got new.node from
-          by true is heard = (came_heard started heard).1 plays
-          by false is same = gathers (is_gathering old.node.phase) refl same.0 is
-
-          go : (test : Bool) → differs ≡ test
-              → ByTest (not test && hears (met test bundle presence old) presence)
-              (HearsAll (heard_in (takes old) bundle) old.node new.node started) ((new.node ≡ old.node) × (started ≡ false))
-              → last_end first (own_in bundle) ≤ got new.node from
-          go true is heard = absurd (true≢false (sym is ∙ alike))
-          go false is heard = by (hears (met false bundle presence old) presence) refl heard
+      -- a player that plays has all of them then
+      pub brings : new.node.phase ≡ phase.Playing → last_end first (own_in bundle) ≤ got new.node from
+      brings plays = (came_heard takes_it.started takes_it.heard).1 plays
 
   -- any bytes that were sealed in step
-  module _ (seal : Seal) (identity : Identity) (pace : PaceState) (bytes : List ℕ) (answer : Received)
+  module _ (seal : Seal) (bytes : List ℕ) (answer : Received)
       (genuine : IsGenuineDatagram seal session player bytes) (in_step : IsInStepTo seal limits links player bytes)
     where
       -- what holds of a bundle that is taken in, and of any other
@@ -421,16 +344,13 @@ module _ (letters : LettersKeep) (marking : Marking) (limits : Limits) (settings
           (takes : (bundle : Bundle) (below : bundle.from < limits.players) (apart : bundle.from ≢ player)
           (goes : bundle.to ≡ player) (all : All (WasGiven session.given player) (packets_in bundle))
           (reached : HasReached session.locksteps bundle) (step : IsInStep limits links bundle)
-          (is : IsDatagramOf (sealing_of seal player) bytes bundle)
-          (presence : Presence) (differs started : Bool)
-          → TakesIn identity (is_fresh (pace.lines bundle.from).newest bundle.number) bundle old new presence differs started
-          → P) where
+          (is : IsDatagramOf (sealing_of seal player) bytes bundle) → TakesIn bundle old new → P) where
         as_bundle : (bundle : Bundle) → IsDatagramOf (sealing_of seal player) bytes bundle
-            → ReceivesAs identity pace (Ok bundle) old new answer → P
+            → ReceivesAs (Ok bundle) old new answer → P
         as_bundle bundle is comes = go (is_peer old.node bundle.from) refl comes
           where
             of_peer : is_peer old.node bundle.from ≡ true → (test : Bool)
-                → ByTest test ((answer ≡ GivenUp bundle.from) × (new ≡ old)) (IsTakenIn identity pace bundle old new answer) → P
+                → ByTest test ((answer ≡ GivenUp bundle.from) × (new ≡ old)) ((answer ≡ Heard bundle.from) × TakesIn bundle old new) → P
             of_peer peer true comes = other comes.1
             of_peer peer false comes =
                 let both = and_parts (nat_lt bundle.from old.node.players) (not (bundle.from == old.node.me)) peer in
@@ -445,38 +365,37 @@ module _ (letters : LettersKeep) (marking : Marking) (limits : Limits) (settings
                 takes bundle (omega (arith, inside, count))
                 (λ e. true≢false (sym both.1 ∙ ap not (eq-eqb bundle.from old.node.me (e ∙ sym own))))
                 is.to (subst (λ (k : ℕ). All (WasGiven session.given k) (packets_in bundle)) is.to all) reached
-                (subst (IsInStep limits links) one step.3) is comes.0 comes.1 comes.2 comes.4
+                (subst (IsInStep limits links) one step.3) is comes.1
 
             go : (test : Bool) → is_peer old.node bundle.from ≡ test → ByTest test
                 (ByTest (has_given_up old bundle.from) ((answer ≡ GivenUp bundle.from) × (new ≡ old))
-                (IsTakenIn identity pace bundle old new answer))
+                ((answer ≡ Heard bundle.from) × TakesIn bundle old new))
                 ((answer ≡ Stranger bundle.from) × (new ≡ old)) → P
             go true peer comes = of_peer peer (has_given_up old bundle.from) comes
             go false peer comes = other comes.1
 
         by_opened : (opened : Result Bundle BundleFault) → IsBundledAs (sealing_of seal player) bytes opened
-            → ReceivesAs identity pace opened old new answer → P
+            → ReceivesAs opened old new answer → P
         by_opened (Err fault) is comes = other comes.1
         by_opened (Ok bundle) is comes = as_bundle bundle is comes
 
-        by_received : Receives seal identity pace bytes old new answer → P
+        by_received : Receives seal bytes old new answer → P
         by_received receives = by_opened receives.0
             (subst (λ (k : ℕ). IsBundledAs (sealing_of seal k) bytes receives.0) own receives.1) receives.2
 
-      pub received : Receives seal identity pace bytes old new answer → StayCaughtUp limits links player new
+      pub received : Receives seal bytes old new answer → StayCaughtUp limits links player new
       received = by_received (StayCaughtUp limits links player new) nothing
-          (λ bundle below apart goes all reached step is presence differs started takes.
-          taken_in bundle below apart goes all reached step identity _ presence differs started takes)
+          (λ bundle below apart goes all reached step is takes. taken_in bundle below apart goes all reached step takes)
 
-      -- a datagram of one that plays brings a player that plays all of its packets
+      -- a datagram brings a player that plays all of its packets
       pub brought : ((sealing : Sealing) (bundle : Bundle) → 8 ≤ length sealing.seal.game → IsBundle bundle
           → bundle.to ≡ sealing.me → length (sealed_bytes sealing.seal bundle) ≤ 1200
           → (read : Result Bundle BundleFault) → IsBundledAs sealing (sealed_bytes sealing.seal bundle) read
           → read ≡ Ok bundle)
-          → (bundle : Bundle) → IsDatagramOf (sealing_of seal player) bytes bundle → bundle.message ≡ Game
+          → (bundle : Bundle) → IsDatagramOf (sealing_of seal player) bytes bundle
           → new.node.phase ≡ phase.Playing → (count : ℕ) → Brings count links bundle
-          → Receives seal identity pace bytes old new answer → count ≤ got new.node bundle.from
-      brought read_back bundle is game plays count brings_it receives =
+          → Receives seal bytes old new answer → count ≤ got new.node bundle.from
+      brought read_back bundle is plays count brings_it receives =
           let was = genuine bundle is in
           let same = same_bundle seal bytes bundle was.0 player is was.1 was.2 in
           let all = subst (λ (b : Bundle). All (WasGiven session.given b.to) (packets_in b)) same was.3 in
@@ -497,15 +416,15 @@ module _ (letters : LettersKeep) (marking : Marking) (limits : Limits) (settings
           (subst (λ (b : List ℕ). length b ≤ 1200) is.is is.short) receives.0
           (subst (λ (b : List ℕ). IsBundledAs (sealing_of seal player) b receives.0) is.is
           (subst (λ (k : ℕ). IsBundledAs (sealing_of seal k) bytes receives.0) own receives.1)) in
-          let comes = subst (λ (r : Result Bundle BundleFault). ReceivesAs identity pace r old new answer) opened receives.2 in
+          let comes = subst (λ (r : Result Bundle BundleFault). ReceivesAs r old new answer) opened receives.2 in
           let inner = subst (λ (test : Bool). ByTest test (ByTest (has_given_up old bundle.from)
-          ((answer ≡ GivenUp bundle.from) × (new ≡ old)) (IsTakenIn identity pace bundle old new answer))
+          ((answer ≡ GivenUp bundle.from) × (new ≡ old)) ((answer ≡ Heard bundle.from) × TakesIn bundle old new))
           ((answer ≡ Stranger bundle.from) × (new ≡ old))) peer comes in
-          let taken : IsTakenIn identity pace bundle old new answer =
+          let taken : (answer ≡ Heard bundle.from) × TakesIn bundle old new =
           subst (λ (test : Bool). ByTest test ((answer ≡ GivenUp bundle.from) × (new ≡ old))
-          (IsTakenIn identity pace bundle old new answer)) (linked.whole player mine bundle.from) inner in
+          ((answer ≡ Heard bundle.from) × TakesIn bundle old new)) (linked.whole player mine bundle.from) inner in
           let last = brings bundle step.sender apart is.to (subst (λ (k : ℕ). All (WasGiven session.given k)
-          (packets_in bundle)) is.to all) reached step identity _ taken.0 taken.1 taken.2 taken.4 game plays in
+          (packets_in bundle)) is.to all) reached step taken.1 plays in
           let to : links bundle.to ≡ old = ap links is.to in
           let more = brings_it (ap (λ (l : Linked). has_ended l.node) to ∙ not_ended) in
           let same_end = ap (λ (l : Linked). last_end (got l.node bundle.from) (own_in bundle)) to in

@@ -18,8 +18,8 @@ use Rattle.dn_lockstep.specs.OneGame.{Session}
 use Rattle.dn_lockstep.specs.Told.{got, made}
 use Rattle.dn_lockstep.proofs.Shown.{made_is, has}
 use Rattle.dn_seal.specs.declared.seal.Seal.{Seal}
-use Rattle.dn_link.specs.{declared.bundle.Carried.Carried, declared.bundle.Identity.Identity, declared.presence.Presence.TheVariants.Left, Counting.has_ended, Hearing.SendsCarried, Hearing.carried_of, Hearing.ByTest}
-use Rattle.dn_link.specs.{Kept.IsKeptRising, Kept.Unacknowledged, Kept.going, Kept.is_news, Kept.kept_after, Kept.taken_by, Linked.Gives, Linked.Linked, Linked.PeerState, Linked.holds_back, Linked.is_gathering}
+use Rattle.dn_link.specs.{declared.bundle.Carried.Carried, Counting.has_ended, Hearing.SendsCarried, Hearing.carried_of, Hearing.ByTest}
+use Rattle.dn_link.specs.{Kept.IsKeptRising, Kept.Unacknowledged, Kept.going, Kept.is_news, Kept.kept_after, Kept.taken_by, Linked.Gives, Linked.Linked, Linked.PeerState}
 use Rattle.dn_link.specs.{LinkedGame.AreLinked, CaughtUp.GoesOn, CaughtUp.IsInTime, CaughtUp.StillGoesOn, CaughtUp.next_to, Pacing.PaceState, Packets.opened_from, Packets.own_in, CaughtUp.AreCaughtUp, CaughtUp.HasNoGap}
 use Rattle.dn_link.specs.{CaughtUp.IsCaughtUp, CaughtUp.IsInStep, CaughtUp.IsKeptChain, CaughtUp.StayCaughtUp, CaughtUp.WasInStep}
 use Rattle.dn_link.proofs.{Catching.relinked, Bringing.gives_own, Following.covers, Following.kept_rises, Leaving.unended, Linking.taken_given, Sending.Sends, Sending.sends, Makers.IsQuiet, Makers.first_goes}
@@ -127,8 +127,8 @@ module _ (marking : Marking) (limits : Limits) (settings : Settings) (session : 
     (player : ℕ) (linked : AreLinked marking limits settings session links) (mine : player < limits.players)
     (agreed : AreAgreed limits settings session.inputs session.locksteps) (were : AreCaughtUp limits links)
     (four : limits.players ≤ 4) (to : ℕ) (below : to < limits.players) (apart : to ≢ player) (seal : Seal)
-    (identity : Identity) (pace : PaceState) (new : Linked) (bytes : List ℕ)
-    (gives : Gives seal identity pace to (links player) new bytes) (in_time : has_ended (links to).node ≡ false
+    (pace : PaceState) (new : Linked) (bytes : List ℕ)
+    (gives : Gives seal pace to (links player) new bytes) (in_time : has_ended (links to).node ≡ false
     → made (links player).node ≤ next_to (links player).node to + (links player).node.places) where
   abbrev old : Linked
   old = links player
@@ -149,11 +149,10 @@ module _ (marking : Marking) (limits : Limits) (settings : Settings) (session : 
   was = were player to mine below apart
 
   abbrev taken : Option Carried
-  taken = taken_by (old.peers to).presence gives.given
+  taken = taken_by (old.peers to).left gives.given
 
   peer_is : new.peers to ≡ record (old.peers to) {
     kept = kept_after (old.peers to).kept taken;
-    gave = (old.peers to).gave || (is_gathering old.node.phase && is_some gives.given);
     number = ((old.peers to).number + 1) % 2 ^ 32;
   }
   peer_is = ap (λ (f : ℕ → PeerState). f to) gives.peers ∙ put_at old.peers to to _ refl
@@ -168,15 +167,6 @@ module _ (marking : Marking) (limits : Limits) (settings : Settings) (session : 
     others : (p : ℕ) → p < limits.players → p ≢ to → next_to new.node p ≡ next_to old.node p
     asks : (one : Carried) → Some one ≡ gives.given → one.ask ≡ None
     ran : new.node.ran ≡ old.node.ran
-
-  gave_none : new.node ≡ old.node → gives.given ≡ None → Gave
-  gave_none same none = record {
-    gots = λ p l. ap (λ (n : Contents). got n p) same;
-    wants = λ p l. ap (λ (n : Contents). (n.peers p).want) same;
-    others = λ p l n. ap (λ (n : Contents). next_to n p) same;
-    asks = λ one e. absurd (none-some one (sym (e ∙ none)));
-    ran = ap (λ (n : Contents). n.ran) same;
-  }
 
   gave_sent : (r : machine.Node × Option Flight) → IsSent limits player m to r → Represents limits player new.node r.0
       → gives.given ≡ option_map carried_of r.1 → Gave
@@ -198,17 +188,12 @@ module _ (marking : Marking) (limits : Limits) (settings : Settings) (session : 
       quiet (Some f) none one e = ap (λ (c : Carried). c.ask) (same_Some one (carried_of f) e) ∙ none f refl
 
   gave_it : Gave
-  gave_it = go (holds_back old) gives.step
-    where
-      go : (test : Bool)
-          → ByTest test ((new.node ≡ old.node) × (gives.given ≡ None)) (SendsCarried to old.node new.node gives.given) → Gave
-      go true step = gave_none step.0 step.1
-      go false step =
-          let after = step.step limits player m shows in
-          gave_sent (sent_to to limits player m) (is_sent limits player m to) after.node after.answer
+  gave_it =
+      let after = gives.step.step limits player m shows in
+      gave_sent (sent_to to limits player m) (is_sent limits player m to) after.node after.answer
 
   asks_taken : (one : Carried) → taken ≡ Some one → one.ask ≡ None
-  asks_taken one e = gave_it.asks one (taken_given (old.peers to).presence gives.given one e)
+  asks_taken one e = gave_it.asks one (taken_given (old.peers to).left gives.given one e)
 
   -- while the peer has not ended
   module _ (goes_on : has_ended (links to).node ≡ false) where
@@ -237,12 +222,12 @@ module _ (marking : Marking) (limits : Limits) (settings : Settings) (session : 
 
     pub covered : StillGoesOn limits player to old new
         × ((packet : Carried) → taken ≡ Some packet → keep.end_of packet ≤ (new.peers to).kept.covered)
-    covered = covers limits player to old new goes seal identity pace bytes time gives
+    covered = covers limits player to old new goes seal pace bytes time gives
 
     next_on : next_to new.node to ≤ (new.peers to).kept.covered
     next_on = elim covered.0.goes.next [
       | inl gone ↦
-          let left : (old.peers to).presence ≡ Left gone.0 = ap (λ (t : PeerState). t.presence) (sym peer_is) ∙ gone.1 in
+          let left : (old.peers to).left ≡ Some gone.0 = ap (λ (t : PeerState). t.left) (sym peer_is) ∙ gone.1 in
           let ended = linked.left player to gone.0 mine left in
           absurd (true≢false (sym ended ∙ ap has_ended (sym (linked.nodes to below)) ∙ goes_on))
       | inr low ↦ low
@@ -250,10 +235,10 @@ module _ (marking : Marking) (limits : Limits) (settings : Settings) (session : 
 
     -- the packet of the moment goes on from those that are kept
     low : (one : Carried) → taken ≡ Some one → one.start ≤ (old.peers to).kept.covered
-    low one e = go (holds_back old) gives.step
+    low one e = of (sent_to to limits player m) sent_sends (gives.step.step limits player m shows).answer
       where
         given : Some one ≡ gives.given
-        given = taken_given (old.peers to).presence gives.given one e
+        given = taken_given (old.peers to).left gives.given one e
 
         next : next_to old.node to ≡ (m.peers to).resend
         next = ap (λ (x : Peer). x.resend) (shows.peers.known to below)
@@ -280,23 +265,15 @@ module _ (marking : Marking) (limits : Limits) (settings : Settings) (session : 
                 let same = ap (λ (c : Carried). keep.end_of c) (same_Some one (carried_of f) e) in
                 omega (arith, same, none f refl)
 
-        go : (test : Bool)
-            → ByTest test ((new.node ≡ old.node) × (gives.given ≡ None)) (SendsCarried to old.node new.node gives.given)
-            → one.start ≤ (old.peers to).kept.covered
-        go true step = absurd (none-some one (sym (given ∙ step.1)))
-        go false step =
-            let after = step.step limits player m shows in
-            of (sent_to to limits player m) (sent_sends) after.answer
-          where
-            sent_sends : Sends limits player m to (sent_to to limits player m).0 (sent_to to limits player m).1
-            sent_sends = cond_both (nat_lt to limits.players) _ _ (λ (x : machine.Node × Option Flight). Sends
-                limits player m to x.0 x.1) (λ below. sends limits player m to (sym shows.whose.most)
-                (let time = in_time goes_on in omega (arith, time, next, count, shows.whose.places)))
-                (λ past. inl (refl, (λ one e. absurd (none-some one e))))
+        sent_sends : Sends limits player m to (sent_to to limits player m).0 (sent_to to limits player m).1
+        sent_sends = cond_both (nat_lt to limits.players) _ _ (λ (x : machine.Node × Option Flight). Sends
+            limits player m to x.0 x.1) (λ below. sends limits player m to (sym shows.whose.most)
+            (let time = in_time goes_on in omega (arith, time, next, count, shows.whose.places)))
+            (λ past. inl (refl, (λ one e. absurd (none-some one e))))
 
     -- the next packet begins no earlier than before, and with none that was not made
     sends_then : (next_to old.node to ≤ next_to new.node to) × (next_to new.node to ≤ got new.node player - lag limits)
-    sends_then = go (holds_back old) gives.step
+    sends_then = let after = gives.step.step limits player m shows in of (sent_to to limits player m) sent_sends after.node
       where
         next : next_to old.node to ≡ (m.peers to).resend
         next = ap (λ (x : Peer). x.resend) (shows.peers.known to below)
@@ -320,22 +297,11 @@ module _ (marking : Marking) (limits : Limits) (settings : Settings) (session : 
                   (omega (arith, now, next, up), omega (arith, now, most_sent, count, mades, same))
             ]
 
-        go : (test : Bool)
-            → ByTest test ((new.node ≡ old.node) × (gives.given ≡ None)) (SendsCarried to old.node new.node gives.given)
-            → (next_to old.node to ≤ next_to new.node to) × (next_to new.node to ≤ got new.node player - lag limits)
-        go true step =
-            let same = ap (λ (n : Contents). next_to n to) step.0 in
-            let least = was.least goes_on in
-            (omega (arith, same), omega (arith, same, least, ap (λ (n : Contents). got n player) step.0))
-        go false step =
-            let after = step.step limits player m shows in
-            of (sent_to to limits player m) sent_sends after.node
-          where
-            sent_sends : Sends limits player m to (sent_to to limits player m).0 (sent_to to limits player m).1
-            sent_sends = cond_both (nat_lt to limits.players) _ _ (λ (x : machine.Node × Option Flight). Sends
-                limits player m to x.0 x.1) (λ below. sends limits player m to (sym shows.whose.most)
-                (let time = in_time goes_on in omega (arith, time, next, count, shows.whose.places)))
-                (λ past. inl (refl, (λ one e. absurd (none-some one e))))
+        sent_sends : Sends limits player m to (sent_to to limits player m).0 (sent_to to limits player m).1
+        sent_sends = cond_both (nat_lt to limits.players) _ _ (λ (x : machine.Node × Option Flight). Sends
+            limits player m to x.0 x.1) (λ below. sends limits player m to (sym shows.whose.most)
+            (let time = in_time goes_on in omega (arith, time, next, count, shows.whose.places)))
+            (λ past. inl (refl, (λ one e. absurd (none-some one e))))
 
   pub pair : IsCaughtUp limits player to new (links to)
   pair =
@@ -386,7 +352,7 @@ module _ (marking : Marking) (limits : Limits) (settings : Settings) (session : 
   packets = going (old.peers to).kept taken
 
   sent_is : own_in gives.bundle ≡ take gives.packed.count (map (opened_from old.node.me) packets)
-  sent_is = gives_own seal identity pace to old new bytes gives ∙ gives.packed.front
+  sent_is = gives_own seal pace to old new bytes gives ∙ gives.packed.front
 
   from_is : gives.bundle.from ≡ player
   from_is = gives.from ∙ own

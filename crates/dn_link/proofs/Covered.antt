@@ -8,7 +8,7 @@ use Rattle.std.proofs.Math.Seq.{take-append_seam}
 use Rattle.std.proofs.lemmas.List.{length-map}
 use Rattle.dn_seal.specs.{declared.opened.Opened.Opened, declared.seal.Seal.Seal}
 use Rattle.dn_machine.proofs.Put.{put_at}
-use Rattle.dn_link.specs.{declared.bundle.Carried.Carried, declared.bundle.Identity.Identity, declared.peer.Peer.Peer, Linked.Gives, Linked.Linked, Linked.PeerState, Linking.peers_of, Pacing.PaceState}
+use Rattle.dn_link.specs.{declared.bundle.Carried.Carried, declared.peer.Peer.Peer, Linked.Gives, Linked.Linked, Linked.PeerState, Linking.peers_of, Pacing.PaceState}
 use Rattle.dn_link.specs.{Packets.opened_from, Packets.packets_of, Packing.ArePacked, Text.parts_bytes}
 use Rattle.dn_link.specs.Kept.{IsCovering, Reaches, Unacknowledged, acknowledged, end_of, going, has_tic, is_news, kept_after, taken_by, with_packet, without, IsKeptRising, IsRising}
 
@@ -144,15 +144,15 @@ pub reached : (kept : Unacknowledged) (packet : Carried)
 reached kept packet = grind (arith, and_parts, leb-true, ltb-true, and_from, le-leb, lt-ltb, true≢false)
 
 -- and a datagram has all of them, where it has room
-pub carries : (seal : Seal) (identity : Identity) (pace : PaceState) (to : ℕ) (old new : Linked) (bytes : List ℕ)
-    (gives : Gives seal identity pace to old new bytes)
+pub carries : (seal : Seal) (pace : PaceState) (to : ℕ) (old new : Linked) (bytes : List ℕ)
+    (gives : Gives seal pace to old new bytes)
     → IsCovering (old.peers to).kept → length gives.own < 22 → length (parts_bytes gives.own) ≤ 998
     → (packets : List Carried) × (flat_map (packets_of gives.bundle.from) gives.own
     ≡ map (opened_from old.node.me) packets)
     × ((tic : ℕ) → (old.peers to).kept.done ≤ tic → tic < (new.peers to).kept.covered → has_tic tic packets ≡ true)
-carries seal identity pace to old new bytes gives covers few short =
+carries seal pace to old new bytes gives covers few short =
     let kept : Unacknowledged = (old.peers to).kept in
-    let taken : Option Carried = taken_by (old.peers to).presence gives.given in
+    let taken : Option Carried = taken_by (old.peers to).left gives.given in
     let packets : List Carried = going kept taken in
     let packed : ArePacked old.node.me packets gives.own = gives.packed in
     let told : List Opened = map (opened_from old.node.me) packets in
@@ -171,8 +171,8 @@ carries seal identity pace to old new bytes gives covers few short =
       λ tic needed before. goes_covering kept taken covers tic needed (subst (λ (n : ℕ). tic < n) now before),
     )
 
-pub reaches_given : (seal : Seal) (identity : Identity) (pace : PaceState) (to : ℕ) (old new : Linked)
-    (bytes : List ℕ) (gives : Gives seal identity pace to old new bytes) (packet : Carried)
-    → taken_by (old.peers to).presence gives.given ≡ Some packet
+pub reaches_given : (seal : Seal) (pace : PaceState) (to : ℕ) (old new : Linked)
+    (bytes : List ℕ) (gives : Gives seal pace to old new bytes) (packet : Carried)
+    → taken_by (old.peers to).left gives.given ≡ Some packet
     → (end_of packet ≤ (new.peers to).kept.covered) ↔ Reaches (old.peers to).kept packet
-reaches_given seal identity pace to old new bytes gives packet taken = grind (arith, put_at, reached)
+reaches_given seal pace to old new bytes gives packet taken = grind (arith, put_at, reached)

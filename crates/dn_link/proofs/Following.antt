@@ -22,9 +22,9 @@ use Rattle.dn_lockstep.specs.Sent.{sent_to}
 use Rattle.dn_lockstep.specs.Told.{made}
 use Rattle.dn_lockstep.proofs.Shown.{made_is}
 use Rattle.dn_seal.specs.declared.seal.Seal.{Seal}
-use Rattle.dn_link.specs.{declared.bundle.Carried.Carried, declared.bundle.Identity.Identity, declared.presence.Presence.Presence, Hearing.SendsCarried, Hearing.carried_of, Hearing.ByTest, CaughtUp.GoesOn, CaughtUp.IsGone, CaughtUp.IsInTime, CaughtUp.StillGoesOn, CaughtUp.next_to, Pacing.PaceState, Presence.when_forgotten}
+use Rattle.dn_link.specs.{declared.bundle.Carried.Carried, Hearing.carried_of, CaughtUp.GoesOn, CaughtUp.IsGone, CaughtUp.IsInTime, CaughtUp.StillGoesOn, CaughtUp.next_to, Pacing.PaceState}
 use Rattle.dn_link.specs.Kept.{IsKeptRising, Reaches, Unacknowledged, commands_in, end_of, is_idle, kept_after, taken_by, takes_packet, with_packet}
-use Rattle.dn_link.specs.Linked.{Gives, Linked, PeerState, forgotten, holds_back, is_gathering, is_peer}
+use Rattle.dn_link.specs.Linked.{Gives, Linked, PeerState}
 use Rattle.dn_link.proofs.{Covered.reached, Linking.taken_given, Covered.few, Covered.news_rises}
 use Rattle.dn_link.proofs.Sending.{Follows, Silent, resend_of, build_same, quit_same, run_same, send_same, sends}
 
@@ -42,9 +42,9 @@ covers_as_much kept (Some packet) = grind (arith, and_parts, ltb-true)
 idle : (packet : Carried) → not (is_idle packet) ≡ false → commands_in packet ≡ 0
 idle packet not_taken = grind (arith, not-false, eqb-true, and_parts)
 
-pub gone_or_idle : (presence : Presence) (packet : Carried) → takes_packet presence packet ≡ false
-    → IsGone presence ⊎ (commands_in packet ≡ 0)
-gone_or_idle presence packet not_taken = grind (arith, idle)
+pub gone_or_idle : (left : Option ℕ) (packet : Carried) → takes_packet left packet ≡ false
+    → IsGone left ⊎ (commands_in packet ≡ 0)
+gone_or_idle left packet not_taken = grind (arith, idle)
 
 module _ (limits : Limits) (me to : ℕ) (old new : Linked) (goes : GoesOn limits me to old) where
   abbrev was : Unacknowledged
@@ -55,26 +55,26 @@ module _ (limits : Limits) (me to : ℕ) (old new : Linked) (goes : GoesOn limit
 
   -- the next packet to it begins where it did
   pub next_same : (node : machine.Node) → was.covered ≤ now.covered
-      → (IsGone (old.peers to).presence → IsGone (new.peers to).presence)
+      → (IsGone (old.peers to).left → IsGone (new.peers to).left)
       → resend_of node to ≡ resend_of goes.node to
-      → IsGone (new.peers to).presence ⊎ (resend_of node to ≤ now.covered)
+      → IsGone (new.peers to).left ⊎ (resend_of node to ≤ now.covered)
   next_same node more gone same = grind arith
 
   pub still : (node : machine.Node) → Represents limits me new.node node → IsKeptRising now → was.covered ≤ now.covered
-      → IsGone (new.peers to).presence ⊎ (resend_of node to ≤ now.covered) → StillGoesOn limits me to old new
+      → IsGone (new.peers to).left ⊎ (resend_of node to ≤ now.covered) → StillGoesOn limits me to old new
   still node shows rising more next = grind arith
 
   -- where what is kept is as it was
   pub same_kept : (node : machine.Node) → Represents limits me new.node node
       → resend_of node to ≡ resend_of goes.node to → now ≡ was
-      → (IsGone (old.peers to).presence → IsGone (new.peers to).presence) → StillGoesOn limits me to old new
+      → (IsGone (old.peers to).left → IsGone (new.peers to).left) → StillGoesOn limits me to old new
   same_kept node shows next same gone = grind (arith, still, next_same)
 
   pub same_peers : (node : machine.Node) → Represents limits me new.node node
       → resend_of node to ≡ resend_of goes.node to → new.peers ≡ old.peers → StillGoesOn limits me to old new
   same_peers node shows next same =
       same_kept node shows next (ap (λ (f : ℕ → PeerState). (f to).kept) same)
-      (λ gone. (gone.0, ap (λ (f : ℕ → PeerState). (f to).presence) same ∙ gone.1))
+      (λ gone. (gone.0, ap (λ (f : ℕ → PeerState). (f to).left) same ∙ gone.1))
 
   pub builds : (input : Input) (made : Made)
       → Steps old.node new.node (λ limits me m. on_build limits me m input) (λ answer. made ≡ answer)
@@ -93,39 +93,28 @@ module _ (limits : Limits) (me to : ℕ) (old new : Linked) (goes : GoesOn limit
   quits quit step = same_peers _ (step.step limits me goes.node goes.shows).node (quit_same limits me goes.node to)
 
   -- a datagram to another peer
-  pub gives_another : (other : ℕ) (seal : Seal) (identity : Identity) (pace : PaceState) (bytes : List ℕ) → other ≢ to
-      → Gives seal identity pace other old new bytes → StillGoesOn limits me to old new
-  gives_another other seal identity pace bytes apart gives =
+  pub gives_another : (other : ℕ) (seal : Seal) (pace : PaceState) (bytes : List ℕ) → other ≢ to
+      → Gives seal pace other old new bytes → StillGoesOn limits me to old new
+  gives_another other seal pace bytes apart gives =
       let off : new.peers to ≡ old.peers to =
       ap (λ (f : ℕ → PeerState). f to) gives.peers ∙ put_off old.peers other to _ (λ e. apart (sym e)) in
-      go (holds_back old) gives.step (ap (λ (t : PeerState). t.kept) off)
-      (λ gone. (gone.0, ap (λ (t : PeerState). t.presence) off ∙ gone.1))
-    where
-      go : (test : Bool)
-          → ByTest test ((new.node ≡ old.node) × (gives.given ≡ None)) (SendsCarried other old.node new.node gives.given)
-          → now ≡ was → (IsGone (old.peers to).presence → IsGone (new.peers to).presence)
-          → StillGoesOn limits me to old new
-      go true held same gone =
-          same_kept goes.node (subst (λ (n : Contents). Represents limits me n goes.node) (sym held.0) goes.shows) refl
-          same gone
-      go false step same gone =
-          same_kept _ (step.step limits me goes.node goes.shows).node
-          (cond_both (nat_lt other limits.players) _ _
-          (λ (x : machine.Node × Option Flight). resend_of x.0 to ≡ resend_of goes.node to)
-          (λ below. send_same limits me goes.node to other (λ e. apart (sym e))) (λ past. refl)) same gone
+      same_kept _ (gives.step.step limits me goes.node goes.shows).node
+      (cond_both (nat_lt other limits.players) _ _
+      (λ (x : machine.Node × Option Flight). resend_of x.0 to ≡ resend_of goes.node to)
+      (λ below. send_same limits me goes.node to other (λ e. apart (sym e))) (λ past. refl))
+      (ap (λ (t : PeerState). t.kept) off) (λ gone. (gone.0, ap (λ (t : PeerState). t.left) off ∙ gone.1))
 
   -- a datagram to the peer
-  module _ (seal : Seal) (identity : Identity) (pace : PaceState) (bytes : List ℕ) (time : IsInTime to old)
-      (gives : Gives seal identity pace to old new bytes) where
-    abbrev presence : Presence
-    presence = (old.peers to).presence
+  module _ (seal : Seal) (pace : PaceState) (bytes : List ℕ) (time : IsInTime to old)
+      (gives : Gives seal pace to old new bytes) where
+    abbrev left : Option ℕ
+    left = (old.peers to).left
 
     abbrev taken : Option Carried
-    taken = taken_by presence gives.given
+    taken = taken_by left gives.given
 
     peer_is : new.peers to ≡ record (old.peers to) {
       kept = kept_after was taken;
-      gave = (old.peers to).gave || (is_gathering old.node.phase && is_some gives.given);
       number = ((old.peers to).number + 1) % 2 ^ 32;
     }
     peer_is = ap (λ (f : ℕ → PeerState). f to) gives.peers ∙ put_at old.peers to to _ refl
@@ -133,8 +122,8 @@ module _ (limits : Limits) (me to : ℕ) (old new : Linked) (goes : GoesOn limit
     kept_is : now ≡ kept_after was taken
     kept_is = ap (λ (t : PeerState). t.kept) peer_is
 
-    gone_on : IsGone presence → IsGone (new.peers to).presence
-    gone_on gone = (gone.0, ap (λ (t : PeerState). t.presence) peer_is ∙ gone.1)
+    gone_on : IsGone left → IsGone (new.peers to).left
+    gone_on gone = (gone.0, ap (λ (t : PeerState). t.left) peer_is ∙ gone.1)
 
     rising_on : IsKeptRising now
     rising_on = subst IsKeptRising (sym kept_is) (kept_rises was taken goes.rising)
@@ -161,7 +150,7 @@ module _ (limits : Limits) (me to : ℕ) (old new : Linked) (goes : GoesOn limit
         → gives.given ≡ option_map carried_of flight → Silent limits me goes.node to node flight → Covers
     covers_silent node flight shows is silent = (
       still node shows rising_on more_on (next_same node more_on gone_on silent.0),
-      (λ packet took. none_past flight silent.1 packet (taken_given presence gives.given packet took ∙ is)),
+      (λ packet took. none_past flight silent.1 packet (taken_given left gives.given packet took ∙ is)),
     )
       where
         none_past : (flight : Option Flight) → ((one : Flight) → flight ≡ Some one → end_of (carried_of one) ≡ 0)
@@ -174,20 +163,20 @@ module _ (limits : Limits) (me to : ℕ) (old new : Linked) (goes : GoesOn limit
     -- a packet that goes on where the others end
     module _ (node : machine.Node) (shows : Represents limits me new.node node) (packet : Carried)
         (is : gives.given ≡ Some packet) (follows : Follows limits me goes.node to node packet) where
-      taken_is : taken ≡ (if takes_packet presence packet then Some packet else None)
-      taken_is = ap (taken_by presence) is
+      taken_is : taken ≡ (if takes_packet left packet then Some packet else None)
+      taken_is = ap (taken_by left) is
 
       -- it begins there, or earlier
-      within : takes_packet presence packet ≡ true → resend_of goes.node to ≤ was.covered
+      within : takes_packet left packet ≡ true → resend_of goes.node to ≤ was.covered
       within takes = grind (arith, true≢false, there)
 
-      reaches : takes_packet presence packet ≡ true → Reaches was packet
+      reaches : takes_packet left packet ≡ true → Reaches was packet
       reaches takes = grind (arith, within, few, count)
 
       covers_packet : Covers
-      covers_packet = go (takes_packet presence packet) refl
+      covers_packet = go (takes_packet left packet) refl
         where
-          go : (test : Bool) → takes_packet presence packet ≡ test → Covers
+          go : (test : Bool) → takes_packet left packet ≡ test → Covers
           go true takes =
               let took : taken ≡ Some packet = taken_is ∙ rw takes refl in
               let covered : now.covered ≡ (with_packet was packet).covered =
@@ -201,7 +190,7 @@ module _ (limits : Limits) (me to : ℕ) (old new : Linked) (goes : GoesOn limit
               )
           go false not_taken =
               let took : taken ≡ None = taken_is ∙ rw not_taken refl in (
-                still node shows rising_on more_on (elim (gone_or_idle presence packet not_taken) [
+                still node shows rising_on more_on (elim (gone_or_idle left packet not_taken) [
                   | inl gone ↦ inl (gone_on gone)
                   | inr none ↦ elim goes.next [
                     | inl gone ↦ inl (gone_on gone)
@@ -215,51 +204,14 @@ module _ (limits : Limits) (me to : ℕ) (old new : Linked) (goes : GoesOn limit
               )
 
     pub covers : Covers
-    covers = go (holds_back old) gives.step
-      where
-        go : (test : Bool)
-            → ByTest test ((new.node ≡ old.node) × (gives.given ≡ None)) (SendsCarried to old.node new.node gives.given)
-            → Covers
-        go true held =
-            covers_silent goes.node None (subst (λ (n : Contents). Represents limits me n goes.node) (sym held.0) goes.shows)
-            held.1 (refl, (λ one e. absurd (none-some one e)))
-        go false step =
-            let sent_is : sent_to to limits me goes.node ≡ on_send limits me goes.node to =
-            let below = lt-ltb to limits.players goes.below in rw below refl in
-            let after = step.step limits me goes.node goes.shows in
-            let here = subst (λ (r : machine.Node × Option Flight). Represents limits me new.node r.0) sent_is after.node in
-            let answer : gives.given ≡ option_map carried_of (on_send limits me goes.node to).1 =
-            after.answer ∙ ap (λ (r : machine.Node × Option Flight). option_map carried_of r.1) sent_is in
-            elim (sends limits me goes.node to (sym goes.shows.whose.most) in_time) [
-              | inl silent ↦ covers_silent _ _ here answer silent
-              | inr some ↦ covers_packet _ here (carried_of some.0) (answer ∙ ap (option_map carried_of) some.1) some.2
-            ]
-
--- a peer is given up
-abbrev new_of : Linked → ℕ → PeerState
-new_of old peer =
-    record (old.peers peer) { presence = when_forgotten (old.peers peer).gave old.node.phase (old.peers peer).presence }
-
-pub forgets : (limits : Limits) (me to peer : ℕ) (old : Linked) → GoesOn limits me to old
-    → StillGoesOn limits me to old (forgotten peer old)
-forgets limits me to peer old goes = go (is_peer old.node peer)
-  where
-    go : (test : Bool)
-        → StillGoesOn limits me to old (if test then record old { peers = put old.peers peer (new_of old peer) } else old)
-    go false = same_kept limits me to old old goes goes.node goes.shows refl refl (λ gone. gone)
-    go true = elim (cases_eq to peer) [
-      | inl at ↦
-          let now = put_at old.peers peer to (new_of old peer) at in
-          same_kept limits me to old (record old { peers = put old.peers peer (new_of old peer) }) goes goes.node goes.shows refl
-          (ap (λ (t : PeerState). t.kept) now ∙ ap (λ (k : ℕ). (old.peers k).kept) (sym at))
-          (λ gone. (
-            gone.0,
-            ap (λ (t : PeerState). t.presence) now
-                ∙ ap (when_forgotten (old.peers peer).gave old.node.phase) (ap (λ (k : ℕ). (old.peers k).presence) (sym at) ∙ gone.1),
-          ))
-      | inr off ↦
-          let now = put_off old.peers peer to (new_of old peer) off in
-          same_kept limits me to old (record old { peers = put old.peers peer (new_of old peer) }) goes goes.node goes.shows refl
-          (ap (λ (t : PeerState). t.kept) now)
-          (λ gone. (gone.0, ap (λ (t : PeerState). t.presence) now ∙ gone.1))
-    ]
+    covers =
+        let sent_is : sent_to to limits me goes.node ≡ on_send limits me goes.node to =
+        let below = lt-ltb to limits.players goes.below in rw below refl in
+        let after = gives.step.step limits me goes.node goes.shows in
+        let here = subst (λ (r : machine.Node × Option Flight). Represents limits me new.node r.0) sent_is after.node in
+        let answer : gives.given ≡ option_map carried_of (on_send limits me goes.node to).1 =
+        after.answer ∙ ap (λ (r : machine.Node × Option Flight). option_map carried_of r.1) sent_is in
+        elim (sends limits me goes.node to (sym goes.shows.whose.most) in_time) [
+          | inl silent ↦ covers_silent _ _ here answer silent
+          | inr some ↦ covers_packet _ here (carried_of some.0) (answer ∙ ap (option_map carried_of) some.1) some.2
+        ]

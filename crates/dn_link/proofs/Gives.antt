@@ -1,5 +1,5 @@
 -- What a link gives to a peer, within one game.
-use Rattle.std.proofs.Common.{◌≡◌, ◌<◌, ◌≤◌, ◌≢◌, ◌+◌, ◌%◌, ◌^◌, ℕ, Bool, true, false, List, refl, ap, sym, ◌∙◌, arith, Option, None}
+use Rattle.std.proofs.Common.{◌≡◌, ◌<◌, ◌≤◌, ◌≢◌, ◌+◌, ◌%◌, ◌^◌, ℕ, Bool, true, false, List, refl, ap, sym, ◌∙◌, arith, Option, Some}
 use Rattle.std.specs.Prelude.{◌&&◌, ◌||◌, IfSome, is_some, nat_lt, slice_index}
 use Rattle.std.specs.Option.{option_map}
 use Rattle.std.proofs.lemmas.Bool.{cond_both}
@@ -17,11 +17,11 @@ use Rattle.dn_lockstep.specs.Steps.{Tells}
 use Rattle.dn_lockstep.specs.Told.{command_told}
 use Rattle.dn_lockstep.proofs.OneGame.{GoesBetween, sent_between, gave, relays}
 use Rattle.dn_seal.specs.declared.seal.Seal.{Seal}
-use Rattle.dn_link.specs.{declared.bundle.Bundle.Bundle, declared.bundle.Carried.Carried, declared.bundle.Counts.Counts, declared.bundle.Identity.Identity, Counting.counts_of, Counting.has_ended, Counting.has_of}
-use Rattle.dn_link.specs.{Presence.tells_end, declared.presence.Presence.TheVariants.Left, LinkedGame.WasBundled, Hearing.ByTest, Kept.kept_after, Kept.taken_by, Hearing.SendsCarried, Hearing.carried_of, Linked.Linked}
-use Rattle.dn_link.specs.{Linked.Gives, Linked.PeerState, Linked.holds_back, Linked.is_gathering, LinkedGame.AreLinked, LinkedGame.IsLater, Pacing.PaceState, Relays.AreHandedOn, Relays.Handed, Relays.flights_of}
+use Rattle.dn_link.specs.{declared.bundle.Bundle.Bundle, declared.bundle.Carried.Carried, declared.bundle.Counts.Counts, Counting.counts_of, Counting.has_ended, Counting.has_of}
+use Rattle.dn_link.specs.{Ends.tells_end, LinkedGame.WasBundled, Hearing.ByTest, Kept.kept_after, Kept.taken_by, Hearing.SendsCarried, Hearing.carried_of, Linked.Linked}
+use Rattle.dn_link.specs.{Linked.Gives, Linked.PeerState, LinkedGame.AreLinked, LinkedGame.IsLater, Pacing.PaceState, Relays.AreHandedOn, Relays.Handed, Relays.flights_of}
 use Rattle.dn_link.proofs.{Leaving.counts_reach, Leaving.tells_own, Handing.gives_all, Growing.HasAsMuch, Growing.grows, Growing.Holds, Growing.holds_same, Growing.send_holds, Linking.goes_given, Linking.stays_kept}
-use Rattle.dn_link.proofs.{Relinking.AreKept, Linking.at_most, Linking.same_reported, Linking.same_presence, Relinking.found_later, Relinking.found_on, Relinking.later_by, Relinking.relinked}
+use Rattle.dn_link.proofs.{Relinking.AreKept, Linking.at_most, Linking.same_reported, Linking.same_left, Relinking.found_later, Relinking.found_on, Relinking.later_by, Relinking.relinked}
 use Rattle.dn_survivor.specs.declared.others.Others.{Others}
 use Rattle.dn_machine.specs.Node as machine
 use Rattle.dn_link.proofs.Linking as base
@@ -51,7 +51,7 @@ module _ (marking : Marking) (limits : Limits) (settings : Settings) (session : 
   same_much : (new : Contents) → new ≡ session.locksteps player → HasAsMuch player (session.locksteps player) new
   same_much = base.same_much marking limits settings session links player linked mine
 
-  left_on : (later : Session) → IsLater session later → (peer cause : ℕ) → (old.peers peer).presence ≡ Left cause
+  left_on : (later : Session) → IsLater session later → (peer cause : ℕ) → (old.peers peer).left ≡ Some cause
       → has_ended (later.locksteps peer) ≡ true
   left_on = base.left_on marking limits settings session links player linked mine
 
@@ -76,16 +76,16 @@ module _ (marking : Marking) (limits : Limits) (settings : Settings) (session : 
       (given_on session.given flight) handed game all
 
   -- what goes to a peer, with the packet that the machine gave, if it gave one
-  gave_by : (seal : Seal) (identity : Identity) (pace : PaceState) (to : ℕ) (new : Linked) (bytes : List ℕ)
-      (flight : Option Flight) (gives : Gives seal identity pace to old new bytes) → AreOneGame marking limits
+  gave_by : (seal : Seal) (pace : PaceState) (to : ℕ) (new : Linked) (bytes : List ℕ)
+      (flight : Option Flight) (gives : Gives seal pace to old new bytes) → AreOneGame marking limits
       settings (after_packet session player flight new.node) → GoesBetween player to flight → gives.given
       ≡ option_map carried_of flight → HasAsMuch player (session.locksteps player) new.node → WasBundled seal
       (after_all flight new gives.handed to) bytes × AreLinked marking limits settings
       (after_all flight new gives.handed to) (put links player new) × IsLater session
       (after_all flight new gives.handed to)
-  gave_by seal identity pace to new bytes flight gives game between answer much =
+  gave_by seal pace to new bytes flight gives game between answer much =
       let all : AreKept session.given player old.peers = λ peer. linked.kept player peer mine in
-      let taken : Option Carried = taken_by (old.peers to).presence gives.given in
+      let taken : Option Carried = taken_by (old.peers to).left gives.given in
       let later : Session = after_all flight new gives.handed to in
       let handed_game = hands_on flight new game to gives.handed gives.handed_on in
       let is = later_by session later player new.node refl
@@ -95,19 +95,17 @@ module _ (marking : Marking) (limits : Limits) (settings : Settings) (session : 
       → slice_index (new.peers peer).reported which ≤ has_of (later.locksteps peer) which =
       (λ peer which apart. at_most (ap (λ (l : List ℕ). slice_index l which)
       (ap (λ (f : ℕ → PeerState). (f peer).reported) gives.peers ∙ same_reported old.peers to
-      (kept_after (old.peers to).kept taken) ((old.peers to).gave ||
-      (is_gathering old.node.phase && is_some gives.given)) (((old.peers to).number + 1) % 2 ^ 32) peer))
+      (kept_after (old.peers to).kept taken) (((old.peers to).number + 1) % 2 ^ 32) peer))
       (linked.reported player peer which mine apart) (is.got peer which apart)) in
-      let left : (peer cause : ℕ) → (new.peers peer).presence ≡ Left cause → has_ended (later.locksteps peer) ≡ true =
-      (λ peer cause was. left_on later is peer cause (sym (ap (λ (f : ℕ → PeerState). (f peer).presence) gives.peers
-      ∙ same_presence old.peers to (kept_after (old.peers to).kept taken)
-      ((old.peers to).gave || (is_gathering old.node.phase && is_some gives.given))
+      let left : (peer cause : ℕ) → (new.peers peer).left ≡ Some cause → has_ended (later.locksteps peer) ≡ true =
+      (λ peer cause was. left_on later is peer cause (sym (ap (λ (f : ℕ → PeerState). (f peer).left) gives.peers
+      ∙ same_left old.peers to (kept_after (old.peers to).kept taken)
       (((old.peers to).number + 1) % 2 ^ 32) peer) ∙ was)) in (
         (
           gives.bundle,
           gives.fits,
           gives.is,
-          goes_given session.given flight player old new own seal identity pace to bytes gives between answer all,
+          goes_given session.given flight player old new own seal pace to bytes gives between answer all,
           record {
             got = λ which apart. at_most (ap (λ (c : Counts). slice_index c.got which) gives.counts)
                 (counts_reach new.node which) (at_most refl self (equal (ap (λ (n : Contents). has_of n which)
@@ -119,7 +117,7 @@ module _ (marking : Marking) (limits : Limits) (settings : Settings) (session : 
         ),
         relinked marking limits settings session later links player new linked handed_game refl is
             (ap (λ (o : Others). o.gone) gives.others) (stays_kept session.given flight player old new own seal
-            identity pace to bytes gives between answer all) told left,
+            pace to bytes gives between answer all) told left,
         is,
       )
     where
@@ -140,31 +138,18 @@ module _ (marking : Marking) (limits : Limits) (settings : Settings) (session : 
       equal : {a b : ℕ} → a ≡ b → b ≤ a
       equal e = omega (arith, e)
 
-  pub gave_to : ((new : Contents) → new ≡ session.locksteps player
-      → AreOneGame marking limits settings (with_lockstep session player new))
-      → (seal : Seal) (identity : Identity) (pace : PaceState) (to : ℕ) (new : Linked) (bytes : List ℕ)
-      → (holds_back old ≡ false → Tells old.node (λ limits me m. IfSome (sent_to to limits me m).1 IsFair))
-      → (gives : Gives seal identity pace to old new bytes)
+  pub gave_to : (seal : Seal) (pace : PaceState) (to : ℕ) (new : Linked) (bytes : List ℕ)
+      → Tells old.node (λ limits me m. IfSome (sent_to to limits me m).1 IsFair)
+      → (gives : Gives seal pace to old new bytes)
       → (flight : Option Flight) × WasBundled seal (after_all flight new gives.handed to) bytes
       × AreLinked marking limits settings (after_all flight new gives.handed to) (put links player new)
       × IsLater session (after_all flight new gives.handed to)
-  gave_to kept_game seal identity pace to new bytes all_fair gives = go (holds_back old) refl gives.step
-    where
-      go : (test : Bool) → holds_back old ≡ test
-          → ByTest test ((new.node ≡ old.node) × (gives.given ≡ None)) (SendsCarried to old.node new.node gives.given)
-          → (flight : Option Flight) × WasBundled seal (after_all flight new gives.handed to) bytes
-          × AreLinked marking limits settings (after_all flight new gives.handed to) (put links player new)
-          × IsLater session (after_all flight new gives.handed to)
-      go true held step =
-          let same = step.0 ∙ node in
-          let all = gave_by seal identity pace to new bytes None gives (kept_game new.node same) tt step.1
-          (same_much new.node same) in (None, all.0, all.1, all.2)
-      go false ready step =
-          let m = linked.game.last.nodes player in
-          let flight : Option Flight = (sent_to to limits player m).1 in
-          let sent = step.step limits player m shows in
-          let much = grows limits player old.node new.node m _ shows sent.node mine (sends_holds limits player m to) in
-          let all = gave_by seal identity pace to new bytes flight gives
-          (gave marking limits settings linked.game player mine to new.node sent.node
-          (all_fair ready limits player m shows)) (sent_between limits player m to) sent.answer
-          (has_more new.node much) in (flight, all.0, all.1, all.2)
+  gave_to seal pace to new bytes fair gives =
+      let m = linked.game.last.nodes player in
+      let flight : Option Flight = (sent_to to limits player m).1 in
+      let sent = gives.step.step limits player m shows in
+      let much = grows limits player old.node new.node m _ shows sent.node mine (sends_holds limits player m to) in
+      let all = gave_by seal pace to new bytes flight gives
+      (gave marking limits settings linked.game player mine to new.node sent.node
+      (fair limits player m shows)) (sent_between limits player m to) sent.answer
+      (has_more new.node much) in (flight, all.0, all.1, all.2)

@@ -9,20 +9,16 @@ use Rattle.std.proofs.lemmas.List.Elements.{All-append, All-cons, All-nil, All-h
 use Rattle.dn_setup.specs.Settings.{Settings}
 use Rattle.dn_seal.specs.declared.opened.Opened.{Opened}
 use Rattle.dn_machine.specs.Limits.{Limits}
-use Rattle.dn_machine.specs.declared.answers.Phase.{Phase}
 use Rattle.dn_lockstep.specs.Agreed.{AreAgreed}
 use Rattle.dn_lockstep.specs.Contents.{Contents, end_in}
 use Rattle.dn_lockstep.specs.Marking.{Marking}
 use Rattle.dn_lockstep.specs.Tables.{count_of}
 use Rattle.dn_lockstep.specs.OneGame.{Session}
 use Rattle.dn_lockstep.specs.Told.{got, made}
-use Rattle.dn_link.specs.{declared.presence.Presence.Presence, Counting.has_ended, Counting.has_of, Counting.with_end, LinkedGame.AreLinked, Presence.has_gone, Presence.has_left, declared.bundle.Part.Part}
-use Rattle.dn_link.specs.{declared.bundle.Part.TheVariants.Whole, declared.bundle.Part.TheVariants.Run, declared.bundle.Part.TheVariants.Relay, Packets.heard_of, Packets.opened_from, Packets.packets_of}
-use Rattle.dn_link.specs.{Packets.short_packet, Packets.short_packets, Packets.takes_relay, declared.bundle.Bundle.Bundle, declared.bundle.Identity.Identity, declared.bundle.Message.Message}
-use Rattle.dn_link.specs.{declared.bundle.Message.TheVariants.Hello, declared.bundle.Message.TheVariants.Game, declared.bundle.Message.TheVariants.Goodbye, Counting.counts_of, Presence.tells_end, Presence.Becomes}
-use Rattle.dn_link.specs.{Presence.Greets, Presence.when_forgotten, Presence.place_of, Presence.plays_on}
-use Rattle.dn_link.specs.declared.presence.Presence.TheVariants.{Unknown, There, Playing, Different, Away, Left, Forgotten}
-use Rattle.dn_link.specs.Linked.{Linked, certain, has_given_up, is_out, may_leave, needs_nothing, never_played, none_needs}
+use Rattle.dn_link.specs.{Counting.counts_of, Counting.has_ended, Counting.has_of, Counting.with_end, CaughtUp.IsGone, LinkedGame.AreLinked, Ends.left_by, Ends.tells_end}
+use Rattle.dn_link.specs.{declared.bundle.Bundle.Bundle, declared.bundle.Part.Part, declared.bundle.Part.TheVariants.Whole, declared.bundle.Part.TheVariants.Run, declared.bundle.Part.TheVariants.Relay}
+use Rattle.dn_link.specs.{Packets.heard_of, Packets.opened_from, Packets.packets_of, Packets.short_packet, Packets.short_packets, Packets.takes_relay}
+use Rattle.dn_link.specs.Linked.{Linked, certain, has_given_up, may_leave, needs_nothing}
 
 -- Who is known to have left.
 
@@ -57,29 +53,24 @@ tells_own n tells = go (has_ended n) refl
         let few = most (end_in n n.me) (unended n n.me refl is) (nat_lt n.me n.players) in
         absurd (omega (arith, less, reach, few))
 
-not_left : {A : Type 0} (cause : ℕ) (gave : Bool) (at : Phase) → place_of gave at ≡ Left cause → A
-not_left cause gave at e = grind arith
-
--- one that is given up has left if it had
-pub given_up_left : (gave : Bool) (at : Phase) (presence : Presence) (cause : ℕ)
-    → when_forgotten gave at presence ≡ Left cause → presence ≡ Left cause
-given_up_left gave at presence cause e = grind (arith, not_left)
-
-plays_left : (fresh : Bool) (old : Presence) (cause : ℕ) → plays_on fresh old ≡ Left cause → old ≡ Left cause
-plays_left fresh old cause e = grind arith
-
-greets_left : {A : Type 0} (own other : Identity) (new : Presence) (cause : ℕ) → Greets own other new
-    → new ≡ Left cause → A
-greets_left own other new cause (same, apart) is = grind arith
-
 -- one that has left by now had left, or its datagram tells its end
-pub becomes_left : {A : Type 0} (own : Identity) (gave fresh : Bool) (bundle : Bundle) (message : Message)
-    (old new : Presence) (cause : ℕ) → Becomes own gave fresh bundle message old new → new ≡ Left cause
-    → (old ≡ Left cause → A) → (tells_end bundle ≡ true → A) → A
-becomes_left {A} own gave fresh bundle (Hello identity) old new cause becomes is was told = grind (arith, greets_left)
-becomes_left own gave fresh bundle Game old new cause becomes is was told =
-    was (plays_left fresh old cause (sym becomes ∙ is))
-becomes_left {A} own gave fresh bundle (Goodbye why) old new cause becomes is was told = grind arith
+pub has_left : {A : Type 0} (bundle : Bundle) (old : Option ℕ) (cause : ℕ) → left_by bundle old ≡ Some cause
+    → (old ≡ Some cause → A) → (tells_end bundle ≡ true → A) → A
+has_left {A} bundle old cause is was told = go (nat_lt 0 bundle.cause) (tells_end bundle) refl is
+  where
+    go : (some ends : Bool) → tells_end bundle ≡ ends
+        → (if some && ends then Some bundle.cause else old) ≡ Some cause → A
+    go true true so is = told so
+    go true false so is = was is
+    go false ends so is = was is
+
+-- and one that has left stays so
+pub stays_left : (bundle : Bundle) (old : Option ℕ) → IsGone old → IsGone (left_by bundle old)
+stays_left bundle old gone = go (nat_lt 0 bundle.cause && tells_end bundle)
+  where
+    go : (test : Bool) → IsGone (if test then Some bundle.cause else old)
+    go true = (bundle.cause, refl)
+    go false = gone
 
 -- What is heard of a datagram is its sender's, or asks for nothing and is of a player who is not given up.
 
@@ -146,12 +137,8 @@ and_both : (a b : Bool) → (a && b) ≡ true → (a ≡ true) × (b ≡ true)
 and_both true b e = (refl, e)
 and_both false b e = absurd (cc)
 
-or_other : (a b : Bool) → a ≡ false → (a || b) ≡ true → b ≡ true
-or_other true b out e = absurd (cc)
-or_other false b out e = e
-
 -- each of the four
-each_needs : (link : Linked) → none_needs link ≡ true → (other : ℕ) → other < 4 → needs_nothing link other ≡ true
+each_needs : (link : Linked) → may_leave link ≡ true → (other : ℕ) → other < 4 → needs_nothing link other ≡ true
 each_needs link all other few =
     let one = and_both (needs_nothing link 0) _ all in
     let two = and_both (needs_nothing link 1) _ one.1 in
@@ -194,7 +181,7 @@ module _ (marking : Marking) (limits : Limits) (settings : Settings) (session : 
   node = linked.nodes player mine
 
   -- it has told that it has one more than all
-  has_told : needs_nothing link other ≡ true → end_in link.node other ≡ None → is_out link other ≡ false
+  has_told : needs_nothing link other ≡ true → end_in link.node other ≡ None → is_some (link.peers other).left ≡ false
       → made link.node < slice_index (link.peers other).reported link.node.me
   has_told needs stays here =
       let number : link.node.me ≡ player = ap (λ (n : Contents). n.me) node ∙ agreed.numbers player mine in
@@ -241,24 +228,18 @@ module _ (marking : Marking) (limits : Limits) (settings : Settings) (session : 
           ∙ known.0))
 
   -- nor takes it to have left
-  stays : has_ended (session.locksteps other) ≡ false → (link.peers other).presence ≢ Forgotten
-      → has_left (link.peers other).presence ≡ false
-  stays here remembered = go (link.peers other).presence refl
+  stays : has_ended (session.locksteps other) ≡ false → is_some (link.peers other).left ≡ false
+  stays here = go (link.peers other).left refl
     where
-      go : (presence : Presence) → (link.peers other).presence ≡ presence → has_left presence ≡ false
-      go (Left cause) is = clash (linked.left player other cause mine is) here
-      go Forgotten is = absurd (remembered is)
-      go Unknown is = refl
-      go There is = refl
-      go Playing is = refl
-      go (Different identity) is = refl
-      go (Away cause) is = refl
+      go : (left : Option ℕ) → (link.peers other).left ≡ left → is_some left ≡ false
+      go (Some cause) is = clash (linked.left player other cause mine is) here
+      go None is = refl
 
-  leaves : limits.players ≤ 4 → may_leave link ≡ true → never_played link.node ≡ false → end_in link.node other ≡ None
-      → is_out link other ≡ false → (got (session.locksteps other) player ≡ made (session.locksteps player))
+  leaves : limits.players ≤ 4 → may_leave link ≡ true → end_in link.node other ≡ None
+      → is_some (link.peers other).left ≡ false → (got (session.locksteps other) player ≡ made (session.locksteps player))
       × (end_in (session.locksteps other) player ≡ Some (made (session.locksteps player)))
-  leaves few all played stays here =
-      let needs = each_needs link (or_other (never_played link.node) (none_needs link) played all) other (omega (arith, few, below)) in
+  leaves few all stays here =
+      let needs = each_needs link all other (omega (arith, few, below)) in
       let told = has_told needs stays here in
       let number : link.node.me ≡ player = ap (λ (n : Contents). n.me) node ∙ agreed.numbers player mine in
       let n = session.locksteps other in
@@ -277,10 +258,7 @@ module _ (marking : Marking) (limits : Limits) (settings : Settings) (session : 
       end_known None known is = absurd (cc)
       end_known (Some end) known is = is ∙ ap Some (agreed.ends other player end below mine is).1
 
-  pub safe : limits.players ≤ 4 → may_leave link ≡ true → never_played link.node ≡ false
-      → has_ended (session.locksteps other) ≡ false → (link.peers other).presence ≢ Forgotten
-      → has_gone (link.peers 0).presence ≡ false
+  pub safe : limits.players ≤ 4 → may_leave link ≡ true → has_ended (session.locksteps other) ≡ false
       → (got (session.locksteps other) player ≡ made (session.locksteps player))
       × (end_in (session.locksteps other) player ≡ Some (made (session.locksteps player)))
-  safe few all played here remembered key =
-      leaves few all played (goes_on here) (λ i. stays here remembered i || key i)
+  safe few all here = leaves few all (goes_on here) (stays here)

@@ -16,7 +16,6 @@ pub mod Requests
 pub mod Growing
 pub mod Leaving
 pub mod Places
-pub mod Unplayed
 pub mod Letters
 pub mod Handing
 pub mod RemainingCalls

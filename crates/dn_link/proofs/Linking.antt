@@ -16,11 +16,11 @@ use Rattle.dn_lockstep.proofs.OneGame.{gave, GoesBetween}
 use Rattle.dn_lockstep.specs.{Contents.Contents, Marking.Marking, OneGame.AreOneGame, Represents.Represents, Steps.Simulates}
 use Rattle.dn_lockstep.specs.OneGame.{given_on, Session, with_lockstep}
 use Rattle.dn_open.specs.Sealed.{sealing_of}
-use Rattle.dn_link.specs.{declared.presence.Presence.Presence, declared.presence.Presence.TheVariants.Left, Linked.Linked, Linked.PeerState, Linked.forgotten, Linked.is_peer, Presence.when_forgotten}
+use Rattle.dn_link.specs.{Linked.Linked, Linked.PeerState}
 use Rattle.dn_link.specs.{Kept.Unacknowledged, Linked.larger, Counting.has_ended, LinkedGame.AreLinked, LinkedGame.IsLater, declared.bundle.Bundle.Bundle, LinkedGame.WasGiven, LinkedGame.WasBundled}
-use Rattle.dn_link.specs.{Packets.packets_in, Reading.IsDatagramOf, Text.IsBundle, Text.sealed_bytes, declared.bundle.Carried.Carried, declared.bundle.Identity.Identity, Hearing.carried_of, Kept.going}
+use Rattle.dn_link.specs.{Packets.packets_in, Reading.IsDatagramOf, Text.IsBundle, Text.sealed_bytes, declared.bundle.Carried.Carried, Hearing.carried_of, Kept.going}
 use Rattle.dn_link.specs.{Kept.taken_by, Linked.Gives, Pacing.PaceState, Packets.packets_of, Relays.flights_of, Relays.handed_part, declared.bundle.Part.Part, Packing.ArePacked}
-use Rattle.dn_link.proofs.{Leaving.given_up_left, Growing.HasAsMuch, Growing.as_much, Growing.grows, Growing.Holds, Relinking.AreGiven, Relinking.all_later, Relinking.later_by, Relinking.relinked}
+use Rattle.dn_link.proofs.{Growing.HasAsMuch, Growing.as_much, Growing.grows, Growing.Holds, Relinking.AreGiven, Relinking.all_later, Relinking.later_by, Relinking.relinked}
 use Rattle.dn_link.proofs.{Wholes.its_bundle, Handing.all_given, Relinking.AreKept, Relinking.put_kept, Relinking.all_stay, Relinking.found_on, Relinking.keeps_given, Relinking.packs_given}
 
 -- What peers reported, and who they are, where other things are kept of them.
@@ -38,14 +38,13 @@ pub larger_most : (one other : List ℕ) (which bound : ℕ) → slice_index one
 larger_most one other which bound a b = grind (arith, max_most)
 
 -- what was reported stays where other packets are kept
-pub same_reported : (peers : ℕ → PeerState) (to : ℕ) (kept : Unacknowledged) (gave : Bool) (number peer : ℕ)
-    → (put peers to (record (peers to) { kept = kept; gave = gave; number = number }) peer).reported ≡ (peers peer).reported
-same_reported peers to kept gave number peer = grind (arith, put_at, put_off)
+pub same_reported : (peers : ℕ → PeerState) (to : ℕ) (kept : Unacknowledged) (number peer : ℕ)
+    → (put peers to (record (peers to) { kept = kept; number = number }) peer).reported ≡ (peers peer).reported
+same_reported peers to kept number peer = grind (arith, put_at, put_off)
 
-pub same_presence : (peers : ℕ → PeerState) (to : ℕ) (kept : Unacknowledged) (gave : Bool) (number peer : ℕ)
-    → (put peers to (record (peers to) { kept = kept; gave = gave; number = number }) peer).presence
-    ≡ (peers peer).presence
-same_presence peers to kept gave number peer = grind (arith, put_at, put_off)
+pub same_left : (peers : ℕ → PeerState) (to : ℕ) (kept : Unacknowledged) (number peer : ℕ)
+    → (put peers to (record (peers to) { kept = kept; number = number }) peer).left ≡ (peers peer).left
+same_left peers to kept number peer = grind (arith, put_at, put_off)
 
 module _ (marking : Marking) (limits : Limits) (settings : Settings) (session : Session) (links : ℕ → Linked)
     (player : ℕ) (linked : AreLinked marking limits settings session links) (mine : player < limits.players) where
@@ -69,7 +68,7 @@ module _ (marking : Marking) (limits : Limits) (settings : Settings) (session : 
   same_much new same = grind (arith, HasAsMuch, as_much)
 
   -- who had left has
-  pub left_on : (later : Session) → IsLater session later → (peer cause : ℕ) → (old.peers peer).presence ≡ Left cause
+  pub left_on : (later : Session) → IsLater session later → (peer cause : ℕ) → (old.peers peer).left ≡ Some cause
       → has_ended (later.locksteps peer) ≡ true
   left_on later is peer cause was = is.ended peer (linked.left player peer cause mine was)
 
@@ -96,7 +95,7 @@ module _ (marking : Marking) (limits : Limits) (settings : Settings) (session : 
             (λ peer which apart. at_most (ap (λ (f : ℕ → PeerState). slice_index (f peer).reported which) peers)
             (linked.reported player peer which mine apart) (is.got peer which apart))
             (λ peer cause was. left_on later is peer cause
-            (ap (λ (f : ℕ → PeerState). (f peer).presence) (sym peers) ∙ was)),
+            (ap (λ (f : ℕ → PeerState). (f peer).left) (sym peers) ∙ was)),
         is,
       )
 
@@ -108,77 +107,6 @@ module _ (marking : Marking) (limits : Limits) (settings : Settings) (session : 
       called (with_lockstep session player new.node) new game refl refl (ap (λ (l : Linked). l.others.gone) same)
       (ap (λ (l : Linked). l.peers) same)
       (subst (λ (l : Linked). HasAsMuch player old.node l.node) (sym same) (as_much player old.node))
-
--- What is kept of peers where one is forgotten.
-
-module _ (old : Linked) where
-  -- a peer is forgotten: what is kept for it, and what it reported, stay
-  abbrev pub SameBut : (ℕ → PeerState) → Type 0
-  SameBut peers =
-      (peer : ℕ) → ((peers peer).kept ≡ (old.peers peer).kept) × ((peers peer).reported ≡ (old.peers peer).reported)
-
-  pub forgets : (peer : ℕ) → SameBut (forgotten peer old).peers
-  forgets peer other = go (is_peer old.node peer)
-    where
-      go : (test : Bool)
-          → (((if test then record old {
-            peers = put old.peers peer (record (old.peers peer) { presence = when_forgotten (old.peers peer).gave old.node.phase (old.peers peer).presence });
-          } else old).peers other).kept ≡ (old.peers other).kept)
-          × (((if test then record old {
-            peers = put old.peers peer (record (old.peers peer) { presence = when_forgotten (old.peers peer).gave old.node.phase (old.peers peer).presence });
-          } else old).peers other).reported ≡ (old.peers other).reported)
-      go false = (refl, refl)
-      go true = elim (cases_eq other peer) [
-        | inl at ↦
-            let now = put_at old.peers peer other (record (old.peers peer) { presence = when_forgotten (old.peers peer).gave old.node.phase (old.peers peer).presence }) at in (
-              ap (λ (t : PeerState). t.kept) now ∙ ap (λ (k : ℕ). (old.peers k).kept) (sym at),
-              ap (λ (t : PeerState). t.reported) now ∙ ap (λ (k : ℕ). (old.peers k).reported) (sym at),
-            )
-        | inr off ↦
-            let now = put_off old.peers peer other (record (old.peers peer) { presence = when_forgotten (old.peers peer).gave old.node.phase (old.peers peer).presence }) off in
-            (ap (λ (t : PeerState). t.kept) now, ap (λ (t : PeerState). t.reported) now)
-      ]
-
-  pub forgets_left : (peer other cause : ℕ) → ((forgotten peer old).peers other).presence ≡ Left cause
-      → (old.peers other).presence ≡ Left cause
-  forgets_left peer other cause = go (is_peer old.node peer)
-    where
-      gone : Presence
-      gone = when_forgotten (old.peers peer).gave old.node.phase (old.peers peer).presence
-
-      go : (test : Bool)
-          → ((if test then record old {
-            peers = put old.peers peer (record (old.peers peer) { presence = gone });
-          } else old).peers other).presence ≡ Left cause → (old.peers other).presence ≡ Left cause
-      go false is = is
-      go true is = elim (cases_eq other peer) [
-        | inl at ↦ ap (λ (k : ℕ). (old.peers k).presence) at
-            ∙ given_up_left (old.peers peer).gave old.node.phase (old.peers peer).presence cause
-            (ap (λ (t : PeerState). t.presence) (sym (put_at old.peers peer other (record (old.peers peer) {
-              presence = gone;
-            }) at)) ∙ is)
-        | inr off ↦ ap (λ (t : PeerState). t.presence) (sym (put_off old.peers peer other (record (old.peers peer) {
-          presence = gone;
-        }) off)) ∙ is
-      ]
-
-  -- and nothing but the peers
-  pub forgets_but_peers : {A : Type 0} (view : Linked → A)
-      → ((peers : ℕ → PeerState) → view (record old { peers = peers }) ≡ view old)
-      → (peer : ℕ) → view (forgotten peer old) ≡ view old
-  forgets_but_peers view blind peer = go (is_peer old.node peer)
-    where
-      go : (test : Bool) → view (if test then record old {
-        peers = put old.peers peer (record (old.peers peer) { presence = when_forgotten (old.peers peer).gave old.node.phase (old.peers peer).presence });
-      } else old) ≡ view old
-      go true = blind _
-      go false = refl
-
-  pub forgets_node : (peer : ℕ) → (forgotten peer old).node ≡ old.node
-  forgets_node peer = forgets_but_peers (λ (l : Linked). l.node) (λ peers. refl) peer
-
-  pub forgets_others : (peer : ℕ) → (forgotten peer old).others ≡ old.others
-  forgets_others peer = forgets_but_peers (λ (l : Linked). l.others) (λ peers. refl) peer
 
 -- What goes to a peer was given, and what is kept for it.
 
@@ -221,20 +149,20 @@ bundled_on seal session later bytes is was = (
 )
 
 -- what a peer takes was given
-pub taken_given : (presence : Presence) (given : Option Carried) (carried : Carried)
-    → taken_by presence given ≡ Some carried → Some carried ≡ given
-taken_given presence None carried is = absurd (none-some carried is)
-taken_given presence (Some packet) carried is = grind (arith, none-some)
+pub taken_given : (left : Option ℕ) (given : Option Carried) (carried : Carried)
+    → taken_by left given ≡ Some carried → Some carried ≡ given
+taken_given left None carried is = absurd (none-some carried is)
+taken_given left (Some packet) carried is = grind (arith, none-some)
 
 module _ (given : List Flight) (flight : Option Flight) (player : ℕ) (old new : Linked)
-    (own : old.node.me ≡ player) (seal : Seal) (identity : Identity) (pace : PaceState) (to : ℕ) (bytes : List ℕ)
-    (gives : Gives seal identity pace to old new bytes) (between : GoesBetween player to flight)
+    (own : old.node.me ≡ player) (seal : Seal) (pace : PaceState) (to : ℕ) (bytes : List ℕ)
+    (gives : Gives seal pace to old new bytes) (between : GoesBetween player to flight)
     (answer : gives.given ≡ option_map carried_of flight) (all : AreKept given player old.peers) where
   abbrev taken : Option Carried
-  taken = taken_by (old.peers to).presence gives.given
+  taken = taken_by (old.peers to).left gives.given
 
   is_given : (carried : Carried) → taken ≡ Some carried → Some carried ≡ option_map carried_of flight
-  is_given carried is = taken_given (old.peers to).presence gives.given carried is ∙ answer
+  is_given carried is = taken_given (old.peers to).left gives.given carried is ∙ answer
 
   own_given : All (WasGiven (given_on given flight) to) (flat_map (packets_of player) gives.own)
   own_given = packs_given given flight player to (old.peers to).kept taken between is_given (all to) gives.own

@@ -7,9 +7,9 @@ use Rattle.std.proofs.lemmas.List.Elements.{All-nil, All-cons, All-head, All-tai
 use Rattle.std.proofs.lemmas.Option.{none-some, same_Some}
 use Rattle.dn_machine.specs.{Flight.Flight, Node.put, Limits.Limits}
 use Rattle.dn_remain.proofs.Vanished.Put.{at_put, at_both}
-use Rattle.dn_link.specs.{declared.bundle.Bundle.Bundle, declared.presence.Presence.Presence, Counting.reached, Linked.Linked, Linked.PeerState, Linked.known_by, Linked.met, Linked.with_reached, Linked.IsWhole}
+use Rattle.dn_link.specs.{declared.bundle.Bundle.Bundle, Counting.reached, Linked.Linked, Linked.PeerState, Linked.met, Linked.with_reached, Linked.IsWhole}
 use Rattle.dn_link.specs.{declared.bundle.Part.Part, declared.bundle.Carried.Carried, LinkedGame.WasGiven, Hearing.carried_of, Kept.Unacknowledged, Kept.going, Kept.is_news, Kept.kept_after, Kept.without, Kept.end_of}
-use Rattle.dn_link.specs.{Counting.has_ended, Counting.has_of, declared.presence.Presence.TheVariants.Left, LinkedGame.AreLinked, LinkedGame.IsLater, Packets.opened_from, Packets.packets_of, Packing.ArePacked}
+use Rattle.dn_link.specs.{Counting.has_ended, Counting.has_of, LinkedGame.AreLinked, LinkedGame.IsLater, Packets.opened_from, Packets.packets_of, Packing.ArePacked}
 use Rattle.dn_lockstep.specs.Contents.{Contents}
 use Rattle.dn_lockstep.specs.Marking.{Marking}
 use Rattle.dn_lockstep.specs.OneGame.{AreOneGame, Session, given_on}
@@ -165,7 +165,7 @@ pub relinked : (marking : Marking) (limits : Limits) (settings : Settings) (sess
     → IsLater session later → new.others.gone ≡ (links player).others.gone
     → ((peer : ℕ) → AreGiven later.given player peer (new.peers peer).kept.packets)
     → ((peer which : ℕ) → which ≢ peer → slice_index (new.peers peer).reported which ≤ has_of
-    (later.locksteps peer) which) → ((peer cause : ℕ) → (new.peers peer).presence ≡ Left cause → has_ended
+    (later.locksteps peer) which) → ((peer cause : ℕ) → (new.peers peer).left ≡ Some cause → has_ended
     (later.locksteps peer) ≡ true) → AreLinked marking limits settings later (put links player new)
 relinked marking limits settings session later links player new linked game locksteps is others kept told left =
     record {
@@ -180,7 +180,7 @@ relinked marking limits settings session later links player new linked game lock
           (λ l. told peer which)
           (λ k off below apart. still (linked.reported k peer which below apart) (is.got peer which apart)) other;
       left = λ other peer cause. at_put (λ (k : ℕ) (l : Linked). k < limits.players
-          → (l.peers peer).presence ≡ Left cause → has_ended (later.locksteps peer) ≡ true) links player new
+          → (l.peers peer).left ≡ Some cause → has_ended (later.locksteps peer) ≡ true) links player new
           (λ l. left peer cause) (λ k off below was. is.ended peer (linked.left k peer cause below was)) other;
       whole = at_put (λ (k : ℕ) (l : Linked). k < limits.players → IsWhole l) links player new
           (λ mine. still_whole (links player) new others (linked.whole player mine)) (λ k off. linked.whole k);
@@ -201,20 +201,12 @@ module _ (given : List Flight) (player : ℕ) where
   put_kept peers to new all here = at_put (λ (p : ℕ) (t : PeerState). AreGiven given player p t.kept.packets) peers to new
       here (λ p off. all p)
 
-  -- where the counts of a datagram are taken, or are not
-  known_given : (old : Linked) (differs : Bool) (bundle : Bundle) (presence : Presence)
-      → AreGiven given player bundle.from (old.peers bundle.from).kept.packets
-      → AreGiven given player bundle.from
-      (known_by differs old.node bundle presence (old.peers bundle.from)).kept.packets
-  known_given old true bundle presence all = all
-  known_given old false bundle presence all = grind (arith, without_given)
-
   -- where what was heard acknowledges
   pub reached_kept : (node : Contents) (peers : ℕ → PeerState) → AreKept peers → AreKept (with_reached node peers)
   reached_kept node peers all peer =
       without_given given player peer (reached node peer) (peers peer).kept.packets (all peer)
 
-  pub met_kept : (old : Linked) (differs : Bool) (bundle : Bundle) (presence : Presence) → AreKept old.peers
-      → AreKept (met differs bundle presence old).peers
-  met_kept old differs bundle presence all =
-      put_kept old.peers bundle.from _ all (known_given old differs bundle presence (all bundle.from))
+  pub met_kept : (old : Linked) (bundle : Bundle) → AreKept old.peers → AreKept (met bundle old).peers
+  met_kept old bundle all =
+      put_kept old.peers bundle.from _ all (without_given given player bundle.from _ (old.peers bundle.from).kept.packets
+      (all bundle.from))

@@ -20,9 +20,8 @@ use Rattle.dn_survivor.specs.{declared.report.Report.Report, Calls.GivesUp, Call
 use Rattle.dn_survivor.specs.{declared.answers.GivenUp.GivenUp, declared.answers.Reported.Reported, OneGame.Given, OneGame.Session, OneGame.after_build, OneGame.after_report, OneGame.after_run}
 use Rattle.dn_survivor.specs.{OneGame.with_survivor, declared.others.Others.Others, Calls.GivesUpUnless, Calls.HearsReportUnless, Calls.refused_give_up, Calls.refused_report}
 use Rattle.dn_survivor.proofs.OneGame as one_game
-use Rattle.dn_link.specs.{Kept.Unacknowledged, Linked.Linked, Linked.PeerState, Linked.forgotten, Linked.surviving_of, RemainingLinks.AreRemainingLinks, RemainingLinks.KeepsGiven, Surviving.GivesUpPeer}
-use Rattle.dn_link.specs.{Surviving.forgotten_if, Surviving.is_given_up}
-use Rattle.dn_link.proofs.{Linking.forgets, Linking.forgets_node, Linking.forgets_others, Relinking.AreKept, SealedReports.reports_stay, Relinking.AreGiven, Relinking.all_later, Relinking.all_put}
+use Rattle.dn_link.specs.{Linked.Linked, Linked.PeerState, Linked.surviving_of, RemainingLinks.AreRemainingLinks, RemainingLinks.KeepsGiven, Surviving.GivesUpPeer}
+use Rattle.dn_link.proofs.{Relinking.AreKept, SealedReports.reports_stay, Relinking.AreGiven, Relinking.all_later, Relinking.all_put}
 
 -- Whose a survivor is stays.
 
@@ -56,23 +55,6 @@ nothing_given session later packets reports = record {
   packets = λ which packet found. ap (λ (fs : List Flight). slice_get fs which) packets ∙ found;
   reports = λ which given found. ap (λ (gs : List Given). slice_get gs which) reports ∙ found;
 }
-
--- the survivor of a link stays where a peer is forgotten
-forgets_surviving : (old : Linked) (peer : ℕ) → surviving_of (forgotten peer old) ≡ surviving_of old
-forgets_surviving old peer = λ i. record {
-  lockstep = forgets_node old peer i;
-  others = forgets_others old peer i;
-}
-
-surviving_if : (test : Bool) (peer : ℕ) (old : Linked)
-    → surviving_of (forgotten_if test peer old) ≡ surviving_of old
-surviving_if true peer old = forgets_surviving old peer
-surviving_if false peer old = refl
-
-kept_if : (test : Bool) (peer : ℕ) (old : Linked) (other : ℕ)
-    → ((forgotten_if test peer old).peers other).kept ≡ (old.peers other).kept
-kept_if true peer old other = (forgets old peer other).0
-kept_if false peer old other = refl
 
 module _ (marking : Marking) (limits : Limits) (settings : Settings) (session : Session) (links : ℕ → Linked)
     (linked : AreRemainingLinks marking limits settings session links) where
@@ -179,26 +161,16 @@ module _ (marking : Marking) (limits : Limits) (settings : Settings) (session : 
         survivor step) (others ∙ ap (λ (s : Surviving). s.others) survivor)) refl
         (nothing_given session (with_survivor session player (surviving_of new)) refl refl) peers
 
-    pub forgot : (peer : ℕ) (new : Linked) → new ≡ forgotten peer old
-        → GoOn (with_survivor session player (surviving_of new)) (put links player new)
-    forgot peer new is =
-        stays new (ap surviving_of is ∙ forgets_surviving old peer)
-        (λ other. subst (λ (k : Unacknowledged). AreGiven session.packets player other k.packets)
-        (sym (ap (λ (l : Linked). (l.peers other).kept) is ∙ (forgets old peer other).0)) (all_kept other))
-
     pub gives_up : (peer : ℕ) (new : Linked) (answer : GivenUp) → GivesUpPeer peer old new answer
         → GoOn (with_survivor session player (surviving_of new)) (put links player new)
     gives_up peer new answer (now, gives, is) =
-        let mid : Linked = record old { node = now.lockstep; others = now.others } in
-        let same : surviving_of new ≡ now = ap surviving_of is ∙ surviving_if (is_given_up answer) peer mid in
-        relinked (with_survivor session player (surviving_of new)) player new
+        let same : surviving_of new ≡ now = ap surviving_of is in
+        called (with_survivor session player (surviving_of new)) new
         (subst (λ (s : Surviving). AreRemaining marking limits settings (with_survivor session player s)) (sym same)
         (one_game.gives_up marking limits settings linked.game player mine peer now answer
         (subst (λ (s : Surviving). GivesUp peer s now answer) survivor gives))) refl
         (nothing_given session (with_survivor session player (surviving_of new)) refl refl)
-        (λ other. subst (λ (k : Unacknowledged). AreGiven session.packets player other k.packets)
-        (sym (ap (λ (l : Linked). (l.peers other).kept) is ∙ kept_if (is_given_up answer) peer mid other))
-        (all_kept other))
+        (ap (λ (l : Linked). l.peers) is)
 
     pub told : (to : ℕ) (report : Option Report) → report ≡ report_for (surviving_of old) to
         → GoOn (after_report session player to report) links

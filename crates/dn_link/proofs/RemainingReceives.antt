@@ -7,10 +7,10 @@ use Rattle.dn_machine.specs.{Limits.Limits, Node.put}
 use Rattle.dn_lockstep.specs.{Contents.Contents, Marking.Marking}
 use Rattle.dn_seal.specs.declared.seal.Seal.{Seal}
 use Rattle.dn_link.specs.{declared.notice.ReportDatagramFault.ReportDatagramFault, SealedReports.IsOpenedAs, declared.bundle.Bundle.Bundle, declared.bundle.BundleFault.BundleFault}
-use Rattle.dn_link.specs.{declared.bundle.Identity.Identity, declared.presence.Presence.Presence, declared.received.Received.Received, declared.received.Received.TheVariants.GivenUp}
+use Rattle.dn_link.specs.{declared.received.Received.Received, declared.received.Received.TheVariants.GivenUp, declared.received.Received.TheVariants.Heard}
 use Rattle.dn_link.specs.{declared.received.Received.TheVariants.Stranger, LinkedGame.WasGiven, Counting.held_of, Hearing.ByTest, Hearing.HearsAll, Notices.HearsNotice, Notices.HearsNoticeAs, Notices.is_notice}
 use Rattle.dn_link.specs.{Pacing.PaceState, Packets.heard_in, Packets.packets_in, Reading.IsBundledAs, Reading.IsDatagramOf, RemainingLinks.AreRemainingLinks, RemainingLinks.CarriesGiven, RemainingLinks.IsGenuineIn}
-use Rattle.dn_link.specs.{Linked.IsTakenIn, Linked.Linked, Linked.Receives, Linked.ReceivesAs, Linked.TakesIn, Linked.PeerState, Linked.has_given_up, Linked.hears, Linked.is_peer, Linked.met, Linked.surviving_of}
+use Rattle.dn_link.specs.{Linked.Linked, Linked.Receives, Linked.ReceivesAs, Linked.TakesIn, Linked.PeerState, Linked.has_given_up, Linked.is_peer, Linked.met, Linked.surviving_of}
 use Rattle.dn_link.specs.{Linked.takes}
 use Rattle.dn_open.specs.Sealed.{sealing_of}
 use Rattle.dn_link.proofs.{Keeping.all_along, Linking.same_bundle, Relinking.AreKept, Relinking.met_kept, Relinking.reached_kept, Letters.AreWith, Letters.MayBeHeard, Letters.packet_keeps, SealedReports.opened_given}
@@ -44,68 +44,56 @@ module _ (marking : Marking) (limits : Limits) (settings : Settings) (session : 
       one_game.keeps marking limits settings linked.game player (surviving_of old)
       (base.survivor marking limits settings session links linked player mine)
 
-  -- the packets of a datagram are heard, or none
-  by_heard : (bundle : Bundle) (new : Linked) (started : Bool)
-      → All (WasGiven session.packets player) (packets_in bundle) → has old.others.gone bundle.from ≡ false
-      → (test : Bool) → ByTest test (HearsAll (heard_in (takes old) bundle) old.node new.node started)
-      ((new.node ≡ old.node) × (started ≡ false)) → AreHere new.node
-  by_heard bundle new started all free true hears =
-      all_along (MayBeHeard marking limits settings session player old.others) AreHere
+  taken_in : (bundle : Bundle) (new : Linked) → All (WasGiven session.packets player) (packets_in bundle)
+      → has old.others.gone bundle.from ≡ false → TakesIn bundle old new → HasTaken new
+  taken_in bundle new all free takes_it =
+      let game = all_along (MayBeHeard marking limits settings session player old.others) AreHere
       (packet_keeps marking limits settings session player old.others) (heard_in (takes old) bundle) old.node
-      new.node started here
+      new.node takes_it.started here
       (λ k d below. (
         parts_heard (has_given_up old) (held_of old.node) bundle.from (WasGiven session.packets player) bundle.parts.items all k d below,
         elim (parts_from (has_given_up old) (held_of old.node) bundle.from bundle.parts.items k d below) [
           | inl own ↦ ap (λ (from : ℕ). has old.others.gone from) own ∙ free
           | inr third ↦ third.0
         ],
-      )) hears
-  by_heard bundle new started all free false stays = subst AreHere (sym stays.0) here
-
-  taken_in : (identity : Identity) (fresh : Bool) (bundle : Bundle) (new : Linked) (presence : Presence)
-      (differs started : Bool) → All (WasGiven session.packets player) (packets_in bundle) → has old.others.gone
-      bundle.from ≡ false → TakesIn identity fresh bundle old new presence differs started → HasTaken new
-  taken_in identity fresh bundle new presence differs started all free takes =
-      let game = by_heard bundle new started all free
-      (not differs && hears (met differs bundle presence old) presence) takes.heard in
+      )) takes_it.heard in
       base.relinked marking limits settings session links linked (with_survivor session player
       (surviving_of new)) player new (subst (λ (o : Others). AreRemaining marking limits settings
-      (with_survivor session player (record { lockstep = new.node; others = o }))) (sym takes.others) game) refl
+      (with_survivor session player (record { lockstep = new.node; others = o }))) (sym takes_it.others) game) refl
       (nothing_given session (with_survivor session player (surviving_of new)) refl refl)
-      (subst (λ (f : ℕ → PeerState). AreKept session.packets player f) (sym takes.peers)
-      (reached_kept session.packets player new.node (met differs bundle presence old).peers
-      (met_kept session.packets player old differs bundle presence
+      (subst (λ (f : ℕ → PeerState). AreKept session.packets player f) (sym takes_it.peers)
+      (reached_kept session.packets player new.node (met bundle old).peers
+      (met_kept session.packets player old bundle
       (base.all_kept marking limits settings session links linked player mine))))
 
   -- a datagram that is opened
-  opened_in : (seal : Seal) (identity : Identity) (pace : PaceState) (bytes : List ℕ) (new : Linked)
+  opened_in : (seal : Seal) (bytes : List ℕ) (new : Linked)
       (answer : Received) (bundle : Bundle) → CarriesGiven seal session bytes
       → IsDatagramOf (sealing_of seal player) bytes bundle → has old.others.gone bundle.from ≡ false
-      → IsTakenIn identity pace bundle old new answer → HasTaken new
-  opened_in seal identity pace bytes new answer bundle was is free comes =
+      → TakesIn bundle old new → HasTaken new
+  opened_in seal bytes new answer bundle was is free comes =
       let same = same_bundle seal bytes bundle was.0 player is was.1 was.2 in
       let all = subst (λ (b : Bundle). All (WasGiven session.packets b.to) (packets_in b)) same was.3 in
-      taken_in identity _ bundle new comes.0 comes.1 comes.2
-      (subst (λ (k : ℕ). All (WasGiven session.packets k) (packets_in bundle)) is.to all) free comes.4
+      taken_in bundle new (subst (λ (k : ℕ). All (WasGiven session.packets k) (packets_in bundle)) is.to all) free comes
 
-  received_as : (seal : Seal) (identity : Identity) (pace : PaceState) (bytes : List ℕ) (new : Linked)
+  received_as : (seal : Seal) (bytes : List ℕ) (new : Linked)
       (answer : Received) → IsGenuineIn seal session player bytes → (opened : Result Bundle BundleFault)
-      → IsBundledAs (sealing_of seal player) bytes opened → ReceivesAs identity pace opened old new answer
+      → IsBundledAs (sealing_of seal player) bytes opened → ReceivesAs opened old new answer
       → HasTaken new
-  received_as seal identity pace bytes new answer genuine (Err fault) is comes = same_link new comes.1
-  received_as seal identity pace bytes new answer genuine (Ok bundle) is comes =
+  received_as seal bytes new answer genuine (Err fault) is comes = same_link new comes.1
+  received_as seal bytes new answer genuine (Ok bundle) is comes =
       go (is_peer old.node bundle.from) comes
     where
       of_peer : (test : Bool) → has_given_up old bundle.from ≡ test
-          → ByTest test ((answer ≡ GivenUp bundle.from) × (new ≡ old)) (IsTakenIn identity pace bundle old new answer)
+          → ByTest test ((answer ≡ GivenUp bundle.from) × (new ≡ old)) ((answer ≡ Heard bundle.from) × TakesIn bundle old new)
           → HasTaken new
       of_peer true gone comes = same_link new comes.1
       of_peer false free comes =
-          opened_in seal identity pace bytes new answer bundle (genuine.datagram bundle is) is free comes
+          opened_in seal bytes new answer bundle (genuine.datagram bundle is) is free comes.1
 
       go : (test : Bool) → ByTest test
           (ByTest (has_given_up old bundle.from) ((answer ≡ GivenUp bundle.from) × (new ≡ old))
-          (IsTakenIn identity pace bundle old new answer))
+          ((answer ≡ Heard bundle.from) × TakesIn bundle old new))
           ((answer ≡ Stranger bundle.from) × (new ≡ old)) → HasTaken new
       go true comes = of_peer (has_given_up old bundle.from) refl comes
       go false comes = same_link new comes.1
@@ -127,11 +115,11 @@ module _ (marking : Marking) (limits : Limits) (settings : Settings) (session : 
       base.reported marking limits settings session links linked was.0
       (record { from = from; to = player; report = report }) new reported found hears peers
 
-  pub received : (seal : Seal) (identity : Identity) (pace after : PaceState) (bytes : List ℕ) (new : Linked)
+  pub received : (seal : Seal) (pace after : PaceState) (bytes : List ℕ) (new : Linked)
       (answer : Received) → IsGenuineIn seal session player bytes
-      → (is_notice bytes ≡ false → Receives seal identity pace bytes old new answer)
+      → (is_notice bytes ≡ false → Receives seal bytes old new answer)
       → (is_notice bytes ≡ true → HearsNotice seal bytes old pace new after answer) → HasTaken new
-  received seal identity pace after bytes new answer genuine receives notices = go (is_notice bytes) refl
+  received seal pace after bytes new answer genuine receives notices = go (is_notice bytes) refl
     where
       go : (test : Bool) → is_notice bytes ≡ test → HasTaken new
       go true is =
@@ -140,5 +128,5 @@ module _ (marking : Marking) (limits : Limits) (settings : Settings) (session : 
           (subst (λ (k : ℕ). IsOpenedAs (sealing_of seal k) bytes comes.0) own comes.1) comes.2
       go false is =
           let comes = receives is in
-          received_as seal identity pace bytes new answer genuine comes.0
+          received_as seal bytes new answer genuine comes.0
           (subst (λ (k : ℕ). IsBundledAs (sealing_of seal k) bytes comes.0) own comes.1) comes.2

@@ -16,16 +16,13 @@ use Rattle.dn_machine.specs.Node as machine
 use Rattle.dn_lockstep.specs.{Contents.Contents, Received.IsTold, Represents.Represents, Told.made as made_in}
 use Rattle.dn_lockstep.proofs.Shown.{made_is}
 use Rattle.dn_open.specs.{Arrivals.HearsOpened, declared.hearing.Arrived.Arrived, Sealed.sealing_of}
-use Rattle.dn_link.specs.{declared.bundle.Bundle.Bundle, declared.bundle.BundleFault.BundleFault, declared.bundle.Identity.Identity, declared.bundle.Message.Message, declared.bundle.Message.TheVariants.Hello}
-use Rattle.dn_link.specs.{declared.bundle.Message.TheVariants.Game, declared.bundle.Message.TheVariants.Goodbye, declared.presence.Presence.Presence, declared.presence.Presence.TheVariants.Left}
-use Rattle.dn_link.specs.{declared.received.Received.Received, declared.received.Received.TheVariants.GivenUp, declared.received.Received.TheVariants.Stranger, Counting.held_of, Counting.reached}
-use Rattle.dn_link.specs.{Presence.tells_end, Hearing.ByTest, Hearing.HearsAll, Hearing.HearsUntil, Hearing.is_start, Kept.IsKeptRising, CaughtUp.AskWithin, CaughtUp.AsksWithin, CaughtUp.GoesOn, CaughtUp.IsGone}
-use Rattle.dn_link.specs.{CaughtUp.StillGoesOn, Pacing.PaceState, Reading.IsBundledAs, Linked.IsTakenIn, Linked.Linked, Linked.PeerState, Linked.Receives, Linked.ReceivesAs, Linked.TakesIn, Linked.done_with}
-use Rattle.dn_link.specs.{Linked.has_given_up, Linked.hears, Linked.is_peer, Linked.known_by, Linked.met, Linked.takes, Linked.with_reached, Presence.Becomes, Presence.Greets, Presence.goes, Presence.may_come}
-use Rattle.dn_link.specs.{Presence.plays_on, declared.bundle.Part.Part, declared.bundle.Part.TheVariants.Whole, declared.bundle.Part.TheVariants.Run, declared.bundle.Part.TheVariants.Relay}
-use Rattle.dn_link.proofs.{Sending.opened_asked, Following.next_same, Following.same_peers, Following.still, Leaving.parts_from, Leaving.parts_heard, Covered.rises_past, Sending.resend_of}
+use Rattle.dn_link.specs.{declared.bundle.Bundle.Bundle, declared.bundle.BundleFault.BundleFault, declared.bundle.Part.Part, declared.bundle.Part.TheVariants.Whole, declared.bundle.Part.TheVariants.Run, declared.bundle.Part.TheVariants.Relay}
+use Rattle.dn_link.specs.{declared.received.Received.Received, declared.received.Received.TheVariants.GivenUp, declared.received.Received.TheVariants.Heard, declared.received.Received.TheVariants.Stranger, Counting.held_of, Counting.reached}
+use Rattle.dn_link.specs.{Hearing.ByTest, Hearing.HearsAll, Hearing.HearsUntil, Hearing.is_start, Kept.IsKeptRising, CaughtUp.AskWithin, CaughtUp.AsksWithin, CaughtUp.GoesOn, CaughtUp.IsGone, CaughtUp.StillGoesOn, Reading.IsBundledAs}
+use Rattle.dn_link.specs.{Linked.Linked, Linked.PeerState, Linked.Receives, Linked.ReceivesAs, Linked.TakesIn, Linked.after_report, Linked.has_given_up, Linked.is_peer, Linked.met, Linked.takes, Linked.with_reached}
+use Rattle.dn_link.proofs.{Sending.opened_asked, Following.next_same, Following.same_peers, Following.still, Leaving.parts_from, Leaving.parts_heard, Leaving.stays_left, Covered.rises_past, Sending.resend_of}
 use Rattle.dn_link.specs.Packets.{packets_of, heard_in, packets_in, short_body, short_packet, short_packets, opened_from}
-use Rattle.dn_link.specs.Text.{relay_head, run_bytes, bundle_bytes, carried_bytes, counts_bytes, message_bytes, part_bytes, parts_bytes, sealed_bytes}
+use Rattle.dn_link.specs.Text.{relay_head, run_bytes, bundle_bytes, carried_bytes, counts_bytes, part_bytes, parts_bytes, sealed_bytes}
 
 -- The packets of a datagram are of its sender, and bytes.
 abbrev IsByte : ℕ → Type 0
@@ -97,21 +94,18 @@ all_of_bytes from (part ∷ parts) low all =
     (part_of_bytes from part low (before (part_bytes part) (flat_map part_bytes parts) all))
     (all_of_bytes from parts low (after (part_bytes part) (flat_map part_bytes parts) all))
 
--- the bytes of a datagram up to its ends, its number, its lead, its counts, and its message
+-- the bytes of a datagram up to its ends, its number, its lead, and its counts
 abbrev to_ends : Seal → Bundle → List ℕ
-to_ends seal bundle = front_bytes seal 2 ++ (bundle.from ∷ bundle.to ∷ [])
+to_ends seal bundle = front_bytes seal 5 ++ (bundle.from ∷ bundle.to ∷ [])
 
 abbrev to_number : Seal → Bundle → List ℕ
 to_number seal bundle = to_ends seal bundle ++ to_le_bytes w32 bundle.number
 
 abbrev to_lead : Seal → Bundle → List ℕ
-to_lead seal bundle = to_number seal bundle ++ (cast_unsigned w8 bundle.lead ∷ bundle.holes ∷ [])
+to_lead seal bundle = to_number seal bundle ++ (cast_unsigned w8 bundle.lead ∷ bundle.holes ∷ bundle.cause ∷ [])
 
 abbrev to_counts : Seal → Bundle → List ℕ
 to_counts seal bundle = to_lead seal bundle ++ counts_bytes bundle.counts
-
-abbrev to_message : Seal → Bundle → List ℕ
-to_message seal bundle = to_counts seal bundle ++ message_bytes bundle.message
 
 -- what a datagram carries
 packets_of_bytes : (seal : Seal) (bundle : Bundle) → AreBytes (sealed_bytes seal bundle)
@@ -119,15 +113,14 @@ packets_of_bytes : (seal : Seal) (bundle : Bundle) → AreBytes (sealed_bytes se
 packets_of_bytes seal bundle all =
     let parts : List ℕ = parts_bytes bundle.parts.items in
     let whole = before (bundle_bytes seal bundle) (tag_of seal.key (bundle_bytes seal bundle)) all in
-    let message = before (to_message seal bundle) parts whole in
-    let counts = before (to_counts seal bundle) (message_bytes bundle.message) message in
+    let counts = before (to_counts seal bundle) parts whole in
     let lead = before (to_lead seal bundle) (counts_bytes bundle.counts) counts in
-    let number = before (to_number seal bundle) (cast_unsigned w8 bundle.lead ∷ bundle.holes ∷ []) lead in
+    let number = before (to_number seal bundle) (cast_unsigned w8 bundle.lead ∷ bundle.holes ∷ bundle.cause ∷ []) lead in
     let ends = before (to_ends seal bundle) (to_le_bytes w32 bundle.number) number in
     let low = All-head IsByte bundle.from (bundle.to ∷ [])
-    (after (front_bytes seal 2) (bundle.from ∷ bundle.to ∷ []) ends) in
+    (after (front_bytes seal 5) (bundle.from ∷ bundle.to ∷ []) ends) in
     all_of_bytes bundle.from bundle.parts.items low (All-tail IsByte (length bundle.parts.items)
-    (flat_map part_bytes bundle.parts.items) (after (to_message seal bundle) parts whole))
+    (flat_map part_bytes bundle.parts.items) (after (to_counts seal bundle) parts whole))
 
 -- What comes in.
 
@@ -229,98 +222,45 @@ module _ (are : AreRead) (limits : Limits) (me to bound : ℕ) where
           (within_on m begun.0 packets packets begun.2 (λ asks. asks) within) then.1)
       go false begun then = subst (Heeds m) (sym then) begun
 
--- one that is gone stays so
-goes_gone : (end : Bool) (cause why : ℕ) → IsGone (goes end why (Left cause))
-goes_gone true cause why = (why, refl)
-goes_gone false cause why = (cause, refl)
-
-becomes_gone : (own : Identity) (gave fresh : Bool) (bundle : Bundle) (message : Message) (old new : Presence)
-    → Becomes own gave fresh bundle message old new → IsGone old → IsGone new
-becomes_gone own gave fresh bundle (Hello identity) old new becomes gone =
-    go fresh gave (subst (λ (p : Presence). ByTest (fresh && may_come gave p) (Greets own identity new) (new ≡ p)) gone.1 becomes)
-  where
-    go : (fresh gave : Bool)
-        → ByTest (fresh && may_come gave (Left gone.0)) (Greets own identity new) (new ≡ Left gone.0) → IsGone new
-    go true true same = (gone.0, same)
-    go true false same = (gone.0, same)
-    go false gave same = (gone.0, same)
-becomes_gone own gave fresh bundle Game old new becomes gone = (gone.0, becomes ∙ ap (plays_on fresh) gone.1)
-becomes_gone own gave fresh bundle (Goodbye why) old new becomes gone = go (fresh || tells_end bundle) becomes
-  where
-    go : (test : Bool) → ByTest test (new ≡ goes (tells_end bundle) why old) (new ≡ old) → IsGone new
-    go true same =
-        let is = goes_gone (tells_end bundle) gone.0 why in
-        (is.0, same ∙ ap (goes (tells_end bundle) why) gone.1 ∙ is.1)
-    go false same = (gone.0, same ∙ gone.1)
-
 module _ (are : AreRead) (limits : Limits) (me to : ℕ) (old new : Linked) (goes_old : GoesOn limits me to old) where
-  -- what is known of its sender
-  module _ (differs : Bool) (bundle : Bundle) (presence : Presence) where
-    abbrev known : PeerState
-    known = known_by differs old.node bundle presence (old.peers bundle.from)
-
-    known_rises : IsKeptRising (old.peers bundle.from).kept → IsKeptRising known.kept
-    known_rises = go differs
-      where
-        go : (differs : Bool) → IsKeptRising (old.peers bundle.from).kept
-            → IsKeptRising (known_by differs old.node bundle presence (old.peers bundle.from)).kept
-        go true rising = rising
-        go false rising = rises_past _ _ _ (done_with presence old.node (slice_index bundle.counts.got old.node.me)) rising
-
-    known_more : (old.peers bundle.from).kept.covered ≤ known.kept.covered
-    known_more = go differs
-      where
-        go : (differs : Bool) → (old.peers bundle.from).kept.covered
-            ≤ (known_by differs old.node bundle presence (old.peers bundle.from)).kept.covered
-        go true = omega arith
-        go false = omega arith
-
-    known_presence : known.presence ≡ presence
-    known_presence = go differs
-      where
-        go : (differs : Bool) → (known_by differs old.node bundle presence (old.peers bundle.from)).presence ≡ presence
-        go true = refl
-        go false = refl
-
   -- of the peer, which sent the datagram or did not
   record IsMet : Type 0 where
     rising : IsKeptRising (new.peers to).kept
     more : (old.peers to).kept.covered ≤ (new.peers to).kept.covered
-    gone : IsGone (old.peers to).presence → IsGone (new.peers to).presence
+    gone : IsGone (old.peers to).left → IsGone (new.peers to).left
 
-  is_met : (identity : Identity) (fresh : Bool) (bundle : Bundle) (presence : Presence) (differs started : Bool)
-      → TakesIn identity fresh bundle old new presence differs started → IsMet
-  is_met identity fresh bundle presence differs started takes =
-      let now : new.peers to ≡ with_reached new.node (met differs bundle presence old).peers to =
+  is_met : (bundle : Bundle) → TakesIn bundle old new → IsMet
+  is_met bundle takes =
+      let now : new.peers to ≡ with_reached new.node (met bundle old).peers to =
       ap (λ (f : ℕ → PeerState). f to) takes.peers in
       let mid = met_so (cases_eq to bundle.from) in
       record {
         rising = subst (λ (t : PeerState). IsKeptRising t.kept) (sym now) (rises_past _ _ _ (reached new.node to) mid.0);
         more = omega (arith, ap (λ (t : PeerState). t.kept.covered) now, mid.1.0);
-        gone = λ gone. let is = mid.1.1 gone in (is.0, ap (λ (t : PeerState). t.presence) now ∙ is.1);
+        gone = λ gone. let is = mid.1.1 gone in (is.0, ap (λ (t : PeerState). t.left) now ∙ is.1);
       }
     where
       -- before what was heard acknowledges
       IsMid : PeerState → Type 0
       IsMid mid =
           IsKeptRising mid.kept × (((old.peers to).kept.covered ≤ mid.kept.covered)
-          × (IsGone (old.peers to).presence → IsGone mid.presence))
+          × (IsGone (old.peers to).left → IsGone mid.left))
 
-      met_so : (to ≡ bundle.from) ⊎ (to ≢ bundle.from) → IsMid ((met differs bundle presence old).peers to)
+      told : PeerState
+      told = after_report old.node bundle (old.peers bundle.from)
+
+      met_so : (to ≡ bundle.from) ⊎ (to ≢ bundle.from) → IsMid ((met bundle old).peers to)
       met_so (inl at) =
           let was : old.peers to ≡ old.peers bundle.from = ap old.peers at in
-          subst IsMid (sym (put_at old.peers bundle.from to (known differs bundle presence) at)) (
-            known_rises differs bundle presence (subst (λ (t : PeerState). IsKeptRising t.kept) was goes_old.rising),
+          subst IsMid (sym (put_at old.peers bundle.from to told at)) (
+            rises_past _ _ _ _ (subst (λ (t : PeerState). IsKeptRising t.kept) was goes_old.rising),
             (
-              omega (arith, ap (λ (t : PeerState). t.kept.covered) was, known_more differs bundle presence),
-              (λ gone.
-                  let is = becomes_gone identity (old.peers bundle.from).gave fresh bundle bundle.message
-                  (old.peers bundle.from).presence presence takes.becomes
-                  (gone.0, ap (λ (t : PeerState). t.presence) (sym was) ∙ gone.1) in
-                  (is.0, known_presence differs bundle presence ∙ is.1)),
+              omega (arith, ap (λ (t : PeerState). t.kept.covered) was),
+              (λ gone. stays_left bundle (old.peers bundle.from).left
+                  (gone.0, ap (λ (t : PeerState). t.left) (sym was) ∙ gone.1)),
             ),
           )
-      met_so (inr off) = subst IsMid (sym (put_off old.peers bundle.from to (known differs bundle presence) off))
+      met_so (inr off) = subst IsMid (sym (put_off old.peers bundle.from to told off))
           (goes_old.rising, (omega arith, (λ gone. gone)))
 
   nothing : new ≡ old → StillGoesOn limits me to old new
@@ -329,14 +269,15 @@ module _ (are : AreRead) (limits : Limits) (me to : ℕ) (old new : Linked) (goe
       (subst (λ (l : Linked). Represents limits me l.node goes_old.node) (sym same) goes_old.shows) refl
       (ap (λ (l : Linked). l.peers) same)
 
-  taken_in : (identity : Identity) (fresh : Bool) (bundle : Bundle) (presence : Presence) (differs started : Bool)
-      → All IsSpelled (packets_in bundle) → (made me goes_old.node ≤ (new.peers to).kept.covered)
+  taken_in : (bundle : Bundle) → All IsSpelled (packets_in bundle) → (made me goes_old.node ≤ (new.peers to).kept.covered)
       ⊎ (bundle.from ≡ to → AskWithin (new.peers to).kept.covered (packets_in bundle))
-      → TakesIn identity fresh bundle old new presence differs started → StillGoesOn limits me to old new
-  taken_in identity fresh bundle presence differs started all within takes_it =
-      let met_now = is_met identity fresh bundle presence differs started takes_it in
+      → TakesIn bundle old new → StillGoesOn limits me to old new
+  taken_in bundle all within takes_it =
+      let met_now = is_met bundle takes_it in
       let heeds : Heeds are limits me to (new.peers to).kept.covered goes_old.node new.node =
-      by_heard (not differs && hears (met differs bundle presence old) presence) takes_it.heard in
+      all_heeds are limits me to (new.peers to).kept.covered (heard_in (takes old) bundle) old.node new.node
+      takes_it.started goes_old.node goes_old.shows
+      (parts_heard (has_given_up old) (held_of old.node) bundle.from IsSpelled bundle.parts.items all) little takes_it.heard in
       still limits me to old new goes_old heeds.0 heeds.1 met_now.rising met_now.more (elim heeds.3 [
         | inl same ↦ next_same limits me to old new goes_old heeds.0 met_now.more met_now.gone same
         | inr low ↦ inr low
@@ -353,52 +294,42 @@ module _ (are : AreRead) (limits : Limits) (me to : ℕ) (old new : Linked) (goe
         ])
       ]
 
-      by_heard : (test : Bool) → ByTest test (HearsAll (heard_in (takes old) bundle) old.node new.node started)
-          ((new.node ≡ old.node) × (started ≡ false))
-          → Heeds are limits me to (new.peers to).kept.covered goes_old.node new.node
-      by_heard true heard =
-          all_heeds are limits me to (new.peers to).kept.covered (heard_in (takes old) bundle) old.node new.node
-          started goes_old.node goes_old.shows
-          (parts_heard (has_given_up old) (held_of old.node) bundle.from IsSpelled bundle.parts.items all) little heard
-      by_heard false stays =
-          (goes_old.node, subst (λ (n : Contents). Represents limits me n goes_old.node) (sym stays.0) goes_old.shows, refl, inl refl)
-
   -- all that the node made is covered, or the peer asks for no more than is
   abbrev IsWithin : Seal → List ℕ → Type 0
   IsWithin seal bytes =
       (made_in old.node ≤ (new.peers to).kept.covered) ⊎ AsksWithin seal me to (new.peers to).kept.covered bytes
 
-  received_as : (seal : Seal) (identity : Identity) (pace : PaceState) (bytes : List ℕ) (answer : Received)
+  received_as : (seal : Seal) (bytes : List ℕ) (answer : Received)
       → AreBytes bytes → IsWithin seal bytes
       → (opened : Result Bundle BundleFault) → IsBundledAs (sealing_of seal me) bytes opened
-      → ReceivesAs identity pace opened old new answer → StillGoesOn limits me to old new
-  received_as seal identity pace bytes answer fit asks (Err fault) is comes = nothing comes.1
-  received_as seal identity pace bytes answer fit asks (Ok bundle) is comes = go (is_peer old.node bundle.from) comes
+      → ReceivesAs opened old new answer → StillGoesOn limits me to old new
+  received_as seal bytes answer fit asks (Err fault) is comes = nothing comes.1
+  received_as seal bytes answer fit asks (Ok bundle) is comes = go (is_peer old.node bundle.from) comes
     where
       count : made_in old.node ≡ made me goes_old.node
       count = made_is limits me old.node goes_old.node goes_old.shows
           (omega (arith, goes_old.mine, goes_old.shows.whose.number, goes_old.shows.whose.players))
 
       of_peer : (test : Bool) → ByTest test ((answer ≡ GivenUp bundle.from) × (new ≡ old))
-          (IsTakenIn identity pace bundle old new answer) → StillGoesOn limits me to old new
+          ((answer ≡ Heard bundle.from) × TakesIn bundle old new) → StillGoesOn limits me to old new
       of_peer true comes = nothing comes.1
       of_peer false comes =
-          taken_in identity _ bundle comes.0 comes.1 comes.2
+          taken_in bundle
           (packets_of_bytes seal bundle (subst AreBytes is.is fit)) (elim asks [
             | inl all ↦ inl (omega (arith, all, count))
             | inr none ↦ inr (none bundle is)
-          ]) comes.4
+          ]) comes.1
 
       go : (test : Bool) → ByTest test
           (ByTest (has_given_up old bundle.from) ((answer ≡ GivenUp bundle.from) × (new ≡ old))
-          (IsTakenIn identity pace bundle old new answer)) ((answer ≡ Stranger bundle.from) × (new ≡ old))
+          ((answer ≡ Heard bundle.from) × TakesIn bundle old new)) ((answer ≡ Stranger bundle.from) × (new ≡ old))
           → StillGoesOn limits me to old new
       go true comes = of_peer (has_given_up old bundle.from) comes
       go false comes = nothing comes.1
 
-  pub received : (seal : Seal) (identity : Identity) (pace : PaceState) (bytes : List ℕ) (answer : Received)
-      → AreBytes bytes → Receives seal identity pace bytes old new answer → IsWithin seal bytes → StillGoesOn limits me to old new
-  received seal identity pace bytes answer fit receives asks =
-      received_as seal identity pace bytes answer fit asks receives.0
+  pub received : (seal : Seal) (bytes : List ℕ) (answer : Received)
+      → AreBytes bytes → Receives seal bytes old new answer → IsWithin seal bytes → StillGoesOn limits me to old new
+  received seal bytes answer fit receives asks =
+      received_as seal bytes answer fit asks receives.0
       (subst (λ (k : ℕ). IsBundledAs (sealing_of seal k) bytes receives.0) goes_old.shows.whose.number receives.1)
       receives.2

@@ -5,6 +5,7 @@ use Rattle.std.proofs.Common.{suc, append-nil, ◌≢◌, ◌-◌, Result, Ok, E
 use Rattle.std.specs.Prelude.{slice_index, FitsSigned}
 use Rattle.std.specs.Option.{option_map}
 use Rattle.std.specs.Int.{w32, cast_signed, cast_unsigned, to_le_bytes}
+use Rattle.std.specs.Prelude.{nat_lt, false}
 use Rattle.std.proofs.lemmas.{Bool.cases_lt, Bool.lt-ltb, Bool.le-ltb, Int.to_z-of_z, Int.of_z-to_z, List.take-append-drop, List.length-drop, List.drop-drop, Nat.from_le_bytes-to_le_bytes_4, Option.same_Some}
 use Rattle.std.proofs.lemmas.{Option.none-some, List.length-append, List.length-take-le, List.length-take, List.take-take, List.get_or-take, List.get_or_past}
 use Rattle.std.proofs.Math.Seq.{drop-append_seam, take-append_seam}
@@ -13,10 +14,10 @@ use Rattle.dn_seal.specs.Hmac.{suite_byte, tag_of}
 use Rattle.dn_seal.proofs.{Openings.four_bytes}
 use Rattle.dn_seal.specs.Opening.{Sealing, told_game, IsOfKind, IsOfGame, IsFor, IsTagged, told_body, told_tag}
 use Rattle.dn_seal.proofs.Envelopes.{length-tag, eight}
-use Rattle.dn_link.specs.{declared.bundle.Bundle.Bundle, declared.bundle.Message.Message, declared.bundle.Part.Part, Text.counts_bytes, Text.message_bytes, Text.parts_bytes, Text.bundle_bytes, Text.IsBundle}
+use Rattle.dn_link.specs.{declared.bundle.Bundle.Bundle, declared.bundle.Part.Part, Text.counts_bytes, Text.parts_bytes, Text.bundle_bytes, Text.IsBundle}
 use Rattle.dn_link.specs.{Text.IsPart, Text.part_bytes, declared.bundle.BundleFault.BundleFault, Reading.IsDatagramOf, Reading.IsBundledAs, Reading.bundles}
-use Rattle.dn_link.specs.Told.{number_at, told_counts, told_message, told_parts, bundle_with, told_with, told_bundle, told_part, told_all}
-use Rattle.dn_link.proofs.Parts.{Fit, fit_drop, small, counts_back, length-counts, counts_is, message_back, message_is}
+use Rattle.dn_link.specs.Told.{number_at, told_counts, told_parts, bundle_with, told_bundle, told_part, told_all}
+use Rattle.dn_link.proofs.Parts.{Fit, fit_drop, small, counts_back, length-counts, counts_is}
 use Rattle.dn_link.proofs.Items.{all_back, all_is, opened}
 use Rattle.dn_link.specs.declared.bundle.BundleFault.TheVariants.{Short, Long, Game, Receiver, Tag, Form}
 
@@ -91,18 +92,18 @@ ends count bytes rest found none so = go so.left rest so.adds none so.told
 
 -- A whole bundle.
 
--- the eighteen bytes in front, with this suite and these bytes of the game's number
+-- the nineteen bytes in front, with this suite and these bytes of the game's number
 abbrev headed : ℕ → List ℕ → Bundle → List ℕ
 headed suite game b =
-    (suite ∷ 2 ∷ game) ++ (b.from ∷ b.to ∷ []) ++ to_le_bytes w32 b.number
-    ++ (cast_unsigned w8 b.lead ∷ b.holes ∷ [])
+    (suite ∷ 5 ∷ game) ++ (b.from ∷ b.to ∷ []) ++ to_le_bytes w32 b.number
+    ++ (cast_unsigned w8 b.lead ∷ b.holes ∷ b.cause ∷ [])
 
 abbrev head_bytes : Seal → Bundle → List ℕ
 head_bytes seal b = headed (suite_byte seal.suite) (take 8 seal.game) b
 
 -- and what follows them
 abbrev rest_bytes : Bundle → List ℕ
-rest_bytes b = counts_bytes b.counts ++ (message_bytes b.message ++ parts_bytes b.parts.items)
+rest_bytes b = counts_bytes b.counts ++ parts_bytes b.parts.items
 
 parted : (seal : Seal) (b : Bundle) → bundle_bytes seal b ≡ head_bytes seal b ++ rest_bytes b
 parted seal b = grind (arith, append_assoc)
@@ -116,29 +117,20 @@ module _ (seal : Seal) (b : Bundle) (long : 8 ≤ length seal.game) where
       ap f (parted seal b)
       ∙ eight seal.game long (λ g. f (headed (suite_byte seal.suite) g b ++ rest_bytes b) ≡ a) each
 
-  length-head : length (head_bytes seal b) ≡ 18
-  length-head = eight seal.game long (λ g. length (headed (suite_byte seal.suite) g b) ≡ 18)
+  length-head : length (head_bytes seal b) ≡ 19
+  length-head = eight seal.game long (λ g. length (headed (suite_byte seal.suite) g b) ≡ 19)
       (λ x0 x1 x2 x3 x4 x5 x6 x7. refl)
 
 module _ (seal : Seal) (b : Bundle) (long : 8 ≤ length seal.game) (is : IsBundle b) where
-  abbrev tail : List ℕ
-  tail = message_bytes b.message ++ parts_bytes b.parts.items
+  after_head : drop 19 (bundle_bytes seal b) ≡ rest_bytes b
+  after_head = by_head seal b long (drop 19) (rest_bytes b) (λ x0 x1 x2 x3 x4 x5 x6 x7. refl)
 
-  after_head : drop 18 (bundle_bytes seal b) ≡ rest_bytes b
-  after_head = by_head seal b long (drop 18) (rest_bytes b) (λ x0 x1 x2 x3 x4 x5 x6 x7. refl)
-
-  after_counts : drop 42 (bundle_bytes seal b) ≡ message_bytes b.message ++ parts_bytes b.parts.items
+  after_counts : drop 43 (bundle_bytes seal b) ≡ parts_bytes b.parts.items
   after_counts =
       let size = length-counts b.counts is.counts.four in
-      sym (drop-drop 24 18 (bundle_bytes seal b)) ∙ ap (drop 24) after_head
+      sym (drop-drop 24 19 (bundle_bytes seal b)) ∙ ap (drop 24) after_head
       ∙ ap (λ (n : ℕ). drop n (rest_bytes b)) (sym size)
-      ∙ drop-append_seam (counts_bytes b.counts) (message_bytes b.message ++ parts_bytes b.parts.items)
-
-  after_message : drop (42 + length (message_bytes b.message)) (bundle_bytes seal b) ≡ parts_bytes b.parts.items
-  after_message =
-      sym (drop-drop (length (message_bytes b.message)) 42 (bundle_bytes seal b))
-      ∙ ap (drop (length (message_bytes b.message))) after_counts
-      ∙ drop-append_seam (message_bytes b.message) (parts_bytes b.parts.items)
+      ∙ drop-append_seam (counts_bytes b.counts) (parts_bytes b.parts.items)
 
   parts_back : told_parts (parts_bytes b.parts.items) ≡ Some b.parts.items
   parts_back = grind (arith, le-ltb, all_back)
@@ -160,20 +152,38 @@ module _ (seal : Seal) (b : Bundle) (long : 8 ≤ length seal.game) (is : IsBund
   holes : slice_index (bundle_bytes seal b) 17 ≡ b.holes
   holes = by_head seal b long (λ xs. slice_index xs 17) b.holes (λ x0 x1 x2 x3 x4 x5 x6 x7. refl)
 
-  bundle_back : told_bundle (bundle_bytes seal b) ≡ Some b
-  bundle_back = grind (arith, after_counts, message_back, after_message, parts_back, after_head, counts_back, from, to, number, lead, holes)
+  cause : slice_index (bundle_bytes seal b) 18 ≡ b.cause
+  cause = by_head seal b long (λ xs. slice_index xs 18) b.cause (λ x0 x1 x2 x3 x4 x5 x6 x7. refl)
 
--- the eighteen bytes in front, by what was tested of them
-head_is : (body : List ℕ) (seal : Seal) (b : Bundle) → Fit body → 18 ≤ length body
-    → slice_index body 0 ≡ suite_byte seal.suite → slice_index body 1 ≡ 2
+  bundle_back : told_bundle (bundle_bytes seal b) ≡ Some b
+  bundle_back =
+      let few : nat_lt 3 (slice_index (bundle_bytes seal b) 18) ≡ false =
+      ap (nat_lt 3) cause ∙ le-ltb 3 b.cause is.cause in
+      let parts : told_parts (drop 43 (bundle_bytes seal b)) ≡ Some b.parts.items = ap told_parts after_counts ∙ parts_back in
+      let counts : told_counts (drop 19 (bundle_bytes seal b)) ≡ b.counts =
+      ap told_counts after_head ∙ counts_back b.counts (parts_bytes b.parts.items) is.counts in
+      rw (few, parts) (λ i. Some (record {
+        from = from i;
+        to = to i;
+        number = number i;
+        lead = lead i;
+        holes = holes i;
+        cause = cause i;
+        counts = counts i;
+        parts = b.parts;
+      }))
+
+-- the nineteen bytes in front, by what was tested of them
+head_is : (body : List ℕ) (seal : Seal) (b : Bundle) → Fit body → 19 ≤ length body
+    → slice_index body 0 ≡ suite_byte seal.suite → slice_index body 1 ≡ 5
     → told_game body ≡ take 8 seal.game → slice_index body 10 ≡ b.from → slice_index body 11 ≡ b.to
     → b.number ≡ number_at 12 body → cast_unsigned w8 b.lead ≡ slice_index body 16
-    → slice_index body 17 ≡ b.holes → take 18 body ≡ head_bytes seal b
-head_is (v ∷ k ∷ g0 ∷ g1 ∷ g2 ∷ g3 ∷ g4 ∷ g5 ∷ g6 ∷ g7 ∷ f ∷ t ∷ n0 ∷ n1 ∷ n2 ∷ n3 ∷ l ∷ h ∷ rest) seal b
-    fits long suite kind told from to number lead holes =
+    → slice_index body 17 ≡ b.holes → slice_index body 18 ≡ b.cause → take 19 body ≡ head_bytes seal b
+head_is (v ∷ k ∷ g0 ∷ g1 ∷ g2 ∷ g3 ∷ g4 ∷ g5 ∷ g6 ∷ g7 ∷ f ∷ t ∷ n0 ∷ n1 ∷ n2 ∷ n3 ∷ l ∷ h ∷ c ∷ rest) seal b
+    fits long suite kind told from to number lead holes cause =
     let numbers = four_bytes n0 n1 n2 n3 b.number (fits 12) (fits 13) (fits 14) (fits 15) number in
-    λ i. (suite i ∷ kind i ∷ told i) ++ (from i ∷ to i ∷ []) ++ numbers i ++ (sym lead i ∷ holes i ∷ [])
-head_is _ seal b fits long suite kind told from to number lead holes = absurd (omega arith)
+    λ i. (suite i ∷ kind i ∷ told i) ++ (from i ∷ to i ∷ []) ++ numbers i ++ (sym lead i ∷ holes i ∷ cause i ∷ [])
+head_is _ seal b fits long suite kind told from to number lead holes cause = absurd (omega arith)
 
 number_small : (body : List ℕ) → Fit body → 16 ≤ length body → number_at 12 body < 2 ^ 32
 number_small (v ∷ k ∷ g0 ∷ g1 ∷ g2 ∷ g3 ∷ g4 ∷ g5 ∷ g6 ∷ g7 ∷ f ∷ t ∷ n0 ∷ n1 ∷ n2 ∷ n3 ∷ rest) fits long =
@@ -190,7 +200,7 @@ pub record IsWhole (seal : Seal) (body : List ℕ) (b : Bundle) : Type 0 where
   pub spelled : body ≡ bundle_bytes seal b
 
 module _ (seal : Seal) (body : List ℕ) (fits : Fit body) (long : 44 ≤ length body)
-    (suite : slice_index body 0 ≡ suite_byte seal.suite) (kind : slice_index body 1 ≡ 2)
+    (suite : slice_index body 0 ≡ suite_byte seal.suite) (kind : slice_index body 1 ≡ 5)
     (told : told_game body ≡ take 8 seal.game) where
   counted : (bytes : List ℕ) (parts : List Part) → told_parts bytes ≡ Some parts → Fit bytes
       → (length parts ≤ 24) × All IsPart parts × (bytes ≡ parts_bytes parts)
@@ -204,63 +214,65 @@ module _ (seal : Seal) (body : List ℕ) (fits : Fit body) (long : 44 ≤ length
         (omega (arith, all.count), all.fit, λ i. sym all.count i ∷ all.spelled i)
   ]
 
-  with_parts : (message : Message) → told_message (drop 42 body) ≡ Some message → (b : Bundle)
-      (o : Option (List Part)) → told_parts (drop (42 + length (message_bytes message)) body) ≡ o
-      → option_map (bundle_with body message) o ≡ Some b → IsWhole seal body b
-  with_parts message m b None is e = absurd (none-some b e)
-  with_parts message m b (Some parts) is e =
-      let spelled = message_is (drop 42 body) message (fit_drop 42 body fits) m in
-      let rest = counted (drop (42 + length (message_bytes message)) body) parts is
-      (fit_drop (42 + length (message_bytes message)) body fits) in
-      let eighteen = length-drop 18 body in
-      let counts = counts_is (drop 18 body) (fit_drop 18 body fits) (omega (arith, eighteen)) in
-      let bundle : Bundle = bundle_with body message parts in
+  with_parts : slice_index body 18 ≤ 3 → (b : Bundle) (o : Option (List Part)) → told_parts (drop 43 body) ≡ o
+      → option_map (bundle_with body) o ≡ Some b → IsWhole seal body b
+  with_parts low b None is e = absurd (none-some b e)
+  with_parts low b (Some parts) is e =
+      let rest = counted (drop 43 body) parts is (fit_drop 43 body fits) in
+      let behind = length-drop 19 body in
+      let counts = counts_is (drop 19 body) (fit_drop 19 body fits) (omega (arith, behind)) in
+      let bundle : Bundle = bundle_with body parts in
       let lead : cast_unsigned w8 (cast_signed w8 (slice_index body 16)) ≡ slice_index body 16 =
       of_z-to_z w8 (slice_index body 16) (fits 16) in
-      let head = head_is body seal bundle fits (omega arith) suite kind told refl refl refl lead refl in
-      let last : drop (42 + length (message_bytes message)) body ≡ parts_bytes parts = rest.2 in
-      let tail : drop 42 body ≡ message_bytes message ++ parts_bytes parts =
-      spelled.spelled ∙ ap (λ (xs : List ℕ). message_bytes message ++ xs)
-      (drop-drop (length (message_bytes message)) 42 body ∙ last) in
-      let middle : drop 18 body ≡ rest_bytes bundle =
-      sym (take-append-drop 24 (drop 18 body)) ∙ (λ i. counts.spelled i ++ (drop-drop 24 18 body ∙ tail) i) in
+      let head = head_is body seal bundle fits (omega arith) suite kind told refl refl refl lead refl refl in
+      let last : drop 43 body ≡ parts_bytes parts = rest.2 in
+      let middle : drop 19 body ≡ rest_bytes bundle =
+      sym (take-append-drop 24 (drop 19 body)) ∙ (λ i. counts.spelled i ++ (drop-drop 24 19 body ∙ last) i) in
       subst (IsWhole seal body) (same_Some bundle b e) (record {
         fits = record {
           number = number_small body fits (omega arith);
           lead = signed_fits (slice_index body 16) (fits 16);
+          cause = low;
           counts = counts.are;
-          message = spelled.is;
           few = rest.0;
           parts = rest.1;
         };
         to = refl;
-        spelled = sym (take-append-drop 18 body) ∙ (λ i. head i ++ middle i) ∙ sym (parted seal bundle);
+        spelled = sym (take-append-drop 19 body) ∙ (λ i. head i ++ middle i) ∙ sym (parted seal bundle);
       })
 
-  with_message : (b : Bundle) (o : Option Message) → told_message (drop 42 body) ≡ o → told_with body o ≡ Some b
-      → IsWhole seal body b
-  with_message b None is e = absurd (none-some b e)
-  with_message b (Some message) is e =
-      with_parts message is b (told_parts (drop (42 + length (message_bytes message)) body)) refl e
-
   bundle_is : (b : Bundle) → told_bundle body ≡ Some b → IsWhole seal body b
-  bundle_is b e = with_message b (told_message (drop 42 body)) refl e
+  bundle_is b e = elim (cases_lt 3 (slice_index body 18)) [
+    | inl many ↦ let on = lt-ltb 3 (slice_index body 18) many in
+        let none : ◌≡◌ {A = Option Bundle} None (Some b) = rw on at e in absurd (none-some b none)
+    | inr few ↦ let off = le-ltb 3 (slice_index body 18) few in
+        with_parts few b (told_parts (drop 43 body)) refl (rw off at e)
+  ]
 
 -- what a reading step by step tells
 module _ (body : List ℕ) where
-  pub no_message : told_message (drop 42 body) ≡ None → None ≡ told_bundle body
-  no_message e = sym (ap (told_with body) e)
+  pub no_cause : 3 < slice_index body 18 → None ≡ told_bundle body
+  no_cause many = let on = lt-ltb 3 (slice_index body 18) many in rw on refl
 
-  pub no_parts : (message : Message) → told_message (drop 42 body) ≡ Some message
-      → told_parts (drop (42 + length (message_bytes message)) body) ≡ None → None ≡ told_bundle body
-  no_parts message e none = sym (ap (told_with body) e ∙ ap (option_map (bundle_with body message)) none)
+  pub no_parts : slice_index body 18 ≤ 3 → told_parts (drop 43 body) ≡ None → None ≡ told_bundle body
+  no_parts few none = let off = le-ltb 3 (slice_index body 18) few in rw (off, none) refl
 
-  pub all_told : (message : Message) (b : Bundle) → told_message (drop 42 body) ≡ Some message
-      → told_parts (drop (42 + length (message_bytes message)) body) ≡ Some b.parts.items
+  pub all_told : (b : Bundle) → slice_index body 18 ≤ 3 → told_parts (drop 43 body) ≡ Some b.parts.items
       → b.from ≡ slice_index body 10 → b.to ≡ slice_index body 11 → b.number ≡ number_at 12 body
-      → b.lead ≡ cast_signed w8 (slice_index body 16) → b.holes ≡ slice_index body 17
-      → b.counts ≡ told_counts (drop 18 body) → b.message ≡ message → Some b ≡ told_bundle body
-  all_told message b e all from to number lead holes counts same = grind (arith, from, to, number, lead, holes)
+      → b.lead ≡ cast_signed w8 (slice_index body 16) → b.holes ≡ slice_index body 17 → b.cause ≡ slice_index body 18
+      → b.counts ≡ told_counts (drop 19 body) → Some b ≡ told_bundle body
+  all_told b few all from to number lead holes cause counts =
+      let off = le-ltb 3 (slice_index body 18) few in
+      rw (off, all) (λ i. Some (record {
+        from = from i;
+        to = to i;
+        number = number i;
+        lead = lead i;
+        holes = holes i;
+        cause = cause i;
+        counts = counts i;
+        parts = b.parts;
+      }))
 
   -- a byte that was read as signed
   pub signed : (byte : ℕ) (z : ℤ) → byte < 256 → z ≡ cast_signed w8 byte
@@ -268,11 +280,8 @@ module _ (body : List ℕ) where
   signed byte z below e = ap (λ (x : ℤ). to_z w8 (of_z w8 x)) e ∙ to_z-of_z w8 (cast_signed w8 byte) (signed_fits byte below)
 
 -- Bytes are read as one thing.
-length-message : (m : Message) → 1 ≤ length (message_bytes m)
-length-message m = grind arith
-
 body_long : (seal : Seal) (b : Bundle) → 8 ≤ length seal.game → IsBundle b → 44 ≤ length (bundle_bytes seal b)
-body_long seal b long is = grind (arith, parted, length-append, head_bytes, rest_bytes, length-head, length-counts, length-message)
+body_long seal b long is = grind (arith, parted, length-append, head_bytes, rest_bytes, length-head, length-counts)
 
 module _ (s : Sealing) (bytes : List ℕ) (b : Bundle) (is : IsDatagramOf s bytes b) where
   abbrev tag : List ℕ
@@ -339,7 +348,8 @@ module _ (s : Sealing) (bytes : List ℕ) where
 
   pub only_bundle : (b : Bundle) → IsDatagramOf s bytes b → (read : Result Bundle BundleFault)
       → IsBundledAs s bytes read → Ok b ≡ read
-  only_bundle b is read h = grind (arith, Ok, same_Some, its_bundle, tagged)
+  only_bundle b is (Ok other) h = ap Ok (same_Some b other (sym (its_bundle s bytes b is) ∙ its_bundle s bytes other h))
+  only_bundle b is (Err fault) h = grind (arith, tagged)
 
   -- what no bundle tells is none's datagram
   pub formless : IsTagged bundles s bytes → told_bundle (told_body bytes) ≡ None → IsBundledAs s bytes (Err Form)

@@ -1,6 +1,6 @@
 -- That a peer is to be sent commands from where those end that are kept for it, and that the links of a
 -- game are caught up.
-use Rattle.std.specs.Prelude.{◌≡◌, ◌≢◌, ◌<◌, ◌≤◌, ℕ, ◌+◌, ◌-◌, true, false, All, List, [], ◌∷◌, None, ◌⊎◌, IfSome}
+use Rattle.std.specs.Prelude.{◌≡◌, ◌≢◌, ◌<◌, ◌≤◌, ℕ, ◌+◌, ◌-◌, true, false, All, List, [], ◌∷◌, Option, None, Some, ◌⊎◌, IfSome}
 use Rattle.dn_seal.specs.declared.opened.Opened.{Opened}
 use Rattle.dn_seal.specs.declared.seal.Seal.{Seal}
 use Rattle.dn_machine.specs.Limits.{Limits}
@@ -19,8 +19,6 @@ use Rattle.dn_link.specs.Linked.{Linked}
 use Rattle.dn_link.specs.Packets.{own_in, packets_in}
 use Rattle.dn_link.specs.Reading.{IsDatagramOf}
 use Rattle.dn_link.specs.Text.{IsBundle, sealed_bytes}
-use Rattle.dn_link.specs.declared.presence.Presence.{Presence}
-use Rattle.dn_link.specs.declared.presence.Presence.TheVariants.{Left}
 
 -- That a peer is to be sent commands from where those end that are kept for it, or from earlier on.
 
@@ -29,9 +27,9 @@ use Rattle.dn_link.specs.declared.presence.Presence.TheVariants.{Left}
 abbrev pub next_to : Contents → ℕ → ℕ
 next_to node to = (node.peers to).resend
 
--- a peer has played and left, and takes no packet any more
-abbrev pub IsGone : Presence → Type 0
-IsGone presence = (cause : ℕ) × (presence ≡ Left cause)
+-- a peer has left, and takes no packet any more
+abbrev pub IsGone : Option ℕ → Type 0
+IsGone left = (cause : ℕ) × (left ≡ Some cause)
 
 -- that tic is not past the commands that are covered, or the peer is gone; the node is one of the machine in
 -- these limits, and each kept packet ends past those before it
@@ -41,7 +39,7 @@ pub record GoesOn (limits : Limits) (me to : ℕ) (link : Linked) : Type 0 where
   pub node : machine.Node
   pub shows : Represents limits me link.node node
   pub rising : IsKeptRising (link.peers to).kept
-  pub next : IsGone (link.peers to).presence ⊎ (next_to link.node to ≤ (link.peers to).kept.covered)
+  pub next : IsGone (link.peers to).left ⊎ (next_to link.node to ≤ (link.peers to).kept.covered)
 
 -- it still does, and what was covered is
 pub record StillGoesOn (limits : Limits) (me to : ℕ) (old new : Linked) : Type 0 where
@@ -137,8 +135,8 @@ Brings count links bundle =
     has_ended (links bundle.to).node ≡ false
     → count ≤ last_end (got (links bundle.to).node bundle.from) (own_in bundle)
 
--- each player has as many commands of each as before, or more; it has run as many tics, or more; its next packet
--- to a peer that has not ended begins no earlier; and a player who had ended has ended
+-- each player has as many commands of each as before, or more; it has run as many tics, or more; its next
+-- packet to a peer that has not ended begins no earlier; and a player who had ended has ended
 pub record HasGrown (limits : Limits) (old new : ℕ → Linked) : Type 0 where
   pub got : (player which : ℕ) → player < limits.players → which < limits.players
       → got (old player).node which ≤ got (new player).node which

@@ -3,8 +3,6 @@ use Rattle.std.specs.Prelude.{◌≡◌, ◌<◌, ◌≤◌, ◌⊎◌, ◌||◌
 use Rattle.std.specs.Coded.{×_prop}
 use Rattle.std.proofs.Props.{props}
 use Rattle.dn_link.specs.declared.bundle.Carried.{Carried}
-use Rattle.dn_link.specs.declared.presence.Presence.{Presence}
-use Rattle.dn_link.specs.declared.presence.Presence.TheVariants.{Playing, Left, Forgotten}
 
 -- how many commands a packet has, behind its head of eight bytes, and the tic after the last of them
 abbrev pub commands_in : Carried → ℕ
@@ -18,17 +16,14 @@ abbrev pub is_idle : Carried → Bool
 is_idle packet =
     commands_in packet == 0 && (is_none packet.ask && nat_lt (slice_index packet.datagram.items 3) 16)
 
--- a peer takes no packet once it has played and left. One that is idle tells that this player has started,
--- which only a peer needs that has not
-abbrev pub takes_packet : Presence → Carried → Bool
-takes_packet (Left cause) packet = false
-takes_packet Playing packet = not (is_idle packet)
-takes_packet Forgotten packet = not (is_idle packet)
-takes_packet presence packet = true
+-- a peer takes no packet once it has left, and none that is idle
+abbrev pub takes_packet : Option ℕ → Carried → Bool
+takes_packet (Some cause) packet = false
+takes_packet None packet = not (is_idle packet)
 
-abbrev pub taken_by : Presence → Option Carried → Option Carried
-taken_by presence None = None
-taken_by presence (Some packet) = if takes_packet presence packet then Some packet else None
+abbrev pub taken_by : Option ℕ → Option Carried → Option Carried
+taken_by left None = None
+taken_by left (Some packet) = if takes_packet left packet then Some packet else None
 
 -- the packets to one peer that it has not acknowledged, oldest first; how many commands they and those before
 -- them cover; and how many commands the peer needs no more
@@ -37,7 +32,8 @@ pub record Unacknowledged : Type 0 where
   pub covered : ℕ
   pub done : ℕ
 
--- a packet goes on where those before it end, with a command that none of them has, and there is room to keep it
+-- a packet goes on where those before it end, with a command that none of them has, and there is room to keep
+-- it
 abbrev pub is_news : Unacknowledged → Carried → Bool
 is_news kept packet =
     nat_le packet.start kept.covered

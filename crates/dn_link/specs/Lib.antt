@@ -4,6 +4,7 @@ pub mod Told
 pub mod Reading
 pub mod Packets
 pub mod Counting
+pub mod Ends
 pub mod Relays
 pub mod Linked
 pub mod Surviving
@@ -21,5 +22,4 @@ pub mod Leaning
 pub mod Pace
 pub mod Pacing
 pub mod Places
-pub mod Presence
 pub mod Tally

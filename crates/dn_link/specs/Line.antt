@@ -1,10 +1,10 @@
 -- What is known of the line from a peer, and of the leads.
-use Rattle.std.specs.Prelude.{ℕ, ◌+◌, ◌-◌, ◌/◌, ◌==◌, ◌&&◌, ◌-ℤ◌, if◌then◌else◌, nat_lt, nat_le, min, max, Bool, ℤ, pos, negsuc, Option, None, Some}
+use Rattle.std.specs.Prelude.{ℕ, ◌+◌, ◌-◌, ◌/◌, ◌==◌, ◌-ℤ◌, if◌then◌else◌, nat_lt, min, max, ℤ, pos, negsuc, Option, None, Some}
 use Rattle.std.specs.Int.{int_max, int_min}
 use Rattle.dn_lockstep.specs.Contents.{Contents}
 use Rattle.dn_lockstep.specs.Told.{got, made}
 use Rattle.dn_link.specs.declared.bundle.Bundle.{Bundle}
-use Rattle.dn_link.specs.Tally.{TallyState, begins, tallied}
+use Rattle.dn_link.specs.Tally.{TallyState, tallied}
 
 -- the number of the newest datagram that came; how many numbers before it are missing in its block of
 -- sixty-four, and how many in the block before; what it reported: how many its sender misses, and by how many
@@ -57,25 +57,15 @@ abbrev pub after_newest : Bundle → LineState → LineState
 after_newest bundle line =
     record line { newest = Some bundle.number; reported_holes = bundle.holes; lead = bundle.lead }
 
--- an old datagram: the first of a player who has begun anew, where one may come; or one that tells nothing
-abbrev pub is_anew : ℕ → Bool → Bundle → Bool
-is_anew newest may_come bundle = may_come && nat_le (bundle.number + 64) newest
-
-abbrev pub after_old : ℕ → Bool → Bundle → LineState → LineState
-after_old newest may_come bundle line =
-    if is_anew newest may_come bundle
-    then after_newest bundle (record line { holes = 0; before = 0; tally = begins line.tally })
-    else with_tally bundle line
-
--- a datagram came: the first of all, a newer one, or an old one
-abbrev pub heard_on : Bundle → Bool → LineState → LineState
-heard_on bundle may_come line =
+-- a datagram came: the first of all, a newer one, or an old one, which tells nothing
+abbrev pub heard_on : Bundle → LineState → LineState
+heard_on bundle line =
     elim line.newest [
       | None ↦ after_newest bundle (with_tally bundle line)
       | Some newest ↦
           if nat_lt newest bundle.number
           then after_newest bundle (counted newest bundle.number (with_tally bundle line))
-          else after_old newest may_come bundle line
+          else with_tally bundle line
     ]
 
 -- how many of the peer's datagrams are missing

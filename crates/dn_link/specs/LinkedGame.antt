@@ -11,12 +11,11 @@ use Rattle.dn_lockstep.specs.OneGame.{AreOneGame}
 use Rattle.dn_lockstep.specs.OneGame.{Session}
 use Rattle.dn_lockstep.specs.Contents.{Contents}
 use Rattle.dn_open.specs.Sealed.{opened_of, sealing_of}
-use Rattle.dn_link.specs.declared.presence.Presence.TheVariants.{Left}
 use Rattle.dn_link.specs.Counting.{has_ended, has_of}
 use Rattle.dn_link.specs.Linked.{IsWhole, Linked}
 use Rattle.dn_link.specs.Packets.{opened_from, packets_in}
 use Rattle.dn_link.specs.declared.bundle.Bundle.{Bundle}
-use Rattle.dn_link.specs.Presence.{tells_end}
+use Rattle.dn_link.specs.Ends.{tells_end}
 use Rattle.dn_link.specs.Reading.{IsDatagramOf}
 use Rattle.dn_link.specs.Text.{IsBundle, sealed_bytes}
 
@@ -69,7 +68,7 @@ pub record AreLinked (marking : Marking) (limits : Limits) (settings : Settings)
   pub reported : (player peer which : ℕ) → player < limits.players → which ≢ peer
       → slice_index ((links player).peers peer).reported which ≤ has_of (session.locksteps peer) which
   pub left : (player peer cause : ℕ) → player < limits.players
-      → ((links player).peers peer).presence ≡ Left cause → has_ended (session.locksteps peer) ≡ true
+      → ((links player).peers peer).left ≡ Some cause → has_ended (session.locksteps peer) ≡ true
   pub whole : (player : ℕ) → player < limits.players → IsWhole (links player)
 
 -- what was given was given, each player has as much of each other as before, and who had ended has

@@ -1,13 +1,10 @@
 -- What a link is, with what is kept for a peer.
-use Rattle.dn_lockstep.specs.declared.config.Config.{Config}
-use Rattle.std.specs.Prelude.{ℕ, List, [], ◌∷◌, false}
+use Rattle.std.specs.Prelude.{ℕ, List, [], ◌∷◌, None}
 use Rattle.dn_seal.specs.declared.seal.Seal.{Seal}
 use Rattle.dn_seal.specs.Sealing.{sealing}
 use Rattle.dn_survivor.specs.Surviving.{surviving}
 use Rattle.dn_link.specs.declared.link.Link.{Link}
-use Rattle.dn_link.specs.declared.bundle.Identity.{Identity}
 use Rattle.dn_link.specs.declared.peer.Peer.{Peer}
-use Rattle.dn_link.specs.declared.presence.Presence.TheVariants.{Unknown}
 use Rattle.dn_link.specs.Linked.{Linked, PeerState}
 use Rattle.dn_link.specs.Places.{by_place}
 use Rattle.dn_link.specs.declared.kept.Kept.{Kept}
@@ -22,8 +19,7 @@ state_of peer =
     record {
       kept = kept peer.kept;
       reported = peer.reported;
-      presence = peer.presence;
-      gave = peer.gave;
+      left = peer.left;
       number = peer.number;
     }
 
@@ -33,8 +29,7 @@ new_peer =
     record {
       kept = record { packets = []; covered = 0; done = 0 };
       reported = 0 ∷ 0 ∷ 0 ∷ 0 ∷ [];
-      presence = Unknown;
-      gave = false;
+      left = None;
       number = 0;
     }
 
@@ -52,17 +47,3 @@ linked link =
 -- what it has in common with the others of its game
 abbrev pub seal_of : Link → Seal
 seal_of link = (sealing link.sealer).seal
-
-abbrev pub identity_of : Link → Identity
-identity_of link = link.identity
-
--- what a link of this configuration has in common with the others
-abbrev pub identity_for : Config → ℕ → List ℕ → Identity
-identity_for config ahead host =
-    record {
-      players = config.players;
-      extra = config.extra;
-      ahead = ahead;
-      limit = config.limit;
-      host = host;
-    }

@@ -14,7 +14,6 @@ use Rattle.dn_link.specs.Leaning.{LeaningState, looks, step_of, worked_off, Stre
 use Rattle.dn_link.specs.Line.{LineState, heard_on, lead_over, missing}
 use Rattle.dn_link.specs.Linked.{Linked, end_known, is_peer, remains}
 use Rattle.dn_link.specs.Pacing.{PaceState}
-use Rattle.dn_link.specs.Presence.{is_playing, may_come}
 use Rattle.dn_link.specs.Reading.{IsBundledAs}
 use Rattle.dn_link.specs.Tally.{stops}
 
@@ -37,9 +36,9 @@ still_owed Full owed = owed
 still_owed made owed = None
 
 -- a datagram of a peer came
-abbrev pub after_datagram : Bundle → Bool → PaceState → PaceState
-after_datagram bundle may_come pace =
-    record pace { lines = put pace.lines bundle.from (heard_on bundle may_come (pace.lines bundle.from)) }
+abbrev pub after_datagram : Bundle → PaceState → PaceState
+after_datagram bundle pace =
+    record pace { lines = put pace.lines bundle.from (heard_on bundle (pace.lines bundle.from)) }
 
 -- bytes came that were no datagram
 abbrev pub after_refusal : PaceState → PaceState
@@ -48,9 +47,7 @@ after_refusal pace = record pace { refused = stops (pace.refused + 1) }
 abbrev pub PacesAs : Result Bundle BundleFault → Linked → PaceState → PaceState → Type 0
 PacesAs (Err fault) link old new = new ≡ after_refusal old
 PacesAs (Ok bundle) link old new =
-    ByTest (remains link bundle.from)
-    (new ≡ after_datagram bundle (may_come (link.peers bundle.from).gave (link.peers bundle.from).presence) old)
-    (new ≡ old)
+    ByTest (remains link bundle.from) (new ≡ after_datagram bundle old) (new ≡ old)
 
 -- any bytes came
 abbrev pub Paces : Seal → List ℕ → Linked → PaceState → PaceState → Type 0
@@ -58,11 +55,11 @@ Paces seal bytes link old new =
     (opened : Result Bundle BundleFault) × IsBundledAs (sealing_of seal link.node.me) bytes opened
     × PacesAs opened link old new
 
--- a peer that plays, as far as it was heard
+-- a peer that was heard, and has not left as far as it was
 abbrev pub is_paced : Linked → PaceState → ℕ → Bool
 is_paced link pace player =
     is_peer link.node player && (is_some (pace.lines player).newest
-    && (is_none (end_known link.node player) && is_playing (link.peers player).presence))
+    && (is_none (end_known link.node player) && is_none (link.peers player).left))
 
 -- the difference between the two leads, as seen at the last tick of each side
 abbrev pub difference : Linked → PaceState → ℕ → ℤ

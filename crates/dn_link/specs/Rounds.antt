@@ -14,7 +14,6 @@ use Rattle.dn_lockstep.specs.Steps.{RunsBy}
 use Rattle.dn_lockstep.specs.OneGame.{Session}
 use Rattle.dn_lockstep.specs.Told.{made}
 use Rattle.dn_seal.specs.declared.seal.Seal.{Seal}
-use Rattle.dn_link.specs.declared.bundle.Identity.{Identity}
 use Rattle.dn_link.specs.declared.received.Received.{Received}
 use Rattle.dn_link.specs.LinkedGame.{IsGenuineDatagram, AreLinked}
 use Rattle.dn_link.specs.CaughtUp.{AreCaughtUp, HasGrown, IsInStepTo, next_to}
@@ -48,9 +47,8 @@ WaitsAt links moment player =
 
 -- it gives a peer this datagram, which is no late one, and has room for all that its sender has to give
 pub record GivesAt (seal : Seal) (links : ℕ → ℕ → Linked) (moment player to : ℕ) (bytes : List ℕ) : Type 0 where
-  pub identity : Identity
   pub pace : PaceState
-  pub gives : Gives seal identity pace to (links moment player) (links (suc moment) player) bytes
+  pub gives : Gives seal pace to (links moment player) (links (suc moment) player) bytes
   pub soon : made (links moment player).node ≤ next_to (links moment player).node to + 12
   pub few : length gives.own < 22
   pub short : length (parts_bytes gives.own) ≤ 998
@@ -59,12 +57,10 @@ pub record GivesAt (seal : Seal) (links : ℕ → ℕ → Linked) (moment player
 -- it takes in these bytes, which were sealed in this game in step
 pub record TakesAt (seal : Seal) (limits : Limits) (sessions : ℕ → Session) (links : ℕ → ℕ → Linked)
     (moment player : ℕ) (bytes : List ℕ) : Type 0 where
-  pub identity : Identity
-  pub pace : PaceState
   pub answer : Received
   pub genuine : IsGenuineDatagram seal (sessions moment) player bytes
   pub in_step : IsInStepTo seal limits (links moment) player bytes
-  pub takes : Receives seal identity pace bytes (links moment player) (links (suc moment) player) answer
+  pub takes : Receives seal bytes (links moment player) (links (suc moment) player) answer
 
 -- in each of its rounds a player's link is asked for a command, and later runs tics until it waits
 pub record AreRounds {marking : Marking} {limits : Limits} {settings : Settings} {last : ℕ}
@@ -80,8 +76,8 @@ pub record AreRounds {marking : Marking} {limits : Limits} {settings : Settings}
   pub later : (round player : ℕ) → suc round < rounds → player < limits.players
       → waited round player < built (suc round) player
 
--- of the datagrams that a player gives a peer in its rounds from this one on, one of k rounds is taken in by the
--- peer before it waits in its round d later
+-- of the datagrams that a player gives a peer in its rounds from this one on, one of k rounds is taken in by
+-- the peer before it waits in its round d later
 pub record Arrives {marking : Marking} {limits : Limits} {settings : Settings} {last : ℕ}
     {stretch : Stretch marking limits settings last} {count : ℕ} (rounds : AreRounds stretch count) (seal : Seal)
     (k d first player peer : ℕ) : Type 0 where

@@ -10,7 +10,7 @@ use Rattle.dn_survivor.specs.Calls.{GivesUp}
 use Rattle.dn_survivor.specs.Surviving.{Surviving}
 use Rattle.dn_survivor.specs.declared.answers.GivenUp.{GivenUp}
 use Rattle.dn_survivor.specs.Telling.{MayRelay}
-use Rattle.dn_link.specs.Linked.{Linked, forgotten, has_given_up, surviving_of}
+use Rattle.dn_link.specs.Linked.{Linked, has_given_up, surviving_of}
 use Rattle.dn_link.specs.declared.bundle.Part.{Part}
 use Rattle.dn_link.specs.declared.bundle.Part.TheVariants.{Relay}
 use Rattle.dn_link.specs.declared.bundle.Relay as relay
@@ -22,25 +22,11 @@ abbrev pub RunsBut : List ℤ → Linked → Linked → (Ran → Option (List (O
 RunsBut marks old new IsAnswer =
     RunsBy marks old.node new.node (λ limits m marks. on_run_but limits (has_given_up old) m marks) IsAnswer
 
--- a player is given up by the call with this answer
-abbrev pub is_given_up : GivenUp → Bool
-is_given_up GivenUp.Waiting = true
-is_given_up GivenUp.Decided = true
-is_given_up (GivenUp.Untaken player reason) = true
-is_given_up GivenUp.Already = false
-is_given_up GivenUp.NotAPlayer = false
-is_given_up GivenUp.NotPlaying = false
-
--- then the player is forgotten, too
-abbrev pub forgotten_if : Bool → ℕ → Linked → Linked
-forgotten_if true player link = forgotten player link
-forgotten_if false player link = link
-
 -- a player is given up, or is not
 abbrev pub GivesUpPeer : ℕ → Linked → Linked → GivenUp → Type 0
 GivesUpPeer player old new answer =
     (now : Surviving) × GivesUp player (surviving_of old) now answer
-    × (new ≡ forgotten_if (is_given_up answer) player (record old { node = now.lockstep; others = now.others }))
+    × (new ≡ record old { node = now.lockstep; others = now.others })
 
 -- a report, if there is one, names a player as given up
 abbrev pub names : Option Report → ℕ → Bool

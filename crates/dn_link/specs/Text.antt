@@ -1,5 +1,5 @@
 -- The datagram of a bundle.
-use Rattle.std.specs.Prelude.{ℕ, ◌+◌, ◌<◌, ◌≡◌, ◌≤◌, ◌^◌, ◌*◌, ◌/◌, Bool, true, false, List, [], ◌∷◌, ◌++◌, length, All, IfSome, FitsSigned}
+use Rattle.std.specs.Prelude.{ℕ, ◌+◌, ◌<◌, ◌≡◌, ◌≤◌, ◌^◌, ◌*◌, ◌/◌, List, [], ◌∷◌, ◌++◌, length, All, IfSome, FitsSigned}
 use Rattle.std.specs.List.{flat_map}
 use Rattle.std.specs.Int.{w8, w32, cast_unsigned, to_le_bytes}
 use Rattle.dn_seal.specs.declared.seal.Seal.{Seal}
@@ -8,9 +8,6 @@ use Rattle.dn_seal.specs.Hmac.{tag_of}
 use Rattle.dn_seal.specs.Sealing.{front_bytes}
 use Rattle.dn_link.specs.declared.bundle.Carried.{Carried}
 use Rattle.dn_link.specs.declared.bundle.Counts.{Counts}
-use Rattle.dn_link.specs.declared.bundle.Identity.{Identity}
-use Rattle.dn_link.specs.declared.bundle.Message.{Message}
-use Rattle.dn_link.specs.declared.bundle.Message.TheVariants.{Hello, Game, Goodbye}
 use Rattle.dn_link.specs.declared.bundle.Part.{Part}
 use Rattle.dn_link.specs.declared.bundle.Part.TheVariants.{Whole, Run, Relay}
 use Rattle.dn_link.specs.declared.bundle.Relay as relay
@@ -21,23 +18,6 @@ use Rattle.dn_link.specs.declared.bundle.Bundle.{Bundle}
 abbrev pub counts_bytes : Counts → List ℕ
 counts_bytes counts =
     to_le_bytes w32 counts.made ++ to_le_bytes w32 counts.ran ++ flat_map (to_le_bytes w32) counts.got
-
--- a byte of 0 or 1
-abbrev pub flag_byte : Bool → ℕ
-flag_byte true = 1
-flag_byte false = 0
-
--- what must be the same at all players
-abbrev pub identity_bytes : Identity → List ℕ
-identity_bytes identity =
-    (identity.players ∷ flag_byte identity.extra ∷ identity.ahead ∷ []) ++ to_le_bytes w32 identity.limit
-    ++ identity.host
-
--- what the datagram is for: a player of this identity is there, the game goes on, or the sender has left
-abbrev pub message_bytes : Message → List ℕ
-message_bytes (Hello identity) = 0 ∷ identity_bytes identity
-message_bytes Game = 1 ∷ []
-message_bytes (Goodbye cause) = 2 ∷ cause ∷ []
 
 -- a packet, with its exact numbers and its length in front
 abbrev pub carried_bytes : Carried → List ℕ
@@ -62,13 +42,13 @@ part_bytes (Relay relay) = relay_head relay ∷ run_bytes relay.run
 abbrev pub parts_bytes : List Part → List ℕ
 parts_bytes parts = length parts ∷ flat_map part_bytes parts
 
--- what the tag is over: the suite, kind 2 and the game, then from whom to whom, the datagram's number, the lead
--- and the holes, the counts, what the datagram is for, and the parts
+-- what the tag is over: the suite, kind 5 and the game, then from whom to whom, the datagram's number, the
+-- lead, the holes, why the sender ended, the counts, and the parts
 abbrev pub bundle_bytes : Seal → Bundle → List ℕ
 bundle_bytes seal bundle =
-    front_bytes seal 2 ++ (bundle.from ∷ bundle.to ∷ []) ++ to_le_bytes w32 bundle.number
-    ++ (cast_unsigned w8 bundle.lead ∷ bundle.holes ∷ []) ++ counts_bytes bundle.counts
-    ++ message_bytes bundle.message ++ parts_bytes bundle.parts.items
+    front_bytes seal 5 ++ (bundle.from ∷ bundle.to ∷ []) ++ to_le_bytes w32 bundle.number
+    ++ (cast_unsigned w8 bundle.lead ∷ bundle.holes ∷ bundle.cause ∷ []) ++ counts_bytes bundle.counts
+    ++ parts_bytes bundle.parts.items
 
 -- the bytes that are sent
 abbrev pub sealed_bytes : Seal → Bundle → List ℕ
@@ -103,20 +83,11 @@ pub record AreCounts (counts : Counts) : Type 0 where
   pub four : length counts.got ≡ 4
   pub got : All (λ count. count < 2 ^ 32) counts.got
 
-pub record IsIdentity (identity : Identity) : Type 0 where
-  pub limit : identity.limit < 2 ^ 32
-  pub host : length identity.host ≡ 16
-
-abbrev pub IsMessage : Message → Type 0
-IsMessage (Hello identity) = IsIdentity identity
-IsMessage Game = Unit {0}
-IsMessage (Goodbye cause) = Unit {0}
-
 -- the fields fit, so that the bundle has a datagram
 pub record IsBundle (bundle : Bundle) : Type 0 where
   pub number : bundle.number < 2 ^ 32
   pub lead : FitsSigned w8 bundle.lead
+  pub cause : bundle.cause ≤ 3
   pub counts : AreCounts bundle.counts
-  pub message : IsMessage bundle.message
   pub few : length bundle.parts.items ≤ 24
   pub parts : All IsPart bundle.parts.items

@@ -1,17 +1,14 @@
 -- What bytes tell, part by part.
-use Rattle.std.specs.Prelude.{ℕ, zero, suc, ◌+◌, ◌-◌, ◌*◌, ◌/◌, ◌%◌, ◌==◌, ◌||◌, nat_lt, if◌then◌else◌, Bool, true, false, List, [], ◌∷◌, length, take, drop, slice_index, Option, Some, None}
+use Rattle.std.specs.Prelude.{ℕ, zero, suc, ◌+◌, ◌-◌, ◌*◌, ◌/◌, ◌%◌, ◌==◌, ◌||◌, nat_lt, if◌then◌else◌, List, [], ◌∷◌, length, take, drop, slice_index, Option, Some, None}
 use Rattle.std.specs.Option.{option_map}
 use Rattle.std.specs.Int.{w8, w32, cast_signed, from_le_bytes}
 use Rattle.dn_seal.specs.Opening.{ask_in}
 use Rattle.dn_link.specs.declared.bundle.Bundle.{Bundle}
 use Rattle.dn_link.specs.declared.bundle.Carried.{Carried}
 use Rattle.dn_link.specs.declared.bundle.Counts.{Counts}
-use Rattle.dn_link.specs.declared.bundle.Identity.{Identity}
-use Rattle.dn_link.specs.declared.bundle.Message.{Message}
-use Rattle.dn_link.specs.declared.bundle.Message.TheVariants.{Hello, Game, Goodbye}
 use Rattle.dn_link.specs.declared.bundle.Part.{Part}
 use Rattle.dn_link.specs.declared.bundle.Part.TheVariants.{Whole, Run, Relay}
-use Rattle.dn_link.specs.Text.{message_bytes, part_bytes}
+use Rattle.dn_link.specs.Text.{part_bytes}
 
 -- the number of four bytes from a place on
 abbrev pub number_at : ℕ → List ℕ → ℕ
@@ -24,34 +21,6 @@ told_counts bytes =
       ran = number_at 4 bytes;
       got = number_at 8 bytes ∷ number_at 12 bytes ∷ number_at 16 bytes ∷ number_at 20 bytes ∷ [];
     }
-
--- a byte of 0 or 1
-abbrev pub told_flag : ℕ → Option Bool
-told_flag byte = if byte == 1 then Some true else (if byte == 0 then Some false else None)
-
-abbrev pub told_identity : List ℕ → Option Identity
-told_identity bytes =
-    option_map (λ extra. record {
-      players = slice_index bytes 0;
-      extra = extra;
-      ahead = slice_index bytes 2;
-      limit = number_at 3 bytes;
-      host = take 16 (drop 7 bytes);
-    }) (told_flag (slice_index bytes 1))
-
-abbrev pub told_hello : List ℕ → Option Message
-told_hello bytes = if nat_lt (length bytes) 23 then None else option_map Hello (told_identity bytes)
-
-abbrev pub told_goodbye : List ℕ → Option Message
-told_goodbye bytes = if nat_lt (length bytes) 1 then None else Some (Goodbye (slice_index bytes 0))
-
--- by the first byte
-abbrev pub told_message : List ℕ → Option Message
-told_message [] = None
-told_message (first ∷ rest) =
-    if first == 0
-    then told_hello rest
-    else (if first == 1 then Some Game else (if first == 2 then told_goodbye rest else None))
 
 -- a packet with its numbers in front, where the bytes reach
 abbrev pub told_whole : List ℕ → Option Carried
@@ -113,25 +82,20 @@ told_parts [] = None
 told_parts (count ∷ bytes) = if nat_lt 24 count then None else told_all count bytes
 
 -- the bundle of these parts
-abbrev pub bundle_with : List ℕ → Message → List Part → Bundle
-bundle_with body message parts =
+abbrev pub bundle_with : List ℕ → List Part → Bundle
+bundle_with body parts =
     record {
       from = slice_index body 10;
       to = slice_index body 11;
       number = number_at 12 body;
       lead = cast_signed w8 (slice_index body 16);
       holes = slice_index body 17;
-      counts = told_counts (drop 18 body);
-      message = message;
+      cause = slice_index body 18;
+      counts = told_counts (drop 19 body);
       parts = record { items = parts };
     }
 
--- the bundle of a message
-abbrev pub told_with : List ℕ → Option Message → Option Bundle
-told_with body None = None
-told_with body (Some message) =
-    option_map (bundle_with body message) (told_parts (drop (42 + length (message_bytes message)) body))
-
 -- what stands under a tag
 abbrev pub told_bundle : List ℕ → Option Bundle
-told_bundle body = told_with body (told_message (drop 42 body))
+told_bundle body =
+    if nat_lt 3 (slice_index body 18) then None else option_map (bundle_with body) (told_parts (drop 43 body))

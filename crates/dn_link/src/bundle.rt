@@ -70,32 +70,6 @@ pub struct Counts {
     pub got: [u32; 4],
 }
 
-/// What must be the same at all players of a game.
-#[derive(Clone, Copy, Debug, PartialEq, Eq)]
-pub struct Identity {
-    /// How many players the game has.
-    pub players: u8,
-    /// Whether packets repeat commands.
-    pub extra: bool,
-    /// How many commands a player makes ahead of its runs.
-    pub ahead: u8,
-    /// How many bytes the demo may have.
-    pub limit: u32,
-    /// What the host adds: a digest of its own version, files and options.
-    pub host: [u8; 16],
-}
-
-/// What a datagram is for.
-#[derive(Clone, Copy, Debug, PartialEq, Eq)]
-pub enum Message {
-    /// A player of this identity is there.
-    Hello(Identity),
-    /// The game goes on.
-    Game,
-    /// The sender has left, for this cause.
-    Goodbye(u8),
-}
-
 /// What is in one datagram.
 #[derive(Debug, Drop, PartialEq, Eq)]
 pub struct Bundle {
@@ -109,10 +83,11 @@ pub struct Bundle {
     pub lead: i8,
     /// How many datagrams of the receiver the sender misses.
     pub holes: u8,
+    /// Why the sender has ended: that it quit (1), that its demo is full (2), or that it found another's world
+    /// to differ (3); 0 while it plays.
+    pub cause: u8,
     /// How far the sender is.
     pub counts: Counts,
-    /// What the datagram is for.
-    pub message: Message,
     /// The packets for the receiver, oldest first, up to where there may be no room for one more.
     pub parts: ArrayVec<Part, 24>,
 }

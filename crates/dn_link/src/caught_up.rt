@@ -3,7 +3,7 @@
 ghost use Rattle.std.specs.Prelude.{◌≡◌, ◌≢◌, ◌<◌, ◌≤◌, ◌+◌, ◌*◌, ℕ, ℤ, Bool, false, List, Option, Some, IfSome, length};
 ghost use Rattle.dn_tic.specs.{declared.command.Move.Move, declared.input.Input.Input};
 ghost use Rattle.dn_setup.specs.Settings.{Settings};
-ghost use Rattle.dn_machine.specs.{declared.answers.Made.Made, declared.answers.Ran.Ran, Game.fresh, Limits.Limits, Node.put, Running.on_run, Running.on_quit, Sending.lag};
+ghost use Rattle.dn_machine.specs.{declared.answers.Made.Made, declared.answers.Ran.Ran, Limits.Limits, Node.put, Running.on_run, Running.on_quit, Sending.lag, Started.started_node};
 ghost use Rattle.dn_lockstep.specs.Told.{Builds, got, made};
 ghost use Rattle.dn_lockstep.specs.Marking.{Marking};
 ghost use Rattle.dn_lockstep.specs.Sent.{IsFair, sent_to};
@@ -13,10 +13,10 @@ ghost use Rattle.dn_lockstep.specs.OneGame.{Session};
 ghost use Rattle.dn_machine.specs.declared.answers.Phase.TheVariants.{Playing};
 ghost use Rattle.dn_open.specs.Sealed.{sealing_of};
 ghost use Rattle.dn_seal.specs.declared.seal.Seal.{Seal};
-ghost use Rattle.dn_link.specs.{declared.bundle.Bundle.Bundle, declared.bundle.Carried.Carried, declared.bundle.Message.TheVariants.Game, CaughtUp.Brings, CaughtUp.HasGrown, CaughtUp.IsInStep, Kept.end_of, Kept.taken_by, Reading.IsDatagramOf, Text.parts_bytes};
-ghost use Rattle.dn_link.specs.{declared.bundle.Identity.Identity, declared.received.Received.Received, LinkedGame.IsGenuineDatagram, CaughtUp.AreCaughtUp, CaughtUp.IsInStepTo, CaughtUp.StayCaughtUp, CaughtUp.WasInStep, Counting.has_ended};
+ghost use Rattle.dn_link.specs.{declared.bundle.Bundle.Bundle, declared.bundle.Carried.Carried, CaughtUp.Brings, CaughtUp.HasGrown, CaughtUp.IsInStep, Kept.end_of, Kept.taken_by, Reading.IsDatagramOf, Text.parts_bytes};
+ghost use Rattle.dn_link.specs.{declared.received.Received.Received, LinkedGame.IsGenuineDatagram, CaughtUp.AreCaughtUp, CaughtUp.IsInStepTo, CaughtUp.StayCaughtUp, CaughtUp.WasInStep, Counting.has_ended};
 ghost use Rattle.dn_link.specs.{Rounds.AreRounds, Rounds.AreFairLines, Rounds.Stretch};
-ghost use Rattle.dn_link.specs.{Linked.Gives, Linked.Linked, Linked.Receives, Linked.forgotten, Linked.holds_back, LinkedGame.AreLinked, Linking.new_peer, CaughtUp.next_to, Pacing.PaceState};
+ghost use Rattle.dn_link.specs.{Linked.Gives, Linked.Linked, Linked.Receives, LinkedGame.AreLinked, Linking.new_peer, CaughtUp.next_to, Pacing.PaceState};
 
 use crate::laws::{bundles_are_read_back, linked_game_goes_on};
 use dn_lockstep::locksteps_agree;
@@ -26,7 +26,8 @@ use dn_open::letters_keep_one_game;
 #[tactic(auto, using(dn_lockstep::proofs::Shown::has))]
 pub fn links_open_caught_up()
     ensures { (limits : Limits) (settings : Settings) (links : ℕ → Linked)
-        → ((player : ℕ) → player < limits.players → Represents limits player (links player).node (fresh settings player))
+        → ((player : ℕ) → player < limits.players
+        → Represents limits player (links player).node (started_node limits.players settings player))
         → ((player peer : ℕ) → player < limits.players → (links player).peers peer ≡ new_peer)
         → AreCaughtUp limits links }
 {}
@@ -50,26 +51,20 @@ pub fn links_stay_caught_up()
         → AreLinked marking limits settings session links → AreCaughtUp limits links → player < limits.players
         → Steps (links player).node new.node (λ limits me m. on_quit m) (λ answer. quit ≡ answer)
         → new.peers ≡ (links player).peers → StayCaughtUp limits links player new }
-    ensures forgot { (marking : Marking) (limits : Limits) (settings : Settings) (session : Session) (links : ℕ → Linked)
-        (player peer : ℕ) (new : Linked)
-        → AreLinked marking limits settings session links → AreCaughtUp limits links → player < limits.players
-        → new ≡ forgotten peer (links player) → StayCaughtUp limits links player new }
     ensures gave { (marking : Marking) (limits : Limits) (settings : Settings) (session : Session) (links : ℕ → Linked)
-        (player to : ℕ) (seal : Seal) (identity : Identity) (pace : PaceState) (new : Linked) (bytes : List ℕ)
+        (player to : ℕ) (seal : Seal) (pace : PaceState) (new : Linked) (bytes : List ℕ)
         → AreLinked marking limits settings session links → AreCaughtUp limits links → limits.players ≤ 4
         → player < limits.players → to < limits.players → to ≢ player
-        → (holds_back (links player) ≡ false
-        → Tells (links player).node (λ limits me m. IfSome (sent_to to limits me m).1 IsFair))
+        → Tells (links player).node (λ limits me m. IfSome (sent_to to limits me m).1 IsFair)
         → (has_ended (links to).node ≡ false
         → made (links player).node ≤ next_to (links player).node to + (links player).node.places)
-        → Gives seal identity pace to (links player) new bytes
+        → Gives seal pace to (links player) new bytes
         → WasInStep seal limits (put links player new) bytes × StayCaughtUp limits links player new }
     ensures received { (marking : Marking) (limits : Limits) (settings : Settings) (session : Session) (links : ℕ → Linked)
-        (player : ℕ) (seal : Seal) (identity : Identity) (pace : PaceState) (bytes : List ℕ) (new : Linked)
-        (answer : Received)
+        (player : ℕ) (seal : Seal) (bytes : List ℕ) (new : Linked) (answer : Received)
         → AreLinked marking limits settings session links → AreCaughtUp limits links → player < limits.players
         → IsGenuineDatagram seal session player bytes → IsInStepTo seal limits links player bytes
-        → Receives seal identity pace bytes (links player) new answer
+        → Receives seal bytes (links player) new answer
         → StayCaughtUp limits links player new }
     ensures reported { (marking : Marking) (limits : Limits) (settings : Settings) (session : Session) (links : ℕ → Linked)
         (player : ℕ) (new : Linked)
@@ -100,12 +95,12 @@ pub fn caught_up_links_cover()
         → got (links to).node player ≤ next_to (links player).node to + lag limits
         → made (links player).node ≤ next_to (links player).node to + (links player).node.places }
     ensures covered { (marking : Marking) (limits : Limits) (settings : Settings) (session : Session) (links : ℕ → Linked)
-        (player to : ℕ) (seal : Seal) (identity : Identity) (pace : PaceState) (new : Linked) (bytes : List ℕ)
+        (player to : ℕ) (seal : Seal) (pace : PaceState) (new : Linked) (bytes : List ℕ)
         → AreLinked marking limits settings session links → AreCaughtUp limits links → limits.players ≤ 4
         → player < limits.players → to < limits.players → to ≢ player → has_ended (links to).node ≡ false
         → made (links player).node ≤ next_to (links player).node to + (links player).node.places
-        → (gives : Gives seal identity pace to (links player) new bytes) (packet : Carried)
-        → taken_by ((links player).peers to).presence gives.given ≡ Some packet
+        → (gives : Gives seal pace to (links player) new bytes) (packet : Carried)
+        → taken_by ((links player).peers to).left gives.given ≡ Some packet
         → end_of packet ≤ (new.peers to).kept.covered }
 {
     locksteps_agree();
@@ -114,29 +109,29 @@ pub fn caught_up_links_cover()
 /// What arrives brings all. Whatever datagram of one that plays comes to a player that plays, whenever it
 /// comes, and however many others did not: the player has then each command that its sender had made when it
 /// gave the datagram. It has room for all, if it has fewer than twenty-two parts of its sender's own, of 998
-/// bytes at most; and its sender had made at most twelve from the tic on from which the peer is to be sent them.
+/// bytes at most; and its sender had made at most twelve from the tic on from which the peer is to be sent
+/// them.
 pub fn links_bring_all()
     ensures given { (marking : Marking) (limits : Limits) (settings : Settings) (session : Session) (links : ℕ → Linked)
-        (player to : ℕ) (seal : Seal) (identity : Identity) (pace : PaceState) (new : Linked) (bytes : List ℕ)
+        (player to : ℕ) (seal : Seal) (pace : PaceState) (new : Linked) (bytes : List ℕ)
         → AreLinked marking limits settings session links → AreCaughtUp limits links
         → player < limits.players → to < limits.players → to ≢ player
         → (has_ended (links to).node ≡ false
         → made (links player).node ≤ next_to (links player).node to + (links player).node.places)
         → made (links player).node ≤ next_to (links player).node to + 12
         → (links player).node.phase ≡ Playing
-        → (gives : Gives seal identity pace to (links player) new bytes)
+        → (gives : Gives seal pace to (links player) new bytes)
         → length gives.own < 22 → length (parts_bytes gives.own) ≤ 998
         → Brings (made (links player).node) (put links player new) gives.bundle }
     ensures stay { (limits : Limits) (links later : ℕ → Linked) (bundle : Bundle) (count : ℕ)
         → HasGrown limits links later → IsInStep limits links bundle → Brings count links bundle
         → IsInStep limits later bundle × Brings count later bundle }
     ensures brought { (marking : Marking) (limits : Limits) (settings : Settings) (session : Session) (links : ℕ → Linked)
-        (player : ℕ) (seal : Seal) (identity : Identity) (pace : PaceState) (bytes : List ℕ) (new : Linked)
-        (answer : Received) (bundle : Bundle) (count : ℕ)
+        (player : ℕ) (seal : Seal) (bytes : List ℕ) (new : Linked) (answer : Received) (bundle : Bundle) (count : ℕ)
         → AreLinked marking limits settings session links → AreCaughtUp limits links → player < limits.players
         → IsGenuineDatagram seal session player bytes → IsInStepTo seal limits links player bytes
-        → Receives seal identity pace bytes (links player) new answer
-        → IsDatagramOf (sealing_of seal player) bytes bundle → bundle.message ≡ Game → new.node.phase ≡ Playing
+        → Receives seal bytes (links player) new answer
+        → IsDatagramOf (sealing_of seal player) bytes bundle → new.node.phase ≡ Playing
         → Brings count links bundle → count ≤ got new.node bundle.from }
 {
     linked_game_goes_on();

@@ -4,9 +4,9 @@ ghost use Rattle.std.specs.Prelude.{◌≡◌, ◌≢◌, ◌<◌, ℕ, ◌+◌,
 ghost use Rattle.dn_lockstep.specs.Contents.{contents, end_in};
 ghost use Rattle.dn_lockstep.specs.Tables.{count_of};
 ghost use Rattle.dn_seal.specs.Sealing.{sealing};
-ghost use Rattle.dn_link.specs.{Counting.counts_of, Counting.has_of, Counting.held, Counting.held_of, Counting.reached, Presence.tells_end};
+ghost use Rattle.dn_link.specs.{Counting.counts_of, Counting.has_of, Counting.held, Counting.held_of, Counting.reached};
 
-use crate::bundle::{Bundle, Counts};
+use crate::bundle::Counts;
 use dn_lockstep::Lockstep;
 
 /// How many commands a lockstep has of a player; a known end counts as one more. 0 for a number that is no
@@ -67,14 +67,4 @@ pub(crate) fn reached(lockstep: &Lockstep, player: u8) -> u32
     ensures { result ≡ reached (contents lockstep.now) player }
 {
     held(lockstep, player).saturating_sub(lockstep.ahead())
-}
-
-/// Whether a datagram reports that its sender has left.
-pub(crate) fn tells_end(bundle: &Bundle) -> bool
-    ensures { result ≡ tells_end bundle.now }
-{
-    match bundle.counts.got.get(bundle.from as usize) {
-        Some(own) => bundle.counts.made < *own,
-        None => false,
-    }
 }

@@ -1,10 +1,10 @@
 //! What a lockstep gives to a peer.
 
-ghost use Rattle.std.specs.Prelude.{◌≡◌, ◌&&◌, None, false, IfSome, is_some};
+ghost use Rattle.std.specs.Prelude.{◌≡◌, None, IfSome};
 ghost use Rattle.dn_lockstep.specs.Contents.{contents};
 ghost use Rattle.dn_lockstep.specs.Sent.{IsFair, sent_to};
 ghost use Rattle.dn_lockstep.specs.Steps.{Tells};
-ghost use Rattle.dn_link.specs.{Hearing.SendsCarried, Hearing.ByTest};
+ghost use Rattle.dn_link.specs.Hearing.{SendsCarried};
 
 use crate::bundle::Carried;
 use arrayvec::ArrayVec;
@@ -14,7 +14,7 @@ use dn_seal::append;
 
 /// The next packet to a peer, with its exact numbers; None where there is none.
 #[tactic(auto, using(dn_lockstep::proofs::Giving::some_given, dn_open::proofs::Sealables::gives_none))]
-fn next_packet(lockstep: &mut Lockstep, to: u8) -> Option<Carried>
+pub(crate) fn next_packet(lockstep: &mut Lockstep, to: u8) -> Option<Carried>
     ensures step { SendsCarried to (contents lockstep.old) (contents lockstep.new) result }
     ensures idle { result ≡ None → contents lockstep.new ≡ contents lockstep.old }
     ensures fair { Tells (contents lockstep.old) (λ limits me m. IfSome (sent_to to limits me m).1 IsFair) }
@@ -30,25 +30,4 @@ fn next_packet(lockstep: &mut Lockstep, to: u8) -> Option<Carried>
         ask: aim.ask,
         datagram,
     })
-}
-
-/// Whether a packet is the settings: one that a gathering lockstep gives.
-pub(crate) fn is_settings(gathers: bool, packet: &Option<Carried>) -> bool
-    ensures { result ≡ (gathers && is_some packet.now) }
-{
-    gathers && packet.is_some()
-}
-
-/// The next packet to a peer, unless it is held back.
-pub(crate) fn next_unless(held: bool, lockstep: &mut Lockstep, to: u8) -> Option<Carried>
-    ensures step { ByTest held ((contents lockstep.new ≡ contents lockstep.old) × (result ≡ None))
-        (SendsCarried to (contents lockstep.old) (contents lockstep.new) result) }
-    ensures idle { result ≡ None → contents lockstep.new ≡ contents lockstep.old }
-    ensures fair { held ≡ false
-        → Tells (contents lockstep.old) (λ limits me m. IfSome (sent_to to limits me m).1 IsFair) }
-{
-    if held {
-        return None;
-    }
-    next_packet(lockstep, to)
 }

@@ -7,7 +7,6 @@ ghost use Rattle.dn_link.specs.{Kept.takes_packet, Kept.without, Packing.ArePack
 
 use crate::bundle::{Carried, Part};
 use crate::packing::pack;
-use crate::presence::Presence;
 use arrayvec::ArrayVec;
 
 /// How many packets are kept for a peer: as many as commands are kept in the widest window.
@@ -58,14 +57,13 @@ fn is_idle(packet: &Carried) -> bool
     commands_in(packet) == 0 && packet.ask.is_none() && flag_byte(packet) < FIRST_FLAG
 }
 
-/// Whether a peer takes a packet. One that says nothing is for a peer whose game has not started.
-pub(crate) fn takes_packet(presence: Presence, packet: &Carried) -> bool
-    ensures { result ≡ takes_packet presence packet.now }
+/// Whether a peer that has left for this cause, or has not, takes a packet: none that says nothing.
+pub(crate) fn takes_packet(left: Option<u8>, packet: &Carried) -> bool
+    ensures { result ≡ takes_packet left packet.now }
 {
-    match presence {
-        Presence::Left(_) => false,
-        Presence::Playing | Presence::Forgotten => !is_idle(packet),
-        _ => true,
+    match left {
+        Some(_) => false,
+        None => !is_idle(packet),
     }
 }
 
@@ -110,8 +108,8 @@ impl Kept {
         }
     }
 
-    /// Whether a packet goes on where these end, with a command that none of them has, and there is room to keep
-    /// it.
+    /// Whether a packet goes on where these end, with a command that none of them has, and there is room to
+    /// keep it.
     fn is_news(&self, packet: &Carried) -> bool
         ensures { result ≡ is_news (kept self.now) packet.now }
     {

@@ -2,10 +2,10 @@
 
 ghost use Rattle.std.specs.Prelude.{◌≡◌, ◌≢◌, ◌<◌, ◌≤◌, ℕ, ℤ, pos, Bool, true, false, List, [], slice_index, All, get_or, length, Option, None, Some, IfSome, Result, Ok, Err};
 ghost use Rattle.dn_tic.specs.{declared.command.Move.Move, declared.input.Input.Input};
-ghost use Rattle.dn_setup.specs.Settings.{Settings};
-ghost use Rattle.dn_machine.specs.{declared.answers.Made.Made, declared.answers.Ran.Ran, Flight.Flight, Game.fresh, Limits.Limits, Limits.IsWindow, Running.is_over};
-ghost use Rattle.dn_machine.specs.{Running.on_run, Running.on_quit};
-ghost use Rattle.dn_lockstep.specs.Agreed.{AreAgreed};
+ghost use Rattle.dn_setup.specs.Settings.{IsSettings, Settings};
+ghost use Rattle.dn_machine.specs.{declared.answers.Made.Made, declared.answers.Ran.Ran, Flight.Flight, Limits.Limits, Limits.IsWindow, Running.is_over};
+ghost use Rattle.dn_machine.specs.{Running.on_run, Running.on_quit, Started.started_node};
+ghost use Rattle.dn_lockstep.specs.{Agreed.AreAgreed, Opening.IsGame};
 ghost use Rattle.dn_lockstep.specs.Told.{Builds};
 ghost use Rattle.dn_lockstep.specs.Contents.{Contents, end_in};
 ghost use Rattle.dn_lockstep.specs.Marking.{Marking};
@@ -13,18 +13,18 @@ ghost use Rattle.dn_lockstep.specs.Sent.{IsFair};
 ghost use Rattle.dn_lockstep.specs.OneGame.{AreOneGame, world_told};
 ghost use Rattle.dn_lockstep.specs.Represents.{Represents};
 ghost use Rattle.dn_lockstep.specs.Steps.{RunsBy};
-ghost use Rattle.dn_lockstep.specs.OneGame.{Session, after_build, after_packet, after_relays, after_run, opening_session, with_lockstep};
+ghost use Rattle.dn_lockstep.specs.OneGame.{Session, after_build, after_packet, after_relays, after_run, started_session, with_lockstep};
 ghost use Rattle.dn_lockstep.specs.Sent.{sent_to};
 ghost use Rattle.dn_lockstep.specs.{Steps.Steps, Steps.Tells, Told.got, Told.made};
 ghost use Rattle.dn_survivor.specs.OfOthers.{nothing_kept};
 ghost use Rattle.dn_seal.specs.{declared.opened.Opened.Opened, declared.seal.Seal.Seal, Opening.Sealing};
 ghost use Rattle.dn_open.specs.Sealed.{sealing_of};
-ghost use Rattle.dn_link.specs.{declared.bundle.Bundle.Bundle, declared.bundle.BundleFault.BundleFault, declared.bundle.Identity.Identity, declared.received.Received.Received, LinkedGame.IsEmpty};
-ghost use Rattle.dn_link.specs.{LinkedGame.IsGenuineDatagram, LinkedGame.WasBundled, LinkedGame.WasGiven, declared.presence.Presence.TheVariants.Forgotten, Counting.has_ended, Presence.has_gone, Linked.Gives};
-ghost use Rattle.dn_link.specs.{Linked.Linked, Linked.Receives, Linked.certain, Linked.forgotten, Linked.holds_back, Linked.may_leave, Linked.never_played, LinkedGame.AreLinked, LinkedGame.IsLater};
+ghost use Rattle.dn_link.specs.{declared.bundle.Bundle.Bundle, declared.bundle.BundleFault.BundleFault, declared.received.Received.Received, LinkedGame.IsEmpty};
+ghost use Rattle.dn_link.specs.{LinkedGame.IsGenuineDatagram, LinkedGame.WasBundled, LinkedGame.WasGiven, Counting.has_ended, Linked.Gives};
+ghost use Rattle.dn_link.specs.{Linked.Linked, Linked.Receives, Linked.certain, Linked.may_leave, LinkedGame.AreLinked, LinkedGame.IsLater};
 ghost use Rattle.dn_link.specs.{LinkedGame.StayLinked, Linking.new_peer, Hearing.HearsAll, Pacing.PaceState, Reading.IsBundledAs, Relays.flights_of, Text.IsBundle, Text.sealed_bytes};
 
-use dn_lockstep::{locksteps_agree, one_game_goes_on, one_game_opens};
+use dn_lockstep::{locksteps_agree, one_game_goes_on, one_game_starts};
 use dn_open::letters_keep_one_game;
 
 /// What was written is read back: the datagram of a bundle is read by its receiver as that bundle, and as
@@ -49,25 +49,26 @@ pub fn datagrams_keep_one_game()
     letters_keep_one_game();
 }
 
-/// New links of the same limits, one for each player, of which player 0's has these settings, are those of one
-/// game, in which nobody is given up.
+/// New links of the same limits, one for each player, which play with these settings from the beginning on, are
+/// those of one game, in which nobody is given up.
 #[tactic(auto, using(crate::proofs::Relinking::new_whole))]
-pub fn linked_game_opens()
+pub fn linked_game_starts()
     ensures { (marking : Marking) (limits : Limits) (settings : Settings) (links : ℕ → Linked)
-        → IsWindow limits
+        → IsWindow limits → IsGame limits.players → IsSettings settings
         → ((player : ℕ) → player < limits.players
-        → Represents limits player (links player).node (fresh settings player))
+        → Represents limits player (links player).node (started_node limits.players settings player))
         → ((player : ℕ) → player < limits.players → (links player).others ≡ nothing_kept)
         → ((player peer : ℕ) → player < limits.players → (links player).peers peer ≡ new_peer)
-        → AreLinked marking limits settings (opening_session (λ player. (links player).node)) links }
+        → AreLinked marking limits settings
+        (started_session limits.players settings (λ player. (links player).node)) links }
 {
-    one_game_opens();
+    one_game_starts();
 }
 
 /// And so they stay after each call on one of them, whatever bytes come in, as long as what it opens was sealed
 /// in this game before; what `Link::datagram` gives was. At a run the caller hands in the marks of a world that
-/// moved on by the rows that it was told. Nobody is given up: so what `Link::receive` says of a report that comes,
-/// by its clauses `quiet` and `gone`, is what `reported` asks.
+/// moved on by the rows that it was told. Nobody is given up: so what `Link::receive` says of a report that
+/// comes, by its clauses `quiet` and `gone`, is what `reported` asks.
 pub fn linked_game_goes_on()
     ensures built { (marking : Marking) (limits : Limits) (settings : Settings) (session : Session) (links : ℕ → Linked)
         (player : ℕ) (new : Linked) (input : Input) (made : Made)
@@ -92,27 +93,20 @@ pub fn linked_game_goes_on()
         → Steps (links player).node new.node (λ limits me m. on_quit m) (λ answer. quit ≡ answer)
         → new.others ≡ (links player).others → new.peers ≡ (links player).peers
         → StayLinked marking limits settings session links player new (with_lockstep session player new.node) }
-    ensures forgot { (marking : Marking) (limits : Limits) (settings : Settings) (session : Session) (links : ℕ → Linked)
-        (player peer : ℕ) (new : Linked)
-        → AreLinked marking limits settings session links → player < limits.players
-        → new ≡ forgotten peer (links player)
-        → StayLinked marking limits settings session links player new (with_lockstep session player new.node) }
     ensures gave { (marking : Marking) (limits : Limits) (settings : Settings) (session : Session) (links : ℕ → Linked)
-        (player to : ℕ) (seal : Seal) (identity : Identity) (pace : PaceState) (new : Linked) (bytes : List ℕ)
+        (player to : ℕ) (seal : Seal) (pace : PaceState) (new : Linked) (bytes : List ℕ)
         → AreLinked marking limits settings session links → player < limits.players
-        → (holds_back (links player) ≡ false
-        → Tells (links player).node (λ limits me m. IfSome (sent_to to limits me m).1 IsFair))
-        → (gives : Gives seal identity pace to (links player) new bytes)
+        → Tells (links player).node (λ limits me m. IfSome (sent_to to limits me m).1 IsFair)
+        → (gives : Gives seal pace to (links player) new bytes)
         → (flight : Option Flight)
         × WasBundled seal (after_relays (after_packet session player flight new.node) (flights_of to gives.handed)) bytes
         × StayLinked marking limits settings session links player new
         (after_relays (after_packet session player flight new.node) (flights_of to gives.handed)) }
     ensures received { (marking : Marking) (limits : Limits) (settings : Settings) (session : Session) (links : ℕ → Linked)
-        (player : ℕ) (seal : Seal) (identity : Identity) (pace : PaceState) (bytes : List ℕ) (new : Linked)
-        (answer : Received)
+        (player : ℕ) (seal : Seal) (bytes : List ℕ) (new : Linked) (answer : Received)
         → AreLinked marking limits settings session links → player < limits.players
         → IsGenuineDatagram seal session player bytes
-        → Receives seal identity pace bytes (links player) new answer
+        → Receives seal bytes (links player) new answer
         → StayLinked marking limits settings session links player new (with_lockstep session player new.node) }
     ensures reported { (marking : Marking) (limits : Limits) (settings : Settings) (session : Session) (links : ℕ → Linked)
         (player : ℕ) (new : Linked)
@@ -138,17 +132,6 @@ pub fn sealed_datagrams_are_genuine()
         → IsBundledAs (sealing_of seal player) bytes (Err fault) → IsGenuineDatagram seal session player bytes }
 {}
 
-/// A link that has ended before its game, and keeps no packet for a peer, gives the peer such a datagram. So
-/// that of a player who came and went may come to the links of any later game of the same seal.
-pub fn unplayed_links_give_nothing()
-    ensures { (marking : Marking) (limits : Limits) (settings : Settings) (session : Session) (links : ℕ → Linked)
-        (player to : ℕ) (seal : Seal) (identity : Identity) (pace : PaceState) (new : Linked) (bytes : List ℕ)
-        → AreLinked marking limits settings session links → player < limits.players
-        → never_played (links player).node ≡ true → ((links player).peers to).kept.packets ≡ []
-        → Gives seal identity pace to (links player) new bytes
-        → IsEmpty seal bytes }
-{}
-
 /// The locksteps of linked players agree, in all that `locksteps_agree` says.
 pub fn links_agree()
     ensures { (marking : Marking) (limits : Limits) (settings : Settings) (session : Session) (links : ℕ → Linked)
@@ -171,18 +154,14 @@ pub fn acknowledged_is_there()
     locksteps_agree();
 }
 
-/// Who has played and may leave is needed by nobody who plays on: each other player whose lockstep has not
-/// played and ended has all commands of this one and knows its end, if this link has not given it up, and
-/// player 0 has not said goodbye to this link before the game. A game has at most four players, as every
-/// lockstep's has.
+/// Who may leave is needed by nobody who plays on: each other player whose lockstep has not ended has all
+/// commands of this one and knows its end. A game has at most four players, as every lockstep's has.
 pub fn leaving_is_safe()
     ensures { (marking : Marking) (limits : Limits) (settings : Settings) (session : Session) (links : ℕ → Linked)
         (player other : ℕ)
         → AreLinked marking limits settings session links → limits.players ≤ 4
         → player < limits.players → other < limits.players → other ≢ player
-        → may_leave (links player) ≡ true → never_played (links player).node ≡ false
-        → has_ended (session.locksteps other) ≡ false
-        → ((links player).peers other).presence ≢ Forgotten → has_gone ((links player).peers 0).presence ≡ false
+        → may_leave (links player) ≡ true → has_ended (session.locksteps other) ≡ false
         → (got (session.locksteps other) player ≡ made (session.locksteps player))
         × (end_in (session.locksteps other) player ≡ Some (made (session.locksteps player))) }
 {

@@ -4,6 +4,7 @@
 mod bundle;
 mod caught_up;
 mod counting;
+mod ends;
 mod giving;
 mod hearing;
 mod kept;
@@ -18,7 +19,6 @@ mod overdue;
 mod pace;
 mod packing;
 mod peer;
-mod presence;
 mod reading;
 mod received;
 mod relaying;
@@ -28,24 +28,22 @@ mod stretching;
 mod tally;
 mod writing;
 
-pub use bundle::{Bundle, BundleFault, Carried, Counts, Identity, Message, Part, Relay, Run};
+pub use bundle::{Bundle, BundleFault, Carried, Counts, Part, Relay, Run};
 pub use caught_up::{
     caught_up_links_cover, links_bring_all, links_open_caught_up, links_run_on,
     links_stay_caught_up,
 };
 pub use laws::{
     acknowledged_is_there, bundles_are_read_back, datagrams_keep_one_game, leaving_is_safe,
-    linked_game_goes_on, linked_game_opens, links_agree, sealed_datagrams_are_genuine,
-    unplayed_links_give_nothing,
+    linked_game_goes_on, linked_game_starts, links_agree, sealed_datagrams_are_genuine,
 };
 pub use link::Link;
 pub use onward::{given_is_covered, kept_covers};
-pub use presence::Presence;
 pub use reading::open_bundle;
 pub use received::Received;
 pub use remaining::{
     remaining_bytes_are_genuine, remaining_links_agree, remaining_links_go_on,
-    remaining_links_open, remaining_links_start,
+    remaining_links_start,
 };
 pub use tally::Figures;
 pub use writing::seal_bundle;

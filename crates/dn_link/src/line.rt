@@ -2,11 +2,10 @@
 
 ghost use Rattle.std.specs.Prelude.{◌≡◌, ◌<◌, ◌≤◌, ◌+ℤ◌, ◌-ℤ◌, None, nat_abs, nat_le, pos};
 ghost use Rattle.dn_lockstep.specs.Contents.{contents};
-ghost use Rattle.dn_link.specs.{Line.after_old, Line.byte_of, Line.counted, Line.heard_on, Line.lead_over, Line.missing, Line.after_newest, Line.new_line, Line.with_tally, Pacing.line_of};
+ghost use Rattle.dn_link.specs.{Line.byte_of, Line.counted, Line.heard_on, Line.lead_over, Line.missing, Line.after_newest, Line.new_line, Line.with_tally, Pacing.line_of};
 ghost use Rattle.dn_link.specs.{Pace.is_lossy_line};
 
 use crate::bundle::Bundle;
-use crate::presence::LATEST;
 use crate::tally::Tally;
 use dn_lockstep::Lockstep;
 
@@ -149,36 +148,17 @@ impl Line {
         self.tally.count(self.newest, bundle.number);
     }
 
-    /// An old datagram came.
-    fn hear_old(&mut self, newest: u32, may_come: bool, bundle: &Bundle)
-        ensures { line_of self.new ≡ after_old newest may_come bundle.now (line_of self.old) }
+    /// A datagram came. An old one tells nothing.
+    pub(crate) fn hear(&mut self, bundle: &Bundle)
+        ensures { line_of self.new ≡ heard_on bundle.now (line_of self.old) }
     {
-        if may_come && u64::from(bundle.number) + LATEST <= u64::from(newest) {
-            self.holes = 0;
-            self.before = 0;
-            self.tally.begin();
-            self.tell(bundle);
-        } else {
-            self.tally(bundle);
-        }
-    }
-
-    /// A datagram came, of a player in whose place another may come, or of one that stays.
-    pub(crate) fn hear(&mut self, bundle: &Bundle, may_come: bool)
-        ensures { line_of self.new ≡ heard_on bundle.now may_come (line_of self.old) }
-    {
+        self.tally(bundle);
         match self.newest {
-            None => {
-                self.tally(bundle);
-                self.tell(bundle);
-            }
+            None => self.tell(bundle),
             Some(newest) => {
                 if bundle.number > newest {
-                    self.tally(bundle);
                     self.count(newest, bundle.number);
                     self.tell(bundle);
-                } else {
-                    self.hear_old(newest, may_come, bundle);
                 }
             }
         }

@@ -8,7 +8,6 @@ ghost use Rattle.dn_survivor.specs.Surviving.{surviving};
 mod giving;
 mod handing;
 mod leaving;
-mod lobby;
 mod notices;
 mod owing;
 mod pacing;
@@ -18,7 +17,6 @@ mod surviving;
 mod taking;
 mod telling;
 
-use crate::bundle::Identity;
 use crate::overdue::Overdue;
 use crate::pace::Pace;
 use crate::peer::Peer;
@@ -30,14 +28,13 @@ use dn_survivor::Survivor;
 use dn_tic::{Command, Input, Keys};
 use std::alloc::Global;
 
-/// A lockstep that gives each peer one sealed datagram a tick. It has the packets that are kept until the peer
-/// acknowledges their commands, oldest first, up to where there may be no room for one more. Players may be given
-/// up for good, and the others play on.
+/// A lockstep that plays, and gives each peer one sealed datagram a tick. It has the packets that are kept
+/// until the peer acknowledges their commands, oldest first, up to where there may be no room for one more.
+/// Players may be given up for good, and the others play on.
 #[derive(Drop)]
 pub struct Link {
     survivor: Survivor,
     sealer: Sealer,
-    identity: Identity,
     peers: [Peer; 4],
     pace: Pace,
     overdue: Overdue,
@@ -47,46 +44,19 @@ pub struct Link {
 impl Link {
     ghost use Rattle.dn_machine.specs.Started.{started_node};
     ghost use Rattle.dn_lockstep.specs.Opening.{keyed};
-    ghost use Rattle.std.specs.Prelude.{ℕ, ◌<◌, ◌+◌, false, None, Some, IfOk, Ok};
+    ghost use Rattle.std.specs.Prelude.{ℕ, false, IfOk};
     ghost use Rattle.dn_tic.specs.declared.input.Input.TheVariants.{Pressed, Given};
     ghost use Rattle.dn_machine.specs.Sending.{on_build};
     ghost use Rattle.dn_machine.specs.Running.{on_quit};
-    ghost use Rattle.dn_machine.specs.Game.{fresh};
     ghost use Rattle.dn_lockstep.specs.{Steps.Steps, Contents.whose, Opening.IsAdmittedWithin, Opening.limits_within, Opening.whose_within, Represents.Represents};
-    ghost use Rattle.dn_setup.specs.Settings.{Settings as Choice};
     ghost use Rattle.dn_survivor.specs.OfOthers.{nothing_kept};
-    ghost use Rattle.dn_link.specs.{Linking.identity_for, Linking.identity_of, Linking.linked, Linking.new_peer, Linking.seal_of, Pace.after_input, Pacing.new_pace, Pacing.pace_of};
+    ghost use Rattle.dn_link.specs.{Linking.linked, Linking.new_peer, Linking.seal_of, Pace.after_input, Pacing.new_pace, Pacing.pace_of};
     ghost use Rattle.dn_machine.specs.declared.answers.Made.TheVariants as made;
 
-    /// A link with no history, of a game with this seal, and in a window of this width. What the host adds to
-    /// its identity must be the same at all players: a digest of the engine's version, files and options, say.
-    pub fn new(
-        alloc: Global,
-        config: Config,
-        ahead: u8,
-        host: [u8; 16],
-        seal: Seal,
-    ) -> Result<Link, NodeFault>
-        ensures admitted { IsAdmittedWithin config ahead result }
-        ensures opened { IfOk result (λ link. (settings : Choice)
-            → (config.me ≡ 0 → config.settings ≡ Some settings)
-            → Represents (limits_within config ahead) config.me (linked link).node (fresh settings config.me)) }
-        ensures whose { IfOk result (λ link. whose (linked link).node ≡ whose_within config ahead) }
-        ensures others { IfOk result (λ link. (linked link).others ≡ nothing_kept) }
-        ensures peers { IfOk result (λ link. (player : ℕ) → (linked link).peers player ≡ new_peer) }
-        ensures pace { IfOk result (λ link. pace_of link ≡ new_pace) }
-        ensures identity { IfOk result (λ link. identity_of link ≡ identity_for config ahead host) }
-        ensures seal { IfOk result (λ link. seal_of link ≡ seal) }
-    {
-        let identity = Link::identity_for(&config, ahead, host);
-        let survivor = Survivor::new(alloc, config, ahead)?;
-        Ok(Link::around(survivor, identity, seal))
-    }
-
     /// A link that plays from the beginning on, in a window of this width. Who is in the game was agreed on
-    /// elsewhere: there each player was given these settings, and this seal, whose game nobody else plays. Those of
-    /// the configuration do not count. It says no hello.
-    pub fn started(
+    /// elsewhere: there each player was given these settings, and this seal, whose game nobody else plays.
+    /// Those of the configuration do not count.
+    pub fn new(
         alloc: Global,
         config: Config,
         settings: Settings,
@@ -102,31 +72,16 @@ impl Link {
         ensures pace { IfOk result (λ link. pace_of link ≡ new_pace) }
         ensures seal { IfOk result (λ link. seal_of link ≡ seal) }
     {
-        let identity = Link::identity_for(&config, ahead, [0; 16]);
         let survivor = Survivor::started(alloc, config, settings, ahead)?;
-        Ok(Link::around(survivor, identity, seal))
-    }
-
-    /// What all players of a game have in common, as they say hello with it.
-    fn identity_for(config: &Config, ahead: u8, host: [u8; 16]) -> Identity
-        ensures { result ≡ identity_for config.now ahead host }
-    {
-        Identity {
-            players: config.players,
-            extra: config.extra,
-            ahead,
-            limit: config.limit,
-            host,
-        }
+        Ok(Link::around(survivor, seal))
     }
 
     /// A link around a survivor, that has kept and heard nothing.
-    fn around(survivor: Survivor, identity: Identity, seal: Seal) -> Link
+    fn around(survivor: Survivor, seal: Seal) -> Link
         ensures node { (linked result).node ≡ (surviving survivor).lockstep }
         ensures others { (linked result).others ≡ (surviving survivor).others }
         ensures peers { (player : ℕ) → (linked result).peers player ≡ new_peer }
         ensures pace { pace_of result ≡ new_pace }
-        ensures identity { identity_of result ≡ identity }
         ensures seal { seal_of result ≡ seal }
     {
         let sealer = Sealer::of(seal, survivor.lockstep().me());
@@ -134,7 +89,6 @@ impl Link {
         Link {
             survivor,
             sealer,
-            identity,
             peers: [Peer::new(), Peer::new(), Peer::new(), Peer::new()],
             pace: Pace::new(),
             overdue,
@@ -160,7 +114,6 @@ impl Link {
         ensures peers { (linked self.new).peers ≡ (linked self.old).peers }
         ensures pace { pace_of self.new ≡ after_input (Pressed keys) result (pace_of self.old) }
         ensures seal { seal_of self.new ≡ seal_of self.old }
-        ensures identity { identity_of self.new ≡ identity_of self.old }
     {
         let made = self.survivor.lockstep_mut().build(keys);
         self.pace.take(Input::Pressed(keys), made);
@@ -178,7 +131,6 @@ impl Link {
         ensures peers { (linked self.new).peers ≡ (linked self.old).peers }
         ensures pace { pace_of self.new ≡ after_input (Given command) result (pace_of self.old) }
         ensures seal { seal_of self.new ≡ seal_of self.old }
-        ensures identity { identity_of self.new ≡ identity_of self.old }
     {
         let made = self.survivor.lockstep_mut().give(command);
         self.pace.take(Input::Given(command), made);
@@ -195,7 +147,6 @@ impl Link {
         ensures peers { (linked self.new).peers ≡ (linked self.old).peers }
         ensures pace { pace_of self.new ≡ pace_of self.old }
         ensures seal { seal_of self.new ≡ seal_of self.old }
-        ensures identity { identity_of self.new ≡ identity_of self.old }
     {
         self.survivor.lockstep_mut().quit()
     }

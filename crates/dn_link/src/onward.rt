@@ -9,15 +9,15 @@ ghost use Rattle.dn_setup.specs.Settings.{Settings};
 ghost use Rattle.dn_machine.specs.declared.answers.Made.{Made};
 ghost use Rattle.dn_machine.specs.declared.answers.Ran.{Ran};
 ghost use Rattle.dn_machine.specs.Sending.{on_build};
-ghost use Rattle.dn_machine.specs.Game.{fresh};
+ghost use Rattle.dn_machine.specs.Started.{started_node};
 ghost use Rattle.dn_machine.specs.Limits.{Limits};
 ghost use Rattle.dn_machine.specs.Running.{on_run, on_quit};
 ghost use Rattle.dn_lockstep.specs.Represents.{Represents};
 ghost use Rattle.dn_lockstep.specs.Steps.{RunsBy, Steps};
 ghost use Rattle.dn_lockstep.specs.Told.{made};
 ghost use Rattle.dn_seal.specs.declared.seal.Seal.{Seal};
-ghost use Rattle.dn_link.specs.{declared.bundle.Carried.Carried, declared.bundle.Identity.Identity, declared.received.Received.Received, Kept.end_of, Kept.taken_by, Linked.Gives, Linked.Linked, Kept.Reaches};
-ghost use Rattle.dn_link.specs.{Linked.Receives, Linked.forgotten, Linking.new_peer, CaughtUp.AsksWithin, CaughtUp.GoesOn, CaughtUp.IsInTime, CaughtUp.StillGoesOn, Pacing.PaceState, declared.link.Link.Link};
+ghost use Rattle.dn_link.specs.{declared.bundle.Carried.Carried, declared.received.Received.Received, Kept.end_of, Kept.taken_by, Linked.Gives, Linked.Linked, Kept.Reaches};
+ghost use Rattle.dn_link.specs.{Linked.Receives, Linking.new_peer, CaughtUp.AsksWithin, CaughtUp.GoesOn, CaughtUp.IsInTime, CaughtUp.StillGoesOn, Pacing.PaceState, declared.link.Link.Link};
 ghost use Rattle.dn_link.specs.{Kept.IsCovering, Kept.IsKeptRising, Kept.Unacknowledged, Kept.has_tic, Linking.linked, Packets.opened_from, Packets.packets_of, Text.parts_bytes};
 
 use dn_packet::every_datagram_is_read;
@@ -25,24 +25,24 @@ use dn_setup::every_packet_is_told;
 
 /// The packets that any link keeps for a peer have each command from the first that the peer still needs to the
 /// last that they cover. And a datagram carries all of these, unless it has no room for some: then it has
-/// twenty-two parts or more, or these have more than 998 bytes. What they cover reaches the end of a packet that
-/// is given exactly if it did before, or if the packet begins there or before and fewer than twenty-four are
-/// kept. Each kept packet ends past those before it, so no more are kept than commands are covered that the peer
-/// still needs.
+/// twenty-two parts or more, or these have more than 998 bytes. What they cover reaches the end of a packet
+/// that is given exactly if it did before, or if the packet begins there or before and fewer than twenty-four
+/// are kept. Each kept packet ends past those before it, so no more are kept than commands are covered that the
+/// peer still needs.
 pub fn kept_covers()
     ensures covers { (link : Link) (peer : ℕ) → IsCovering ((linked link).peers peer).kept }
     ensures rising { (link : Link) (peer : ℕ) → IsKeptRising ((linked link).peers peer).kept }
     ensures few { (kept : Unacknowledged) → IsKeptRising kept → kept.done + length kept.packets ≤ kept.covered }
-    ensures carried { (seal : Seal) (identity : Identity) (pace : PaceState) (to : ℕ) (old new : Linked) (bytes : List ℕ)
-        (gives : Gives seal identity pace to old new bytes)
+    ensures carried { (seal : Seal) (pace : PaceState) (to : ℕ) (old new : Linked) (bytes : List ℕ)
+        (gives : Gives seal pace to old new bytes)
         → IsCovering (old.peers to).kept → length gives.own < 22 → length (parts_bytes gives.own) ≤ 998
         → (packets : List Carried) × (flat_map (packets_of gives.bundle.from) gives.own
         ≡ map (opened_from old.node.me) packets)
         × ((tic : ℕ) → (old.peers to).kept.done ≤ tic → tic < (new.peers to).kept.covered
         → has_tic tic packets ≡ true) }
-    ensures reaches { (seal : Seal) (identity : Identity) (pace : PaceState) (to : ℕ) (old new : Linked) (bytes : List ℕ)
-        (gives : Gives seal identity pace to old new bytes) (packet : Carried)
-        → taken_by (old.peers to).presence gives.given ≡ Some packet
+    ensures reaches { (seal : Seal) (pace : PaceState) (to : ℕ) (old new : Linked) (bytes : List ℕ)
+        (gives : Gives seal pace to old new bytes) (packet : Carried)
+        → taken_by (old.peers to).left gives.given ≡ Some packet
         → (end_of packet ≤ (new.peers to).kept.covered) ↔ Reaches (old.peers to).kept packet }
 {}
 
@@ -56,10 +56,10 @@ pub fn kept_covers()
 /// twenty-four at most. So `caught_up_links_cover` (`covered`) needs neither premise, but only that no more
 /// commands were made than the node keeps. A run counts where nobody is given up; of a report, and of giving a
 /// player up for good, nothing is said here.
-#[tactic(auto, using(crate::proofs::Requests::received, crate::proofs::Following::builds, crate::proofs::Following::covers, crate::proofs::Following::forgets, crate::proofs::Following::gives_another, crate::proofs::Following::quits, crate::proofs::Following::runs))]
+#[tactic(auto, using(crate::proofs::Requests::received, crate::proofs::Following::builds, crate::proofs::Following::covers, crate::proofs::Following::gives_another, crate::proofs::Following::quits, crate::proofs::Following::runs))]
 pub fn given_is_covered()
     ensures opened { (limits : Limits) (settings : Settings) (me to : ℕ) (link : Linked)
-        → me < limits.players → to < limits.players → Represents limits me link.node (fresh settings me)
+        → me < limits.players → to < limits.players → Represents limits me link.node (started_node limits.players settings me)
         → link.peers to ≡ new_peer → GoesOn limits me to link }
     ensures built { (limits : Limits) (me to : ℕ) (old new : Linked) (input : Input) (made : Made)
         → GoesOn limits me to old
@@ -73,23 +73,21 @@ pub fn given_is_covered()
     ensures quit { (limits : Limits) (me to : ℕ) (old new : Linked) (quit : Bool) → GoesOn limits me to old
         → Steps old.node new.node (λ limits me m. on_quit m) (λ answer. quit ≡ answer)
         → new.peers ≡ old.peers → StillGoesOn limits me to old new }
-    ensures forgot { (limits : Limits) (me to peer : ℕ) (old : Linked) → GoesOn limits me to old
-        → StillGoesOn limits me to old (forgotten peer old) }
-    ensures received { (limits : Limits) (me to : ℕ) (seal : Seal) (identity : Identity) (pace : PaceState) (bytes : List ℕ)
-        (old new : Linked) (answer : Received) → GoesOn limits me to old → AreBytes bytes
-        → Receives seal identity pace bytes old new answer
+    ensures received { (limits : Limits) (me to : ℕ) (seal : Seal) (bytes : List ℕ) (old new : Linked)
+        (answer : Received) → GoesOn limits me to old → AreBytes bytes
+        → Receives seal bytes old new answer
         → (made old.node ≤ (new.peers to).kept.covered) ⊎ AsksWithin seal me to (new.peers to).kept.covered bytes
         → StillGoesOn limits me to old new }
-    ensures gave_another { (limits : Limits) (me to other : ℕ) (seal : Seal) (identity : Identity) (pace : PaceState)
+    ensures gave_another { (limits : Limits) (me to other : ℕ) (seal : Seal) (pace : PaceState)
         (old new : Linked) (bytes : List ℕ) → other ≢ to → GoesOn limits me to old
-        → Gives seal identity pace other old new bytes → StillGoesOn limits me to old new }
-    ensures gave { (limits : Limits) (me to : ℕ) (seal : Seal) (identity : Identity) (pace : PaceState)
+        → Gives seal pace other old new bytes → StillGoesOn limits me to old new }
+    ensures gave { (limits : Limits) (me to : ℕ) (seal : Seal) (pace : PaceState)
         (old new : Linked) (bytes : List ℕ) → GoesOn limits me to old → IsInTime to old
-        → Gives seal identity pace to old new bytes → StillGoesOn limits me to old new }
-    ensures covered { (limits : Limits) (me to : ℕ) (seal : Seal) (identity : Identity) (pace : PaceState)
+        → Gives seal pace to old new bytes → StillGoesOn limits me to old new }
+    ensures covered { (limits : Limits) (me to : ℕ) (seal : Seal) (pace : PaceState)
         (old new : Linked) (bytes : List ℕ) → GoesOn limits me to old → IsInTime to old
-        → (gives : Gives seal identity pace to old new bytes) (packet : Carried)
-        → taken_by (old.peers to).presence gives.given ≡ Some packet
+        → (gives : Gives seal pace to old new bytes) (packet : Carried)
+        → taken_by (old.peers to).left gives.given ≡ Some packet
         → end_of packet ≤ (new.peers to).kept.covered }
 {
     every_datagram_is_read();

@@ -70,12 +70,12 @@ impl Pace {
         &self.lines[player as usize]
     }
 
-    /// A datagram of a peer came, in whose place another may come or not.
-    pub(crate) fn hear(&mut self, bundle: &Bundle, may_come: bool)
+    /// A datagram of a peer came.
+    pub(crate) fn hear(&mut self, bundle: &Bundle)
         requires { bundle.now.from < 4 }
-        ensures { state_of self.new ≡ after_datagram bundle.now may_come (state_of self.old) }
+        ensures { state_of self.new ≡ after_datagram bundle.now (state_of self.old) }
     {
-        self.lines[bundle.from as usize].hear(bundle, may_come);
+        self.lines[bundle.from as usize].hear(bundle);
     }
 
     /// The input of which a command is owed.

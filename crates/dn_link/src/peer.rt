@@ -5,7 +5,6 @@ ghost use Rattle.dn_link.specs.Linked.{larger};
 
 use crate::bundle::{Carried, Part};
 use crate::kept::{Kept, takes_packet};
-use crate::presence::Presence;
 use arrayvec::ArrayVec;
 
 /// What a link keeps of a peer.
@@ -15,10 +14,8 @@ pub(crate) struct Peer {
     kept: Kept,
     /// How many commands it has of each player, by the highest count that its datagrams reported.
     reported: [u32; 4],
-    /// Whether it is there.
-    pub(crate) presence: Presence,
-    /// Whether it was given the settings.
-    pub(crate) gave: bool,
+    /// Why it has left, if it has told its end.
+    left: Option<u8>,
     /// The number of the next datagram to it.
     number: u32,
 }
@@ -36,7 +33,7 @@ fn larger(one: &[u32; 4], other: &[u32; 4]) -> [u32; 4]
 }
 
 impl Peer {
-    ghost use Rattle.std.specs.Prelude.{All, length, ◌≤◌, ◌<◌, ◌+◌, ◌%◌, ◌^◌, ◌||◌, slice_index};
+    ghost use Rattle.std.specs.Prelude.{All, length, ◌≤◌, ◌<◌, ◌+◌, ◌%◌, ◌^◌, slice_index};
     ghost use Rattle.dn_link.specs.{Kept.acknowledged, Kept.going, Kept.kept_after, Kept.taken_by, Linking.new_peer, Linking.state_of, Packing.ArePacked, Text.IsPart};
     ghost use Rattle.dn_link.specs.{Text.parts_bytes};
 
@@ -47,8 +44,7 @@ impl Peer {
         Peer {
             kept: Kept::new(),
             reported: [0; 4],
-            presence: Presence::Unknown,
-            gave: false,
+            left: None,
             number: 0,
         }
     }
@@ -66,37 +62,30 @@ impl Peer {
 
     /// The packet of the moment, if the peer takes it.
     fn taken(&self, packet: Option<Carried>) -> Option<Carried>
-        ensures { result ≡ taken_by (state_of self.now).presence packet }
+        ensures { result ≡ taken_by (state_of self.now).left packet }
     {
         let Some(packet) = packet else {
             return None;
         };
-        if takes_packet(self.presence, &packet) {
+        if takes_packet(self.left, &packet) {
             Some(packet)
         } else {
             None
         }
     }
 
-    /// What goes to it now, of this player, who gives the settings or not, and the number of the datagram.
-    pub(crate) fn parts(
-        &mut self,
-        from: u8,
-        packet: Option<Carried>,
-        settings: bool,
-    ) -> (u32, ArrayVec<Part, 24>)
+    /// What goes to it now, of this player, and the number of the datagram.
+    pub(crate) fn parts(&mut self, from: u8, packet: Option<Carried>) -> (u32, ArrayVec<Part, 24>)
         ensures number { result.0 ≡ (state_of self.old).number }
         ensures peer { state_of self.new ≡ record (state_of self.old) {
-          kept = kept_after (state_of self.old).kept (taken_by (state_of self.old).presence packet);
-          gave = (state_of self.old).gave || settings;
+          kept = kept_after (state_of self.old).kept (taken_by (state_of self.old).left packet);
           number = ((state_of self.old).number + 1) % 2 ^ 32;
         } }
         ensures fit { All IsPart result.1.items }
         ensures short { length (parts_bytes result.1.items) ≤ 1118 }
         ensures packed { ArePacked from
-            (going (state_of self.old).kept (taken_by (state_of self.old).presence packet)) result.1.items }
+            (going (state_of self.old).kept (taken_by (state_of self.old).left packet)) result.1.items }
     {
-        self.gave = self.gave || settings;
         let taken = self.taken(packet);
         let parts = self.kept.parts(from, taken);
         (self.next_number(), parts)
@@ -124,23 +113,24 @@ impl Peer {
         self.kept.acknowledge(count);
     }
 
-    /// Notes who it is.
-    pub(crate) fn is_now(&mut self, presence: Presence)
-        ensures { state_of self.new ≡ record (state_of self.old) { presence = presence } }
+    /// Why it has left, if it has told its end.
+    pub(crate) fn left(&self) -> Option<u8>
+        ensures { result ≡ (state_of self.now).left }
     {
-        self.presence = presence;
+        self.left
     }
 
-    /// Notes what it has of each player, who it is, and how many commands of this player it no longer needs.
-    pub(crate) fn tells(&mut self, done: u32, got: &[u32; 4], presence: Presence)
+    /// Notes what it has of each player, why it has left, and how many commands of this player it no longer
+    /// needs.
+    pub(crate) fn tells(&mut self, done: u32, got: &[u32; 4], left: Option<u8>)
         ensures { state_of self.new ≡ record (state_of self.old) {
           kept = acknowledged (state_of self.old).kept done;
           reported = larger (state_of self.old).reported got.now;
-          presence = presence;
+          left = left;
         } }
     {
         self.kept.acknowledge(done);
         self.reported = larger(&self.reported, got);
-        self.is_now(presence);
+        self.left = left;
     }
 }

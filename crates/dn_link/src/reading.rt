@@ -10,18 +10,21 @@ pub(crate) mod parts;
 use crate::bundle::{Bundle, BundleFault};
 use crate::writing::KIND;
 use dn_seal::{Sealer, tic_at};
-use fields::{counts_in, message_in, message_len};
+use fields::counts_in;
 use parts::parts_in;
+
+/// The highest byte for which a player has ended.
+const MOST_CAUSE: u8 = 3;
 
 /// The bundle in these bytes, the first twelve of which were tested.
 fn bundle_in(body: &[u8]) -> Option<Bundle>
     requires { 44 ≤ length body.now }
     ensures { result ≡ told_bundle body.now }
 {
-    let Some(message) = message_in(&body[42..]) else {
+    if body[18] > MOST_CAUSE {
         return None;
-    };
-    let Some(parts) = parts_in(&body[42 + message_len(&message)..]) else {
+    }
+    let Some(parts) = parts_in(&body[43..]) else {
         return None;
     };
     Some(Bundle {
@@ -30,8 +33,8 @@ fn bundle_in(body: &[u8]) -> Option<Bundle>
         number: tic_at(body, 12),
         lead: body[16].cast_signed(),
         holes: body[17],
-        counts: counts_in(&body[18..]),
-        message,
+        cause: body[18],
+        counts: counts_in(&body[19..]),
         parts,
     })
 }

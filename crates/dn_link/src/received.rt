@@ -1,8 +1,5 @@
 //! What became of bytes that came in.
 
-ghost use Rattle.std.specs.Prelude.{◌≡◌};
-ghost use Rattle.dn_link.specs.Linked.{received_of};
-
 use crate::bundle::BundleFault;
 use crate::notice::ReportDatagramFault;
 use dn_survivor::Reported;
@@ -22,20 +19,6 @@ pub enum Received {
     Reported { from: u8, reported: Reported },
     /// Their sender is a peer who is given up, and they changed nothing.
     GivenUp(u8),
-    /// The datagram of a peer with another identity, which `Link::presence` returns, or a late hello of such a
-    /// peer. No packet of it was received.
-    Different(u8),
-    /// The datagram of a peer, which was taken in, and whether the game started with it.
-    Heard { from: u8, started: bool },
-}
-
-/// What is returned for a datagram that was taken in.
-pub(crate) fn received_of(differs: bool, from: u8, started: bool) -> Received
-    ensures { result ≡ received_of differs from started }
-{
-    if differs {
-        Received::Different(from)
-    } else {
-        Received::Heard { from, started }
-    }
+    /// The datagram of a peer, which was taken in.
+    Heard(u8),
 }

@@ -8,7 +8,7 @@ ghost use Rattle.std.specs.Prelude.{◌≡◌, ◌<◌, ◌≤◌, ℕ, ℤ, pos
 ghost use Rattle.dn_tic.specs.{declared.command.Move.Move, declared.input.Input.Input};
 ghost use Rattle.dn_setup.specs.Settings.{Settings};
 ghost use Rattle.dn_survivor.specs.{declared.report.Report.Report, ReportBytes.IsReport};
-ghost use Rattle.dn_machine.specs.{declared.answers.Made.Made, declared.answers.Ran.Ran, Flight.Flight, Game.fresh, Limits.Limits, Limits.IsWindow, Running.is_over};
+ghost use Rattle.dn_machine.specs.{declared.answers.Made.Made, declared.answers.Ran.Ran, Flight.Flight, Limits.Limits, Limits.IsWindow, Running.is_over};
 ghost use Rattle.dn_machine.specs.{Running.on_quit, Running.on_run_but};
 ghost use Rattle.dn_lockstep.specs.Told.{Builds};
 ghost use Rattle.dn_lockstep.specs.Contents.{end_in};
@@ -19,38 +19,24 @@ ghost use Rattle.dn_lockstep.specs.Represents.{Represents};
 ghost use Rattle.dn_lockstep.specs.Steps.{RunsBy, Steps, Tells};
 ghost use Rattle.dn_survivor.specs.OfOthers.{nothing_kept};
 ghost use Rattle.dn_survivor.specs.{Agreed.AreAgreedInPairs, Agreed.FitInPairs, Calls.HearsReport, Agreed.DemosAgreeInPairs, OneGame.Given, OneGame.Session, OneGame.after_build, OneGame.after_packet};
-ghost use Rattle.dn_survivor.specs.{OneGame.after_report, OneGame.after_run, OneGame.opening_session, OneGame.with_survivor, Telling.report_for, declared.answers.GivenUp.GivenUp};
+ghost use Rattle.dn_survivor.specs.{OneGame.after_report, OneGame.after_run, OneGame.with_survivor, Telling.report_for, declared.answers.GivenUp.GivenUp};
 ghost use Rattle.dn_survivor.specs.{declared.answers.Reported.Reported};
 ghost use Rattle.dn_seal.specs.declared.seal.Seal.{Seal};
 ghost use Rattle.dn_link.specs.{declared.notice.ReportDatagramFault.ReportDatagramFault, SealedReports.IsOpenedAs};
 ghost use Rattle.dn_open.specs.Sealed.{sealing_of};
-ghost use Rattle.dn_link.specs.{declared.bundle.Bundle.Bundle, declared.bundle.BundleFault.BundleFault, declared.bundle.Identity.Identity, declared.received.Received.Received, Linked.Gives};
-ghost use Rattle.dn_link.specs.{Linked.Linked, Linked.Receives, Linked.forgotten, Linked.has_given_up, Linked.holds_back, Linked.remains, Linked.surviving_of, Linking.new_peer, Notices.HearsNotice};
+ghost use Rattle.dn_link.specs.{declared.bundle.Bundle.Bundle, declared.bundle.BundleFault.BundleFault, declared.received.Received.Received, Linked.Gives};
+ghost use Rattle.dn_link.specs.{Linked.Linked, Linked.Receives, Linked.has_given_up, Linked.remains, Linked.surviving_of, Linking.new_peer, Notices.HearsNotice};
 ghost use Rattle.dn_link.specs.{Notices.is_notice, Notices.notice_for, Pacing.PaceState, Reading.IsBundledAs, RemainingLinks.AreRemainingLinks, RemainingLinks.IsGenuineIn, RemainingLinks.KeepsGiven};
 ghost use Rattle.dn_survivor.specs.OneGame.{after_relays};
 ghost use Rattle.dn_link.specs.Relays.{flights_of};
 ghost use Rattle.dn_link.specs.{RemainingLinks.StayRemaining, RemainingLinks.WasSealedIn, Surviving.GivesUpPeer, Text.IsBundle, Text.sealed_bytes};
 
-use dn_survivor::{remaining_game_opens, remaining_game_starts, survivors_agree};
+use dn_survivor::{remaining_game_starts, survivors_agree};
 
-/// New links of the same limits, one for each player, of which player 0's has these settings, are those of one
-/// game in which players may be given up. Each premise is what `Link::new` says of one of them, by its clauses
-/// `opened`, `others` and `peers`; the limits are those of a window of a game of four at most, as `windows_hold`
-/// and `new`'s `admitted` say.
-pub fn remaining_links_open()
-    ensures { (marking : Marking) (limits : Limits) (settings : Settings) (links : ℕ → Linked)
-        → IsWindow limits → limits.players ≤ 4 → limits.places ≤ 24
-        → ((player : ℕ) → player < limits.players
-        → Represents limits player (links player).node (fresh settings player))
-        → ((player : ℕ) → player < limits.players → (links player).others ≡ nothing_kept)
-        → ((player peer : ℕ) → player < limits.players → (links player).peers peer ≡ new_peer)
-        → AreRemainingLinks marking limits settings
-        (opening_session (λ player. surviving_of (links player))) links }
-{
-    remaining_game_opens();
-}
-
-/// And so are those that play from the beginning on, as `Link::started` makes them.
+/// New links of the same limits, one for each player, which play with these settings from the beginning on, are
+/// those of one game in which players may be given up. Each premise is what `Link::new` says of one of them, by
+/// its clauses `opened`, `others` and `peers`; the limits are those of a window of a game of four at most, as
+/// `windows_hold` and `new`'s `admitted` say.
 pub fn remaining_links_start()
     ensures { (marking : Marking) (limits : Limits) (settings : Settings) (links : ℕ → Linked)
         → IsWindow limits → IsGame limits.players → limits.places ≤ 24 → IsSettings settings
@@ -65,12 +51,12 @@ pub fn remaining_links_start()
 }
 
 /// And so they stay after each call on one of them, whatever bytes come in, as long as what it opens was sealed
-/// in this game before: what `Link::datagram` and `Link::report_datagram` give was. At a run the caller hands in
-/// the marks of a world that moved on by the rows that it was told, of the players who take part in the tic; and
-/// a report that is handed in by itself comes as `Link::report` gave it, to whom it was given. Whom a link gives
-/// up, and when, is not asked. `built` is of `build`, `give` and `catch_up`, `gave` of `datagram`, `told` of
-/// `report`, `sealed` of `report_datagram`, `received` of `receive`, `reported` of `hear_report`, and `kept` of
-/// a call that changes nothing.
+/// in this game before: what `Link::datagram` and `Link::report_datagram` give was. At a run the caller hands
+/// in the marks of a world that moved on by the rows that it was told, of the players who take part in the tic;
+/// and a report that is handed in by itself comes as `Link::report` gave it, to whom it was given. Whom a link
+/// gives up, and when, is not asked. `built` is of `build`, `give` and `catch_up`, `gave` of `datagram`, `told`
+/// of `report`, `sealed` of `report_datagram`, `received` of `receive`, `reported` of `hear_report`, and `kept`
+/// of a call that changes nothing.
 pub fn remaining_links_go_on()
     ensures built { (marking : Marking) (limits : Limits) (settings : Settings) (session : Session) (links : ℕ → Linked)
         (player : ℕ) (new : Linked) (input : Input) (made : Made)
@@ -98,12 +84,6 @@ pub fn remaining_links_go_on()
         → new.others ≡ (links player).others → new.peers ≡ (links player).peers
         → StayRemaining marking limits settings session links player new
         (with_survivor session player (surviving_of new)) }
-    ensures forgot { (marking : Marking) (limits : Limits) (settings : Settings) (session : Session) (links : ℕ → Linked)
-        (player peer : ℕ) (new : Linked)
-        → AreRemainingLinks marking limits settings session links → player < limits.players
-        → new ≡ forgotten peer (links player)
-        → StayRemaining marking limits settings session links player new
-        (with_survivor session player (surviving_of new)) }
     ensures gave_up { (marking : Marking) (limits : Limits) (settings : Settings) (session : Session) (links : ℕ → Linked)
         (here player : ℕ) (new : Linked) (answer : GivenUp)
         → AreRemainingLinks marking limits settings session links → here < limits.players
@@ -111,12 +91,11 @@ pub fn remaining_links_go_on()
         → StayRemaining marking limits settings session links here new
         (with_survivor session here (surviving_of new)) }
     ensures gave { (marking : Marking) (limits : Limits) (settings : Settings) (session : Session) (links : ℕ → Linked)
-        (player to : ℕ) (seal : Seal) (identity : Identity) (pace : PaceState) (new : Linked) (bytes : List ℕ)
+        (player to : ℕ) (seal : Seal) (pace : PaceState) (new : Linked) (bytes : List ℕ)
         → AreRemainingLinks marking limits settings session links → player < limits.players
         → remains (links player) to ≡ true
-        → (holds_back (links player) ≡ false
-        → Tells (links player).node (λ limits me m. IfSome (sent_to to limits me m).1 IsFair))
-        → (gives : Gives seal identity pace to (links player) new bytes)
+        → Tells (links player).node (λ limits me m. IfSome (sent_to to limits me m).1 IsFair)
+        → (gives : Gives seal pace to (links player) new bytes)
         → (packet : Option Flight)
         × WasSealedIn seal
         (after_relays (after_packet session player packet (surviving_of new)) (flights_of to gives.handed)) bytes
@@ -137,11 +116,11 @@ pub fn remaining_links_go_on()
         × AreRemainingLinks marking limits settings (after_report session player to report) links
         × KeepsGiven session (after_report session player to report) }
     ensures received { (marking : Marking) (limits : Limits) (settings : Settings) (session : Session) (links : ℕ → Linked)
-        (player : ℕ) (seal : Seal) (identity : Identity) (pace after : PaceState) (bytes : List ℕ) (new : Linked)
+        (player : ℕ) (seal : Seal) (pace after : PaceState) (bytes : List ℕ) (new : Linked)
         (answer : Received)
         → AreRemainingLinks marking limits settings session links → player < limits.players
         → IsGenuineIn seal session player bytes
-        → (is_notice bytes ≡ false → Receives seal identity pace bytes (links player) new answer)
+        → (is_notice bytes ≡ false → Receives seal bytes (links player) new answer)
         → (is_notice bytes ≡ true → HearsNotice seal bytes (links player) pace new after answer)
         → StayRemaining marking limits settings session links player new
         (with_survivor session player (surviving_of new)) }
@@ -178,8 +157,8 @@ pub fn remaining_bytes_are_genuine()
 {}
 
 /// The survivors of such links agree, in all that `survivors_agree` says: any two players of whom neither has
-/// given up the other were told the same rows and know the same ends, any two at all used the same move of every
-/// player that both have, of their demos one is a prefix of the other, and no check failed.
+/// given up the other were told the same rows and know the same ends, any two at all used the same move of
+/// every player that both have, of their demos one is a prefix of the other, and no check failed.
 pub fn remaining_links_agree()
     ensures agreed { (marking : Marking) (limits : Limits) (settings : Settings) (session : Session) (links : ℕ → Linked)
         → AreRemainingLinks marking limits settings session links → AreAgreedInPairs limits settings session }

@@ -40,8 +40,8 @@ fn was_seen(back: u32, seen: u64) -> bool
 }
 
 impl Tally {
-    /// The first came, or the first of one who begins anew.
-    pub(crate) fn begin(&mut self)
+    /// The first came.
+    fn begin(&mut self)
         ensures { tally_of self.new ≡ begins (tally_of self.old) }
     {
         self.came = self.came.saturating_add(1);

@@ -2,14 +2,14 @@
 
 ghost use Rattle.std.specs.Prelude.{◌≤◌, ◌≡◌, ◌+◌, ◌++◌, All, length};
 ghost use Rattle.dn_seal.specs.Sealing.{sealing};
-ghost use Rattle.dn_link.specs.Text.{AreCounts, IsBundle, IsIdentity, IsMessage, IsPart, carried_bytes, counts_bytes, identity_bytes, message_bytes, part_bytes, parts_bytes, sealed_bytes};
+ghost use Rattle.dn_link.specs.Text.{AreCounts, IsBundle, IsPart, carried_bytes, counts_bytes, part_bytes, parts_bytes, sealed_bytes};
 
-use crate::bundle::{Bundle, Carried, Counts, Identity, Message, Part};
+use crate::bundle::{Bundle, Carried, Counts, Part};
 use arrayvec::ArrayVec;
 use dn_seal::{Sealer, append, ask_bytes};
 
 /// The kind of a link's datagrams among envelopes.
-pub(crate) const KIND: u8 = 2;
+pub(crate) const KIND: u8 = 5;
 
 /// Appends how far the sender is.
 fn append_counts(bytes: &mut ArrayVec<u8, 1200>, counts: &Counts)
@@ -25,38 +25,6 @@ fn append_counts(bytes: &mut ArrayVec<u8, 1200>, counts: &Counts)
     append(bytes, &b.to_le_bytes());
     append(bytes, &c.to_le_bytes());
     append(bytes, &d.to_le_bytes());
-}
-
-/// Appends what must be the same at all players.
-fn append_identity(bytes: &mut ArrayVec<u8, 1200>, identity: &Identity)
-    requires { length bytes.old.items + 23 ≤ 1200 }
-    ensures more { bytes.new.items ≡ bytes.old.items ++ identity_bytes identity.now }
-    ensures fits { IsIdentity identity.now }
-    ensures long { length bytes.new.items ≡ length bytes.old.items + 23 }
-{
-    append(
-        bytes,
-        &[identity.players, u8::from(identity.extra), identity.ahead],
-    );
-    append(bytes, &identity.limit.to_le_bytes());
-    append(bytes, &identity.host);
-}
-
-/// Appends what the datagram is for.
-fn append_message(bytes: &mut ArrayVec<u8, 1200>, message: &Message)
-    requires { length bytes.old.items + 24 ≤ 1200 }
-    ensures more { bytes.new.items ≡ bytes.old.items ++ message_bytes message.now }
-    ensures fits { IsMessage message.now }
-    ensures long { length bytes.new.items ≤ length bytes.old.items + 24 }
-{
-    match message {
-        Message::Hello(identity) => {
-            append(bytes, &[0]);
-            append_identity(bytes, identity);
-        }
-        Message::Game => append(bytes, &[1]),
-        Message::Goodbye(cause) => append(bytes, &[2, *cause]),
-    }
 }
 
 /// Appends a packet as it is.
@@ -112,10 +80,11 @@ fn append_parts(bytes: &mut ArrayVec<u8, 1200>, parts: &[Part])
     }
 }
 
-/// The datagram of a bundle. What a datagram has beside its parts is at most 66 bytes, and the tag.
+/// The datagram of a bundle. What a datagram has beside its parts is 43 bytes, and the tag.
 pub fn seal_bundle(sealer: &Sealer, bundle: &Bundle) -> ArrayVec<u8, 1200>
     requires from { bundle.now.from ≡ (sealing sealer.now).me }
     requires fit { All IsPart bundle.now.parts.items }
+    requires cause { bundle.now.cause ≤ 3 }
     requires room { length (parts_bytes bundle.now.parts.items) ≤ 1118 }
     ensures text { result.items ≡ sealed_bytes (sealing sealer.now).seal bundle.now }
     ensures fits { IsBundle bundle.now }
@@ -124,9 +93,11 @@ pub fn seal_bundle(sealer: &Sealer, bundle: &Bundle) -> ArrayVec<u8, 1200>
     append(&mut bytes, &sealer.front(KIND));
     append(&mut bytes, &[sealer.me(), bundle.to]);
     append(&mut bytes, &bundle.number.to_le_bytes());
-    append(&mut bytes, &[bundle.lead.cast_unsigned(), bundle.holes]);
+    append(
+        &mut bytes,
+        &[bundle.lead.cast_unsigned(), bundle.holes, bundle.cause],
+    );
     append_counts(&mut bytes, &bundle.counts);
-    append_message(&mut bytes, &bundle.message);
     append_parts(&mut bytes, bundle.parts.as_slice());
     let tag = sealer.tag(bytes.as_slice());
     append(&mut bytes, &tag);

@@ -1,12 +1,13 @@
--- What a game of links is: what holds when it opens and after each call. The headline does not speak of this, but
--- rests on it.
-use Rattle.std.specs.Prelude.{◌≡◌, ℕ, false, All, length}
+-- What a game of links is: what holds when it opens and after each call. The headline does not speak of this,
+-- but rests on it.
+use Rattle.std.specs.Prelude.{◌≡◌, ℕ, All, length}
 use Rattle.arrayvec.specs.ArrayVec.{ArrayVec}
-use Rattle.dn_setup.specs.Settings.{Settings}
+use Rattle.dn_setup.specs.Settings.{Settings, start_of}
 use Rattle.dn_world.specs.Physics.{Physics}
 use Rattle.dn_seal.specs.declared.seal.Seal.{Seal}
 use Rattle.dn_machine.specs.Limits.{Limits}
-use Rattle.dn_machine.specs.Game.{fresh}
+use Rattle.dn_machine.specs.Started.{started_node}
+use Rattle.dn_lockstep.specs.Rows.{seats_of}
 use Rattle.dn_lockstep.specs.Represents.{Represents}
 use Rattle.dn_survivor.specs.OneGame.{Session}
 use Rattle.dn_survivor.specs.OfOthers.{nothing_kept}
@@ -30,13 +31,13 @@ pub record IsLinkGame {W S : Type 0} (state : W → S) (physics : Physics S) (li
   pub seals : (i : ℕ) (player : Player W) → HasPlayer g i player → seal_of player.link ≡ seal
   pub given : All (λ (bytes : ArrayVec ℕ). WasSealedIn seal session bytes.items) g.given.items
 
--- a player whose link is new, as `Link::new` returns it, and whose world has not begun
-pub record IsNew {W : Type 0} (limits : Limits) (settings : Settings) (seal : Seal) (me : ℕ) (player : Player W)
-    : Type 0 where
-  pub node : Represents limits me (linked player.link).node (fresh settings me)
+-- a player whose link is new, as `Link::new` returns it, and whose world has begun with the settings' start
+pub record IsNew {W S : Type 0} (state : W → S) (physics : Physics S) (limits : Limits) (settings : Settings)
+    (seal : Seal) (me : ℕ) (player : Player W) : Type 0 where
+  pub node : Represents limits me (linked player.link).node (started_node limits.players settings me)
   pub others : (linked player.link).others ≡ nothing_kept
   pub peers : (peer : ℕ) → (linked player.link).peers peer ≡ new_peer
-  pub unbegun : player.began ≡ false
+  pub world : state player.world ≡ physics.begin (start_of settings) (seats_of limits.players)
   pub sealed : seal_of player.link ≡ seal
 
 -- A game of links goes on, in whatever session of it.

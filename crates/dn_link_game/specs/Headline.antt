@@ -38,8 +38,8 @@ pub record Shows {W S : Type 0} (state : W → S) (physics : Physics S) (limits 
   -- its rings keep as many of the last commands of each player as the limits have places
   pub places : (linked player.link).node.places ≡ limits.places
   pub demo : shown.demo ≡ recorded (linked player.link).node
-  -- once its world has begun, it began with the settings' start and was stepped by the rows
-  pub world : player.began ≡ Bool.true → state player.world ≡ world_by physics (world_told limits settings shown.rows)
+  -- its world began with the settings' start and was stepped by the rows
+  pub world : state player.world ≡ world_by physics (world_told limits settings shown.rows)
   -- its demo is the text of the rows before the first that lacks a player. It is closed once the link ran a row
   -- that lacks one, or has ended
   pub rows : HasStarted (linked player.link).node
@@ -84,6 +84,5 @@ pub record HaveAgreed {W S : Type 0} (state : W → S) (physics : Physics S) (li
   pub ends : (q r p a b : ℕ) → (two : Together g q r) → p < limits.players
       → end_settled (surviving_of (linked two.one.link)) p ≡ Some a
       → end_settled (surviving_of (linked two.other.link)) p ≡ Some b → a ≡ b
-  -- and the worlds of two such players are the same once both have begun and as long as both ran as many tics
-  pub worlds : (q r : ℕ) → (two : Together g q r) → two.one.began ≡ Bool.true → two.other.began ≡ Bool.true
-      → ran_by (shown q) ≡ ran_by (shown r) → state two.one.world ≡ state two.other.world
+  -- and the worlds of two such players are the same as long as both ran as many tics
+  pub worlds : (q r : ℕ) → (two : Together g q r) → ran_by (shown q) ≡ ran_by (shown r) → state two.one.world ≡ state two.other.world

@@ -1,17 +1,14 @@
 -- A player of a game of links, in whatever session of the game its link is.
-use Rattle.std.specs.Prelude.{◌≡◌, ◌≢◌, ◌<◌, ◌⊎◌, ℕ, true, false, List, [], Option, Some, None, fold}
+use Rattle.std.specs.Prelude.{◌≡◌, ◌≢◌, ◌<◌, ℕ, List, Option, Some, None, fold}
 use Rattle.dn_tic.specs.declared.command.Move.{Move}
 use Rattle.dn_tic.specs.declared.input.Input.{Input}
 use Rattle.dn_setup.specs.Settings.{Settings}
-use Rattle.dn_setup.specs.Settings.{start_of}
 use Rattle.dn_world.specs.Physics.{Physics}
-use Rattle.dn_machine.specs.declared.answers.Phase.TheVariants.{Playing}
 use Rattle.dn_machine.specs.declared.answers.Made.{Made}
 use Rattle.dn_machine.specs.Limits.{Limits}
 use Rattle.dn_machine.specs.Node.{put}
 use Rattle.dn_lockstep.specs.Marking.{History, Marking}
 use Rattle.dn_lockstep.specs.OneGame.{world_told}
-use Rattle.dn_lockstep.specs.Rows.{seats_of}
 use Rattle.dn_lockstep.specs.OneGame.{taken_on, told_on}
 use Rattle.dn_survivor.specs.OneGame.{Session}
 use Rattle.dn_link.specs.Linked.{Linked}
@@ -27,13 +24,11 @@ world_by physics history = fold physics.step (physics.begin history.start histor
 abbrev pub marking_of : {S : Type 0} → Physics S → Marking
 marking_of physics history player = physics.mark (world_by physics history) player
 
--- A player has this link. Once its world has begun, it began with the settings' start and was stepped by these
--- rows; before, there is no row
+-- A player has this link, and its world began with the settings' start and was stepped by these rows
 pub record IsPlayer {W S : Type 0} (state : W → S) (physics : Physics S) (limits : Limits) (settings : Settings)
     (rows : List (List (Option Move))) (its : Linked) (p : Player W) : Type 0 where
   pub link : its ≡ linked p.link
-  pub world : p.began ≡ true → state p.world ≡ world_by physics (world_told limits settings rows)
-  pub unbegun : p.began ≡ false → rows ≡ []
+  pub world : state p.world ≡ world_by physics (world_told limits settings rows)
 
 -- A call goes on with whatever game the player's link was in, if this held before: the player is then one of
 -- that game in a later session, of which `Next` holds, and nobody else was told a row
@@ -56,15 +51,6 @@ GoesOn state physics old new Next = GoesOnIf state physics old new (λ session p
 -- no input was taken, and no row told
 abbrev pub TakesNothing : Session → Session → Type 0
 TakesNothing session later = (later.inputs ≡ session.inputs) × (later.told ≡ session.told)
-
--- its world begins if its link plays and it has not begun; else nothing changes
-pub record IsBegun {W S : Type 0} (state : W → S) (physics : Physics S) (old new : Player W) : Type 0 where
-  pub link : new.link ≡ old.link
-  pub world : ((new.began ≡ old.began) × ((new.world ≡ old.world)
-      × ((old.began ≡ true) ⊎ ((linked old.link).node.phase ≢ Playing))))
-      ⊎ ((old.began ≡ false) × (new.began ≡ true) × ((linked old.link).node.phase ≡ Playing)
-      × ((settings : Settings) × ((linked old.link).node.settings ≡ Some settings)
-      × (state new.world ≡ physics.begin (start_of settings) (seats_of (linked old.link).node.players))))
 
 -- an input was taken, if a command was made of it, and nothing else
 abbrev pub TakesInput : ℕ → Input → Made → Session → Session → Type 0

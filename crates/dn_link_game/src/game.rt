@@ -51,15 +51,6 @@ impl<W: World> LinkGame<W> {
         self.players[player as usize].quit()
     }
 
-    /// A player forgets a peer.
-    pub fn forget(&mut self, player: u32, peer: u8)
-        requires { player < length self.old.players.items }
-        ensures goes { Goes W.state W.physics self.old self.new TakesNothing }
-    {
-        remaining_bytes_are_genuine();
-        self.players[player as usize].forget(peer)
-    }
-
     /// A player gives up a peer.
     pub fn give_up(&mut self, player: u32, peer: u8) -> GivenUp
         requires { player < length self.old.players.items }

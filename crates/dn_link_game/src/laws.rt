@@ -1,20 +1,21 @@
 //! What holds of every game of links.
 
 ghost use Rattle.std.specs.Prelude.{◌≡◌, ◌≤◌, ℕ, [], length};
-ghost use Rattle.dn_setup.specs.Settings.{Settings};
+ghost use Rattle.dn_setup.specs.Settings.{IsSettings, Settings};
 ghost use Rattle.dn_machine.specs.Limits.{IsWindow, Limits};
+ghost use Rattle.dn_lockstep.specs.Opening.{IsGame};
 ghost use Rattle.dn_seal.specs.declared.seal.Seal.{Seal};
 ghost use Rattle.dn_survivor.specs.OneGame.{Session};
 ghost use Rattle.dn_link_game.specs.{declared.game.LinkGame.LinkGame, declared.player.Player.Player, Games.IsLinkGame, Games.IsNew, Headline.HasPlayer, Headline.HaveAgreed};
 
-use dn_link::{remaining_links_agree, remaining_links_open};
+use dn_link::{remaining_links_agree, remaining_links_start};
 use dn_world::World;
 
 /// The headline of games of links. Whatever the network did, as long as what a player opened was given in the
-/// game: any two players of whom neither has given up the other ran the same row for each tic that both ran, know
-/// the same ends, and have their worlds in the same state where both ran as many tics. The moves in the rows are
-/// those of their makers' inputs, no ring overwrote an unread command, no consistency check failed, and of any two
-/// demos one's commands are a prefix of the other's.
+/// game: any two players of whom neither has given up the other ran the same row for each tic that both ran,
+/// know the same ends, and have their worlds in the same state where both ran as many tics. The moves in the
+/// rows are those of their makers' inputs, no ring overwrote an unread command, no consistency check failed,
+/// and of any two demos one's commands are a prefix of the other's.
 pub fn linked_games_agree<W: World>()
     ensures { (limits : Limits) (settings : Settings) (seal : Seal) (session : Session) (g : LinkGame W)
         → IsLinkGame W.state W.physics limits settings seal session g
@@ -23,16 +24,17 @@ pub fn linked_games_agree<W: World>()
     remaining_links_agree();
 }
 
-/// Players whose links are new, one for each number, of the same limits and the same seal, and whose worlds
-/// have not begun, are those of a game in which nothing was given. Each premise is what `Link::new` says of a
-/// link.
-pub fn linked_game_opens<W: World>()
+/// Players whose links are new, one for each number, of the same limits, settings and seal, and whose worlds
+/// have begun by these settings, are those of a game in which nothing was given. Each premise of a link is what
+/// `Link::new` says of one.
+pub fn linked_game_starts<W: World>()
     ensures { (limits : Limits) (settings : Settings) (seal : Seal) (g : LinkGame W)
-        → IsWindow limits → limits.players ≤ 4 → limits.places ≤ 24 → 1 ≤ limits.players
+        → IsWindow limits → IsGame limits.players → limits.places ≤ 24 → IsSettings settings
         → length g.players.items ≡ limits.players → g.given.items ≡ []
-        → ((i : ℕ) (player : Player W) → HasPlayer g i player → IsNew limits settings seal i player)
+        → ((i : ℕ) (player : Player W) → HasPlayer g i player
+        → IsNew W.state W.physics limits settings seal i player)
         → (session : Session) × IsLinkGame W.state W.physics limits settings seal session g
         × ((player : ℕ) → (session.inputs player ≡ []) × (session.told player ≡ [])) }
 {
-    remaining_links_open();
+    remaining_links_start();
 }

@@ -7,5 +7,5 @@ mod laws;
 mod player;
 
 pub use game::LinkGame;
-pub use laws::{linked_game_opens, linked_games_agree};
+pub use laws::{linked_game_starts, linked_games_agree};
 pub use player::Player;

@@ -4,25 +4,23 @@ ghost use Rattle.std.specs.Prelude.{◌≡◌, ◌<◌, ℕ, pos, get_or, IfSome
 ghost use Rattle.dn_tic.specs.declared.input.Input.TheVariants.{Given, Pressed};
 ghost use Rattle.dn_survivor.specs.OneGame.{after_build, after_run, with_survivor};
 ghost use Rattle.dn_link.specs.{Linked.surviving_of, Linking.linked, Linking.seal_of, Pacing.pace_of, RemainingLinks.IsGenuineIn, RemainingLinks.WasSealedIn};
-ghost use Rattle.dn_link_game.specs.Playing.{CatchesUp, GoesOn, GoesOnIf, IsBegun, TakesNothing};
+ghost use Rattle.dn_link_game.specs.Playing.{CatchesUp, GoesOn, GoesOnIf, TakesNothing};
 
 use arrayvec::ArrayVec;
 use dn_link::notice::MAX_SEALED_REPORT;
-use dn_link::{Link, Received, remaining_links_agree, remaining_links_go_on};
-use dn_machine::{Made, Phase, Ran};
+use dn_link::{Link, Received, remaining_links_go_on};
+use dn_machine::{Made, Ran};
 use dn_survivor::GivenUp;
 use dn_tic::{Command, Keys, Move};
 use dn_world::World;
 
-/// One player: its link, its world, and whether the world has begun.
+/// One player: its link, and its world, which has begun.
 #[derive(Drop)]
 pub struct Player<W> {
     /// Its link.
     pub link: Link,
     /// Its world.
     pub world: W,
-    /// Whether the world has begun.
-    pub began: bool,
 }
 
 impl<W: World> Player<W> {
@@ -83,9 +81,6 @@ impl<W: World> Player<W> {
         ensures seal { seal_of self.new.link ≡ seal_of self.old.link }
     {
         remaining_links_go_on();
-        if !self.began {
-            return (Ran::NotPlaying, None);
-        }
         let marks = self.marks();
         let (ran, row) = self.link.run(&marks);
         if let Some(row) = row {
@@ -125,10 +120,7 @@ impl<W: World> Player<W> {
         ensures seal { seal_of self.new.link ≡ seal_of self.old.link }
     {
         remaining_links_go_on();
-        remaining_links_agree();
-        let received = self.link.receive(bytes);
-        self.begin();
-        received
+        self.link.receive(bytes)
     }
 
     /// Gives up another player, for good.
@@ -138,10 +130,7 @@ impl<W: World> Player<W> {
         ensures seal { seal_of self.new.link ≡ seal_of self.old.link }
     {
         remaining_links_go_on();
-        remaining_links_agree();
-        let given_up = self.link.give_up(peer);
-        self.begin();
-        given_up
+        self.link.give_up(peer)
     }
 
     /// Leaves the game.
@@ -152,29 +141,5 @@ impl<W: World> Player<W> {
     {
         remaining_links_go_on();
         self.link.quit()
-    }
-
-    /// Forgets a peer.
-    pub fn forget(&mut self, peer: u8)
-        ensures goes_on { GoesOn W.state W.physics self.old self.new (λ session player later.
-            later ≡ with_survivor session player (surviving_of (linked self.new.link))) }
-        ensures seal { seal_of self.new.link ≡ seal_of self.old.link }
-    {
-        remaining_links_go_on();
-        self.link.forget(peer)
-    }
-
-    /// Begins the world, if the link plays and it has not begun.
-    fn begin(&mut self)
-        ensures { IsBegun W.state W.physics self.old self.new }
-    {
-        if self.began || self.link.lockstep().phase() != Phase::Playing {
-            return;
-        }
-        if let Some(settings) = self.link.lockstep().settings() {
-            let present = self.link.lockstep().present();
-            self.world.begin(&settings.start(), present);
-            self.began = true;
-        }
     }
 }

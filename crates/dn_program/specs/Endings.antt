@@ -1,10 +1,10 @@
 -- How a session over a network ended: what is printed of it, and the exit status.
 use Rattle.std.specs.Prelude.{ℕ, List, ◌++◌, Option, codes}
 use Rattle.std.specs.Fmt.{decimal}
-use Rattle.dn_greeting.specs.declared.greeting.Hint.{Hint}
-use Rattle.dn_greeting.specs.declared.greeting.Hint.TheVariants.{Key, Version}
-use Rattle.dn_greeting.specs.declared.greeting.Refusal.{Refusal}
-use Rattle.dn_greeting.specs.declared.greeting.Refusal.TheVariants.{Full, Taken, Players, Begun}
+use Rattle.dn_session.specs.declared.greeting.Hint.{Hint}
+use Rattle.dn_session.specs.declared.greeting.Hint.TheVariants.{Key, Version}
+use Rattle.dn_session.specs.declared.greeting.Refusal.{Refusal}
+use Rattle.dn_session.specs.declared.greeting.Refusal.TheVariants.{Cookie, Full, Begun, Players, Identity, Kicked}
 use Rattle.dn_host.specs.declared.ends.Ending.{Ending}
 use Rattle.dn_host.specs.declared.ends.Ending.TheVariants.{Ended, Refused, Hinted}
 use Rattle.dn_measure.specs.Ends.{session_lines, status_of}
@@ -24,10 +24,12 @@ broken_off = 3
 
 -- why the host gives no seat, up to the end of the line
 abbrev pub reason : Refusal → List ℕ
+reason Cookie = codes "the call came too late\n"
 reason Full = codes "no seat is free\n"
-reason Taken = codes "the seat is taken\n"
 reason (Players players) = codes "the game has " ++ (decimal players ++ codes " players\n")
 reason Begun = codes "the game has begun\n"
+reason Identity = codes "the host has another engine\n"
+reason Kicked = codes "the host has turned this player away\n"
 
 -- the line of a joiner that has no seat: what comes of it, and why
 abbrev pub refusal_line : List ℕ → Refusal → List ℕ

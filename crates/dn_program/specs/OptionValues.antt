@@ -9,7 +9,7 @@ use Rattle.dn_netgame.specs.Lines.Udp.{IsBase}
 use Rattle.dn_lockstep.specs.Opening.{IsGame}
 use Rattle.dn_game.specs.declared.config.GameConfig.{GameConfig}
 use Rattle.dn_program.specs.declared.options.Pace.{Pace}
-use Rattle.dn_greeting.specs.declared.greeting.Address.{Address}
+use Rattle.dn_session.specs.declared.greeting.Address.{Address}
 use Rattle.dn_host.specs.declared.guest.Guest.{Guest}
 
 -- a value that is found is right; and where none is found, no value is right

@@ -20,11 +20,11 @@ ahead = 8
 
 -- what a host offers: the game that its options say, with so many players and at this rate
 pub record IsHostingOf (game : GameConfig) (players rate : ℕ) (hosting : Hosting) : Type 0 where
-  pub players_are : hosting.terms.players ≡ players
-  pub extra : hosting.terms.extra ≡ game.extra
-  pub ahead_by : hosting.terms.ahead ≡ ahead
-  pub rate_is : hosting.terms.rate ≡ rate
-  pub limit : hosting.terms.limit ≡ game.limit
+  pub players_are : hosting.players ≡ players
+  pub extra : hosting.extra ≡ game.extra
+  pub ahead_by : hosting.ahead ≡ ahead
+  pub rate_is : hosting.rate ≡ rate
+  pub limit : hosting.limit ≡ game.limit
   pub settings : hosting.settings ≡ game.settings
 
 -- how a session goes: with this key, and with this seed and for so many seconds

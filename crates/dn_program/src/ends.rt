@@ -4,10 +4,10 @@ ghost use Rattle.std.specs.{Prelude.◌≡◌, Prelude.IfOk, Prelude.is_some, St
 ghost use Rattle.dn_program.specs.{Endings.ending_lines, Endings.ending_status, Endings.hint_line, Endings.refusal_line, Printed.IsEnded, Printed.IsSessionPrinted, Printed.prints_demo};
 
 use crate::say::{say, say_line};
-use dn_greeting::{Hint, Refusal};
 use dn_host::{Ending, HostFault, Outcome};
 use dn_measure::text_of_session;
 use dn_netgame::RunFault;
+use dn_session::{Hint, Refusal};
 use std::alloc::{AllocError, Global};
 
 /// The exit status of a command line that cannot be read.
@@ -28,12 +28,14 @@ pub(crate) fn text_of_refusal(
     ensures { IfOk result (λ text. string_bytes text ≡ refusal_line outcome.now refusal) }
 {
     match refusal {
+        Refusal::Cookie => format!(in alloc; "{outcome}: the call came too late\n"),
         Refusal::Full => format!(in alloc; "{outcome}: no seat is free\n"),
-        Refusal::Taken => format!(in alloc; "{outcome}: the seat is taken\n"),
         Refusal::Players(players) => {
             format!(in alloc; "{outcome}: the game has {players} players\n")
         }
         Refusal::Begun => format!(in alloc; "{outcome}: the game has begun\n"),
+        Refusal::Identity => format!(in alloc; "{outcome}: the host has another engine\n"),
+        Refusal::Kicked => format!(in alloc; "{outcome}: the host has turned this player away\n"),
     }
 }
 

@@ -12,9 +12,9 @@ use crate::say::say_line;
 use crate::screen::ErrorScreen;
 use clap::ArgMatches;
 use dn_game::GameConfig;
-use dn_greeting::{Address, Terms};
 use dn_host::{Guest, Hosting, Plan, Udp, address_of, host_game, join_game};
 use dn_netgame::RunFault;
+use dn_session::Address;
 use std::net::{Net, ToSocketAddrs};
 use std::random::RandomSource;
 use std::rt::Files;
@@ -99,15 +99,12 @@ fn prepared(
 fn hosting_of(game: GameConfig, players: u8, rate: u8) -> Hosting
     ensures { IsHostingOf game players rate result }
 {
-    let terms = Terms {
+    Hosting {
         players,
         extra: game.extra,
         ahead: AHEAD,
         rate,
         limit: game.limit,
-    };
-    Hosting {
-        terms,
         settings: game.settings,
     }
 }

@@ -1,9 +1,9 @@
 //! What a session over a network tells on standard error while it goes on.
 
 use crate::ends::text_of_refusal;
-use dn_greeting::Refusal;
 use dn_host::Screen;
 use dn_measure::{Status, text_of_status};
+use dn_session::Refusal;
 
 /// Standard error.
 #[derive(Drop)]

@@ -4,17 +4,11 @@ use Rattle.std.specs.Prelude.{position, slice_index_or, nat_le}
 use Rattle.std.specs.Str.{bytes_eq}
 use Rattle.std.proofs.lemmas.Bool.{and_parts, both_ways, cases_Bool, cases_lt, leb-true}
 use Rattle.std.proofs.lemmas.Slice.Eq.{bytes_eq-Decides}
-use Rattle.dn_session.specs.declared.greeting.Address.{Address}
-use Rattle.dn_session.specs.declared.greeting.Call.{Call}
-use Rattle.dn_session.specs.declared.greeting.GreetingFault.{GreetingFault}
-use Rattle.dn_session.specs.declared.seats.Held.{Held}
-use Rattle.dn_session.specs.declared.seats.Seat.{Seat}
+use Rattle.dn_session.specs.{Cookies.cookie_of, Cookies.fresh_for, Cookies.is_good, Cookies.is_recent, Cookies.time_of, Hosting.HearsCall, Hosting.Lobby, Hosting.WasHeard, Hosting.filled_by}
+use Rattle.dn_session.specs.{Hosting.on_call, Hosting.on_opened, Hosting.seated, Reading.IsCallIn, Seats.held_again, Seats.is_here, Seats.is_of, Seats.seat_of, Seats.taken_again, Seats.taken_by}
+use Rattle.dn_session.specs.{declared.greeting.Address.Address, declared.greeting.Call.Call, declared.greeting.GreetingFault.GreetingFault, declared.seats.Held.Held, declared.seats.Seat.Seat}
 use Rattle.dn_session.specs.declared.seats.Seat.TheVariants as seat
-use Rattle.dn_session.specs.Cookies.{cookie_of, fresh_for, is_good, is_recent, time_of}
-use Rattle.dn_session.specs.Hosting.{Lobby, on_call, on_opened, seated, HearsCall, WasHeard}
-use Rattle.dn_session.specs.Reading.{IsCallIn}
-use Rattle.dn_session.specs.Seats.{held_again, is_here, is_of, seat_of, taken_again, taken_by}
-use Rattle.dn_session.proofs.Lobbies.{each_call, none_passes}
+use Rattle.dn_session.proofs.{Lobbies.each_call, Lobbies.none_passes}
 
 -- a seat is as it was, or it is the one that was changed
 one_set : (seats : List Seat) (k n : ℕ) (changed s : Seat) → get_or (set seats k changed) n seat.Absent ≡ s
@@ -73,7 +67,7 @@ module _ (from : Address) (call : Call) (now n : ℕ) (l : Lobby) where
 
   newly_heard : (k : ℕ) → l.begun ≡ false → is_good l.random from now call.cookie ≡ true
       → position (is_of call.number) l.seats ≡ None → seat_of call.seat now l.seats ≡ Some k
-      → Heard (seated from call now k (taken_by from call (time_of call.cookie)) l)
+      → Heard (seated from call now k (taken_by from call (time_of call.cookie)) (filled_by call l))
   newly_heard k lobby good none some held e =
       elim (one_set l.seats k n (taken_by from call (time_of call.cookie)) (seat.Taken held) e) [
         | inl kept ↦ inl (was old held kept)
@@ -115,7 +109,7 @@ module _ (from : Address) (call : Call) (now n : ℕ) (l : Lobby) where
 
   newly_moved : (k : ℕ) → l.begun ≡ false → is_good l.random from now call.cookie ≡ true
       → position (is_of call.number) l.seats ≡ None → seat_of call.seat now l.seats ≡ Some k
-      → Moved (seated from call now k (taken_by from call (time_of call.cookie)) l)
+      → Moved (seated from call now k (taken_by from call (time_of call.cookie)) (filled_by call l))
   newly_moved k lobby good none some before next b a number other =
       elim (one_set l.seats k n (taken_by from call (time_of call.cookie)) (seat.Taken next) a) [
         | inl kept ↦ unmoved before next b kept other

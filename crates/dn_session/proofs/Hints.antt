@@ -1,13 +1,9 @@
 -- Bytes are read as one hint.
 use Rattle.std.proofs.Common.{◌≡◌, ℕ, List, [], ◌∷◌, length, arith, refl, ap, sym, ◌∙◌, None, Result, Ok, Err, inl, inr}
 use Rattle.std.proofs.lemmas.Option.{same_Some, none-some}
-use Rattle.dn_session.specs.declared.greeting.GreetingFault.{GreetingFault}
-use Rattle.dn_session.specs.declared.greeting.Hint.{Hint}
+use Rattle.dn_session.specs.{Reading.IsHintedIn, Reading.hint_fault, Text.IsHinted, Text.hint_byte, Text.hinted_bytes, Text.version_of, Told.told_hint, Told.told_hinted}
+use Rattle.dn_session.specs.{declared.greeting.GreetingFault.GreetingFault, declared.greeting.Hint.Hint, declared.greeting.Hinted.Hinted}
 use Rattle.dn_session.specs.declared.greeting.Hint.TheVariants as hint
-use Rattle.dn_session.specs.declared.greeting.Hinted.{Hinted}
-use Rattle.dn_session.specs.Text.{hint_byte, hinted_bytes, version_of, IsHinted}
-use Rattle.dn_session.specs.Reading.{hint_fault, IsHintedIn}
-use Rattle.dn_session.specs.Told.{told_hint, told_hinted}
 
 -- sixteen bytes, one by one
 sixteen : (m : List ℕ) → length m ≡ 16 → (P : List ℕ → Type 0)

@@ -11,18 +11,14 @@ use Rattle.std.proofs.lemmas.List.Sums.{fails_before_first, passes_at_first}
 use Rattle.std.proofs.lemmas.Option.{none-some, same_Some}
 use Rattle.dn_seal.specs.Hmac.{hmac}
 use Rattle.dn_seal.proofs.Envelopes.{length-tag}
-use Rattle.dn_session.specs.declared.greeting.Address.{Address}
-use Rattle.dn_session.specs.declared.greeting.Call.{Call}
-use Rattle.dn_session.specs.declared.greeting.Refusal.{Refusal}
-use Rattle.dn_session.specs.declared.greeting.Refusal.TheVariants as refusal
-use Rattle.dn_session.specs.declared.greeting.Shown.{Shown}
-use Rattle.dn_session.specs.declared.seats.Held.{Held}
+use Rattle.dn_session.specs.{Cookies.cookie_of, Cookies.is_good, Cookies.is_recent, Cookies.time_of, Hosting.IsLobby, Hosting.IsReadReply, Hosting.IsSeat, Hosting.Lobby, Hosting.bar}
+use Rattle.dn_session.specs.{Hosting.filled_by, Hosting.in_game, Hosting.in_lobby, Hosting.kicked, Hosting.kicked_from, Hosting.on_newcomer, Hosting.on_opened, Hosting.on_player, Hosting.refused}
+use Rattle.dn_session.specs.{Hosting.seated, Hosting.seating, Hosting.seating_to, Hosting.unless_barred, Hosting.with_seat, Seats.first_of, Seats.held_again, Seats.is_free, Seats.is_here, Seats.is_of}
+use Rattle.dn_session.specs.{Seats.is_silent, Seats.seat_for, Seats.seat_of, Seats.shown_at, Seats.taken_again, Seats.taken_by, Text.IsCall, Text.IsHolder, Text.IsSeating, Text.is_wish}
+use Rattle.dn_session.specs.{declared.greeting.Address.Address, declared.greeting.Call.Call, declared.greeting.Refusal.Refusal, declared.greeting.Shown.Shown, declared.seats.Held.Held}
 use Rattle.dn_session.specs.declared.seats.Seat.{Seat}
+use Rattle.dn_session.specs.declared.greeting.Refusal.TheVariants as refusal
 use Rattle.dn_session.specs.declared.seats.Seat.TheVariants as seat
-use Rattle.dn_session.specs.Cookies.{cookie_of, is_good, is_recent, time_of}
-use Rattle.dn_session.specs.Hosting.{Lobby, bar, in_game, in_lobby, kicked, kicked_from, on_newcomer, on_opened, on_player, refused, seated, seating, seating_to, unless_barred, with_seat, IsLobby, IsReadReply, IsSeat}
-use Rattle.dn_session.specs.Seats.{first_of, held_again, is_free, is_here, is_of, is_silent, seat_for, seat_of, shown_at, taken_again, taken_by}
-use Rattle.dn_session.specs.Text.{is_wish, IsCall, IsHolder, IsSeating}
 
 -- a call changes nothing, or is a player's in the game, or gives a newcomer a seat, or is a player's in the lobby
 module _ (from : Address) (call : Call) (now : ℕ) (l : Lobby) (P : Lobby × List ℕ → Type 0)
@@ -31,7 +27,7 @@ module _ (from : Address) (call : Call) (now : ℕ) (l : Lobby) (P : Lobby × Li
     → P (l, seating from call now n l))
     (newcomer : (n : ℕ) → l.begun ≡ false → is_good l.random from now call.cookie ≡ true
     → position (is_of call.number) l.seats ≡ None → seat_of call.seat now l.seats ≡ Some n
-    → P (seated from call now n (taken_by from call (time_of call.cookie)) l))
+    → P (seated from call now n (taken_by from call (time_of call.cookie)) (filled_by call l)))
     (player : (n : ℕ) → l.begun ≡ false → is_good l.random from now call.cookie ≡ true
     → position (is_of call.number) l.seats ≡ Some n
     → P (seated from call now n (taken_again from now (time_of call.cookie) (slice_index_or l.seats n seat.Absent)) l))
@@ -234,10 +230,10 @@ module _ (from : Address) (call : Call) (now : ℕ) (l : Lobby) (a : length from
         } in
         inl (n, (fields, refl))
 
-    sitting : (n : ℕ) (s : Seat) → n < 3 → n + 1 < l.terms.players → IsSeat l.terms.players (n + 1) s
-        → Good (seated from call now n s l)
-    sitting n s few there there_too =
-        let kept = put l fits now n s few there_too in (kept, telling (with_seat now n s l) kept n there)
+    sitting : (m : Lobby) → IsLobby m → (n : ℕ) (s : Seat) → n < 3 → n + 1 < m.terms.players
+        → IsSeat m.terms.players (n + 1) s → Good (seated from call now n s m)
+    sitting m good n s few there there_too =
+        let kept = put m good now n s few there_too in (kept, telling (with_seat now n s m) kept n there)
 
     playing : (n : ℕ) → l.begun ≡ true → position (is_of call.number) l.seats ≡ Some n
         → Good (l, seating from call now n l)
@@ -246,10 +242,17 @@ module _ (from : Address) (call : Call) (now : ℕ) (l : Lobby) (a : length from
 
     joining_it : (n : ℕ) → l.begun ≡ false → is_good l.random from now call.cookie ≡ true
         → position (is_of call.number) l.seats ≡ None → seat_of call.seat now l.seats ≡ Some n
-        → Good (seated from call now n (taken_by from call (time_of call.cookie)) l)
+        → Good (seated from call now n (taken_by from call (time_of call.cookie)) (filled_by call l))
     joining_it n lobby good none some =
         let there = place l fits now n call.seat is.seat some in
-        sitting n (taken_by from call (time_of call.cookie)) there.0 there.1
+        let still : IsLobby (filled_by call l) = record {
+          number = fits.number;
+          name = fits.name;
+          terms = fits.terms;
+          three = fits.three;
+          seats = fits.seats;
+        } in
+        sitting (filled_by call l) still n (taken_by from call (time_of call.cookie)) there.0 there.1
         (there.1, record { number = is.number; address = a; name = is.name })
 
     calling_it : (n : ℕ) → l.begun ≡ false → is_good l.random from now call.cookie ≡ true
@@ -257,7 +260,7 @@ module _ (from : Address) (call : Call) (now : ℕ) (l : Lobby) (a : length from
         → Good (seated from call now n (taken_again from now (time_of call.cookie) (slice_index_or l.seats n seat.Absent)) l)
     calling_it n lobby good some =
         let there = passes l fits (is_of call.number) n refl some in
-        sitting n (taken_again from now (time_of call.cookie) (slice_index_or l.seats n seat.Absent)) there.0 there.1
+        sitting l fits n (taken_again from now (time_of call.cookie) (slice_index_or l.seats n seat.Absent)) there.0 there.1
         (taken_fits from now (time_of call.cookie) l.terms.players (n + 1) (slice_index_or l.seats n seat.Absent) a
         (fits.seats n there.0))
 

@@ -2,11 +2,8 @@
 use Rattle.std.proofs.Common.{◌≡◌, ℕ, List, [], ◌∷◌, ◌++◌, length, take, drop, refl, ap, sym, ◌∙◌}
 use Rattle.std.specs.List.{concat}
 use Rattle.std.proofs.lemmas.List.{drop-drop}
+use Rattle.dn_session.specs.{Cookies.game_label, Cookies.game_text, Rests.front, Rests.length-terms, Rests.past, Rests.terms_back, Terms.IsTerms, Terms.terms_bytes, Told.told_terms}
 use Rattle.dn_session.specs.declared.terms.Terms.{Terms}
-use Rattle.dn_session.specs.Cookies.{game_label, game_text}
-use Rattle.dn_session.specs.Rests.{front, length-terms, past, terms_back}
-use Rattle.dn_session.specs.Terms.{IsTerms, terms_bytes}
-use Rattle.dn_session.specs.Told.{told_terms}
 
 length-label : length game_label ≡ 13
 unfolding game_label

@@ -8,18 +8,13 @@ use Rattle.std.proofs.lemmas.List.{take-append-drop, take-take, drop-take, lengt
 use Rattle.std.proofs.lemmas.Option.{same_Some, none-some}
 use Rattle.std.proofs.lemmas.Slice.Eq.{bytes_eq-Decides}
 use Rattle.std.proofs.Math.Seq.{take-append_seam, drop-append_seam}
-use Rattle.dn_seal.specs.declared.seal.Seal.{Seal}
-use Rattle.dn_seal.specs.Hmac.{tag_of}
-use Rattle.dn_seal.specs.Hmac.{suite_byte}
-use Rattle.dn_seal.specs.Opening.{told_body, told_tag}
+use Rattle.dn_seal.specs.{Hmac.suite_byte, Hmac.tag_of, Opening.told_body, Opening.told_tag, declared.seal.Seal.Seal}
 use Rattle.dn_seal.proofs.Envelopes.{length-tag}
-use Rattle.dn_session.specs.declared.greeting.GreetingFault.{GreetingFault}
-use Rattle.dn_session.specs.declared.greeting.GreetingFault.TheVariants.{Short, Kind, What, Version, Length, Suite, Tag, Form}
-use Rattle.dn_session.specs.Text.{kind_bytes, head_bytes, body_bytes, greeting_bytes}
+use Rattle.dn_session.specs.{Hosting.hint_for, Reading.IsCallIn, Reading.IsReadAs, Reading.first_fault, Sorts.Sort, Text.body_bytes, Text.greeting_bytes, Text.head_bytes, Text.kind_bytes}
+use Rattle.dn_session.specs.{declared.greeting.GreetingFault.GreetingFault, declared.greeting.GreetingFault.TheVariants.Form, declared.greeting.GreetingFault.TheVariants.Kind}
+use Rattle.dn_session.specs.{declared.greeting.GreetingFault.TheVariants.Length, declared.greeting.GreetingFault.TheVariants.Short, declared.greeting.GreetingFault.TheVariants.Suite}
+use Rattle.dn_session.specs.{declared.greeting.GreetingFault.TheVariants.Tag, declared.greeting.GreetingFault.TheVariants.Version, declared.greeting.GreetingFault.TheVariants.What}
 use Rattle.dn_session.specs.declared.greeting.Hint.{Hint}
-use Rattle.dn_session.specs.Hosting.{hint_for}
-use Rattle.dn_session.specs.Reading.{first_fault, IsCallIn, IsReadAs}
-use Rattle.dn_session.specs.Sorts.{Sort}
 
 -- what bytes without a fault have
 pub record Passes (seal : Seal) (what size : ℕ) (bytes : List ℕ) : Type 0 where

@@ -5,25 +5,15 @@ use Rattle.std.proofs.Math.ListN.{get_or-map}
 use Rattle.std.proofs.lemmas.Bool.{and_parts, cases_Bool, eqb-true, leb-true}
 use Rattle.std.proofs.lemmas.Option.{same_Some}
 use Rattle.std.proofs.lemmas.Slice.Eq.{bytes_eq-Decides}
-use Rattle.dn_session.specs.declared.greeting.Seating.{Seating}
-use Rattle.dn_session.specs.declared.greeting.Shown.{Shown}
-use Rattle.dn_session.specs.declared.joiner.Joiner.{Joiner}
-use Rattle.dn_session.specs.declared.joiner.Stage.{Stage}
+use Rattle.dn_session.specs.{Cookies.game_text, Hosting.IsLobby, Hosting.IsSeat, Hosting.Lobby, Hosting.game, Hosting.lobby, Hosting.roster, Joining.Joining, Joining.game_by, Joining.game_in}
+use Rattle.dn_session.specs.{Joining.holds, Joining.is_own, Joining.joining, Joining.number_of, Joining.roster_in, Roster.Fixed, Roster.IsJoining, Roster.IsSide, Roster.Place, Roster.key_of}
+use Rattle.dn_session.specs.{Roster.number_of_game, Roster.own_number, Roster.place_by, Roster.place_here, Roster.place_in, Roster.place_told, Roster.session_at, Roster.text_of_game, Seats.number_in}
+use Rattle.dn_session.specs.{Session.begun_here, Session.begun_in, Session.begun_there, Session.begun_with, Terms.IsTerms, Text.IsHolder, Text.IsSeating, declared.greeting.Seating.Seating}
+use Rattle.dn_session.specs.{declared.greeting.Shown.Shown, declared.joiner.Joiner.Joiner, declared.joiner.Stage.Stage, declared.seats.Seat.Seat, declared.side.Begun.Begun, declared.side.Side.Side}
 use Rattle.dn_session.specs.declared.joiner.Stage.TheVariants as stage
-use Rattle.dn_session.specs.declared.seats.Seat.{Seat}
 use Rattle.dn_session.specs.declared.seats.Seat.TheVariants as seat
-use Rattle.dn_session.specs.declared.side.Begun.{Begun}
-use Rattle.dn_session.specs.declared.side.Side.{Side}
 use Rattle.dn_session.specs.declared.side.Side.TheVariants as side
 use Rattle.std.specs.Option.{option_map}
-use Rattle.dn_session.specs.Hosting.{game, lobby, roster, IsLobby, IsSeat, Lobby}
-use Rattle.dn_session.specs.Joining.{game_by, game_in, holds, is_own, joining, number_of, roster_in, Joining}
-use Rattle.dn_session.specs.Roster.{key_of, number_of_game, own_number, place_by, place_here, place_in, place_told, session_at, text_of_game, Fixed, IsJoining, IsSide, Place}
-use Rattle.dn_session.specs.Seats.{number_in}
-use Rattle.dn_session.specs.Session.{begun_here, begun_in, begun_there, begun_with}
-use Rattle.dn_session.specs.Terms.{IsTerms}
-use Rattle.dn_session.specs.Text.{IsHolder, IsSeating}
-use Rattle.dn_session.specs.Cookies.{game_text}
 use Rattle.dn_session.proofs.Numbers.{same_game}
 
 some_then : {A : Type 0} (test : Bool) (x y : A) → (if test then Some x else None) ≡ Some y → (test ≡ true) × (x ≡ y)

@@ -1,13 +1,9 @@
 -- How a player's datagrams come: what is a sign of life of it, and of where it is.
 use Rattle.std.specs.Prelude.{ℕ, ◌==◌, ◌&&◌, ◌||◌, Bool, not, true, false, nat_lt, if◌then◌else◌, List, map, Option, Some, None, slice_index_or}
+use Rattle.dn_link.specs.{Linked.Linked, Linked.figures_of, Linked.is_peer, Pacing.PaceState, declared.received.Received.Received, declared.received.Received.TheVariants.Heard}
 use Rattle.dn_link.specs.declared.tally.Figures.{Figures}
-use Rattle.dn_link.specs.declared.received.Received.{Received}
-use Rattle.dn_link.specs.declared.received.Received.TheVariants.{Heard}
-use Rattle.dn_link.specs.Linked.{Linked, figures_of, is_peer}
-use Rattle.dn_link.specs.Pacing.{PaceState}
-use Rattle.dn_lockstep.specs.Contents.{Contents}
-use Rattle.dn_lockstep.specs.Told.{got}
-use Rattle.dn_session.specs.Players.{count_in, four}
+use Rattle.dn_lockstep.specs.{Contents.Contents, Told.got}
+use Rattle.dn_session.specs.{Players.count_in, Players.four}
 
 -- what a link reports of the line of a player
 abbrev pub figures_in : Linked → PaceState → ℕ → Option Figures
@@ -33,7 +29,7 @@ is_late_in before after = false
 
 -- whose datagram was heard
 abbrev pub heard_of : Received → Option ℕ
-heard_of (Heard from started) = Some from
+heard_of (Heard from) = Some from
 heard_of received = None
 
 -- a new datagram of this player was heard

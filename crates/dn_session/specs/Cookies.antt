@@ -3,10 +3,8 @@ use Rattle.std.specs.Prelude.{ℕ, ◌+◌, ◌&&◌, ◌++◌, Bool, nat_le, Li
 use Rattle.std.specs.List.{concat}
 use Rattle.std.specs.Int.{w32, to_le_bytes, from_le_bytes}
 use Rattle.std.specs.Str.{bytes_eq}
-use Rattle.dn_seal.specs.Hmac.{hmac, tag_of}
-use Rattle.dn_session.specs.declared.greeting.Address.{Address}
-use Rattle.dn_session.specs.declared.terms.Terms.{Terms}
-use Rattle.dn_session.specs.Terms.{terms_bytes}
+use Rattle.dn_seal.specs.{Hmac.hmac, Hmac.tag_of}
+use Rattle.dn_session.specs.{Terms.terms_bytes, declared.greeting.Address.Address, declared.terms.Terms.Terms}
 
 unfoldable pub number_label : List ℕ
 number_label = codes "zirmegat number"

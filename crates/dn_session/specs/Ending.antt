@@ -1,19 +1,16 @@
 -- How a game ends for a player, whom it gives up under a policy, and how it leaves.
 use Rattle.std.specs.Prelude.{ℕ, ◌-◌, ◌*◌, ◌==◌, ◌&&◌, ◌||◌, Bool, true, false, nat_le, if◌then◌else◌, Option, Some, None}
+use Rattle.std.specs.List.{list_all}
 use Rattle.std.specs.Option.{option_map, option_or}
 use Rattle.dn_machine.specs.declared.answers.Cause.TheVariants as cause
 use Rattle.dn_machine.specs.declared.answers.Phase.{Phase}
 use Rattle.dn_machine.specs.declared.answers.Phase.TheVariants as phase
-use Rattle.dn_link.specs.Linked.{Linked}
-use Rattle.dn_session.specs.declared.ending.Ending.{Ending}
+use Rattle.dn_link.specs.{Linked.Linked, Linked.needs_nothing}
+use Rattle.dn_session.specs.{Lead.due, Lead.highest, Lead.is_given_up, Lead.is_late, Lead.is_open, Lead.is_there, Lead.lead, Players.four, Players.has_gone, Players.is_abandoned}
+use Rattle.dn_session.specs.{declared.ending.Ending.Ending, declared.ending.Progress.Progress, declared.lead.View.View, declared.terms.Policy.Policy}
 use Rattle.dn_session.specs.declared.ending.Ending.TheVariants as ending
-use Rattle.dn_session.specs.declared.ending.Progress.{Progress}
 use Rattle.dn_session.specs.declared.ending.Progress.TheVariants as progress
-use Rattle.dn_session.specs.declared.lead.View.{View}
-use Rattle.dn_session.specs.declared.terms.Policy.{Policy}
 use Rattle.dn_session.specs.declared.terms.Policy.TheVariants as policy
-use Rattle.dn_session.specs.Lead.{due, highest, is_given_up, is_late, is_open, is_there, lead}
-use Rattle.dn_session.specs.Players.{has_gone, is_abandoned}
 
 -- so long nobody waits: silence for half of it is 24 days
 abbrev pub for_ever : ℕ
@@ -63,10 +60,19 @@ ended_by ending.GivenUp now = progress.Over ending.GivenUp
 ended_by ending.Alone now = progress.Over ending.Alone
 ended_by ending now = progress.Leaving ending now None
 
--- since when nobody needs it, if nobody does
+-- the game ends since this player is lost
+abbrev pub has_lost : Ending → ℕ → Bool
+has_lost (ending.Lost lost) player = player == lost
+has_lost end player = false
+
+-- nobody needs it any more; who is lost is not waited for
+abbrev pub is_unneeded : Ending → Linked → Bool
+is_unneeded end link = list_all (λ player. has_lost end player || needs_nothing link player) four
+
+-- since when that is so, if it is
 abbrev pub free_since : Bool → Option ℕ → ℕ → Option ℕ
-free_since may_leave (Some free) now = Some free
-free_since may_leave None now = if may_leave then Some now else None
+free_since is_unneeded (Some free) now = Some free
+free_since is_unneeded None now = if is_unneeded then Some now else None
 
 -- that was at least two seconds ago
 abbrev pub has_waited : Option ℕ → ℕ → Bool
@@ -75,7 +81,7 @@ has_waited (Some free) now = nat_le 2000 (now - free)
 
 -- who leaves goes on for two seconds once nobody needs it, and for ten at most
 abbrev pub waits : Bool → Ending → ℕ → Option ℕ → ℕ → Progress
-waits may_leave ending since free now =
-    if has_waited (free_since may_leave free now) now || nat_le 10000 (now - since)
+waits is_unneeded ending since free now =
+    if has_waited (free_since is_unneeded free now) now || nat_le 10000 (now - since)
     then progress.Over ending
-    else progress.Leaving ending since (free_since may_leave free now)
+    else progress.Leaving ending since (free_since is_unneeded free now)

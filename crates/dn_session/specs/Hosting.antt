@@ -1,32 +1,22 @@
 -- The host's lobby: who gets which seat, and when the game begins.
-use Rattle.std.specs.Prelude.{◌≡◌, ◌≤◌, ◌<◌, ◌⊎◌, ℕ, ◌+◌, ◌-◌, ◌==◌, ◌||◌, Bool, not, false, nat_le, if◌then◌else◌, List, [], ◌∷◌, length, map, position, slice_index_or, slice_set, Option, Some, None, option_map, Result, Ok, Err}
+use Rattle.std.specs.Prelude.{◌≡◌, ◌≤◌, ◌<◌, ◌⊎◌, ℕ, ◌+◌, ◌-◌, ◌==◌, ◌||◌, Bool, not, false, nat_le, if◌then◌else◌, List, [], ◌∷◌, length, map, max, position, slice_index_or, slice_set, Option, Some, None, option_map, Result, Ok, Err}
 use Rattle.std.specs.List.{list_all, list_any}
 use Rattle.std.specs.Str.{bytes_eq}
 use Rattle.dn_seal.specs.declared.seal.Seal.{Seal}
-use Rattle.dn_session.specs.declared.greeting.Address.{Address}
-use Rattle.dn_session.specs.declared.greeting.Call.{Call}
-use Rattle.dn_session.specs.declared.greeting.GreetingFault.{GreetingFault}
+use Rattle.dn_session.specs.{Cookies.cookie_of, Cookies.game_of, Cookies.is_good, Cookies.session_number, Cookies.time_of, Reading.IsCallIn, Reading.IsRefusedIn, Reading.IsSeatingIn, Seats.is_of}
+use Rattle.dn_session.specs.{Seats.is_ready, Seats.number_in, Seats.seat_for, Seats.seat_of, Seats.shown_at, Seats.taken_again, Seats.taken_by, Terms.IsTerms, Terms.terms_fault, Text.IsHolder}
+use Rattle.dn_session.specs.{Text.greeting_bytes, Text.greeting_seal, Text.hinted_bytes, Text.refused_rest, Text.seating_rest, Text.told_number, declared.greeting.Address.Address}
+use Rattle.dn_session.specs.{declared.greeting.Call.Call, declared.greeting.GreetingFault.GreetingFault, declared.greeting.Hint.Hint, declared.greeting.Refusal.Refusal}
+use Rattle.dn_session.specs.{declared.greeting.Refused.Refused, declared.greeting.Seating.Seating, declared.host.Host.Host, declared.host.HostConfig.HostConfig, declared.seats.Seat.Seat}
+use Rattle.dn_session.specs.{declared.terms.LobbyFault.LobbyFault, declared.terms.Terms.Terms}
 use Rattle.dn_session.specs.declared.greeting.GreetingFault.TheVariants as fault
-use Rattle.dn_session.specs.declared.greeting.Hint.{Hint}
 use Rattle.dn_session.specs.declared.greeting.Hint.TheVariants as hint
-use Rattle.dn_session.specs.declared.greeting.Refusal.{Refusal}
 use Rattle.dn_session.specs.declared.greeting.Refusal.TheVariants as refusal
-use Rattle.dn_session.specs.declared.greeting.Refused.{Refused}
-use Rattle.dn_session.specs.declared.greeting.Seating.{Seating}
-use Rattle.dn_session.specs.declared.host.Host.{Host}
-use Rattle.dn_session.specs.declared.host.HostConfig.{HostConfig}
-use Rattle.dn_session.specs.declared.seats.Seat.{Seat}
 use Rattle.dn_session.specs.declared.seats.Seat.TheVariants as seat
-use Rattle.dn_session.specs.declared.terms.LobbyFault.{LobbyFault}
-use Rattle.dn_session.specs.declared.terms.Terms.{Terms}
-use Rattle.dn_session.specs.Cookies.{cookie_of, game_of, is_good, session_number, time_of}
-use Rattle.dn_session.specs.Reading.{IsCallIn, IsRefusedIn, IsSeatingIn}
-use Rattle.dn_session.specs.Seats.{is_of, is_ready, number_in, seat_for, seat_of, shown_at, taken_again, taken_by}
-use Rattle.dn_session.specs.Terms.{terms_fault, IsTerms}
-use Rattle.dn_session.specs.Text.{greeting_bytes, greeting_seal, hinted_bytes, refused_rest, seating_rest, told_number, IsHolder}
 
 -- the random bytes under which its cookies are made, the number of its session, the name of its player, the terms,
--- the seats 1 to 3, the last session that was turned away from each, and whether the game has begun
+-- the seats 1 to 3, the newest cookie with which anybody got one, the last session that was turned away from each, and
+-- whether the game has begun
 pub record Lobby : Type 0 where
   pub seal : Seal
   pub random : List ℕ
@@ -34,6 +24,7 @@ pub record Lobby : Type 0 where
   pub name : List ℕ
   pub terms : Terms
   pub seats : List Seat
+  pub filled : ℕ
   pub kicked : List (Option (List ℕ))
   pub begun : Bool
 
@@ -46,6 +37,7 @@ lobby host =
       name = host.name;
       terms = host.terms;
       seats = host.seats;
+      filled = host.filled;
       kicked = host.kicked;
       begun = host.begun;
     }
@@ -60,6 +52,7 @@ new_lobby config =
       name = config.name;
       terms = config.terms;
       seats = map (seat_for config.terms.players) (1 ∷ 2 ∷ 3 ∷ []);
+      filled = 0;
       kicked = None ∷ None ∷ None ∷ [];
       begun = false;
     }
@@ -136,20 +129,25 @@ refused_to from call now why l =
 abbrev pub refused : Address → Call → ℕ → Refusal → Lobby → List ℕ
 refused from call now why l = greeting_bytes l.seal 3 (refused_rest (refused_to from call now why l))
 
--- a change of a seat, after which the game begins if each player was heard recently. The seats are then as they are
--- for good
+-- a change of a seat, after which the game begins if each player was heard recently, and since the last newcomer came.
+-- The seats are then as they are for good
 abbrev pub with_seat : ℕ → ℕ → Seat → Lobby → Lobby
 with_seat now n changed l =
     let seats = slice_set l.seats n changed in
-    record l { seats = seats; begun = list_all (is_ready now) seats }
+    record l { seats = seats; begun = list_all (is_ready now l.filled) seats }
 
 abbrev pub seated : Address → Call → ℕ → ℕ → Seat → Lobby → Lobby × List ℕ
 seated from call now n changed l =
     let next = with_seat now n changed l in (next, seating from call now n next)
 
+-- a newcomer came with a cookie of this time
+abbrev pub filled_by : Call → Lobby → Lobby
+filled_by call l = record l { filled = max l.filled (time_of call.cookie) }
+
 -- a newcomer gets a seat, or there is none for it
 abbrev pub on_newcomer : Address → Call → ℕ → Option ℕ → Lobby → Lobby × List ℕ
-on_newcomer from call now (Some n) l = seated from call now n (taken_by from call (time_of call.cookie)) l
+on_newcomer from call now (Some n) l =
+    seated from call now n (taken_by from call (time_of call.cookie)) (filled_by call l)
 on_newcomer from call now None l = (l, refused from call now refusal.Full l)
 
 -- a session that has a seat keeps it

@@ -2,24 +2,12 @@
 use Rattle.std.specs.Prelude.{◌≡◌, ℕ, ◌+◌, ◌-◌, min, ◌==◌, ◌&&◌, ◌||◌, Bool, not, true, false, nat_le, nat_lt, if◌then◌else◌, List, map, slice_index_or, Option, Some, None, Result, Ok, Err, replicate}
 use Rattle.std.specs.Str.{bytes_eq}
 use Rattle.dn_seal.specs.declared.seal.Seal.{Seal}
-use Rattle.dn_session.specs.declared.greeting.Address.{Address}
-use Rattle.dn_session.specs.declared.greeting.Call.{Call}
-use Rattle.dn_session.specs.declared.greeting.GreetingFault.{GreetingFault}
-use Rattle.dn_session.specs.declared.greeting.Hint.{Hint}
-use Rattle.dn_session.specs.declared.greeting.Hinted.{Hinted}
-use Rattle.dn_session.specs.declared.greeting.Refusal.{Refusal}
+use Rattle.dn_session.specs.{Cookies.game_of, Cookies.is_recent, Cookies.session_number, Reading.IsHintedIn, Reading.IsRefusedIn, Reading.IsSeatingIn, Text.call_rest, Text.greeting_bytes}
+use Rattle.dn_session.specs.{Text.greeting_seal, Text.join_fault, declared.greeting.Address.Address, declared.greeting.Call.Call, declared.greeting.GreetingFault.GreetingFault}
+use Rattle.dn_session.specs.{declared.greeting.Hint.Hint, declared.greeting.Hinted.Hinted, declared.greeting.Refusal.Refusal, declared.greeting.Refused.Refused, declared.greeting.Seating.Seating}
+use Rattle.dn_session.specs.{declared.greeting.Shown.Shown, declared.joiner.JoinConfig.JoinConfig, declared.joiner.Joiner.Joiner, declared.joiner.Stage.Stage, declared.terms.LobbyFault.LobbyFault}
 use Rattle.dn_session.specs.declared.greeting.Refusal.TheVariants as refusal
-use Rattle.dn_session.specs.declared.greeting.Refused.{Refused}
-use Rattle.dn_session.specs.declared.greeting.Seating.{Seating}
-use Rattle.dn_session.specs.declared.greeting.Shown.{Shown}
-use Rattle.dn_session.specs.declared.joiner.JoinConfig.{JoinConfig}
-use Rattle.dn_session.specs.declared.joiner.Joiner.{Joiner}
-use Rattle.dn_session.specs.declared.joiner.Stage.{Stage}
 use Rattle.dn_session.specs.declared.joiner.Stage.TheVariants as stage
-use Rattle.dn_session.specs.declared.terms.LobbyFault.{LobbyFault}
-use Rattle.dn_session.specs.Cookies.{game_of, is_recent, session_number}
-use Rattle.dn_session.specs.Reading.{IsHintedIn, IsRefusedIn, IsSeatingIn}
-use Rattle.dn_session.specs.Text.{call_rest, greeting_bytes, greeting_seal, join_fault}
 
 -- its number; whom it calls, and as whom; how many calls it has made, which of them was the newest that the host answered, and
 -- the newest cookie; the last seating; where it stands; and by its own clock, in milliseconds: when it called last,

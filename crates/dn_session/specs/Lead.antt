@@ -3,11 +3,8 @@
 use Rattle.std.specs.Prelude.{ℕ, ◌+◌, ◌-◌, ◌*◌, ◌==◌, ◌&&◌, ◌||◌, Bool, not, true, false, nat_le, if◌then◌else◌, List, [], ◌∷◌, position, slice_index_or, Option, Some, None}
 use Rattle.std.specs.List.{list_any}
 use Rattle.std.specs.Option.{option_map, option_or}
-use Rattle.dn_session.specs.Cookies.{fresh_for}
-use Rattle.dn_session.specs.declared.lead.Seen.{Seen}
-use Rattle.dn_session.specs.declared.lead.Standing.{Standing}
-use Rattle.dn_session.specs.declared.lead.Standing.TheVariants.{Open, Closed, Gone}
-use Rattle.dn_session.specs.declared.lead.View.{View}
+use Rattle.dn_session.specs.{Cookies.fresh_for, declared.lead.Seen.Seen, declared.lead.Standing.Standing, declared.lead.Standing.TheVariants.Closed, declared.lead.Standing.TheVariants.Gone}
+use Rattle.dn_session.specs.{declared.lead.Standing.TheVariants.Open, declared.lead.View.View}
 
 -- of whom nothing is known there is no player
 abbrev pub nobody : Seen

@@ -17,5 +17,7 @@ pub mod Ending
 pub mod Coming
 pub mod Playing
 pub mod Sent
+pub mod Events
 pub mod Session
 pub mod Roster
+pub mod Parts

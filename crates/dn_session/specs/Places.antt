@@ -1,10 +1,7 @@
 -- Where the players are.
 use Rattle.std.specs.Prelude.{ℕ, ◌+◌, ◌&&◌, Bool, true, false, nat_le, if◌then◌else◌, List, ◌∷◌, map, slice_index_or, slice_set, Option, Some, None}
 use Rattle.std.specs.Str.{bytes_eq}
-use Rattle.dn_session.specs.Cookies.{fresh_for}
-use Rattle.dn_session.specs.declared.greeting.Address.{Address}
-use Rattle.dn_session.specs.declared.places.Place.{Place}
-use Rattle.dn_session.specs.declared.places.Places.{Places}
+use Rattle.dn_session.specs.{Cookies.fresh_for, declared.greeting.Address.Address, declared.places.Place.Place, declared.places.Places.Places}
 
 -- the player is known to be at this address
 abbrev pub is_at : Address → Place → Bool

@@ -3,17 +3,11 @@ use Rattle.std.specs.Prelude.{ℕ, ◌==◌, ◌&&◌, ◌||◌, Bool, not, true
 use Rattle.std.specs.List.{list_any, list_all}
 use Rattle.dn_machine.specs.declared.answers.Phase.{Phase}
 use Rattle.dn_machine.specs.declared.answers.Phase.TheVariants as phase
-use Rattle.dn_lockstep.specs.Contents.{Contents}
-use Rattle.dn_lockstep.specs.Told.{got, made}
-use Rattle.dn_survivor.specs.Calls.{undecided_in}
-use Rattle.dn_link.specs.Linked.{Linked, end_known, has_given_up, remains, surviving_of}
-use Rattle.dn_link.specs.Surviving.{reports_gone}
-use Rattle.dn_session.specs.declared.lead.Seen.{Seen}
-use Rattle.dn_session.specs.declared.lead.Standing.{Standing}
-use Rattle.dn_session.specs.declared.lead.Standing.TheVariants.{Open, Closed, Gone}
-use Rattle.dn_session.specs.declared.lead.View.{View}
-use Rattle.dn_session.specs.declared.watch.Watch.{Watch}
-use Rattle.dn_session.specs.Watch.{silence, stalled}
+use Rattle.dn_lockstep.specs.{Contents.Contents, Told.got, Told.made}
+use Rattle.dn_survivor.specs.Calls.{awaits_report_of}
+use Rattle.dn_link.specs.{Linked.Linked, Linked.end_known, Linked.has_given_up, Linked.remains, Linked.surviving_of, Surviving.reports_gone}
+use Rattle.dn_session.specs.{Watch.silence, Watch.stalled, declared.lead.Seen.Seen, declared.lead.Standing.Standing, declared.lead.Standing.TheVariants.Closed, declared.lead.Standing.TheVariants.Gone}
+use Rattle.dn_session.specs.{declared.lead.Standing.TheVariants.Open, declared.lead.View.View, declared.watch.Watch.Watch}
 
 abbrev pub four : List ℕ
 four = 0 ∷ 1 ∷ 2 ∷ 3 ∷ []
@@ -64,9 +58,10 @@ abbrev pub is_it : ℕ → Option ℕ → Bool
 is_it player None = false
 is_it player (Some other) = player == other
 
--- then reports of all others are needed. They are awaited one by one, the lowest first
+-- then reports of all others are needed. They are awaited one by one, the lowest first; and where all are there, and
+-- cannot be true, a better one is
 abbrev pub owes_report : Linked → ℕ → Bool
-owes_report link player = has_gone link && is_it player (undecided_in (surviving_of link))
+owes_report link player = is_it player (awaits_report_of (surviving_of link))
 
 -- a command or a report of another is awaited, who is not given up
 abbrev pub is_awaited : Linked → ℕ → Bool

@@ -1,46 +1,22 @@
 -- A player's part in its game: what each call makes of it.
 use Rattle.std.specs.Prelude.{◌≡◌, ◌⊎◌, ℕ, ℤ, ◌&&◌, ◌||◌, ◌+◌, Bool, not, true, false, nat_le, nat_lt, if◌then◌else◌, List, [], ◌∷◌, map, position, slice_index_or, slice_set, replicate, Option, Some, None, is_some}
-use Rattle.dn_tic.specs.declared.command.Move.{Move}
-use Rattle.dn_tic.specs.declared.input.Input.{Input}
-use Rattle.dn_machine.specs.Sending.{on_build}
-use Rattle.dn_machine.specs.Running.{on_quit}
-use Rattle.dn_machine.specs.declared.answers.Made.{Made}
-use Rattle.dn_machine.specs.declared.answers.Ran.{Ran}
+use Rattle.dn_tic.specs.{declared.command.Move.Move, declared.input.Input.Input}
+use Rattle.dn_machine.specs.{Running.on_quit, Sending.on_build, declared.answers.Made.Made, declared.answers.Ran.Ran}
 use Rattle.dn_lockstep.specs.Steps.{Steps}
 use Rattle.dn_survivor.specs.declared.answers.GivenUp.{GivenUp}
-use Rattle.dn_link.specs.declared.link.Link.{Link}
-use Rattle.dn_link.specs.declared.received.Received.{Received}
-use Rattle.dn_link.specs.declared.received.Received.TheVariants as received
+use Rattle.dn_link.specs.{Linked.Receives, Linked.has_given_up, Linked.remains, Linking.linked, Linking.seal_of, Notices.HearsNotice, Notices.is_notice, Pace.Paces, Pace.after_input, Pace.after_tick}
+use Rattle.dn_link.specs.{Pace.lean, Pace.still_owed, Pace.wants_second, Pacing.pace_of, Surviving.GivesUpPeer, Surviving.RunsBut, declared.link.Link.Link, declared.received.Received.Received}
 use Rattle.dn_link.specs.declared.received.Received.TheVariants.{Reported}
+use Rattle.dn_link.specs.declared.received.Received.TheVariants as received
 use Rattle.dn_survivor.specs.declared.answers.Reported.TheVariants as reported
-use Rattle.dn_link.specs.Linked.{Receives, forgotten, has_given_up, may_leave, remains}
-use Rattle.dn_link.specs.Linking.{identity_of, linked, seal_of}
-use Rattle.dn_link.specs.Notices.{HearsNotice, is_notice}
-use Rattle.dn_link.specs.Pace.{Paces, after_input, after_tick, lean, still_owed, wants_second}
-use Rattle.dn_link.specs.Pacing.{pace_of}
-use Rattle.dn_link.specs.Surviving.{GivesUpPeer, RunsBut}
-use Rattle.dn_session.specs.declared.ending.Ending.{Ending}
-use Rattle.dn_session.specs.declared.ending.Ending.TheVariants as ending
-use Rattle.dn_session.specs.declared.ending.Progress.{Progress}
-use Rattle.dn_session.specs.declared.ending.Progress.TheVariants as progress
-use Rattle.dn_session.specs.declared.greeting.Address.{Address}
-use Rattle.dn_session.specs.declared.lead.View.{View}
-use Rattle.dn_session.specs.declared.part.Exclusion.{Exclusion}
-use Rattle.dn_session.specs.declared.part.hearing.Known.{Known}
-use Rattle.dn_session.specs.declared.part.Owed.{Owed}
-use Rattle.dn_session.specs.declared.part.Part.{Part}
-use Rattle.dn_session.specs.declared.places.Places.{Places}
-use Rattle.dn_session.specs.declared.terms.Policy.{Policy}
-use Rattle.dn_session.specs.declared.ticks.Ticks.{Ticks}
+use Rattle.dn_session.specs.{Coming.counts_in, Coming.has_more, Coming.heard_of, Coming.is_late_in, Coming.is_new_in, Coming.is_news_of, Coming.line_of, Coming.lines_in, Ending.ended_by}
+use Rattle.dn_session.specs.{Ending.ending_of, Ending.is_unneeded, Ending.may_give_up, Ending.patience, Ending.waits, Joining.has_come, Lead.due, Places.heard_at, Places.place_of, Players.four}
+use Rattle.dn_session.specs.{Players.is_any_awaited, Players.view_of, Ticks.half_taken, Ticks.is_due, Ticks.passed, Ticks.resumed, Watch.looked_at, declared.ending.Ending.Ending}
+use Rattle.dn_session.specs.{declared.ending.Progress.Progress, declared.greeting.Address.Address, declared.lead.View.View, declared.part.Exclusion.Exclusion, declared.part.Owed.Owed}
+use Rattle.dn_session.specs.{declared.part.Part.Part, declared.part.hearing.Known.Known, declared.places.Places.Places, declared.terms.Policy.Policy, declared.ticks.Ticks.Ticks}
 use Rattle.dn_session.specs.declared.watch.Watch.{Watch}
-use Rattle.dn_session.specs.Coming.{counts_in, has_more, heard_of, is_late_in, is_new_in, is_news_of, line_of, lines_in}
-use Rattle.dn_session.specs.Ending.{ended_by, ending_of, may_give_up, patience, waits}
-use Rattle.dn_session.specs.Lead.{due}
-use Rattle.dn_session.specs.Players.{four, is_any_awaited, view_of}
-use Rattle.dn_session.specs.Joining.{has_come}
-use Rattle.dn_session.specs.Places.{heard_at, place_of}
-use Rattle.dn_session.specs.Ticks.{half_taken, is_due, passed, resumed}
-use Rattle.dn_session.specs.Watch.{looked_at}
+use Rattle.dn_session.specs.declared.ending.Ending.TheVariants as ending
+use Rattle.dn_session.specs.declared.ending.Progress.TheVariants as progress
 
 -- its link; when ticks are due; for how long others were silent; where they are; who has told that it has given up
 -- this player; whom it is to tell so; what else is to be sent; how far it is; and what becomes of a player who vanishes
@@ -70,9 +46,8 @@ playing part =
     }
 
 -- what one of its link's calls leaves as it was
-pub record KeepsGame (old new : Link) : Type 0 where
-  pub seal : seal_of new ≡ seal_of old
-  pub identity : identity_of new ≡ identity_of old
+abbrev pub KeepsGame : Link → Link → Type 0
+KeepsGame old new = seal_of new ≡ seal_of old
 
 abbrev pub view : ℕ → Playing → View
 view now p = view_of (linked p.link) p.excluders p.watch now
@@ -89,7 +64,7 @@ abbrev pub Takes : List ℕ → Link → Link → Received → Type 0
 Takes bytes old new received =
     KeepsGame old new
     × (is_notice bytes ≡ false
-    → Receives (seal_of old) (identity_of old) (pace_of old) bytes (linked old) (linked new) received)
+    → Receives (seal_of old) bytes (linked old) (linked new) received)
     × (is_notice bytes ≡ false → Paces (seal_of old) bytes (linked old) (pace_of old) (pace_of new))
     × (is_notice bytes ≡ true
     → HearsNotice (seal_of old) bytes (linked old) (pace_of old) (linked new) (pace_of new) received)
@@ -252,25 +227,20 @@ GivesUpNow (Some player) old new =
     × KeepsGame old.link new.link × (pace_of new.link ≡ pace_of old.link)
     × (new ≡ record old { link = new.link })
 
--- its player leaves the game, as far as it has not ended; who is lost is not waited for
-abbrev pub without_lost : Ending → Link → Link → Type 0
-without_lost (ending.Lost player) old mid = linked mid ≡ forgotten player (linked old)
-without_lost end old mid = linked mid ≡ linked old
-
+-- its player leaves the game, as far as it has not ended
 abbrev pub Quits : Link → Link → Type 0
 Quits old new =
     ((quit : Bool) × Steps (linked old).node (linked new).node (λ limits me m. on_quit m) (λ answer. quit ≡ answer))
     × ((linked new).others ≡ (linked old).others) × ((linked new).peers ≡ (linked old).peers)
 
-abbrev pub LeavesGame : Ending → Link → Link → Type 0
-LeavesGame end old new =
-    KeepsGame old new × (pace_of new ≡ pace_of old) × ((mid : Link) × without_lost end old mid × Quits mid new)
+abbrev pub LeavesGame : Link → Link → Type 0
+LeavesGame old new = KeepsGame old new × (pace_of new ≡ pace_of old) × Quits old new
 
 -- the game ends for it, if it does
 abbrev pub EndsNow : Option Ending → ℕ → Playing → Playing → Type 0
 EndsNow None now old new = new ≡ old
 EndsNow (Some end) now old new =
-    LeavesGame end old.link new.link × (new ≡ record old { link = new.link; progress = ended_by end now })
+    LeavesGame old.link new.link × (new ≡ record old { link = new.link; progress = ended_by end now })
 
 -- a tick of one who leaves
 abbrev pub TicksWhen : Bool → ℕ → Playing → Playing → Type 0
@@ -289,7 +259,7 @@ PassesTime progress.Playing now old new =
     PlaysOn (ending_of old.policy (view now (looks now old)) (linked old.link)) now (looks now old) new
 PassesTime (progress.Leaving end since free) now old new =
     (mid : Playing) × TicksWhen (is_due now old.ticks) now old mid
-    × (new ≡ record mid { progress = waits (may_leave (linked mid.link)) end since free now })
+    × (new ≡ record mid { progress = waits (is_unneeded end (linked mid.link)) end since free now })
 PassesTime (progress.Over end) now old new = new ≡ old
 
 -- half a tick later a second datagram is owed to those who miss some

@@ -10,19 +10,12 @@ use Rattle.std.proofs.lemmas.Bool.{ne_eqb}
 use Rattle.std.proofs.lemmas.List.{drop-drop, get_or-drop}
 use Rattle.std.proofs.lemmas.List.Elements.{All-head, All-tail}
 use Rattle.std.proofs.lemmas.Nat.{from_le_bytes-to_le_bytes_4}
-use Rattle.dn_session.specs.declared.greeting.Call.{Call}
-use Rattle.dn_session.specs.declared.greeting.Refusal.{Refusal}
+use Rattle.dn_session.specs.{Sorts.Sort, Sorts.sort, Terms.IsTerms, Terms.bit, Terms.policy_bytes, Terms.terms_bytes, Text.IsCall, Text.IsHolder, Text.IsRefused, Text.IsSeating, Text.call_rest}
+use Rattle.dn_session.specs.{Text.heard_byte, Text.is_count_or_none, Text.is_wish, Text.named, Text.padding, Text.reason_bytes, Text.refused_rest, Text.seating_rest, Text.shown_bytes, Told.told_call}
+use Rattle.dn_session.specs.{Told.told_name, Told.told_policy, Told.told_reason, Told.told_refused, Told.told_seating, Told.told_shown, Told.told_terms, declared.greeting.Call.Call}
+use Rattle.dn_session.specs.{declared.greeting.Refusal.Refusal, declared.greeting.Refused.Refused, declared.greeting.Seating.Seating, declared.greeting.Shown.Shown, declared.terms.Policy.Policy}
+use Rattle.dn_session.specs.{declared.terms.Policy.TheVariants.End, declared.terms.Policy.TheVariants.GiveUp, declared.terms.Policy.TheVariants.Wait, declared.terms.Terms.Terms}
 use Rattle.dn_session.specs.declared.greeting.Refusal.TheVariants as refusal
-use Rattle.dn_session.specs.declared.greeting.Refused.{Refused}
-use Rattle.dn_session.specs.declared.greeting.Seating.{Seating}
-use Rattle.dn_session.specs.declared.greeting.Shown.{Shown}
-use Rattle.dn_session.specs.declared.terms.Policy.{Policy}
-use Rattle.dn_session.specs.declared.terms.Policy.TheVariants.{Wait, GiveUp, End}
-use Rattle.dn_session.specs.declared.terms.Terms.{Terms}
-use Rattle.dn_session.specs.Terms.{IsTerms, bit, policy_bytes, terms_bytes}
-use Rattle.dn_session.specs.Text.{call_rest, heard_byte, is_count_or_none, is_wish, named, padding, reason_bytes, refused_rest, seating_rest, shown_bytes, IsCall, IsHolder, IsRefused, IsSeating}
-use Rattle.dn_session.specs.Sorts.{Sort, sort}
-use Rattle.dn_session.specs.Told.{told_call, told_name, told_policy, told_reason, told_refused, told_seating, told_shown, told_terms}
 
 -- past so many bytes stands what follows them
 pub past : (n : ℕ) (xs ys : List ℕ) (size : ℕ) → length xs ≡ size → drop (size + n) (xs ++ ys) ≡ drop n ys

@@ -1,15 +1,9 @@
 -- Which session plays which place of which game.
 use Rattle.std.specs.Prelude.{◌≡◌, ◌≢◌, ℕ, ◌-◌, ◌==◌, true, false, if◌then◌else◌, List, [], ◌∷◌, length, replicate, slice_index_or, Option, Some, None, IfSome}
-use Rattle.dn_session.specs.declared.greeting.Seating.{Seating}
-use Rattle.dn_session.specs.declared.joiner.Stage.{Stage}
+use Rattle.dn_session.specs.{Cookies.game_of, Cookies.game_text, Hosting.IsLobby, Hosting.Lobby, Hosting.lobby, Hosting.roster, Joining.Joining, Joining.is_own, Joining.joining, Joining.roster_in}
+use Rattle.dn_session.specs.{Text.IsSeating, declared.greeting.Seating.Seating, declared.joiner.Stage.Stage, declared.side.Side.Side, declared.terms.Terms.Terms}
 use Rattle.dn_session.specs.declared.joiner.Stage.TheVariants as stage
-use Rattle.dn_session.specs.declared.side.Side.{Side}
 use Rattle.dn_session.specs.declared.side.Side.TheVariants as side
-use Rattle.dn_session.specs.declared.terms.Terms.{Terms}
-use Rattle.dn_session.specs.Cookies.{game_of, game_text}
-use Rattle.dn_session.specs.Hosting.{lobby, roster, IsLobby, Lobby}
-use Rattle.dn_session.specs.Joining.{is_own, joining, roster_in, Joining}
-use Rattle.dn_session.specs.Text.{IsSeating}
 
 -- whatever a joiner was told of a seat can be read, and gives the seat to its own session
 pub record IsJoining (j : Joining) : Type 0 where

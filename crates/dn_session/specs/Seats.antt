@@ -1,13 +1,8 @@
 -- The seats 1 to 3, as the host keeps them.
-use Rattle.std.specs.Prelude.{ℕ, ◌||◌, Bool, not, true, false, max, nat_lt, if◌then◌else◌, List, position, replicate, slice_index_or, Option, Some, None, ◌-◌}
+use Rattle.std.specs.Prelude.{ℕ, ◌&&◌, ◌||◌, Bool, not, true, false, max, nat_le, nat_lt, if◌then◌else◌, List, position, replicate, slice_index_or, Option, Some, None, ◌-◌}
 use Rattle.std.specs.Str.{bytes_eq}
-use Rattle.dn_session.specs.declared.greeting.Address.{Address}
-use Rattle.dn_session.specs.declared.greeting.Call.{Call}
-use Rattle.dn_session.specs.declared.greeting.Shown.{Shown}
-use Rattle.dn_session.specs.declared.seats.Held.{Held}
-use Rattle.dn_session.specs.declared.seats.Seat.{Seat}
+use Rattle.dn_session.specs.{Cookies.is_recent, declared.greeting.Address.Address, declared.greeting.Call.Call, declared.greeting.Shown.Shown, declared.seats.Held.Held, declared.seats.Seat.Seat}
 use Rattle.dn_session.specs.declared.seats.Seat.TheVariants as seat
-use Rattle.dn_session.specs.Cookies.{is_recent}
 
 -- a game of so many has the seat
 abbrev pub seat_for : ℕ → ℕ → Seat
@@ -28,11 +23,12 @@ abbrev pub is_silent : ℕ → Seat → Bool
 is_silent now (seat.Taken held) = not (is_recent now held.heard)
 is_silent now seat = false
 
--- the game can begin as far as this seat goes: there is none, or its holder was heard recently
-abbrev pub is_ready : ℕ → Seat → Bool
-is_ready now seat.Absent = true
-is_ready now seat.Free = false
-is_ready now (seat.Taken held) = is_recent now held.heard
+-- the game can begin as far as this seat goes: there is none, or its holder was heard recently, and called with a cookie
+-- that is no older than that of any newcomer. So a session that ended before another came does not count
+abbrev pub is_ready : ℕ → ℕ → Seat → Bool
+is_ready now filled seat.Absent = true
+is_ready now filled seat.Free = false
+is_ready now filled (seat.Taken held) = is_recent now held.heard && nat_le filled held.heard
 
 -- which seat a newcomer gets, counted from 0: the one that it wants, or the lowest that is free, or the lowest whose
 -- holder is silent

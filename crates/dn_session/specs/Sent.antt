@@ -1,15 +1,10 @@
 -- What a player's part sends, and where to.
-use Rattle.std.specs.Prelude.{⊤, ◌≡◌, ℕ, ◌&&◌, Bool, not, false, if◌then◌else◌, List, position, slice_index_or, slice_set, Option, Some, None, is_some}
-use Rattle.dn_survivor.specs.Telling.{report_for}
-use Rattle.dn_link.specs.Linked.{Gives, has_given_up, is_peer, remains, surviving_of}
-use Rattle.dn_link.specs.Linking.{identity_of, linked, seal_of}
-use Rattle.dn_link.specs.Notices.{exclusion_for, notice_for}
-use Rattle.dn_link.specs.Pacing.{pace_of}
-use Rattle.dn_session.specs.declared.greeting.Address.{Address}
-use Rattle.dn_session.specs.declared.part.sending.Transmit.{Transmit}
-use Rattle.dn_session.specs.Places.{place_of}
-use Rattle.dn_session.specs.Players.{four}
-use Rattle.dn_session.specs.Playing.{exclusion_of, KeepsGame, Playing}
+use Rattle.std.specs.Prelude.{⊤, ◌≡◌, ℕ, ◌&&◌, Bool, not, false, if◌then◌else◌, List, position, slice_index_or, slice_set, Option, Some, None, IfSome, is_some}
+use Rattle.dn_lockstep.specs.{Sent.IsFair, Sent.sent_to, Steps.Tells}
+use Rattle.dn_survivor.specs.{ReportBytes.IsReport, Telling.report_for}
+use Rattle.dn_link.specs.{Linked.Gives, Linked.Linked, Linked.has_given_up, Linked.is_peer, Linked.remains, Linked.surviving_of, Linking.linked, Linking.seal_of, Notices.exclusion_for}
+use Rattle.dn_link.specs.{Notices.notice_for, Pacing.pace_of}
+use Rattle.dn_session.specs.{Places.place_of, Players.four, Playing.KeepsGame, Playing.Playing, Playing.exclusion_of, declared.greeting.Address.Address, declared.part.sending.Transmit.Transmit}
 
 -- bytes, and where they go to
 abbrev pub sent_of : Transmit → Address × List ℕ
@@ -37,11 +32,17 @@ first_owed p = position (is_owed p) four
 abbrev pub first_owed_report : Playing → Option ℕ
 first_owed_report p = position (is_owed_report p) four
 
+-- the packet of the moment, if there is one, is one that a datagram can carry
+abbrev pub IsFairTo : ℕ → Linked → Type 0
+IsFairTo player link =
+    Tells link.node (λ limits me m. IfSome (sent_to player limits me m).1 IsFair)
+
 -- a datagram to a player is made
 abbrev pub SendsTo : ℕ → Playing → Playing → Option (Address × List ℕ) → Type 0
 SendsTo player old new sent =
     (address : Address) × (bytes : List ℕ) × (address_of old player ≡ Some address) × (sent ≡ Some (address, bytes))
-    × Gives (seal_of old.link) (identity_of old.link) (pace_of old.link) player (linked old.link) (linked new.link) bytes
+    × IsFairTo player (linked old.link)
+    × Gives (seal_of old.link) (pace_of old.link) player (linked old.link) (linked new.link) bytes
     × KeepsGame old.link new.link × (pace_of new.link ≡ pace_of old.link)
     × (new ≡ record old {
       link = new.link;
@@ -53,6 +54,7 @@ abbrev pub Reports : ℕ → Playing → Playing → Option (Address × List ℕ
 Reports player old new sent =
     (address : Address) × (bytes : List ℕ) × (address_of old player ≡ Some address) × (sent ≡ Some (address, bytes))
     × (notice_for (seal_of old.link) (linked old.link) player ≡ Some bytes)
+    × IfSome (report_for (surviving_of (linked old.link)) player) IsReport
     × (new ≡ record old { owed = record old.owed { reports = slice_set old.owed.reports player false } })
 
 -- one is to be told that it is given up

@@ -1,49 +1,25 @@
 -- A session: its lobby, and its part in the game once that has begun.
 use Rattle.std.specs.Prelude.{⊤, ◌≡◌, ℕ, ℤ, if◌then◌else◌, Bool, true, false, is_some, List, map, replicate, Option, Some, None, Result, Ok, Err}
-use Rattle.std.specs.Option.{option_map}
-use Rattle.dn_seal.specs.declared.seal.Seal.{Seal}
+use Rattle.std.specs.Option.{option_map, option_or}
+use Rattle.dn_seal.specs.{Hmac.no_secret, Sealing.sealed_with, declared.seal.Seal.Seal}
 use Rattle.dn_seal.specs.declared.seal.Suite.TheVariants as suite
-use Rattle.dn_seal.specs.Hmac.{no_secret}
-use Rattle.dn_seal.specs.Sealing.{sealed_with}
-use Rattle.dn_machine.specs.Started.{started_node}
-use Rattle.dn_machine.specs.declared.answers.Ran.{Ran}
+use Rattle.dn_machine.specs.{Started.started_node, declared.answers.Ran.Ran}
 use Rattle.dn_machine.specs.declared.answers.Ran.TheVariants as ran
-use Rattle.dn_tic.specs.declared.command.Move.{Move}
-use Rattle.dn_tic.specs.declared.input.Input.{Input}
-use Rattle.dn_lockstep.specs.Contents.{whose}
-use Rattle.dn_lockstep.specs.Opening.{IsAdmittedWithin, keyed, limits_within, whose_within}
-use Rattle.dn_lockstep.specs.Represents.{Represents}
-use Rattle.dn_lockstep.specs.declared.config.Config.{Config}
+use Rattle.dn_tic.specs.{declared.command.Move.Move, declared.input.Input.Input}
+use Rattle.dn_lockstep.specs.{Contents.whose, Opening.IsAdmittedWithin, Opening.keyed, Opening.limits_within, Opening.whose_within, Represents.Represents, declared.config.Config.Config}
 use Rattle.dn_lockstep.specs.declared.config.NodeFault.{NodeFault}
 use Rattle.dn_survivor.specs.OfOthers.{nothing_kept}
-use Rattle.dn_link.specs.declared.link.Link.{Link}
-use Rattle.dn_link.specs.Linking.{linked, new_peer, seal_of}
-use Rattle.dn_link.specs.Pacing.{new_pace, pace_of}
-use Rattle.dn_session.specs.declared.ending.Ending.{Ending}
-use Rattle.dn_session.specs.declared.ending.Progress.TheVariants as progress
-use Rattle.dn_session.specs.declared.greeting.Address.{Address}
-use Rattle.dn_session.specs.declared.greeting.Seating.{Seating}
-use Rattle.dn_session.specs.declared.greeting.Shown.{Shown}
-use Rattle.dn_session.specs.declared.host.Host.{Host}
-use Rattle.dn_session.specs.declared.host.HostConfig.{HostConfig}
-use Rattle.dn_session.specs.declared.joiner.JoinConfig.{JoinConfig}
-use Rattle.dn_session.specs.declared.joiner.Joiner.{Joiner}
-use Rattle.dn_session.specs.declared.part.Part.{Part}
-use Rattle.dn_session.specs.declared.seats.Seat.{Seat}
-use Rattle.dn_session.specs.declared.seats.Seat.TheVariants as seat
-use Rattle.dn_session.specs.declared.session.Session.{Session}
-use Rattle.dn_session.specs.declared.side.Begun.{Begun}
-use Rattle.dn_session.specs.declared.side.Side.{Side}
-use Rattle.dn_session.specs.declared.side.Side.TheVariants as side
+use Rattle.dn_link.specs.{Linking.linked, Linking.new_peer, Linking.seal_of, Pacing.new_pace, Pacing.pace_of, declared.link.Link.Link}
+use Rattle.dn_session.specs.{Events.none_announced, Hosting.HearsCall, Hosting.IsHostOf, Hosting.Lobby, Hosting.game_told, Hosting.holder_of, Hosting.kicked, Hosting.lobby, Joining.HearsHost}
+use Rattle.dn_session.specs.{Joining.IsJoinerOf, Joining.Joining, Joining.game_now, Joining.is_heard, Joining.joining, Joining.on_time, Places.places_of, Playing.GivesUpBy, Playing.GivesWhen}
+use Rattle.dn_session.specs.{Playing.HearsBytes, Playing.Playing, Playing.Polls, Playing.QuitsBy, Playing.RunsNext, Playing.given_up_at, Playing.may_give, Playing.owes_nobody, Playing.playing}
+use Rattle.dn_session.specs.{Reading.is_greeting, Sent.SendsNext, Sent.sent_of, Ticks.new_ticks, Watch.new_watch, declared.event.Announced.Announced, declared.greeting.Address.Address}
+use Rattle.dn_session.specs.{declared.greeting.Seating.Seating, declared.greeting.Shown.Shown, declared.host.Host.Host, declared.host.HostConfig.HostConfig, declared.joiner.JoinConfig.JoinConfig}
+use Rattle.dn_session.specs.{declared.joiner.Joiner.Joiner, declared.part.Part.Part, declared.seats.Seat.Seat, declared.session.Session.Session, declared.side.Begun.Begun, declared.side.Side.Side}
 use Rattle.dn_session.specs.declared.terms.LobbyFault.{LobbyFault}
-use Rattle.dn_session.specs.Hosting.{game_told, holder_of, kicked, lobby, HearsCall, IsHostOf, Lobby}
-use Rattle.dn_session.specs.Joining.{game_now, is_heard, joining, on_time, HearsHost, IsJoinerOf, Joining}
-use Rattle.dn_session.specs.Places.{places_of}
-use Rattle.dn_session.specs.Playing.{ended_as, given_up_at, may_give, owes_nobody, playing, GivesUpBy, GivesWhen, HearsBytes, Playing, Polls, QuitsBy, RunsNext}
-use Rattle.dn_session.specs.Reading.{is_greeting}
-use Rattle.dn_session.specs.Sent.{sent_of, SendsNext}
-use Rattle.dn_session.specs.Ticks.{new_ticks}
-use Rattle.dn_session.specs.Watch.{new_watch}
+use Rattle.dn_session.specs.declared.ending.Progress.TheVariants as progress
+use Rattle.dn_session.specs.declared.seats.Seat.TheVariants as seat
+use Rattle.dn_session.specs.declared.side.Side.TheVariants as side
 
 -- The game that a lobby begins.
 
@@ -128,13 +104,14 @@ pub record IsPartOf (secret : Option (List ℕ)) (b : Begun) (now : ℕ) (p : Pl
 
 -- The session.
 
--- its lobby; the secret; its part; and a reply and a call that are to be sent
+-- its lobby; the secret; its part; a reply and a call that are to be sent; and what was announced of what happened
 pub record Meeting : Type 0 where
   pub lobby : Side
   pub secret : Option (List ℕ)
   pub part : Option Part
   pub reply : Option (Address × List ℕ)
   pub call : Option (Address × List ℕ)
+  pub announced : Announced
 
 abbrev pub meeting : Session → Meeting
 meeting session =
@@ -144,11 +121,12 @@ meeting session =
       part = session.part;
       reply = option_map sent_of session.reply;
       call = option_map sent_of session.call;
+      announced = session.announced;
     }
 
 abbrev pub new_meeting : Side → Option (List ℕ) → Meeting
 new_meeting side secret =
-    record { lobby = side; secret = secret; part = None; reply = None; call = None }
+    record { lobby = side; secret = secret; part = None; reply = None; call = None; announced = none_announced }
 
 -- a session is made as its lobby is, or refused as that is
 abbrev pub IsHostSession : HostConfig → Result Session LobbyFault → Type 0
@@ -185,11 +163,12 @@ HearsGreeting from bytes now (side.Joiner old) (side.Joiner new) reply =
     HearsReply (is_heard from (joining old)) bytes now (joining old) (joining new) × (reply ≡ None)
 HearsGreeting from bytes now old new reply = ⊥
 
--- a greeting goes to the lobby, and its reply takes the place of one that was not sent; all else goes to the part
+-- a greeting goes to the lobby, and its reply, if it has one, takes the place of one that was not sent; all else goes
+-- to the part
 abbrev pub HearsWhen : Bool → Address → List ℕ → ℕ → Meeting → Meeting → Type 0
 HearsWhen true from bytes now old new =
     (side : Side) × (reply : Option (List ℕ)) × HearsGreeting from bytes now old.lobby side reply
-    × (new ≡ record old { lobby = side; reply = reply_to from reply })
+    × (new ≡ record old { lobby = side; reply = option_or (reply_to from reply) old.reply })
 HearsWhen false from bytes now old new =
     IfPlaying (HearsBytes from bytes now) old.part new.part × (new ≡ record old { part = new.part })
 
@@ -231,8 +210,8 @@ Calls now old new call = ⊥
 
 abbrev pub PassesTo : ℕ → Meeting → Meeting → Type 0
 PassesTo now old new =
-    Calls now old.lobby new.lobby new.call × IfPlaying (Polls now) old.part new.part
-    × (new ≡ record old { lobby = new.lobby; call = new.call; part = new.part })
+    (call : Option (Address × List ℕ)) × Calls now old.lobby new.lobby call × IfPlaying (Polls now) old.part new.part
+    × (new ≡ record old { lobby = new.lobby; call = option_or call old.call; part = new.part })
 
 -- what is sent: a reply goes first, and then a call
 
@@ -279,9 +258,9 @@ GivesUpPart player now (Some old) (Some new) gave =
     GivesUpBy now player (playing old) (playing new)
     × (gave ≡ is_some (given_up_at now player (playing old)))
 
-abbrev pub ending_in : Option Part → Option Ending
-ending_in None = None
-ending_in (Some part) = ended_as (playing part).progress
+-- its link
+abbrev pub link_in : Option Part → Option Link
+link_in part = option_map (λ part. (playing part).link) part
 
 -- what the host does in the lobby
 

@@ -1,12 +1,10 @@
 -- The terms of a game.
 use Rattle.std.specs.Prelude.{◌≡◌, ℕ, ◌^◌, ◌<◌, ◌&&◌, ◌++◌, Bool, not, true, false, nat_le, if◌then◌else◌, List, [], ◌∷◌, length, Option, Some, None}
 use Rattle.std.specs.Int.{w32, to_le_bytes}
-use Rattle.dn_setup.specs.Settings.{Settings, IsSettings}
-use Rattle.dn_session.specs.declared.terms.LobbyFault.{LobbyFault}
+use Rattle.dn_setup.specs.{Settings.IsSettings, Settings.Settings}
+use Rattle.dn_session.specs.{declared.terms.LobbyFault.LobbyFault, declared.terms.Policy.Policy, declared.terms.Policy.TheVariants.End, declared.terms.Policy.TheVariants.GiveUp}
+use Rattle.dn_session.specs.{declared.terms.Policy.TheVariants.Wait, declared.terms.Terms.Terms}
 use Rattle.dn_session.specs.declared.terms.LobbyFault.TheVariants as fault
-use Rattle.dn_session.specs.declared.terms.Policy.{Policy}
-use Rattle.dn_session.specs.declared.terms.Policy.TheVariants.{Wait, GiveUp, End}
-use Rattle.dn_session.specs.declared.terms.Terms.{Terms}
 
 abbrev pub bit : Bool → ℕ
 bit true = 1

@@ -2,25 +2,13 @@
 use Rattle.std.specs.Prelude.{◌≡◌, ℕ, ◌+◌, ◌^◌, ◌<◌, ◌++◌, ◌&&◌, Bool, not, true, nat_le, nat_lt, if◌then◌else◌, List, [], ◌∷◌, All, IfSome, length, take, drop, replicate, codes, Option, Some, None}
 use Rattle.std.specs.Int.{w32, to_le_bytes}
 use Rattle.std.specs.List.{flat_map}
-use Rattle.dn_seal.specs.declared.seal.Seal.{Seal}
-use Rattle.dn_seal.specs.Hmac.{tag_of}
-use Rattle.dn_seal.specs.declared.seal.Suite.TheVariants.{Secret, Open}
-use Rattle.dn_seal.specs.Hmac.{no_secret, suite_byte}
-use Rattle.dn_seal.specs.Sealing.{sealed_with}
-use Rattle.dn_session.specs.declared.greeting.Call.{Call}
-use Rattle.dn_session.specs.declared.greeting.Hint.{Hint}
+use Rattle.dn_seal.specs.{Hmac.no_secret, Hmac.suite_byte, Hmac.tag_of, Sealing.sealed_with, declared.seal.Seal.Seal, declared.seal.Suite.TheVariants.Open, declared.seal.Suite.TheVariants.Secret}
+use Rattle.dn_session.specs.{Terms.IsTerms, Terms.bit, Terms.is_count, Terms.terms_bytes, declared.greeting.Call.Call, declared.greeting.Hint.Hint, declared.greeting.Hinted.Hinted}
+use Rattle.dn_session.specs.{declared.greeting.Holder.Holder, declared.greeting.Refusal.Refusal, declared.greeting.Refused.Refused, declared.greeting.Seating.Seating, declared.greeting.Shown.Shown}
+use Rattle.dn_session.specs.{declared.joiner.JoinConfig.JoinConfig, declared.terms.LobbyFault.LobbyFault}
 use Rattle.dn_session.specs.declared.greeting.Hint.TheVariants as hint
-use Rattle.dn_session.specs.declared.greeting.Hinted.{Hinted}
-use Rattle.dn_session.specs.declared.greeting.Holder.{Holder}
-use Rattle.dn_session.specs.declared.greeting.Refusal.{Refusal}
 use Rattle.dn_session.specs.declared.greeting.Refusal.TheVariants as refusal
-use Rattle.dn_session.specs.declared.greeting.Refused.{Refused}
-use Rattle.dn_session.specs.declared.greeting.Seating.{Seating}
-use Rattle.dn_session.specs.declared.greeting.Shown.{Shown}
-use Rattle.dn_session.specs.declared.joiner.JoinConfig.{JoinConfig}
-use Rattle.dn_session.specs.declared.terms.LobbyFault.{LobbyFault}
 use Rattle.dn_session.specs.declared.terms.LobbyFault.TheVariants as fault
-use Rattle.dn_session.specs.Terms.{IsTerms, bit, is_count, terms_bytes}
 
 -- the number from which the key of greetings is derived: no game's
 unfoldable pub greeting_number : List ℕ

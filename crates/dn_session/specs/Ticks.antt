@@ -2,8 +2,7 @@
 -- 32,000 are a tick.
 use Rattle.std.specs.Prelude.{ℕ, ◌+◌, ◌*◌, ◌/◌, ◌%◌, ◌^◌, ◌-◌, ◌+ℤ◌, ℤ, pos, nat_abs, Bool, nat_lt, nat_le, max, min, if◌then◌else◌, Some, None}
 use Rattle.std.specs.Int.{int_max}
-use Rattle.dn_session.specs.declared.ticks.Ticks.{Ticks}
-use Rattle.dn_session.specs.Joining.{has_come}
+use Rattle.dn_session.specs.{Joining.has_come, declared.ticks.Ticks.Ticks}
 
 -- the time that comes so much later, or the last that there is
 abbrev pub later : ℕ → ℕ → ℕ

@@ -3,19 +3,11 @@
 use Rattle.std.specs.Prelude.{ℕ, ◌==◌, if◌then◌else◌, List, [], ◌∷◌, take, drop, slice_index, Option, Some, None}
 use Rattle.std.specs.Int.{w32, from_le_bytes}
 use Rattle.dn_setup.specs.Settings.{choice}
-use Rattle.dn_session.specs.declared.greeting.Call.{Call}
-use Rattle.dn_session.specs.declared.greeting.Hint.{Hint}
+use Rattle.dn_session.specs.{Text.told_number, declared.greeting.Call.Call, declared.greeting.Hint.Hint, declared.greeting.Hinted.Hinted, declared.greeting.Refusal.Refusal}
+use Rattle.dn_session.specs.{declared.greeting.Refused.Refused, declared.greeting.Seating.Seating, declared.greeting.Shown.Shown, declared.terms.Policy.Policy, declared.terms.Policy.TheVariants.End}
+use Rattle.dn_session.specs.{declared.terms.Policy.TheVariants.GiveUp, declared.terms.Policy.TheVariants.Wait, declared.terms.Terms.Terms}
 use Rattle.dn_session.specs.declared.greeting.Hint.TheVariants as hint
-use Rattle.dn_session.specs.declared.greeting.Hinted.{Hinted}
-use Rattle.dn_session.specs.declared.greeting.Refusal.{Refusal}
 use Rattle.dn_session.specs.declared.greeting.Refusal.TheVariants as refusal
-use Rattle.dn_session.specs.declared.greeting.Refused.{Refused}
-use Rattle.dn_session.specs.declared.greeting.Seating.{Seating}
-use Rattle.dn_session.specs.declared.greeting.Shown.{Shown}
-use Rattle.dn_session.specs.declared.terms.Policy.{Policy}
-use Rattle.dn_session.specs.declared.terms.Policy.TheVariants.{Wait, GiveUp, End}
-use Rattle.dn_session.specs.declared.terms.Terms.{Terms}
-use Rattle.dn_session.specs.Text.{told_number}
 
 -- so many bytes from a place on, and the number of four bytes
 abbrev pub told_at : ℕ → ℕ → List ℕ → List ℕ

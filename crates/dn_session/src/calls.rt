@@ -80,7 +80,7 @@ fn hint_to(bytes: &[u8], hint: Hint) -> Reply
 }
 
 impl Host {
-    ghost use Rattle.dn_session.specs.Hosting.{bar, in_game, in_lobby, lobby, on_newcomer, on_opened, on_player, refused, seated, seating, seating_to, unless_barred, with_seat, HearsCall, IsLobby};
+    ghost use Rattle.dn_session.specs.Hosting.{bar, filled_by, in_game, in_lobby, lobby, on_newcomer, on_opened, on_player, refused, seated, seating, seating_to, unless_barred, with_seat, HearsCall, IsLobby};
 
     /// What one who has a seat is told.
     fn seating_to(&self, from: &Address, call: &Call, now: u32, n: usize) -> Seating
@@ -124,7 +124,7 @@ impl Host {
         seal(&self.sealer, &refused)
     }
 
-    /// Changes a seat; the game begins if each player was heard recently.
+    /// Changes a seat; the game begins if each player was heard recently, and since the last newcomer came.
     fn put(&mut self, now: u32, n: usize, seat: Seat)
         requires { n < 3 }
         ensures { lobby self.new ≡ with_seat now n seat (lobby self.old) }
@@ -132,7 +132,18 @@ impl Host {
         let mut seats = self.seats;
         seats[n] = seat;
         self.seats = seats;
-        self.begun = all_ready(now, &seats);
+        self.begun = all_ready(now, self.filled, &seats);
+    }
+
+    /// A newcomer gets a seat.
+    fn fill(&mut self, from: &Address, call: &Call, now: u32, n: usize)
+        requires { n < 3 }
+        ensures { lobby self.new ≡ with_seat now n (taken_by from.now call.now (time_of call.now.cookie))
+            (filled_by call.now (lobby self.old)) }
+    {
+        let time = time_of(&call.cookie);
+        self.filled = self.filled.max(time);
+        self.put(now, n, taken_by(from, call, time));
     }
 
     /// What the call of a newcomer makes of it.
@@ -144,7 +155,7 @@ impl Host {
     {
         match seat {
             Some(n) => {
-                self.put(now, n, taken_by(from, call, time_of(&call.cookie)));
+                self.fill(from, call, now, n);
                 self.seating(from, call, now, n)
             }
             None => self.refused(from, call, now, Refusal::Full),
@@ -230,8 +241,8 @@ impl Host {
         }
     }
 
-    /// Takes any bytes that came from an address at this time, in milliseconds of its own clock, and returns what is
-    /// sent back to it, if anything is. It is no longer than what came.
+    /// Takes any bytes that came from an address at this time, in milliseconds of its own clock, and returns
+    /// what is sent back to it, if anything is. It is no longer than what came.
     pub fn hear(&mut self, from: &Address, bytes: &[u8], now: u32) -> Option<Reply>
         ensures hears { HearsCall from.now bytes.now now (lobby self.old) (lobby self.new)
             (option_map (λ reply. reply.items) result) }

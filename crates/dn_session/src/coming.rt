@@ -60,7 +60,7 @@ pub(crate) fn heard_of(received: &Received) -> Option<u8>
     ensures { result ≡ heard_of received.now }
 {
     match received {
-        Received::Heard { from, .. } => Some(*from),
+        Received::Heard(from) => Some(*from),
         _ => None,
     }
 }

@@ -1,5 +1,5 @@
-//! Numbers of sessions and games, and cookies, which show that a caller is reached where it calls from, and how old
-//! what it says is.
+//! Numbers of sessions and games, and cookies, which show that a caller is reached where it calls from, and how
+//! old what it says is.
 
 ghost use Rattle.std.specs.{Prelude.◌≡◌, List.concat};
 ghost use Rattle.dn_seal.specs.Sealing.{sealing};
@@ -91,8 +91,8 @@ fn roster_bytes(roster: &[[u8; 16]; 3]) -> ArrayVec<u8, 48>
     bytes
 }
 
-/// The number of the game of a host's session, of these terms, whose seats 1 to 3 are held by the sessions of these
-/// numbers, under the key of greetings.
+/// The number of the game of a host's session, of these terms, whose seats 1 to 3 are held by the sessions of
+/// these numbers, under the key of greetings.
 pub(crate) fn game_of(
     sealer: &Sealer,
     host: &[u8; 16],

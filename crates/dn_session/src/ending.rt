@@ -1,11 +1,12 @@
 //! How a game ends for a player, and whom it gives up under a policy.
 
-ghost use Rattle.std.specs.Prelude.{◌≡◌, ◌<◌, IfSome, option_map};
-ghost use Rattle.dn_link.specs.Linking.{linked};
+ghost use Rattle.std.specs.Prelude.{◌≡◌, ◌<◌, ◌||◌, IfSome, option_map};
+ghost use Rattle.dn_link.specs.{Linked.needs_nothing, Linking.linked};
 ghost use Rattle.dn_session.specs.Lead.{highest, is_late};
 ghost use Rattle.dn_session.specs.declared.ending.Ending.TheVariants.{Lost};
-ghost use Rattle.dn_session.specs.Ending.{ended_by, ending_of, free_since, has_waited, is_alone, is_leading, lost_under, may_give_up, own_ending, patience, waits};
+ghost use Rattle.dn_session.specs.Ending.{ended_by, ending_of, free_since, has_waited, is_alone, is_unneeded, is_leading, has_lost, lost_under, may_give_up, own_ending, patience, waits};
 
+use crate::greeting::{Hint, Refusal};
 use crate::lead::{View, is_given_up, is_open, is_there, late, lead};
 use crate::players::{has_gone, is_abandoned};
 use crate::terms::Policy;
@@ -23,10 +24,21 @@ pub enum Ending {
     Inconsistent(u8),
     /// The one that leads has told that it has given it up.
     GivenUp,
-    /// It has given up others, and nobody is left.
+    /// All others are given up.
     Alone,
     /// This player was awaited for as long as the policy says, which ends the game.
     Lost(u8),
+}
+
+/// How a session is over.
+#[derive(Clone, Copy, Debug, PartialEq, Eq)]
+pub enum Over {
+    /// The host has refused it.
+    Refused(Refusal),
+    /// Its calls were not read, as a hint says for which nobody vouches.
+    Hinted(Hint),
+    /// Its game has ended.
+    Ended(Ending),
 }
 
 /// How far a player's part in a game is. Times are milliseconds of its own clock.
@@ -147,13 +159,40 @@ pub(crate) fn ended_by(ending: Ending, now: u32) -> Progress
     }
 }
 
-/// Since when nobody needs it, if nobody does.
-fn free_since(may_leave: bool, free: Option<u32>, now: u32) -> Option<u32>
-    ensures { result ≡ free_since may_leave free now }
+/// Whether a game ends since this player is lost.
+fn has_lost(ending: Ending, player: u8) -> bool
+    ensures { result ≡ has_lost ending player }
+{
+    match ending {
+        Ending::Lost(lost) => player == lost,
+        _ => false,
+    }
+}
+
+/// Whether a player is not waited for by one that ends so: it is lost, or needs nothing more.
+fn is_done(ending: Ending, link: &Link, player: u8) -> bool
+    ensures { result ≡ (has_lost ending player || needs_nothing (linked link.now) player) }
+{
+    has_lost(ending, player) || !link.needs(player)
+}
+
+/// Whether nobody needs it any more; who is lost is not waited for.
+pub(crate) fn is_unneeded(ending: Ending, link: &Link) -> bool
+    ensures { result ≡ is_unneeded ending (linked link.now) }
+{
+    is_done(ending, link, 0)
+        && is_done(ending, link, 1)
+        && is_done(ending, link, 2)
+        && is_done(ending, link, 3)
+}
+
+/// Since when that is so, if it is.
+fn free_since(is_unneeded: bool, free: Option<u32>, now: u32) -> Option<u32>
+    ensures { result ≡ free_since is_unneeded free now }
 {
     match free {
         Some(free) => Some(free),
-        None if may_leave => Some(now),
+        None if is_unneeded => Some(now),
         None => None,
     }
 }
@@ -170,15 +209,15 @@ fn has_waited(free: Option<u32>, now: u32) -> bool
 
 /// How far one is who leaves.
 pub(crate) fn waits(
-    may_leave: bool,
+    is_unneeded: bool,
     ending: Ending,
     since: u32,
     free: Option<u32>,
     now: u32,
 ) -> Progress
-    ensures { result ≡ waits may_leave ending since free now }
+    ensures { result ≡ waits is_unneeded ending since free now }
 {
-    let free = free_since(may_leave, free, now);
+    let free = free_since(is_unneeded, free, now);
     if has_waited(free, now) || now.saturating_sub(since) >= 10_000 {
         Progress::Over(ending)
     } else {

@@ -3,8 +3,8 @@
 use crate::terms::Terms;
 use thiserror::Error;
 
-/// Where a datagram came from or goes to: at most 32 bytes, whose meaning the caller alone knows. They are compared
-/// and nothing else.
+/// Where a datagram came from or goes to: at most 32 bytes, whose meaning the caller alone knows. They are
+/// compared and nothing else.
 #[derive(Clone, Copy, Debug, PartialEq, Eq)]
 pub struct Address {
     /// The bytes, filled up with zeros.
@@ -76,8 +76,8 @@ pub struct Seating {
 /// Why a call gives its caller no seat.
 #[derive(Clone, Copy, Debug, PartialEq, Eq)]
 pub enum Refusal {
-    /// Its cookie is not one that the host gave to this address in the last two seconds: it calls again with the
-    /// one that comes with this reply.
+    /// Its cookie is not one that the host gave to this address in the last two seconds: it calls again with
+    /// the one that comes with this reply.
     Cookie,
     /// No seat is free that it would take.
     Full,

@@ -13,8 +13,8 @@ use dn_seal::Sealer;
 pub struct HostConfig {
     /// The secret of those who may join. None for a game that anybody may join.
     pub secret: Option<[u8; 32]>,
-    /// Random bytes that were drawn for this session and are told to nobody. Its number and its cookies follow from
-    /// them.
+    /// Random bytes that were drawn for this session and are told to nobody. Its number and its cookies follow
+    /// from them.
     pub random: [u8; 32],
     /// What its player is called: UTF-8, filled up with zeros.
     pub name: [u8; 16],
@@ -22,8 +22,8 @@ pub struct HostConfig {
     pub terms: Terms,
 }
 
-/// The host of a lobby: who holds which seat, until each player was heard recently. Then its game begins, with these
-/// players for good.
+/// The host of a lobby: who holds which seat, until each player was heard recently, and since the last of them
+/// came. Then its game begins, with these players for good.
 #[derive(Drop)]
 pub struct Host {
     pub(crate) sealer: Sealer,
@@ -32,6 +32,7 @@ pub struct Host {
     pub(crate) name: [u8; 16],
     pub(crate) terms: Terms,
     pub(crate) seats: [Seat; 3],
+    pub(crate) filled: u32,
     pub(crate) kicked: [Option<[u8; 16]>; 3],
     pub(crate) begun: bool,
 }
@@ -60,6 +61,7 @@ impl Host {
                 seat_for(terms.players, 2),
                 seat_for(terms.players, 3),
             ],
+            filled: 0,
             kicked: [None; 3],
             begun: false,
         })
@@ -98,8 +100,8 @@ impl Host {
         }
     }
 
-    /// Turns away the session of this number, if it holds a seat and the game has not begun. It gets none again until
-    /// another was turned away from the same seat.
+    /// Turns away the session of this number, if it holds a seat and the game has not begun. It gets none again
+    /// until another was turned away from the same seat.
     pub fn kick(&mut self, number: &[u8; 16])
         ensures kicks { lobby self.new ≡ kicked number.now (lobby self.old) }
         ensures fits { IsLobby (lobby self.old) → IsLobby (lobby self.new) }

@@ -135,7 +135,8 @@ impl Joiner {
         self.stage
     }
 
-    /// The last seating that it was told. It stays when the seat is lost: [`Joiner::stage`] says where it stands now.
+    /// The last seating that it was told. It stays when the seat is lost: [`Joiner::stage`] says where it
+    /// stands now.
     pub fn seating(&self) -> &Option<Seating>
         ensures { result.now ≡ (joining self.now).seating }
     {

@@ -40,8 +40,8 @@ pub fn greetings_are_no_envelopes()
         → body_bytes seal what rest ≢ letter_bytes letter }
 {}
 
-/// A call without a good cookie of the address from which it came changes nothing, and its caller is told to call
-/// again with another: in the lobby, and in the game where the caller does not play.
+/// A call without a good cookie of the address from which it came changes nothing, and its caller is told to
+/// call again with another: in the lobby, and in the game where the caller does not play.
 pub fn calls_without_a_cookie_change_nothing()
     ensures { (from : Address) (bytes : List ℕ) (call : Call) (now : ℕ) (old new : Lobby) (reply : Option (List ℕ))
         → IsCallIn old.seal bytes (Ok call)
@@ -63,8 +63,8 @@ pub fn players_are_told_as_often_as_they_call()
         → HearsCall from bytes now old new reply → reply ≡ Some (seating from call now n old) }
 {}
 
-/// What a host sends can be read. A lobby stays one, whatever comes; the reply to a call is read by its caller as just
-/// what it is told; and a hint as that hint.
+/// What a host sends can be read. A lobby stays one, whatever comes; the reply to a call is read by its caller
+/// as just what it is told; and a hint as that hint.
 pub fn replies_are_read_back()
     ensures kept { (from : Address) (bytes : List ℕ) (now : ℕ) (old new : Lobby) (reply : Option (List ℕ))
         → length from.bytes ≡ 32 → IsLobby old → HearsCall from bytes now old new reply → IsLobby new }
@@ -76,8 +76,8 @@ pub fn replies_are_read_back()
         → IsHintedIn (hint_to bytes hint) (Ok (record { number = told_number bytes; hint = hint })) }
 {}
 
-/// When a seat was heard is the time of a good cookie, so at most now: of the one that came with this call, or it was
-/// known before.
+/// When a seat was heard is the time of a good cookie, so at most now: of the one that came with this call, or
+/// it was known before.
 pub fn heard_is_the_time_of_a_cookie()
     ensures { (from : Address) (bytes : List ℕ) (now n : ℕ) (old new : Lobby) (reply : Option (List ℕ)) (held : Held)
         → HearsCall from bytes now old new reply → slice_index_or new.seats n Absent ≡ Taken held
@@ -95,26 +95,28 @@ pub fn addresses_move_from_silence()
         → (is_recent now before.heard_here ≡ false) × (after.holder.address ≡ from) }
 {}
 
-/// For two seconds after a seating in the lobby a joiner heeds no refusal: nothing changes, so the seating for the same
-/// call still counts.
+/// For two seconds after a seating in the lobby a joiner heeds no refusal: nothing changes, so the seating for
+/// the same call still counts.
 pub fn seated_joiners_heed_no_refusal()
     ensures { (s : Seating) (refused : Refused) (came now : ℕ) (j : Joining)
         → is_answer s.number s.count j ≡ true → is_own s j ≡ true → s.begun ≡ false → is_recent now came ≡ true
         → on_refused refused now (on_seating s came j) ≡ on_seating s came j }
 {}
 
-/// A joiner that is asked before it is due changes nothing and calls nobody; from then on it does one or the other.
+/// A joiner that is asked before it is due changes nothing and calls nobody; from then on it does one or the
+/// other.
 pub fn joiners_act_when_due()
     ensures before { (now : ℕ) (j : Joining) → acts now j ≡ false → on_time now j ≡ (j, None) }
     ensures after { (now : ℕ) (j : Joining) → acts now j ≡ true → on_time now j ≢ (j, None) }
 {}
 
-/// At the call by which a game begins each of its players was heard in the last two seconds: each seat that the game
-/// has is held, and its holder called with a cookie that is no older.
+/// At the call by which a game begins each of its players was heard in the last two seconds, and with a cookie
+/// that is no older than `filled`, the newest with which a newcomer got its seat: each seat that the game has
+/// is held, and its holder called with such a cookie.
 pub fn no_ghost_plays()
     ensures { (from : Address) (bytes : List ℕ) (now : ℕ) (old new : Lobby) (reply : Option (List ℕ))
         → old.begun ≡ false → new.begun ≡ true → HearsCall from bytes now old new reply
-        → list_all (is_ready now) new.seats ≡ true }
+        → list_all (is_ready now new.filled) new.seats ≡ true }
 {}
 
 /// Who has a seat is told of the host's own game: the number that follows from a seating is that of the host's.
@@ -123,8 +125,8 @@ pub fn players_are_told_one_game()
         → game_in l.seal (seating_to from call now n l) ≡ game l }
 {}
 
-/// Two games of one number, under one key, are one game: of one host's session, of the same terms, with the same
-/// sessions in the same seats; but for two texts that have one code.
+/// Two games of one number, under one key, are one game: of one host's session, of the same terms, with the
+/// same sessions in the same seats; but for two texts that have one code.
 pub fn one_game_a_number()
     ensures { (key host other : List ℕ) (terms others : Terms) (one two three four five six : List ℕ)
         → length host ≡ 16 → length other ≡ 16 → IsTerms terms → IsTerms others

@@ -25,7 +25,7 @@ pub struct Seen {
     pub awaited: u32,
     /// Whether its report is.
     pub owes_report: bool,
-    /// For how long nothing new of it came, by any way.
+    /// For how long nothing new of it came, by any way. Of the player itself it means nothing.
     pub silent: u32,
     /// Whom its newest report names as gone.
     pub names: [bool; 4],
@@ -149,8 +149,8 @@ pub(crate) fn late(patience: u32, view: &View) -> Option<usize>
     from_above(late_from_above(patience, view))
 }
 
-/// Where one that leads has awaited anybody for the patience, whom it gives up: of the silent the highest, or else of
-/// those that it awaits.
+/// Where one that leads has awaited anybody for the patience, whom it gives up: of the silent the highest, or
+/// else of those that it awaits.
 fn late_due(patience: u32, view: &View) -> Option<usize>
     ensures value { result ≡ late_due patience view.now }
     ensures within { IfSome result (λ n. n < 4) }

@@ -1,11 +1,12 @@
-//! A session: its lobby, that is what a host and those who join tell each other until their game begins; and then its
-//! player's part in the game. No clock and no socket.
+//! A session: its lobby, that is what a host and those who join tell each other until their game begins; and
+//! then its player's part in the game. No clock and no socket.
 #![tactic(auto)]
 
 mod calls;
 mod coming;
 mod cookies;
 mod ending;
+mod event;
 mod fields;
 mod greeting;
 mod hinting;
@@ -14,6 +15,7 @@ mod joiner;
 mod laws;
 mod lead;
 mod part;
+mod parts;
 mod places;
 mod players;
 mod polling;
@@ -30,7 +32,8 @@ mod watch;
 mod writing;
 
 pub use cookies::FRESH_FOR;
-pub use ending::{Ending, Progress};
+pub use ending::{Ending, Over, Progress};
+pub use event::Event;
 pub use greeting::{
     Address, Call, GreetingFault, Hint, Hinted, Holder, Refusal, Refused, Seating, Shown,
 };
@@ -46,6 +49,7 @@ pub use laws::{
 };
 pub use lead::{Seen, Standing, View, due, is_given_up};
 pub use part::{Part, Transmit};
+pub use parts::{sent_bytes_are_genuine, sessions_play, sessions_play_on};
 pub use places::{Place, Places};
 pub use reading::{is_greeting, open, read_hinted};
 pub use roster::{one_link_a_place, places_are_ones_own};

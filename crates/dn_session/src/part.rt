@@ -14,6 +14,7 @@ mod sending;
 use crate::ending::{Ending, Progress};
 use crate::greeting::Address;
 use crate::places::Places;
+use crate::polling::earlier;
 use crate::terms::Policy;
 use crate::ticks::Ticks;
 use crate::watch::Watch;
@@ -63,8 +64,8 @@ const NO_EXCLUSION: Exclusion = Exclusion {
     told: None,
 };
 
-/// A player's part in its game: its link, when its ticks are due, where the others are, whom it waits for, what is to
-/// be sent, and how far it is.
+/// A player's part in its game: its link, when its ticks are due, where the others are, whom it waits for, what
+/// is to be sent, and how far it is.
 #[derive(Drop)]
 pub struct Part {
     link: Link,
@@ -79,10 +80,13 @@ pub struct Part {
 }
 
 impl Part {
+    ghost use Rattle.std.specs.Prelude.{◌<◌, ◌^◌, ℕ};
+    ghost use Rattle.dn_session.specs.{Events.part_due, Joining.has_come};
     ghost use Rattle.dn_session.specs.{Playing.ended_as, Playing.owes_nobody, Playing.playing, Ticks.new_ticks, Watch.new_watch};
     ghost use Rattle.dn_session.specs.declared.ending.Progress.TheVariants as progress;
 
-    /// The part that plays by this link from now on, in a game of this rate and policy, with the others at these places.
+    /// The part that plays by this link from now on, in a game of this rate and policy, with the others at
+    /// these places.
     pub(crate) fn new(link: Link, rate: u8, policy: Policy, places: Places, now: u32) -> Part
         ensures { playing result ≡ record {
           link = link;
@@ -119,11 +123,33 @@ impl Part {
         &self.link
     }
 
+    /// Its link, which is all that is left of it.
+    pub fn into_link(self) -> Link
+        ensures { result ≡ (playing self).link }
+    {
+        self.link
+    }
+
     /// How far it is.
     pub fn progress(&self) -> Progress
         ensures { result ≡ (playing self.now).progress }
     {
         self.progress
+    }
+
+    /// When it wants to be called: at its next tick or at the datagrams half a tick later, and once a second
+    /// while it plays.
+    pub(crate) fn due(&self) -> Option<u32>
+        ensures { (now : ℕ) → now < 2 ^ 32 → has_come now result ≡ has_come now (part_due (playing self.now)) }
+    {
+        match self.progress {
+            Progress::Playing => earlier(
+                Some(self.ticks.next()),
+                self.watch.looked.checked_add(1000),
+            ),
+            Progress::Leaving { .. } => Some(self.ticks.next()),
+            Progress::Over(_) => None,
+        }
     }
 
     /// How it ended, once it is over.

@@ -2,7 +2,7 @@
 
 ghost use Rattle.std.specs.{Prelude.◌≡◌, Prelude.◌&&◌, Prelude.not, Prelude.◌<◌, List.list_any, List.list_all};
 ghost use Rattle.dn_lockstep.specs.Contents.{contents};
-ghost use Rattle.dn_link.specs.{Linked.has_given_up, Linking.linked};
+ghost use Rattle.dn_link.specs.{Linked.has_given_up, Linked.is_peer, Linking.linked};
 ghost use Rattle.dn_session.specs.Players.{count_in, ends_by, four, has_gone, is_abandoned, is_any_awaited, is_awaited, is_gone_from, is_it, is_whole, lacks, names_by, owes_report, own_standing, seen_of, standing_beside, standing_of, view_of};
 
 use crate::lead::{Seen, Standing, View};
@@ -21,12 +21,19 @@ fn own_standing(phase: Phase) -> Standing
     }
 }
 
+/// Whether a number is another player's.
+pub(crate) fn is_peer(link: &Link, player: u8) -> bool
+    ensures { result ≡ is_peer (linked link.now).node player }
+{
+    let lockstep = link.lockstep();
+    player < lockstep.players() && player != lockstep.me()
+}
+
 /// Whether a number is given up, or no other player's.
 pub(crate) fn is_gone_from(link: &Link, player: u8) -> bool
     ensures { result ≡ is_gone_from (linked link.now) player }
 {
-    let lockstep = link.lockstep();
-    player >= lockstep.players() || player == lockstep.me() || link.has_given_up(player)
+    !is_peer(link, player) || link.has_given_up(player)
 }
 
 /// How many commands of a player are here.
@@ -55,7 +62,7 @@ fn is_whole(link: &Link, player: u8) -> bool
 }
 
 /// What another is.
-fn standing_beside(link: &Link, player: u8) -> Standing
+pub(crate) fn standing_beside(link: &Link, player: u8) -> Standing
     ensures { result ≡ standing_beside (linked link.now) player }
 {
     if is_gone_from(link, player) {
@@ -107,7 +114,7 @@ fn is_it(player: u8, other: Option<u8>) -> bool
 fn owes_report(link: &Link, player: u8) -> bool
     ensures { result ≡ owes_report (linked link.now) player }
 {
-    has_gone(link) && is_it(player, link.undecided())
+    is_it(player, link.awaits_report_of())
 }
 
 /// The same of a link's.

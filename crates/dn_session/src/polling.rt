@@ -58,7 +58,7 @@ fn retry_at(retried: Option<u32>) -> Option<u32>
 }
 
 /// The earlier of two times.
-fn earlier(one: Option<u32>, two: Option<u32>) -> Option<u32>
+pub(crate) fn earlier(one: Option<u32>, two: Option<u32>) -> Option<u32>
     ensures { (now : ℕ) → has_come now result ≡ (has_come now one || has_come now two) }
 {
     let Some(first) = one else {
@@ -183,8 +183,8 @@ impl Joiner {
         }
     }
 
-    /// When [`Joiner::poll`] is to be called next: before that time it changes nothing and returns no call, and from
-    /// then on it does one or the other. None if it never does so again, unless something is heard.
+    /// When [`Joiner::poll`] is to be called next: before that time it changes nothing and returns no call, and
+    /// from then on it does one or the other. None if it never does so again, unless something is heard.
     pub fn due(&self) -> Option<u32>
         ensures { (now : ℕ) → now < 2 ^ 32 → has_come now result ≡ acts now (joining self.now) }
     {

@@ -5,7 +5,8 @@ ghost use Rattle.dn_session.specs.declared.side.{Begun.Begun, Side.Side};
 ghost use Rattle.dn_session.specs.Roster.{key_of, number_of_game, own_number, place_in, session_at, text_of_game, IsSide, Place};
 ghost use Rattle.dn_session.specs.Session.{begun_in};
 
-/// A game that has begun for a session is the one that the session's place is in, and gives that place to the session.
+/// A game that has begun for a session is the one that the session's place is in, and gives that place to the
+/// session.
 pub fn places_are_ones_own()
     ensures game { (side : Side) (begun : Begun) → begun_in side ≡ Some begun → (place : Place)
         × (place_in side ≡ Some place) × (begun.game ≡ number_of_game (key_of side) place.game)
@@ -14,9 +15,9 @@ pub fn places_are_ones_own()
         → session_at place ≡ own_number side }
 {}
 
-/// Two sessions whose games have one number, under one key, play one game: of one host's session, of the same terms,
-/// with the same sessions in the same seats; but for two texts that have one code. And if both have one place of it,
-/// their numbers are the same. So where no two sessions have drawn one number, it is one session.
+/// Two sessions whose games have one number, under one key, play one game: of one host's session, of the same
+/// terms, with the same sessions in the same seats; but for two texts that have one code. And if both have one
+/// place of it, their numbers are the same. So where no two sessions have drawn one number, it is one session.
 pub fn one_link_a_place()
     ensures { (one two : Side) (a b : Place) → IsSide one → IsSide two → key_of one ≡ key_of two
         → place_in one ≡ Some a → place_in two ≡ Some b

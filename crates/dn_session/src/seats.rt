@@ -7,8 +7,8 @@ ghost use Rattle.dn_session.specs.Seats.{held_again, is_free, is_here, is_of, is
 use crate::cookies::is_recent;
 use crate::greeting::{Address, Call, Holder, Shown};
 
-/// Who holds a seat, and when it was heard. Times are milliseconds of the host's own clock: those of the cookies that
-/// came with calls.
+/// Who holds a seat, and when it was heard. Times are milliseconds of the host's own clock: those of the
+/// cookies that came with calls.
 #[derive(Clone, Copy, Debug, PartialEq, Eq)]
 pub struct Held {
     /// Who holds it.
@@ -69,22 +69,22 @@ fn is_silent(now: u32, seat: &Seat) -> bool
 }
 
 /// Whether the game can begin as far as this seat goes.
-fn is_ready(now: u32, seat: &Seat) -> bool
-    ensures { result ≡ is_ready now seat.now }
+fn is_ready(now: u32, filled: u32, seat: &Seat) -> bool
+    ensures { result ≡ is_ready now filled seat.now }
 {
     match seat {
         Seat::Absent => true,
         Seat::Free => false,
-        Seat::Taken(held) => is_recent(now, held.heard),
+        Seat::Taken(held) => is_recent(now, held.heard) && filled <= held.heard,
     }
 }
 
-/// Whether it can begin as far as all seats go.
-pub(crate) fn all_ready(now: u32, seats: &[Seat; 3]) -> bool
-    ensures { result ≡ list_all (is_ready now) seats.now }
+/// Whether it can begin as far as all seats go, the last of which was filled at this time.
+pub(crate) fn all_ready(now: u32, filled: u32, seats: &[Seat; 3]) -> bool
+    ensures { result ≡ list_all (is_ready now filled) seats.now }
 {
     let [one, two, three] = seats;
-    is_ready(now, one) && is_ready(now, two) && is_ready(now, three)
+    is_ready(now, filled, one) && is_ready(now, filled, two) && is_ready(now, filled, three)
 }
 
 /// The seat of the session of this number, if it holds one.

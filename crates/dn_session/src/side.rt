@@ -202,6 +202,8 @@ fn host_kicks(host: &mut Host, seat: u8)
 }
 
 impl Side {
+    ghost use Rattle.std.specs.Prelude.{◌<◌, ◌^◌};
+    ghost use Rattle.dn_session.specs.{Events.acts_in, Joining.has_come};
     ghost use Rattle.dn_session.specs.Session.{Calls, HearsGreeting, KicksFrom};
 
     /// The game, once it has begun.
@@ -237,6 +239,16 @@ impl Side {
         match self {
             Side::Host(_) => None,
             Side::Joiner(joiner) => joiner_polls(joiner, now),
+        }
+    }
+
+    /// When it wants to be called.
+    pub(crate) fn due(&self) -> Option<u32>
+        ensures { (now : ℕ) → now < 2 ^ 32 → has_come now result ≡ acts_in now self.now }
+    {
+        match self {
+            Side::Host(_) => None,
+            Side::Joiner(joiner) => joiner.due(),
         }
     }
 

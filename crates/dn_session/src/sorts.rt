@@ -26,9 +26,9 @@ pub trait Greeting: Copy {
     fn what_and_size() -> (u8, usize)
         ensures { result ≡ (sort.what, sort.size) };
 
-    /// Decodes the bytes between the twelve of the head and the 16 of the tag: as many as `rest` writes, no more and
-    /// no fewer. None if a field is out of range. Where there is one it need not have been encoded so: [`open`]
-    /// compares the bytes with those of its `rest`.
+    /// Decodes the bytes between the twelve of the head and the 16 of the tag: as many as `rest` writes, no
+    /// more and no fewer. None if a field is out of range. Where there is one it need not have been encoded so:
+    /// [`open`] compares the bytes with those of its `rest`.
     ///
     /// [`open`]: crate::open
     fn told(bytes: &[u8]) -> Option<Self>

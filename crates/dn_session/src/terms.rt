@@ -10,7 +10,8 @@ use thiserror::Error;
 /// What becomes of a player who vanishes.
 #[derive(Clone, Copy, Debug, PartialEq, Eq)]
 pub enum Policy {
-    /// The others wait until one of them gives it up.
+    /// The others wait until the one that leads gives it up; if that one vanishes, until each of them has done
+    /// so.
     Wait,
     /// After so many seconds, three at least, it is given up, and the others play on.
     GiveUp(u8),

@@ -4,8 +4,8 @@ ghost use Rattle.std.specs.Prelude.{◌≡◌};
 
 /// When a player's ticks are due. Times are milliseconds of its own clock.
 ///
-/// A tick is no whole number of milliseconds, so it is counted in parts, of which a millisecond has 32 for each tick
-/// of a second: then a tick has 32,000, whatever the rate, and each 32nd of a tick 1,000.
+/// A tick is no whole number of milliseconds, so it is counted in parts, of which a millisecond has 32 for each
+/// tick of a second: then a tick has 32,000, whatever the rate, and each 32nd of a tick 1,000.
 #[derive(Clone, Copy, Debug, PartialEq, Eq)]
 pub struct Ticks {
     /// How many come in a second; one at least.

@@ -6,8 +6,8 @@ ghost use Rattle.dn_session.specs.Watch.{goes_on, has_slept, looked_at, moved, n
 /// How many milliseconds at most may pass between two looks. A machine that does not look for longer sleeps.
 const AWAKE: u32 = 1000;
 
-/// For how long others were silent, and for how long the game stood still. Times are milliseconds of the player's own
-/// clock.
+/// For how long others were silent, and for how long the game stood still. Times are milliseconds of the
+/// player's own clock.
 #[derive(Clone, Copy, Debug, PartialEq, Eq)]
 pub struct Watch {
     /// When each player was heard last.

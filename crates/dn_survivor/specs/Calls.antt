@@ -1,5 +1,6 @@
 -- What the calls of a survivor do that are not those of a lockstep.
 use Rattle.std.specs.Prelude.{◌≡◌, ℕ, true, not, slice_set, if◌then◌else◌, Option, Some, None, ◌⊎◌, zero, suc}
+use Rattle.std.specs.Option.{option_map, option_or}
 use Rattle.dn_machine.specs.Drops as drops
 use Rattle.dn_machine.specs.Limits.{Limits}
 use Rattle.dn_machine.specs.Flight.{Flight}
@@ -15,11 +16,11 @@ use Rattle.dn_lockstep.specs.declared.lockstep.settling.Settled.{Settled}
 use Rattle.dn_survivor.specs.declared.report.Report.{Report}
 use Rattle.dn_survivor.specs.declared.others.Others.{Others}
 use Rattle.dn_survivor.specs.declared.others.hearing.Reported as others
-use Rattle.dn_survivor.specs.OfOthers.{has, nodes_of, own_of, reported_as, with_newest, commands_of, first_of, told_of}
+use Rattle.dn_survivor.specs.OfOthers.{has, nodes_of, own_of, reported_as, with_newest, commands_of, first_of, teller_of, told_of}
 use Rattle.dn_survivor.specs.declared.answers.Ends.{Ends}
 use Rattle.dn_survivor.specs.declared.answers.GivenUp.{GivenUp}
 use Rattle.dn_survivor.specs.declared.answers.Reported.{Reported}
-use Rattle.dn_survivor.specs.Surviving.{Surviving, has_given_up, is_unsettled}
+use Rattle.dn_survivor.specs.Surviving.{Surviving, has_given_up, has_gone, is_unsettled}
 
 -- The ends of those who are given up: one call of the lockstep after another.
 
@@ -154,6 +155,15 @@ undecided_in now =
 -- of those who are given up the one with the lowest number whose end is not settled
 abbrev pub unsettled_in : Surviving → Option ℕ
 unsettled_in now = lowest now.lockstep.players (is_unsettled now)
+
+-- while somebody is given up, the report of one player is awaited: of the lowest whose report is missing; or else,
+-- where an end that follows from the reports could not be taken, of the one who told of the most commands before it
+abbrev pub awaits_report_of : Surviving → Option ℕ
+awaits_report_of now =
+    if has_gone now
+    then option_or (undecided_in now)
+    (option_map (teller_of now.lockstep.players now.lockstep.me now.others) (unsettled_in now))
+    else None
 
 -- nothing is sent to one who is given up
 abbrev pub sent_unless : Others → ℕ → Limits → ℕ → machine.Node → machine.Node × Option Flight

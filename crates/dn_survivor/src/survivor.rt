@@ -23,7 +23,7 @@ impl Survivor {
     ghost use Rattle.dn_survivor.specs.OfOthers.{nothing_kept};
     ghost use Rattle.dn_remain.specs.Wary.{is_in_game};
     ghost use Rattle.dn_survivor.specs.{Surviving.surviving, Surviving.has_given_up, Surviving.has_gone, Surviving.has_left, Surviving.has_settled, Surviving.is_unsettled, Calls.undecided_in};
-    ghost use Rattle.dn_survivor.specs.{Calls.unsettled_in};
+    ghost use Rattle.dn_survivor.specs.{Calls.awaits_report_of, Calls.unsettled_in, OfOthers.teller_of};
 
     /// A survivor with no history, of a lockstep as `Lockstep::within` makes it: nobody is given up, and
     /// nothing was told. All memory that it needs is taken here.
@@ -103,6 +103,35 @@ impl Survivor {
             }
         }
         None
+    }
+
+    /// Who told of the most commands of one whose end is not settled.
+    fn teller(&self) -> Option<u8>
+        ensures { result ≡ option_map (teller_of (surviving self.now).lockstep.players (surviving self.now).lockstep.me
+            (surviving self.now).others) (unsettled_in (surviving self.now)) }
+    {
+        match self.unsettled() {
+            Some(player) => Some(
+                self.others
+                    .teller(self.lockstep.players(), self.lockstep.me(), player),
+            ),
+            None => None,
+        }
+    }
+
+    /// Whose report is awaited, while somebody is given up: that of the lowest player whose report is missing. Where
+    /// none is missing, but an end that follows from the reports could not be taken, they are not true: then a better
+    /// one is awaited of the player who told of the most commands before that end.
+    pub fn awaits_report_of(&self) -> Option<u8>
+        ensures { result ≡ awaits_report_of (surviving self.now) }
+    {
+        if !self.has_gone() {
+            return None;
+        }
+        match self.undecided() {
+            Some(player) => Some(player),
+            None => self.teller(),
+        }
     }
 
     /// Whether a player is given up whose end is not settled.

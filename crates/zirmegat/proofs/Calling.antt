@@ -8,6 +8,9 @@ use Rattle.dn_lockstep.specs.declared.lockstep.Lockstep.{Lockstep}
 use Rattle.dn_lockstep.specs.Contents.{Contents, contents}
 use Rattle.dn_lockstep.specs.Steps.{told_by}
 use Rattle.dn_link.specs.declared.link.Link.{Link}
+use Rattle.dn_session.specs.declared.session.Session.{Session}
+use Rattle.dn_session.specs.Session.{meeting, Meeting}
+use Rattle.zirmegat.specs.{declared.session_handle.SessionHandle.SessionHandle, Lends.with_session, Sessions.session_of}
 use Rattle.zirmegat.specs.{declared.answers.MoveAnswer.MoveAnswer, declared.answers.RanAnswer.RanAnswer, declared.handle.LockstepHandle.LockstepHandle, declared.link_handle.LinkHandle.LinkHandle, Answers.ran_told}
 use Rattle.zirmegat.specs.{Answers.row_told_over, Calls.Answers, Calls.lockstep_of, Calls.Calls, Going.Builds, Lends.with_node, Lends.with_link, Links.BuildsOf, Links.Joined, Links.joined_of, Links.link_of}
 
@@ -38,6 +41,11 @@ pub link_lent : (h : LinkHandle) (n m : Link) (Step : Joined → Joined → Type
     → h.live ≡ true → link_of h ≡ Some (joined_of n) → Step (joined_of n) (joined_of m)
     → Calls (link_of h) (link_of (with_link h m)) Step Empty
 link_lent h = lent joined_of h.live h.link
+
+pub session_lent : (h : SessionHandle) (n m : Session) (Step : Meeting → Meeting → Type 0) (Empty : Type 0)
+    → h.live ≡ true → session_of h ≡ Some (meeting n) → Step (meeting n) (meeting m)
+    → Calls (session_of h) (session_of (with_session h m)) Step Empty
+session_lent h = lent meeting h.live h.session
 
 -- what is held takes a step, whose result is told
 pub told_lent : {A B R T : Type 0} (shown : A → B) {live : Bool} (value : Option A) (n m : A) (told : R → T) (empty : T)

@@ -24,9 +24,11 @@ use Rattle.std.proofs.alloc.Global.TheLaws as heap_laws
 use Rattle.std.specs.contracts.impls.GlobalAllocator.TheImpl as impl
 use Rattle.dn_lockstep.specs.contracts.lockstep.Lockstep as lockstep
 use Rattle.dn_link.specs.contracts.link.Link as the_link
+use Rattle.dn_session.specs.contracts.session.Session as the_session
 use Rattle.zirmegat.specs.contracts.reader.DemoReader as reader
 use Rattle.zirmegat.specs.contracts.handle.LockstepHandle as node
 use Rattle.zirmegat.specs.contracts.link_handle.LinkHandle as link
+use Rattle.zirmegat.specs.contracts.session_handle.SessionHandle as session
 use Rattle.zirmegat.specs.contracts.demo_handle.DemoHandle as demo
 
 -- a handle that may hold a value of this row: its struct, by its name, its row and its fields
@@ -97,7 +99,7 @@ module _ {N : RattleType} (K : Handle N) where
         use1 𝓛 (given ⊥ (‵ ftrue)) (via 𝓤 (never 𝓤) (id⊢ 𝓤 (never 𝓤)) (never_e 𝓤 _)) $ learn t (λ z. absurd z)
     live_out t p (Some x) k = k x refl
 
--- The three handles: of a node, of a link, and of a reader of a demo.
+-- The four handles: of a node, of a link, of a session, and of a reader of a demo.
 
 abbrev pub node_handle : Handle lockstep.the_row
 node_handle = record {
@@ -129,6 +131,17 @@ link_handle = record {
   at = λ h. h.at;
   value = λ h. h.link;
   make = λ b p n. record { live = b; at = p; link = n };
+  made = λ b p n. (refl, refl, refl);
+}
+
+abbrev pub session_handle : Handle the_session.the_row
+session_handle = record {
+  name = session.struct.name;
+  struct = session.the_row;
+  live = λ h. h.live;
+  at = λ h. h.at;
+  value = λ h. h.session;
+  make = λ b p n. record { live = b; at = p; session = n };
   made = λ b p n. (refl, refl, refl);
 }
 

@@ -10,6 +10,8 @@ use Rattle.dn_lockstep.specs.declared.lockstep.Lockstep.{Lockstep}
 use Rattle.dn_lockstep.specs.contracts.lockstep.Lockstep as lockstep
 use Rattle.dn_link.specs.declared.link.Link.{Link}
 use Rattle.dn_link.specs.contracts.link.Link as link
+use Rattle.dn_session.specs.declared.session.Session.{Session}
+use Rattle.dn_session.specs.contracts.session.Session as session
 use Rattle.zirmegat.specs.declared.reader.DemoReader.{DemoReader}
 use Rattle.zirmegat.specs.contracts.reader.DemoReader as reader
 
@@ -31,3 +33,6 @@ held_reader = held reader.the_row
 
 abbrev pub held_link : Bool → Ptr → Option Link → Fml
 held_link = held link.the_row
+
+abbrev pub held_session : Bool → Ptr → Option Session → Fml
+held_session = held session.the_row

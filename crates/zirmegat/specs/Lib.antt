@@ -9,3 +9,8 @@ pub mod Fields
 pub mod Commands
 pub mod Demos
 pub mod Links
+pub mod SessionCodes
+pub mod SessionConfigs
+pub mod Sessions
+pub mod SessionStates
+pub mod SessionEvents

@@ -1,9 +1,13 @@
 -- A link behind a handle, and what its calls do.
-use Rattle.std.specs.Prelude.{◌≡◌, ◌≤◌, ◌==◌, nat_abs, ℕ, ℤ, true, false, not, List, pos, replicate, Option, None, Some, IfSome, is_some, if◌then◌else◌}
+use Rattle.std.specs.Prelude.{◌≡◌, ◌≤◌, nat_abs, ℕ, ℤ, true, false, List, pos, Option, None, Some, IfSome, is_some, if◌then◌else◌, Result, Ok, Err}
 use Rattle.std.specs.Option.{option_map}
 use Rattle.arrayvec.specs.ArrayVec.{ArrayVec}
-use Rattle.dn_setup.specs.Settings.{bit}
-use Rattle.dn_lockstep.specs.Contents.{Contents}
+use Rattle.dn_setup.specs.Settings.{IsCheckedAs, Settings}
+use Rattle.dn_setup.specs.declared.settings.SettingsFault.{SettingsFault}
+use Rattle.dn_lockstep.specs.Contents.{Contents, whose}
+use Rattle.dn_lockstep.specs.declared.config.NodeFault.{NodeFault}
+use Rattle.dn_lockstep.specs.Opening.{IsAdmittedWithin, keyed, limits_within, whose_within}
+use Rattle.dn_lockstep.specs.Represents.{Represents}
 use Rattle.dn_lockstep.specs.Sent.{IsFair}
 use Rattle.dn_lockstep.specs.Sent.{sent_to}
 use Rattle.dn_lockstep.specs.Steps.{Steps, Tells}
@@ -11,6 +15,7 @@ use Rattle.dn_machine.specs.declared.answers.Made.{Made}
 use Rattle.dn_machine.specs.declared.answers.Made.TheVariants.{Full, NotPlaying}
 use Rattle.dn_machine.specs.declared.answers.Ran.{Ran}
 use Rattle.dn_machine.specs.Sending.{on_build}
+use Rattle.dn_machine.specs.Started.{started_node}
 use Rattle.dn_tic.specs.declared.input.Input.{Input}
 use Rattle.dn_tic.specs.declared.command.Move.{Move}
 use Rattle.dn_survivor.specs.OfOthers.{nothing_kept}
@@ -18,12 +23,10 @@ use Rattle.dn_survivor.specs.declared.answers.GivenUp.{GivenUp}
 use Rattle.dn_seal.specs.declared.seal.Seal.{Seal}
 use Rattle.dn_link.specs.declared.link.Link.{Link}
 use Rattle.dn_link.specs.declared.received.Received.{Received}
-use Rattle.dn_link.specs.declared.bundle.Identity.{Identity}
 use Rattle.dn_link.specs.declared.tally.Figures.{Figures}
-use Rattle.dn_link.specs.declared.presence.Presence.{Presence}
 use Rattle.dn_link.specs.Linked.{figures_of}
-use Rattle.dn_link.specs.Linked.{IsWhole, Linked, Gives, Receives, forgotten, has_given_up, holds_back, is_peer, remains}
-use Rattle.dn_link.specs.Linking.{identity_of, linked, new_peer, seal_of}
+use Rattle.dn_link.specs.Linked.{IsWhole, Linked, Gives, Receives, has_given_up, is_peer, remains}
+use Rattle.dn_link.specs.Linking.{linked, new_peer, seal_of}
 use Rattle.dn_link.specs.Pace.{Paces, after_input, after_tick, lean, still_owed}
 use Rattle.dn_link.specs.Pacing.{PaceState}
 use Rattle.dn_link.specs.Notices.{HearsNotice, is_notice, notice_for}
@@ -32,25 +35,23 @@ use Rattle.dn_link.specs.Surviving.{GivesUpPeer}
 use Rattle.zirmegat.specs.declared.answers.MadeAnswer.{MadeAnswer}
 use Rattle.zirmegat.specs.declared.config.NodeConfig.{NodeConfig}
 use Rattle.zirmegat.specs.declared.link_answers.LineAnswer.{LineAnswer}
-use Rattle.zirmegat.specs.declared.link_answers.PresenceAnswer.{PresenceAnswer}
 use Rattle.zirmegat.specs.declared.link_answers.ReceivedAnswer.{ReceivedAnswer}
 use Rattle.zirmegat.specs.declared.link_handle.LinkHandle.{LinkHandle}
 use Rattle.zirmegat.specs.Answers.{made_told}
 use Rattle.zirmegat.specs.Going.{Builds, Runs, RunsBut}
-use Rattle.zirmegat.specs.Opening.{OpensWithin}
+use Rattle.zirmegat.specs.Opening.{choice_in, config_of}
 use Rattle.zirmegat.specs.Calls.{IsPut}
-use Rattle.zirmegat.specs.Codes.{bundle_code, notice_code, reported_code}
+use Rattle.zirmegat.specs.Codes.{bundle_code, fault_code, notice_code, reported_code, settings_code}
 
 -- a link, what it keeps for its pace, and what it has in common with the others of its game
 pub record Joined : Type 0 where
   pub link : Linked
   pub pace : PaceState
   pub seal : Seal
-  pub identity : Identity
 
 abbrev pub joined_of : Link → Joined
 joined_of link =
-    record { link = linked link; pace = pace_of link; seal = seal_of link; identity = identity_of link }
+    record { link = linked link; pace = pace_of link; seal = seal_of link }
 
 -- the link of a handle
 abbrev pub link_of : LinkHandle → Option Joined
@@ -58,7 +59,7 @@ link_of h = if h.live then option_map joined_of h.link else None
 
 -- what it has in common with the others stays
 abbrev pub StaysOf : Joined → Joined → Type 0
-StaysOf n k = (k.seal ≡ n.seal) × (k.identity ≡ n.identity)
+StaysOf n k = k.seal ≡ n.seal
 
 -- its lockstep takes a step, and its pace another; whom it has given up and what it keeps of its peers stay
 abbrev pub Moves : (Contents → Contents → Type 0) → (PaceState → PaceState → Type 0) → Joined → Joined → Type 0
@@ -86,40 +87,46 @@ abbrev pub RunsOf : List ℤ → Linked → Contents → Contents → Ran → Op
 RunsOf marks link old new ran row =
     (IsWhole link → Runs marks old new ran row) × RunsBut (has_given_up link) marks old new ran row
 
--- who it says it is
-abbrev pub identity_in : NodeConfig → ℕ → List ℕ → Identity
-identity_in config ahead host =
-    record {
-      players = config.players;
-      extra = not (config.extra == 0);
-      ahead = ahead;
-      limit = config.limit;
-      host = host;
-    }
+-- its lockstep plays with these settings from the beginning on, nobody is given up, nothing is known of its
+-- peers, nor of its pace, and it has this seal
+abbrev pub IsNew : NodeConfig → Settings → ℕ → Seal → Joined → Type 0
+IsNew config settings ahead seal n =
+    Represents (limits_within (config_of config None) ahead) config.me n.link.node
+    (started_node config.players settings config.me)
+    × (whose n.link.node ≡ whose_within (config_of config None) ahead)
+    × (n.link.others ≡ nothing_kept) × ((player : ℕ) → n.link.peers player ≡ new_peer) × (n.pace ≡ new_pace) × (n.seal ≡ seal)
 
--- nobody is given up, nothing is known of its peers, nor of its pace, and it has this seal and this identity
-abbrev pub IsNew : NodeConfig → ℕ → List ℕ → Seal → Joined → Type 0
-IsNew config ahead host seal n =
-    (n.link.others ≡ nothing_kept) × ((player : ℕ) → n.link.peers player ≡ new_peer) × (n.pace ≡ new_pace) × (n.seal ≡ seal)
-    × (n.identity ≡ identity_in config ahead host)
+-- 0 and the link that was made, or why there is none
+abbrev pub IsLinkMade : NodeConfig → Settings → ℕ → Seal → Result Joined NodeFault → ℕ → Option Joined → Type 0
+IsLinkMade config settings ahead seal (Ok made) code link =
+    (code ≡ 0) × (link ≡ Some made) × IsNew config settings ahead seal made
+IsLinkMade config settings ahead seal (Err fault) code link = (code ≡ fault_code fault) × (link ≡ None)
 
--- its lockstep is made by this configuration in this window, or there is none; and it is new
-abbrev pub OpensLink : NodeConfig → ℕ → List ℕ → Seal → ℕ → Option Joined → Type 0
-OpensLink config ahead host seal code made =
-    OpensWithin config ahead code (option_map (λ n. n.link.node) made) × IfSome made (IsNew config ahead host seal)
+abbrev pub OpensLinkBy : NodeConfig → ℕ → Seal → Result Settings SettingsFault → ℕ → Option Joined → Type 0
+OpensLinkBy config ahead seal (Err fault) code link = (code ≡ settings_code fault) × (link ≡ None)
+OpensLinkBy config ahead seal (Ok settings) code link =
+    (made : Result Joined NodeFault) × IsAdmittedWithin (keyed (config_of config None) settings) ahead made
+    × IsLinkMade config settings ahead seal made code link
 
--- it gives each peer who is not given up a datagram, which no other number gets, and for which it stays as it is
+-- the settings are looked at first, then the window, and then the rest
+abbrev pub OpensLink : NodeConfig → ℕ → Seal → ℕ → Option Joined → Type 0
+OpensLink config ahead seal code link =
+    (checked : Result Settings SettingsFault) × IsCheckedAs (choice_in config.settings) checked
+    × OpensLinkBy config ahead seal checked code link
+
+-- it gives each peer who is not given up a datagram, which no other number gets, and for which it stays as it
+-- is
 abbrev pub GivesOut : ℕ → List ℕ → List ℕ → ℕ → Joined → Joined → Type 0
 GivesOut to room written count n k =
     (given : Option (ArrayVec ℕ)) × (is_some given ≡ remains n.link to)
-    × IfSome given (λ bytes. Gives n.seal n.identity n.pace to n.link k.link bytes.items
-    × (holds_back n.link ≡ false → Tells n.link.node (λ limits me m. IfSome (sent_to to limits me m).1 IsFair)))
+    × IfSome given (λ bytes. Gives n.seal n.pace to n.link k.link bytes.items
+    × Tells n.link.node (λ limits me m. IfSome (sent_to to limits me m).1 IsFair))
     × (given ≡ None → k.link ≡ n.link) × IsPut given room written count × (k.pace ≡ n.pace) × StaysOf n k
 
 -- it takes in any bytes: as a report, if they are of that kind, and else as a datagram
 abbrev pub TakesBytes : List ℕ → Joined → Joined → Received → Type 0
 TakesBytes bytes n k answer =
-    (is_notice bytes ≡ false → Receives n.seal n.identity n.pace bytes n.link k.link answer)
+    (is_notice bytes ≡ false → Receives n.seal bytes n.link k.link answer)
     × (is_notice bytes ≡ false → Paces n.seal bytes n.link n.pace k.pace)
     × (is_notice bytes ≡ true → HearsNotice n.seal bytes n.link n.pace k.link k.pace answer) × StaysOf n k
 
@@ -134,28 +141,21 @@ abbrev pub Leans : Joined → Joined → ℤ → Type 0
 Leans n k answer =
     (answer ≡ lean n.link n.pace) × (nat_abs answer ≤ 34) × (k.link ≡ n.link) × (k.pace ≡ after_tick n.link n.pace) × StaysOf n k
 
--- a peer is forgotten
-abbrev pub Forgets : ℕ → Joined → Joined → Type 0
-Forgets player n k = (k.link ≡ forgotten player n.link) × (k.pace ≡ n.pace) × StaysOf n k
-
 -- a player is given up for good
 abbrev pub GivesUpIn : ℕ → Joined → Joined → GivenUp → Type 0
 GivesUpIn player n k answer = GivesUpPeer player n.link k.link answer × (k.pace ≡ n.pace) × StaysOf n k
 
 -- bytes that are no datagram are told with the number of their fault; 0 is for no link
 abbrev pub unopened : ℕ → ReceivedAnswer
-unopened reason = record { code = 2; reason = reason; player = 0; started = 0 }
+unopened reason = record { code = 2; reason = reason; player = 0 }
 
 abbrev pub received_told : Received → ReceivedAnswer
-received_told (Received.Heard player started) =
-    record { code = 0; reason = 0; player = player; started = bit started }
-received_told (Received.Stranger player) = record { code = 1; reason = 0; player = player; started = 0 }
-received_told (Received.Unreported fault) =
-    record { code = 6; reason = notice_code fault; player = 0; started = 0 }
+received_told (Received.Heard player) = record { code = 0; reason = 0; player = player }
+received_told (Received.Stranger player) = record { code = 1; reason = 0; player = player }
+received_told (Received.GivenUp player) = record { code = 3; reason = 0; player = player }
 received_told (Received.Reported player reported) =
-    record { code = 5; reason = reported_code reported; player = player; started = 0 }
-received_told (Received.GivenUp player) = record { code = 4; reason = 0; player = player; started = 0 }
-received_told (Received.Different player) = record { code = 3; reason = 0; player = player; started = 0 }
+    record { code = 4; reason = reported_code reported; player = player }
+received_told (Received.Unreported fault) = record { code = 5; reason = notice_code fault; player = 0 }
 received_told (Received.Unopened fault) = unopened (bundle_code fault)
 
 -- what came of a build that was owed
@@ -163,36 +163,9 @@ abbrev pub owed_told : Option Made → MadeAnswer
 owed_told None = record { code = 3; tic = 0 }
 owed_told (Some made) = made_told made
 
-abbrev pub no_host : List ℕ
-no_host = replicate 16 0
-
--- who is there: a state, why it left, and the identity of one that differs
-abbrev pub presence_at : ℕ → ℕ → PresenceAnswer
-presence_at state cause =
-    record { state = state; limit = 0; cause = cause; players = 0; extra = 0; ahead = 0; host = no_host }
-
-abbrev pub presence_told : Presence → PresenceAnswer
-presence_told Presence.Unknown = presence_at 0 0
-presence_told Presence.There = presence_at 1 0
-presence_told Presence.Playing = presence_at 2 0
-presence_told (Presence.Different identity) =
-    record {
-      state = 3;
-      limit = identity.limit;
-      cause = 0;
-      players = identity.players;
-      extra = bit identity.extra;
-      ahead = identity.ahead;
-      host = identity.host;
-    }
-presence_told (Presence.Away cause) = presence_at 4 cause
-presence_told (Presence.Left cause) = presence_at 5 cause
-presence_told Presence.Forgotten = presence_at 6 0
-
--- of a peer, as far as is known
-abbrev pub presence_of : ℕ → Linked → Presence
-presence_of player link =
-    if is_peer link.node player then (link.peers player).presence else Presence.Unknown
+-- why a peer has left, if its datagrams told
+abbrev pub left_of : ℕ → Linked → Option ℕ
+left_of player link = if is_peer link.node player then (link.peers player).left else None
 
 -- a line of these numbers
 abbrev pub line_at : ℕ → ℕ → ℕ → ℕ → ℕ → ℕ → ℤ → ℤ → LineAnswer

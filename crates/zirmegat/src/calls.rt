@@ -1,4 +1,5 @@
-//! The calls that move a game on; and whole commands: a node takes them from the caller, and tells those that it has.
+//! The calls that move a game on; and whole commands: a node takes them from the caller, and tells those that
+//! it has.
 
 ghost use Rattle.std.specs.{Prelude.◌≡◌, Prelude.◌<◌, Prelude.◌≤◌, Prelude.◌%◌, Prelude.◌^◌, Prelude.length, Prelude.map, Prelude.Option, Prelude.None, Prelude.is_some, Prelude.Bool, Option.option_map};
 ghost use Rattle.dn_tic.specs.declared.input.Input.TheVariants.{Pressed, Given};

@@ -1,8 +1,8 @@
 //! What a node is made of, as plain numbers.
 
 ghost use Rattle.std.specs.Prelude.{◌≡◌, Result};
-ghost use Rattle.dn_setup.specs.{Settings.Settings as Choice, declared.settings.SettingsFault.SettingsFault as Fault};
-ghost use Rattle.zirmegat.specs.{Answers.settings_told, Codes.settings_code, Codes.fault_code, Opening.IsChosen, Opening.config_of};
+ghost use Rattle.dn_setup.specs.{Settings.IsCheckedAs, Settings.Settings as Choice, declared.settings.SettingsFault.SettingsFault as Fault};
+ghost use Rattle.zirmegat.specs.{Answers.settings_told, Codes.settings_code, Codes.fault_code, Opening.IsChosen, Opening.choice_in, Opening.config_of};
 
 use dn_lockstep::{Config, NodeFault};
 use dn_setup::{Settings, SettingsFault};
@@ -79,11 +79,26 @@ pub struct NodeConfig {
     pub me: u8,
     /// Whether each packet repeats the last command, against losses: 0 or not.
     pub extra: u8,
-    /// Read for player 0 alone.
+    /// Read for player 0 alone, but for a link's player whoever it is.
     pub settings: GameSettings,
 }
 
 impl NodeConfig {
+    /// The settings, if they are in range.
+    pub(crate) fn asked(&self) -> Result<Settings, SettingsFault>
+        ensures { IsCheckedAs (choice_in self.now.settings) result }
+    {
+        let asked = self.settings;
+        Settings::new(
+            asked.skill,
+            asked.deathmatch,
+            asked.no_monsters != 0,
+            asked.respawn != 0,
+            asked.episode,
+            asked.map,
+        )
+    }
+
     /// The settings of player 0, and none of another.
     pub(crate) fn choice(&self) -> Result<Option<Settings>, SettingsFault>
         ensures { IsChosen self.now result }
@@ -91,15 +106,7 @@ impl NodeConfig {
         if self.me != 0 {
             return Ok(None);
         }
-        let asked = self.settings;
-        let settings = Settings::new(
-            asked.skill,
-            asked.deathmatch,
-            asked.no_monsters != 0,
-            asked.respawn != 0,
-            asked.episode,
-            asked.map,
-        )?;
+        let settings = self.asked()?;
         Ok(Some(settings))
     }
 

@@ -1,8 +1,8 @@
 //! The calls that move the game of a link on, and those by which players who vanished are given up for good.
 
-ghost use Rattle.std.specs.Prelude.{◌≡◌, ◌<◌, ◌≤◌, ◌%◌, ◌^◌, length, None, pos, ⊤};
+ghost use Rattle.std.specs.Prelude.{◌≡◌, ◌<◌, ◌≤◌, ◌%◌, ◌^◌, length, None, pos};
 ghost use Rattle.dn_tic.specs.declared.input.Input.TheVariants.{Pressed, Given};
-ghost use Rattle.zirmegat.specs.{Calls.Answers, Calls.AnswersMade, Calls.AnswersRan, Calls.AnswersPut, Calls.AnswersQuit, Calls.Calls, Calls.Reads, Commands.given_in, Going.Quits, Links.link_of, Links.Moves, Links.BuildsOf, Links.CatchesUp, Links.Forgets, Links.GivesOut, Links.Leans, Links.RunsOf, Links.TakesBytes, Links.owed_told, Links.received_told, Links.unopened, Links.GivesReport, Links.GivesUpIn};
+ghost use Rattle.zirmegat.specs.{Calls.Answers, Calls.AnswersMade, Calls.AnswersRan, Calls.AnswersPut, Calls.AnswersQuit, Calls.Calls, Calls.Reads, Commands.given_in, Going.Quits, Links.link_of, Links.Moves, Links.BuildsOf, Links.CatchesUp, Links.GivesOut, Links.Leans, Links.RunsOf, Links.TakesBytes, Links.owed_told, Links.received_told, Links.unopened, Links.GivesReport, Links.GivesUpIn};
 ghost use Rattle.dn_setup.specs.Settings.{bit};
 ghost use Rattle.dn_survivor.specs.{Calls.undecided_in, declared.answers.GivenUp.TheVariants.NotPlaying};
 ghost use Rattle.dn_link.specs.{Surviving.reports_gone, Linked.has_given_up, Linked.surviving_of};
@@ -59,19 +59,9 @@ pub extern "C" fn zmg_link_lean(link: &mut LinkHandle) -> i32
     ask!(link, held => i32::from(held.lean()), 0)
 }
 
-/// Forgets a peer who was not heard for too long. Before the game it may come again; in the game
-/// `zmg_link_may_leave` waits for it no more, until a datagram of its game comes.
-#[unsafe(no_mangle)]
-pub extern "C" fn zmg_link_forget(link: &mut LinkHandle, player: u8)
-    ensures { Calls (link_of link.old) (link_of link.new) (Forgets player) ⊤ }
-{
-    if let Some(held) = link.held() {
-        held.forget(player);
-    }
-}
-
 /// Writes the datagram of the moment to a peer, and answers how many bytes it has, and 0 where the number is no
-/// peer's, or that of one who is given up. Where the room is below 1,200 bytes, it answers 0, and the link stays as it is.
+/// peer's, or that of one who is given up. Where the room is below 1,200 bytes, it answers 0, and the link
+/// stays as it is.
 #[unsafe(no_mangle)]
 pub extern "C" fn zmg_link_datagram(link: &mut LinkHandle, to: u8, out: &mut [u8]) -> usize
     ensures given { 1200 ≤ length out.old → AnswersPut (GivesOut to) (link_of link.old) (link_of link.new) out.old out.new result }
@@ -83,8 +73,7 @@ pub extern "C" fn zmg_link_datagram(link: &mut LinkHandle, to: u8, out: &mut [u8
     ask!(link, held => bytes::put(held.datagram(to), out), 0)
 }
 
-/// Takes in any bytes, wherever they come from. If it reports that the game started, the caller begins its
-/// world.
+/// Takes in any bytes, wherever they come from.
 #[unsafe(no_mangle)]
 pub extern "C" fn zmg_link_receive(link: &mut LinkHandle, bytes: &[u8]) -> ReceivedAnswer
     ensures { Answers received_told (unopened 0) (TakesBytes bytes.now) (link_of link.old) (link_of link.new) result }
@@ -117,8 +106,9 @@ pub extern "C" fn zmg_link_run(link: &mut LinkHandle, marks: &[i16; 4], row: &mu
 /// The room that a sealed report needs at most.
 const MAX_REPORT: usize = 425;
 
-/// Gives up a player who vanished, for good: no datagram goes to it, and nothing of it is taken. The others play
-/// on once all of them have given it up and have told each other what they have of it; until then a run that lacks a command of it waits.
+/// Gives up a player who vanished, for good: no datagram goes to it, and nothing of it is taken. The others
+/// play on once all of them have given it up and have told each other what they have of it; until then a run
+/// that lacks a command of it waits.
 #[unsafe(no_mangle)]
 pub extern "C" fn zmg_link_give_up(link: &mut LinkHandle, player: u8) -> GiveUpAnswer
     ensures { Answers give_up_told (give_up_told NotPlaying) (GivesUpIn player) (link_of link.old) (link_of link.new) result }
@@ -159,8 +149,8 @@ pub extern "C" fn zmg_link_undecided(link: &mut LinkHandle) -> Number
     }
 }
 
-/// Writes the report to a player, sealed, to the front of a room, and answers how many bytes it has, and 0 where
-/// there is none. Where the room is below 425 bytes, it answers 0. The link stays as it is.
+/// Writes the report to a player, sealed, to the front of a room, and answers how many bytes it has, and 0
+/// where there is none. Where the room is below 425 bytes, it answers 0. The link stays as it is.
 #[unsafe(no_mangle)]
 pub extern "C" fn zmg_link_report(link: &mut LinkHandle, to: u8, out: &mut [u8]) -> usize
     ensures given { 425 ≤ length out.old → Reads (link_of link.old) (link_of link.new)

@@ -1,5 +1,5 @@
-//! The calls that read the lockstep of a link, and those that report on its peers. For a handle that holds none they
-//! return 0.
+//! The calls that read the lockstep of a link, and those that report on its peers. For a handle that holds none
+//! they return 0.
 
 ghost use Rattle.std.specs.Prelude.{◌≡◌, pos, Bool, Option, None, length, take, drop};
 ghost use Rattle.dn_link.specs.Linking.{linked};
@@ -8,39 +8,38 @@ ghost use Rattle.zirmegat.specs.Commands.{got_of, end_of, CanBuild, TellsCommand
 ghost use Rattle.dn_tic.specs.declared.command.TicCmd.{TicCmd as Cmd};
 ghost use Rattle.dn_setup.specs.Settings.{bit};
 ghost use Rattle.zirmegat.specs.Calls.{Reads};
-ghost use Rattle.zirmegat.specs.Links.{link_of, figures_at, line_told, presence_of, presence_told};
+ghost use Rattle.zirmegat.specs.Links.{link_of, figures_at, left_of, line_told};
 ghost use Rattle.zirmegat.specs.Answers.{phase_told, phase_at, number_told, settings_told};
 ghost use Rattle.dn_packet.specs.Written.{IsWritten};
 ghost use Rattle.dn_link.specs.Linked.{unacknowledged, may_leave};
 ghost use Rattle.dn_link.specs.Pace.{wants_second};
-ghost use Rattle.dn_link.specs.declared.presence.Presence.TheVariants.{Unknown};
 
 use crate::ask::ask;
 use crate::bytes;
 use crate::calls::KnownCommand;
 use crate::config::KnownSettings;
-use crate::link_answers::{LineAnswer, PresenceAnswer};
+use crate::link_answers::LineAnswer;
 use crate::link_handle::LinkHandle;
 use crate::read_answers::{Number, PhaseAnswer, flag};
-use dn_link::{Link, Presence};
+use dn_link::Link;
 use dn_tic::TicCmd;
 
 /// How many commands its player built.
-fn made(held: &Link) -> u32
+pub(crate) fn made(held: &Link) -> u32
     ensures { result ≡ count_of (linked held.now).node.rings (linked held.now).node.me }
 {
     held.lockstep().made()
 }
 
 /// How many commands it has of a player, where the game has the player.
-fn got(held: &Link, player: u8) -> Option<u32>
+pub(crate) fn got(held: &Link, player: u8) -> Option<u32>
     ensures { result ≡ got_of (linked held.now).node player }
 {
     held.lockstep().got(player)
 }
 
 /// The tic after a player's last command, where it knows it.
-fn end(held: &Link, player: u8) -> Option<u32>
+pub(crate) fn end(held: &Link, player: u8) -> Option<u32>
     ensures { result ≡ end_of (linked held.now).node player }
 {
     held.lockstep().end(player)
@@ -175,8 +174,8 @@ pub extern "C" fn zmg_link_may_leave(link: &mut LinkHandle) -> u32
     ask!(link, held => flag(held.may_leave()), 0)
 }
 
-/// 1 if a peer that plays reports that two or more of the last datagrams to it did not come, or came after newer
-/// ones; else 0. Then one more goes half a tick later, in case that one is lost too.
+/// 1 if a peer that plays reports that two or more of the last datagrams to it did not come, or came after
+/// newer ones; else 0. Then one more goes half a tick later, in case that one is lost too.
 #[unsafe(no_mangle)]
 pub extern "C" fn zmg_link_wants_second(link: &mut LinkHandle, player: u8) -> u32
     ensures { Reads (link_of link.old) (link_of link.new)
@@ -185,13 +184,20 @@ pub extern "C" fn zmg_link_wants_second(link: &mut LinkHandle, player: u8) -> u3
     ask!(link, held => flag(held.wants_second(player)), 0)
 }
 
-/// Who is there.
+/// Why a player has left, if its datagrams told: 1 where it quit, 2 where its demo was full, and 3 where
+/// another's world differed.
 #[unsafe(no_mangle)]
-pub extern "C" fn zmg_link_presence(link: &mut LinkHandle, player: u8) -> PresenceAnswer
+pub extern "C" fn zmg_link_left(link: &mut LinkHandle, player: u8) -> Number
     ensures { Reads (link_of link.old) (link_of link.new)
-        (λ n. result ≡ presence_told (presence_of player n.link)) (result ≡ presence_told Unknown) }
+        (λ n. result ≡ number_told (left_of player n.link)) (result ≡ number_told None) }
 {
-    ask!(link, held => PresenceAnswer::of(held.presence(player)), PresenceAnswer::of(Presence::Unknown))
+    match link.held() {
+        Some(held) => match held.left(player) {
+            Some(cause) => Number::of(Some(u32::from(cause))),
+            None => Number::of(None),
+        },
+        None => Number::of(None),
+    }
 }
 
 /// What is known of the line to another player.

@@ -1,4 +1,4 @@
-/* zmg.h: what the engine's own files call. Chocolate Doom plays its netgames over a link of zirmegat.h; see
+/* zmg.h: what the engine's own files call. Chocolate Doom plays its netgames over a session of zirmegat.h; see
  * zmg_start.c for the options, zmg_play.c for the loop. */
 #ifndef ZMG_H
 #define ZMG_H

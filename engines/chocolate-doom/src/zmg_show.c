@@ -17,8 +17,8 @@
 #include "r_main.h"
 #include "textscreen.h"
 #include "v_video.h"
-#include "zmg_peers.h"
-#include "zmg_world.h"
+#include "zmg_play.h"
+#include "zmg_udp.h"
 
 enum { LINES = 4, WIDE = 76, SAID_FOR = 6000 };
 
@@ -75,24 +75,15 @@ void ZMG_LobbyOpen(void)
 
 static void line_of(int p, char *out)
 {
-    zmg_presence who = zmg_link_presence(&zmg_the_link, (uint8_t) p);
-    const char *what = "not here yet";
-    if (p == zmg_the_game.me) what = "you";
-    else if (who.state == ZMG_PRESENCE_THERE) what = "here";
-    else if (who.state == ZMG_PRESENCE_PLAYING) what = "starts";
-    else if (who.state == ZMG_PRESENCE_AWAY) what = "has gone; the place is free";
-    else if (who.state == ZMG_PRESENCE_LEFT) what = "has left";
-    else if (who.state == ZMG_PRESENCE_FORGOTTEN) what = "is silent, and may play: host a new game";
-    else if (who.state == ZMG_PRESENCE_DIFFERENT && who.players != zmg_the_game.players) what = "DIFFERS: another number of players";
-    else if (who.state == ZMG_PRESENCE_DIFFERENT && who.ahead != zmg_the_game.window) what = "DIFFERS: another window";
-    else if (who.state == ZMG_PRESENCE_DIFFERENT)
-    {
-        M_snprintf(out, WIDE, "player %d (%s): DIFFERS: %s", p + 1, ZMG_AddressText(ZMG_PeersAddress(p)),
-                   ZMG_IdentityDifference(zmg_the_game.host, who.host));
-        return;
-    }
-    if (p == zmg_the_game.me || ZMG_PeersAddress(p)->port == 0) M_snprintf(out, WIDE, "player %d: %s", p + 1, what);
-    else M_snprintf(out, WIDE, "player %d (%s): %s", p + 1, ZMG_AddressText(ZMG_PeersAddress(p)), what);
+    zmg_seat seat = ZMG_Player(p).seat;
+    const char *what = seat.state == ZMG_SEAT_FREE ? "not here yet" : seat.state == ZMG_SEAT_SILENT ? "is silent" : "here";
+    char name[17] = "";
+    if (p == (int) zmg_the_state.me) what = "you";
+    memcpy(name, seat.name, 16);
+    for (char *c = name; *c; c++)
+        if (iscntrl((unsigned char) *c)) *c = '?';
+    if (p == (int) zmg_the_state.me || !seat.known) M_snprintf(out, WIDE, "player %d: %s", p + 1, what);
+    else M_snprintf(out, WIDE, "player %d %s(%s): %s", p + 1, *name ? strcat(name, " ") : "", ZMG_UdpText(&seat.address), what);
 }
 
 static void show_line(int k, const char *text)
@@ -104,20 +95,19 @@ static void show_line(int k, const char *text)
     if (has_screen) TXT_SetLabel(labels[k], text);
 }
 
-void ZMG_LobbyShow(void)
+void ZMG_LobbyShow(const char *calling)
 {
     char text[WIDE] = "";
-    if (ZMG_PeersSeeks())
-        M_snprintf(text, WIDE, "no answer from %s yet; have you its -zmg-key?", ZMG_AddressText(ZMG_PeersAddress(0)));
-    else
-        for (int p = 0; p < zmg_the_game.players; p++)
-        {
-            line_of(p, text);
-            show_line(p, text);
-            text[0] = 0;
-        }
-    if (zmg_strange_keys) M_snprintf(text, WIDE, "somebody knocks with another -zmg-key");
+    int stage = (int) zmg_the_state.stage, players = zmg_the_state.terms.players;
+    if (stage == ZMG_STAGE_CALLING) M_snprintf(text, WIDE, "no answer from %s yet; have you its -zmg-key?", calling);
+    if (stage == ZMG_STAGE_WAITING) M_snprintf(text, WIDE, "no place is free at %s yet", calling);
     show_line(4, text);
+    for (int p = 0; p < 4; p++)
+    {
+        text[0] = 0;
+        if (p < players && (stage == ZMG_STAGE_HOSTING || stage == ZMG_STAGE_SEATED)) line_of(p, text);
+        show_line(p, text);
+    }
     if (!has_screen) return;
     TXT_DispatchEvents();
     TXT_DrawDesktop();
@@ -147,36 +137,38 @@ static unsigned percent(uint32_t part, uint32_t whole) { return whole ? (unsigne
 
 /* Since the beginning: what of its datagrams was lost, and what came twice. Who leads whom by how many commands, and
  * how many of the last datagrams to it did not come there, or came after newer ones, as it says. */
-static void show_line_to(int p, int x, int y)
+static void show_line_to(int p, zmg_line line, int x, int y)
 {
     char text[WIDE], there[16] = "";
-    zmg_line line = zmg_link_line(&zmg_the_link, (uint8_t) p);
     if (line.missing_there) M_snprintf(there, sizeof there, ", there %u", line.missing_there);
     M_snprintf(text, WIDE, "%d: lost %u%%, twice %u%%, lead %d/%d%s", p + 1, percent(line.lost, line.came + line.lost),
                percent(line.repeated, line.came), line.lead, line.lead_there, there);
     write_text(x, y, text);
 }
 
-static void show_waiting(double waits, int player, boolean asks, int x, int y)
+static void show_waiting(int player, const zmg_player_in_game *who, boolean asks, int x, int y)
 {
     char text[WIDE];
-    double silent = (ZMG_Now() - ZMG_PeersHeard(player)) / 1000;
     if (asks) M_snprintf(text, WIDE, "player %d does not answer: F to play on without", player + 1);
-    else if (silent > 1) M_snprintf(text, WIDE, "waiting for player %d: silent for %.0f s", player + 1, silent);
-    else M_snprintf(text, WIDE, "waiting for player %d for %.0f s", player + 1, waits / 1000);
+    else if (who->silent > 1000) M_snprintf(text, WIDE, "waiting for player %d: silent for %u s", player + 1, who->silent / 1000);
+    else M_snprintf(text, WIDE, "waiting for player %d for %u s", player + 1, who->awaited / 1000);
     write_text(x, y, text);
 }
 
 /* Within the view: the frame around it is not drawn anew with each picture. */
-void ZMG_ShowAbove(double waits, int player, boolean asks)
+void ZMG_ShowAbove(int player, boolean asks)
 {
     boolean in_view = gamestate == GS_LEVEL;
     int x = in_view ? viewwindowx + 2 : 2, y = in_view ? viewwindowy + 10 : 10;
     if (hu_font[0] == NULL) return;
-    if (waits > 1000 && player >= 0)
+    if (player >= 0)
     {
-        show_waiting(waits, player, asks, x, y);
-        y += 8;
+        zmg_player_in_game who = ZMG_Player(player).game;
+        if (who.awaited > 1000)
+        {
+            show_waiting(player, &who, asks, x, y);
+            y += 8;
+        }
     }
     for (int k = 0; k < LINES; k++)
         if (said_at[k] > 0 && ZMG_Now() - said_at[k] < SAID_FOR)
@@ -184,10 +176,11 @@ void ZMG_ShowAbove(double waits, int player, boolean asks)
             write_text(x, y, said[k]);
             y += 8;
         }
-    for (int p = 0; p < zmg_the_game.players && M_CheckParm("-zmg-show") > 0; p++)
+    for (int p = 0; p < zmg_the_state.terms.players && M_CheckParm("-zmg-show") > 0; p++)
     {
-        if (p == zmg_the_game.me || zmg_link_end(&zmg_the_link, p).known) continue;
-        show_line_to(p, x, y);
+        zmg_player_in_game who = ZMG_Player(p).game;
+        if (!who.line.known || who.standing != ZMG_STANDING_PLAYS) continue;
+        show_line_to(p, who.line, x, y);
         y += 8;
     }
 }

@@ -10,11 +10,11 @@ void ZMG_Say(const char *text, ...) PRINTF_ATTR(1, 2);
 
 /* The lobby's window, where the system has screens; its lines go to standard output too. */
 void ZMG_LobbyOpen(void);
-void ZMG_LobbyShow(void);
+void ZMG_LobbyShow(const char *calling);   /* the host's address, of a joiner */
 void ZMG_LobbyClose(void);
 
-/* Above the picture: what was said, and who is waited for. waits: since how many milliseconds no tic was run;
- * player: who is missing, or -1; asks: whether F plays on without that player. */
-void ZMG_ShowAbove(double waits, int player, boolean asks);
+/* Above the picture: what was said, and who is waited for: a player, or -1; asks: whether F plays on without that
+ * player. */
+void ZMG_ShowAbove(int player, boolean asks);
 
 #endif

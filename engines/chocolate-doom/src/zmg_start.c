@@ -1,16 +1,19 @@
-/* zmg_start.c: the options and the beginning of a netgame over a link, in place of the engine's client and server.
+/* zmg_start.c: the options and the beginning of a netgame over a session, in place of the engine's client and server.
  *
  *   -zmg-host PLAYERS        opens a game of two to four players, and is the first
  *   -zmg-join HOST[:PORT]    takes part in it, by name or address
- *   -zmg-key FILE            32 random bytes that the players share; without it anybody may send as any player
- *   -zmg-port PORT           where the host listens (21000), or where a joiner does (any)
+ *   -zmg-key FILE            64 hex digits that the players share, as `netgame key FILE` writes them; without it
+ *                            anybody may send as any player
+ *   -zmg-port PORT           where the host listens (5029), or where a joiner does (any)
  *   -zmg-me N                the place that a joiner asks for, 2 to 4
- *   -zmg-window N            of the host: how many commands may wait to be run, 1 to 12 (8)
- *   -zmg-patience SECONDS    leave once a player was missing for so long (0: wait)
- *   -zmg-give-up SECONDS     play on without a player who was silent for so long (0: ask)
+ *   -zmg-name NAME           what the others call this player, up to 16 bytes
  *   -zmg-steady              for a line whose delay varies: run one tic a tick, where that leaves no more than one
  *   -zmg-show                show how the line is
  *   -record NAME             the library's demo, in NAME.lmp
+ * and of the host, for all:
+ *   -zmg-window N            how many commands may wait to be run, 1 to 12 (8)
+ *   -zmg-give-up SECONDS     play on without a player who was missing for so long
+ *   -zmg-patience SECONDS    end the game then
  */
 #include <stdio.h>
 #include <stdlib.h>
@@ -18,18 +21,20 @@
 
 #include "doomstat.h"
 #include "i_system.h"
-#include "i_timer.h"
 #include "m_argv.h"
 #include "m_misc.h"
 #include "zmg.h"
-#include "zmg_peers.h"
 #include "zmg_play.h"
 #include "zmg_show.h"
 #include "zmg_signal.h"
+#include "zmg_udp.h"
 #include "zmg_world.h"
 
-enum { PORT = 21000, WINDOW = 8 };
-static const double TICK = 1000.0 / TICRATE;
+enum { PORT = 5029, WINDOW = 8 };
+
+static zmg_host_config hosts;
+static zmg_join_config joins;
+static boolean is_host;
 
 static int arg(const char *name, int count) { return M_CheckParmWithArgs(name, count); }
 
@@ -40,23 +45,27 @@ static int number(const char *name, int otherwise, int low, int high)
     return n;
 }
 
-static void read_key(void)
+/* What hosts and joiners have in common: key, random bytes, name. */
+static void read_common(uint8_t key[32], uint8_t random[32], uint8_t name[16], uint8_t *keyless)
 {
-    /* well known, so it protects nothing */
-    uint8_t key[ZMG_KEY_SIZE] = "chocolate-doom without -zmg-key";
-    int i = arg("-zmg-key", 1);
-    FILE *f;
-    if (i > 0)
-    {
-        f = fopen(myargv[i + 1], "rb");
-        if (!f || fread(key, 1, sizeof key, f) != sizeof key || fgetc(f) != EOF)
-            I_Error("zmg: %s is no file of 32 bytes (head -c 32 /dev/urandom > FILE)", myargv[i + 1]);
-        fclose(f);
-    }
-    else
-        printf("zmg: no -zmg-key: whoever can send to this port can take a place, play for others and end the game\n");
+    int i = arg("-zmg-key", 1), n = arg("-zmg-name", 1);
+    if (!ZMG_Random(random)) I_Error("zmg: no random bytes");
+    if (n > 0) memcpy(name, myargv[n + 1], strnlen(myargv[n + 1], 16));
+    *keyless = i <= 0;
+    if (i > 0 && !ZMG_ReadKey(myargv[i + 1], key))
+        I_Error("zmg: %s is no file of 64 hex digits and a line end (netgame key FILE)", myargv[i + 1]);
+    if (i <= 0) printf("zmg: no -zmg-key: whoever can send to this port can take a place, play for others and end the game\n");
     printf("zmg: chat and moves can be read on the way\n");
-    ZMG_GreetKey(key, zmg_the_game.secret);
+}
+
+static void read_policy(zmg_terms *terms)
+{
+    int give_up = arg("-zmg-give-up", 1), patience = arg("-zmg-patience", 1);
+    if (give_up > 0 && patience > 0) I_Error("zmg: either -zmg-give-up or -zmg-patience");
+    if (give_up > 0) terms->policy = ZMG_POLICY_GIVE_UP;
+    if (patience > 0) terms->policy = ZMG_POLICY_END;
+    if (terms->policy != ZMG_POLICY_WAIT)
+        terms->seconds = (uint8_t) number(give_up > 0 ? "-zmg-give-up" : "-zmg-patience", 3, 3, 255);
 }
 
 static void refuse_options(void)
@@ -83,112 +92,108 @@ static void take_record(void)
     myargv[i] = "-zmg-record";
 }
 
+static void read_host(void)
+{
+    zmg_host_config_init(&hosts);
+    hosts.terms.players = (uint8_t) number("-zmg-host", 0, 2, 4);
+    hosts.terms.window = (uint8_t) number("-zmg-window", WINDOW, 1, 12);
+    read_policy(&hosts.terms);
+    read_common(hosts.key, hosts.random, hosts.name, &hosts.keyless);
+}
+
+static void read_join(const char *host)
+{
+    zmg_join_config_init(&joins);
+    if (!ZMG_UdpFind(host, PORT, &joins.host)) I_Error("zmg: there is no %s", host);
+    if (arg("-zmg-me", 1) > 0) joins.seat = (uint8_t) (number("-zmg-me", 0, 2, 4) - 1);
+    read_common(joins.key, joins.random, joins.name, &joins.keyless);
+}
+
 boolean ZMG_Init(void)
 {
-    int host = arg("-zmg-host", 1), join = arg("-zmg-join", 1), port;
-    zmg_address at;
-    if (host <= 0 && join <= 0) return false;
-    if (host > 0 && join > 0) I_Error("zmg: either -zmg-host or -zmg-join");
+    int join = arg("-zmg-join", 1), port;
+    is_host = arg("-zmg-host", 1) > 0;
+    if (!is_host && join <= 0) return false;
+    if (is_host && join > 0) I_Error("zmg: either -zmg-host or -zmg-join");
     if (zmg_version() / 65536 != ZMG_VERSION / 65536) I_Error("zmg: another version of the library");
     ZMG_SignalsTake();
     refuse_options();
     take_record();
-    read_key();
     zmg_the_options.steady = M_CheckParm("-zmg-steady") > 0;
-    zmg_the_options.patience = number("-zmg-patience", 0, 0, 86400) * 1000.0;
-    zmg_the_options.give_up = number("-zmg-give-up", 0, 0, 86400) * 1000.0;
-    port = number("-zmg-port", host > 0 ? PORT : 0, 0, 65535);
-    if (!ZMG_LineOpen((uint16_t) port)) I_Error("zmg: port %d cannot be opened", port);
+    port = number("-zmg-port", is_host ? PORT : 0, 0, 65535);
+    if (!ZMG_UdpOpen((uint16_t) port)) I_Error("zmg: port %d cannot be opened", port);
     zmg_the_options.on = true;
-    if (host > 0)
-    {
-        zmg_the_game.players = (uint8_t) number("-zmg-host", 0, 2, 4);
-        zmg_the_game.window = (uint8_t) number("-zmg-window", WINDOW, 1, ZMG_WIDEST_AHEAD);
-        ZMG_PeersHost();
-        return true;
-    }
-    if (!ZMG_LineFind(myargv[join + 1], PORT, &at)) I_Error("zmg: there is no %s", myargv[join + 1]);
-    ZMG_PeersJoin(&at, arg("-zmg-me", 1) > 0 ? (uint8_t) (number("-zmg-me", 0, 2, 4) - 1) : ZMG_ANY_NUMBER);
+    if (is_host) read_host();
+    else read_join(myargv[join + 1]);
     return true;
 }
 
-static void wait_a_little(void)
+static zmg_status make(const net_gamesettings_t *s)
 {
-    ZMG_SignalsObey();
-    ZMG_LobbyShow();
-    ZMG_LineWait(10);
-    ZMG_PeersHear();
-    ZMG_PeersHello();
+    zmg_settings *z = &hosts.terms.settings;
+    if (!is_host)
+    {
+        ZMG_Identity(joins.identity);
+        return zmg_session_join(&zmg_the_session, &joins, (uint32_t) ZMG_Now());
+    }
+    z->skill = (uint8_t) s->skill;
+    z->deathmatch = (uint8_t) s->deathmatch;
+    z->no_monsters = s->nomonsters != 0;
+    z->respawn = s->respawn_monsters != 0;
+    z->episode = (uint8_t) s->episode;
+    z->map = (uint8_t) s->map;
+    hosts.terms.own[0] = s->timelimit < 0 || s->timelimit > 255 ? 0 : (uint8_t) s->timelimit;
+    ZMG_Identity(hosts.terms.identity);
+    return zmg_session_host(&zmg_the_session, &hosts);
 }
 
-static void find_place(void)
+static void refuse(void)
 {
-    static const char *const why[] = { "", "all places are taken", "that number is taken", "the game has begun" };
-    while (ZMG_PeersSeeks())
+    zmg_over why = zmg_the_state.why;
+    if (why.reason == ZMG_OVER_PLAYERS) I_Error("zmg: the host says no: the game has %u players", why.number);
+    I_Error("zmg: the host says no: %s", zmg_reason_text(why.reason));
+}
+
+/* Waits until the game begins. */
+static void gather(void)
+{
+    for (ZMG_Look(); zmg_the_state.stage != ZMG_STAGE_PLAYING; ZMG_Look())
     {
-        wait_a_little();
-        if (ZMG_PeersRefused()) I_Error("zmg: the host says no: %s", why[ZMG_PeersRefused() & 3]);
+        ZMG_SignalsObey();
+        ZMG_LobbyShow(ZMG_UdpText(&joins.host));
+        ZMG_UdpWait(10);
+        ZMG_Exchange();
+        if (zmg_the_state.stage == ZMG_STAGE_OVER) refuse();
     }
 }
 
-static void wait_for_start(void)
+static void tell(net_gamesettings_t *s)
 {
-    double next = ZMG_Now();
-    while (!zmg_has_begun)
-    {
-        if (ZMG_Now() >= next)
-        {
-            next = ZMG_Now() + TICK;
-            ZMG_PeersSend();
-        }
-        wait_a_little();
-        if (zmg_the_game.me != 0 && zmg_link_presence(&zmg_the_link, 0).state == ZMG_PRESENCE_AWAY)
-            I_Error("zmg: the host has gone");
-    }
-}
-
-static zmg_settings asked(const net_gamesettings_t *s)
-{
-    zmg_settings z;
-    memset(&z, 0, sizeof z);
-    z.skill = (uint8_t) s->skill;
-    z.deathmatch = (uint8_t) s->deathmatch;
-    z.no_monsters = s->nomonsters != 0;
-    z.respawn = s->respawn_monsters != 0;
-    z.episode = (uint8_t) s->episode;
-    z.map = (uint8_t) s->map;
-    return z;
-}
-
-static void told(net_gamesettings_t *s)
-{
-    zmg_settings z = zmg_link_settings(&zmg_the_link).settings;
+    zmg_settings z = zmg_the_state.terms.settings;
     s->skill = z.skill;
     s->deathmatch = z.deathmatch;
     s->nomonsters = z.no_monsters;
     s->respawn_monsters = z.respawn;
     s->episode = z.episode;
     s->map = z.map;
-    s->timelimit = zmg_the_game.minutes;
+    s->timelimit = zmg_the_state.terms.own[0];
     s->fast_monsters = 0;
     s->lowres_turn = 0;   /* the demo keeps both bytes of a turn */
     s->loadgame = -1;
-    s->consoleplayer = zmg_the_game.me;
-    s->num_players = zmg_the_game.players;
+    s->consoleplayer = (int) zmg_the_state.me;
+    s->num_players = zmg_the_state.terms.players;
 }
 
 void ZMG_Start(net_gamesettings_t *s)
 {
-    zmg_settings z = asked(s);
+    zmg_status status;
     if (!zmg_the_options.on) return;
+    status = make(s);
+    if (status != ZMG_STATUS_OK) I_Error("zmg: no game: %s", zmg_status_text(status));
     ZMG_LobbyOpen();
-    zmg_the_game.minutes = s->timelimit < 0 || s->timelimit > 255 ? 0 : (uint8_t) s->timelimit;
-    if (arg("-zmg-join", 1) > 0) find_place();
-    ZMG_Identity(zmg_the_game.minutes, zmg_the_game.host);
-    ZMG_PeersLink(&z);
     I_AtExit(ZMG_Leave, true);
-    wait_for_start();
+    gather();
     ZMG_LobbyClose();
-    told(s);
+    tell(s);
     ZMG_PlayBegin();
 }

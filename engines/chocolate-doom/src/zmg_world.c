@@ -58,18 +58,17 @@ static void digest_text(const char *text, sha1_digest_t digest)
     SHA1_Final(digest, &c);
 }
 
-static void digest_options(uint8_t minutes, sha1_digest_t digest)
+static void digest_options(sha1_digest_t digest)
 {
     sha1_context_t c;
     SHA1_Init(&c);
     SHA1_UpdateInt32(&c, gameversion);
     SHA1_UpdateInt32(&c, gamemode);
     SHA1_UpdateInt32(&c, gamemission);
-    SHA1_UpdateInt32(&c, minutes);
     SHA1_Final(digest, &c);
 }
 
-void ZMG_Identity(uint8_t minutes, uint8_t bytes[ZMG_HOST_SIZE])
+void ZMG_Identity(uint8_t bytes[16])
 {
     sha1_digest_t digest;
     digest_text(PACKAGE_STRING " over zirmegat, rules 1", digest);
@@ -78,15 +77,6 @@ void ZMG_Identity(uint8_t minutes, uint8_t bytes[ZMG_HOST_SIZE])
     memcpy(bytes + 4, digest, 6);
     DEH_Checksum(digest);
     memcpy(bytes + 10, digest, 3);
-    digest_options(minutes, digest);
+    digest_options(digest);
     memcpy(bytes + 13, digest, 3);
-}
-
-const char *ZMG_IdentityDifference(const uint8_t mine[ZMG_HOST_SIZE], const uint8_t theirs[ZMG_HOST_SIZE])
-{
-    if (memcmp(mine, theirs, 4) != 0) return "another version of the engine";
-    if (memcmp(mine + 4, theirs + 4, 6) != 0) return "other WAD files";
-    if (memcmp(mine + 10, theirs + 10, 3) != 0) return "other DeHackEd patches";
-    if (memcmp(mine + 13, theirs + 13, 3) != 0) return "another -gameversion or game";
-    return "nothing that this engine knows";
 }

@@ -103,7 +103,6 @@ fn unopened_datagrams_are_named_as_in_the_header() {
             code,
             reason,
             player: 3,
-            started: 1,
         })
     };
     let faults: Vec<_> = codes("ZMG_BUNDLE_");
@@ -113,13 +112,13 @@ fn unopened_datagrams_are_named_as_in_the_header() {
             panic!("{name} is none");
         };
         assert_eq!(format!("{fault:?}"), *name);
-        assert_eq!(of(6, *number), Received::Unreported(fault));
+        assert_eq!(of(5, *number), Received::Unreported(fault));
     }
     let next = faults.len() as u32 + 1;
     for number in [0, next].into_iter().chain(STRANGE) {
         let fault = BundleError::Unknown(number);
         assert_eq!(of(2, number), Received::Unopened(fault));
-        assert_eq!(of(6, number), Received::Unreported(fault));
+        assert_eq!(of(5, number), Received::Unreported(fault));
     }
 }
 

@@ -6,22 +6,17 @@ use crate::*;
 const SECRET: [u8; 32] = [7; 32];
 const GAME: [u8; 16] = *b"number of a game";
 
-const HOST: [u8; 16] = *b"digest of engine";
-
-fn link_of(config: Config, host: &[u8; 16]) -> Link {
-    Link::new(config, MOST_AHEAD, &SECRET, &GAME, host).unwrap()
+fn link_of(players: u8, me: u8) -> Link {
+    let config = Config::link(players, me, settings());
+    Link::new(config, MOST_AHEAD, &SECRET, &GAME).unwrap()
 }
 
 fn pair() -> (Link, Link) {
-    let of = |config| link_of(config, &HOST);
-    (of(Config::key(2, settings())), of(Config::other(2, 1)))
+    (link_of(2, 0), link_of(2, 1))
 }
 
-fn heard(link: &mut Link, bytes: &[u8], from: u8) -> bool {
-    match link.receive(bytes) {
-        Received::Heard { player, started } if player == from => started,
-        other => panic!("{other:?}"),
-    }
+fn heard(link: &mut Link, bytes: &[u8], from: u8) {
+    assert_eq!(link.receive(bytes), Received::Heard(from));
 }
 
 /// Of each ten datagrams four are lost, and one comes a round late.
@@ -29,7 +24,6 @@ fn heard(link: &mut Link, bytes: &[u8], from: u8) -> bool {
 fn links_agree_and_leave() {
     let (mut key, mut other) = pair();
     let mut held: Option<LinkDatagram> = None;
-    let mut started = 0;
     for round in 0u32..10_000 {
         if round == 300 {
             assert!(!key.may_leave());
@@ -42,7 +36,6 @@ fn links_agree_and_leave() {
                 key.demo()[13..13 + tics * 10],
                 other.demo()[13..13 + tics * 10]
             );
-            assert_eq!(started, 2);
             assert_eq!(key.end(0), Some(key.made()));
             return;
         }
@@ -55,10 +48,10 @@ fn links_agree_and_leave() {
         match round % 10 {
             0 => held = Some(two),
             1..=4 => (),
-            5 => started += u32::from(heard(&mut other, &one, 0)),
+            5 => heard(&mut other, &one, 0),
             _ => {
-                started += u32::from(heard(&mut other, &one, 0));
-                started += u32::from(heard(&mut key, &two, 1));
+                heard(&mut other, &one, 0);
+                heard(&mut key, &two, 1);
             }
         }
         while let (Ran::Ran(_), Some(_)) = key.run([0; 4]) {}
@@ -68,8 +61,11 @@ fn links_agree_and_leave() {
 }
 
 fn nodes(ahead: u8) -> (LinkNode<Sum>, LinkNode<Sum>) {
-    let of = |config| LinkNode::new(config, ahead, &SECRET, &GAME, &HOST, Sum::default()).unwrap();
-    (of(Config::key(2, settings())), of(Config::other(2, 1)))
+    let of = |me| {
+        let config = Config::link(2, me, settings());
+        LinkNode::new(config, ahead, &SECRET, &GAME, Sum::default()).unwrap()
+    };
+    (of(0), of(1))
 }
 
 fn is_refused(received: Received) -> bool {
@@ -155,11 +151,11 @@ fn other_games_do_not_open() {
         (SECRET, [0; 16], BundleError::Game),
         (SECRET, number, BundleError::Tag),
     ] {
-        let config = Config::key(2, settings());
-        let mut key = Link::new(config, MOST_AHEAD, &secret, &game, &HOST).unwrap();
+        let config = Config::link(2, 0, settings());
+        let mut key = Link::new(config, MOST_AHEAD, &secret, &game).unwrap();
         let datagram = key.datagram(1).unwrap();
         assert_eq!(other.receive(&datagram), Received::Unopened(why));
-        assert_eq!(other.presence(0), Presence::Unheard);
+        assert!(matches!(other.line(0), Some(line) if line.came == 0));
     }
     assert_eq!(format!("{other:?}"), "Link");
 }
@@ -183,15 +179,20 @@ fn other_bytes_are_not_taken_in() {
         key.receive(&datagram),
         Received::Unopened(BundleError::Receiver)
     );
-    let mut third = link_of(Config::other(3, 2), &HOST);
+    let mut third = link_of(3, 2);
     assert_eq!(
         other.receive(&third.datagram(1).unwrap()),
         Received::Stranger(2)
     );
-    assert_eq!(other.phase(), Phase::Listening);
-    assert!(!heard(&mut other, &datagram, 0));
-    let refused =
-        |ahead, secret| Link::new(Config::other(2, 1), ahead, &secret, &GAME, &HOST).err();
+    heard(&mut other, &datagram, 0);
+    let refused = |ahead, secret| {
+        let config = Config::link(2, 1, settings());
+        Link::new(config, ahead, &secret, &GAME).err()
+    };
+    // a link reads its settings whoever its player is
+    let config = Config::other(2, 1);
+    let unset = Link::new(config, MOST_AHEAD, &SECRET, &GAME).err();
+    assert_eq!(unset, Some(NodeError::Episode));
     assert_eq!(refused(WIDEST_AHEAD + 1, SECRET), Some(NodeError::Ahead));
     let mut unset = [0; 32];
     assert_eq!(refused(0, unset), Some(NodeError::Secret));
@@ -207,16 +208,11 @@ fn codes_of_links_have_their_names() {
             code,
             reason,
             player: 3,
-            started: 1,
         })
     };
-    let heard = Received::Heard {
-        player: 3,
-        started: true,
-    };
-    assert_eq!(of(0, 0), heard);
+    assert_eq!(of(0, 0), Received::Heard(3));
     assert_eq!(of(1, 0), Received::Stranger(3));
-    assert_eq!(of(4, 0), Received::GivenUp(3));
+    assert_eq!(of(3, 0), Received::GivenUp(3));
     let reasons = [
         BundleError::Short,
         BundleError::Long,
@@ -232,48 +228,21 @@ fn codes_of_links_have_their_names() {
     for (reason, unread) in (1..).zip(reasons) {
         assert_eq!(of(2, reason), Received::Unopened(unread));
     }
-    assert_eq!(of(3, 0), Received::Different(3));
-    assert_eq!(of(6, 7), Received::Unreported(BundleError::Tag));
+    assert_eq!(of(5, 7), Received::Unreported(BundleError::Tag));
     assert_eq!(of(100, 0), Received::Unknown(100));
 }
 
 #[test]
-fn codes_of_presences_have_their_names() {
-    let of = |state, cause| {
-        link::presence(raw::Presence {
-            state,
-            limit: 70_000,
-            cause,
-            players: 3,
-            extra: 1,
-            ahead: 7,
-            host: HOST,
-        })
-    };
-    let identity = Identity {
-        players: 3,
-        extra: true,
-        ahead: 7,
-        limit: 70_000,
-        host: HOST,
-    };
-    assert_eq!(of(0, 0), Presence::Unheard);
-    assert_eq!(of(1, 0), Presence::There);
-    assert_eq!(of(2, 0), Presence::Playing);
-    assert_eq!(of(3, 0), Presence::Different(identity));
+fn codes_of_partings_have_their_names() {
     let partings = [
-        Parting::Forgotten,
         Parting::Quit,
         Parting::Full,
         Parting::Inconsistent,
         Parting::Unknown(4),
     ];
-    for (cause, parting) in (0..).zip(partings) {
-        assert_eq!(of(4, cause), Presence::Away(parting));
-        assert_eq!(of(5, cause), Presence::Left(parting));
+    for (cause, parting) in (1..).zip(partings) {
+        assert_eq!(link::parting(cause), parting);
     }
-    assert_eq!(of(6, 0), Presence::Forgotten);
-    assert_eq!(of(7, 0), Presence::Unknown(7));
 }
 
 #[test]
@@ -303,50 +272,26 @@ fn figures_of_lines_have_their_names() {
     assert_eq!(of(1), Some(line));
 }
 
-/// The other takes in a datagram of the one, and answers whether its game started.
-fn passes(one: &mut Link, other: &mut Link) -> bool {
+/// The other takes in a datagram of the one.
+fn passes(one: &mut Link, other: &mut Link) {
     let datagram = one.datagram(other.me()).unwrap();
-    heard(other, &datagram, one.me())
+    heard(other, &datagram, one.me());
 }
 
-/// Who is there is told from the first datagram to the last.
+/// Who has left is told, and why.
 #[test]
-fn presences_are_told() {
+fn who_has_left_is_told() {
     let (mut key, mut other) = pair();
-    assert_eq!(key.presence(1), Presence::Unheard);
-    assert_eq!(key.presence(0), Presence::Unheard);
-    assert_eq!(key.presence(2), Presence::Unheard);
-    assert!(!passes(&mut other, &mut key));
-    assert_eq!(key.presence(1), Presence::There);
-    key.forget(1);
-    assert_eq!(key.presence(1), Presence::Away(Parting::Forgotten));
-    assert!(other.quit() && other.may_leave());
-    assert!(!passes(&mut other, &mut key));
-    assert_eq!(key.presence(1), Presence::Away(Parting::Quit));
-    assert_eq!(key.phase(), Phase::Gathering);
-    // another takes its place, and is heard once its numbers are newer
-    let mut other = link_of(Config::other(2, 1), &HOST);
-    for _ in 0..2 {
-        assert!(!passes(&mut other, &mut key));
-        assert_eq!(key.presence(1), Presence::Away(Parting::Quit));
-    }
-    assert!(!passes(&mut other, &mut key));
-    assert_eq!(key.presence(1), Presence::There);
-    assert!(passes(&mut key, &mut other) && passes(&mut other, &mut key));
-    assert_eq!(key.presence(1), Presence::Playing);
-    assert!(!passes(&mut key, &mut other));
-    assert_eq!(other.presence(0), Presence::Playing);
-    other.forget(0);
-    assert_eq!(other.presence(0), Presence::Forgotten);
-    assert!(!passes(&mut key, &mut other));
-    assert_eq!(other.presence(0), Presence::Playing);
+    passes(&mut key, &mut other);
+    assert_eq!(
+        (other.left(0), other.left(1), other.left(2)),
+        (None, None, None)
+    );
     assert!(key.quit() && !key.may_leave());
-    assert!(!passes(&mut key, &mut other));
-    assert_eq!(other.presence(0), Presence::Left(Parting::Quit));
-    other.forget(0);
-    assert_eq!(other.presence(0), Presence::Left(Parting::Quit));
-    assert!(!passes(&mut other, &mut key));
-    assert!(key.may_leave());
+    passes(&mut key, &mut other);
+    assert_eq!(other.left(0), Some(Parting::Quit));
+    passes(&mut other, &mut key);
+    assert!(key.may_leave() && key.left(1).is_none());
 }
 
 /// What came over a line is told, and what is on its way.
@@ -355,8 +300,8 @@ fn lines_are_told() {
     let (mut key, mut other) = pair();
     assert!(key.line(0).is_none() && key.line(2).is_none());
     assert!(matches!(key.line(1), Some(line) if line.came == 0));
-    assert!(!passes(&mut other, &mut key));
-    assert!(passes(&mut key, &mut other) && passes(&mut other, &mut key));
+    passes(&mut other, &mut key);
+    passes(&mut key, &mut other);
     let (late, lost) = (key.datagram(1).unwrap(), key.datagram(1).unwrap());
     for _ in 0..3 {
         key.build(Keys::FORWARD);
@@ -366,7 +311,7 @@ fn lines_are_told() {
     passes(&mut key, &mut other);
     passes(&mut other, &mut key);
     let line = key.line(1).unwrap();
-    assert_eq!((line.came, line.missing_there, line.lead), (3, 2, 3));
+    assert_eq!((line.came, line.missing_there, line.lead), (2, 2, 3));
     assert_eq!(key.unacknowledged(), 0);
     for _ in 0..2 {
         heard(&mut other, &late, 0);
@@ -387,36 +332,10 @@ fn lines_are_told() {
     assert_eq!(other.line(0), Some(line));
 }
 
-/// A player with another identity is told of, and takes no part.
-#[test]
-fn another_identity_takes_no_part() {
-    let host = *b"another's digest";
-    let mut key = link_of(Config::key(2, settings()), &HOST);
-    let mut other = link_of(Config::other(2, 1), &host);
-    for _ in 0..3 {
-        let (one, two) = (key.datagram(1).unwrap(), other.datagram(0).unwrap());
-        assert_eq!(other.receive(&one), Received::Different(0));
-        assert_eq!(key.receive(&two), Received::Different(1));
-    }
-    let Presence::Different(identity) = key.presence(1) else {
-        panic!("{:?}", key.presence(1))
-    };
-    assert_eq!(identity.host, host);
-    assert!(
-        matches!(other.presence(0), Presence::Different(of) if of == Identity { host: HOST, ..identity })
-    );
-    assert_eq!(
-        (key.phase(), other.phase()),
-        (Phase::Gathering, Phase::Listening)
-    );
-}
-
 /// What a build had no room for is owed, and made once a run has made room.
 #[test]
 fn a_build_without_room_is_owed() {
     let (mut key, mut other) = pair();
-    assert!(!passes(&mut other, &mut key));
-    assert!(passes(&mut key, &mut other) && passes(&mut other, &mut key));
     assert_eq!(key.catch_up(), None);
     for tic in 0..u32::from(MOST_AHEAD) {
         assert_eq!(key.build(Keys::FORWARD), Made::Made(tic));
@@ -441,8 +360,9 @@ fn a_build_without_room_is_owed() {
 #[test]
 fn holes_ask_for_a_second_datagram() {
     let (mut key, mut other) = pair();
-    assert!(!passes(&mut other, &mut key));
-    assert!(!passes(&mut key, &mut other) || !key.wants_second(1));
+    passes(&mut other, &mut key);
+    passes(&mut key, &mut other);
+    assert!(!key.wants_second(1));
     for _ in 0..2 {
         key.datagram(1);
     }
@@ -455,7 +375,6 @@ fn holes_ask_for_a_second_datagram() {
 #[test]
 fn players_of_links_agree() {
     let (mut key, mut other) = nodes(1);
-    key.receive(&other.datagram(0).unwrap());
     for round in 0..50 {
         key.build(Keys(round * 977));
         other.build(Keys(round * 331));
@@ -466,29 +385,23 @@ fn players_of_links_agree() {
         other.run_all();
         assert_eq!(key.catch_up(), None);
     }
-    assert_eq!((key.ran(), other.ran()), (49, 49));
+    assert_eq!((key.ran(), other.ran()), (50, 50));
     assert_eq!(key.world(), other.world());
-    assert_eq!(key.presence(1), Presence::Playing);
+    assert_eq!(key.left(1), None);
     let line = key.line(1).unwrap();
-    assert_eq!((line.came, line.lost, line.lead_there), (51, 0, 0));
+    assert_eq!((line.came, line.lost, line.lead_there), (50, 0, 0));
     assert_eq!((key.unacknowledged(), key.refused()), (0, 0));
     assert!(!key.may_leave() && key.quit());
-    let mut key = std::thread::spawn(move || key).join().unwrap();
-    assert_eq!(key.end(0), Some(49));
+    let key = std::thread::spawn(move || key).join().unwrap();
+    assert_eq!(key.end(0), Some(50));
     // its commands were acknowledged before it left; nobody has told that it has the end
     assert!(key.unacknowledged() == 0 && !key.may_leave());
-    key.forget(1);
-    assert_eq!(key.presence(1), Presence::Forgotten);
-    assert!(key.may_leave() && key.unacknowledged() == 0);
 }
 
 /// A node with a link goes to another thread, and calls that read take a shared reference.
 #[test]
 fn players_of_links_go_to_other_threads() {
-    let (mut key, mut other) = nodes(MOST_AHEAD);
-    key.receive(&other.datagram(0).unwrap());
-    other.receive(&key.datagram(1).unwrap());
-    key.receive(&other.datagram(0).unwrap());
+    let (mut key, other) = nodes(MOST_AHEAD);
     let key = std::thread::spawn(move || {
         key.build(Keys::FORWARD);
         key

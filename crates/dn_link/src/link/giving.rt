@@ -3,33 +3,31 @@
 use super::Link;
 use crate::bundle::Bundle;
 use crate::counting::counts_of;
-use crate::giving::{is_settings, next_unless};
-use crate::presence::message_of;
+use crate::ends::told_cause;
+use crate::giving::next_packet;
 use crate::writing::seal_bundle;
 use arrayvec::ArrayVec;
 
 impl Link {
-    ghost use Rattle.std.specs.Prelude.{◌<◌, false, None, Some, IfSome, is_some, ◌≡◌};
+    ghost use Rattle.std.specs.Prelude.{None, IfSome, is_some, ◌≡◌};
     ghost use Rattle.dn_lockstep.specs.Sent.{IsFair, sent_to};
     ghost use Rattle.dn_lockstep.specs.Steps.{Tells};
-    ghost use Rattle.dn_link.specs.{Linked.Gives, Linked.holds_back, Linked.remains, Linking.identity_of, Linking.linked, Linking.seal_of, Pacing.pace_of};
+    ghost use Rattle.dn_link.specs.{Linked.Gives, Linked.remains, Linking.linked, Linking.seal_of, Pacing.pace_of};
 
     /// The datagram to a peer, for each tick: the packets that are kept until it acknowledges their commands
     /// and the one of the moment, oldest first, up to where there may be no room for one more, and how far this
-    /// player is. Before the game starts it says who is there, and player 0 gives the settings once all are.
-    /// After the end it says goodbye. None to a number that is no peer's, nor to one who is given up.
+    /// player is. After the end it says why. None to a number that is no peer's, nor to one who is given up.
     #[tactic(auto, using(crate::proofs::Handing::may_before, crate::proofs::Linking::same_reported, crate::proofs::Places::peer_at, crate::proofs::Places::peers_put))]
     pub fn datagram(&mut self, to: u8) -> Option<ArrayVec<u8, 1200>>
-        ensures gives { IfSome result (λ bytes. Gives (seal_of self.old) (identity_of self.old) (pace_of self.old) to
+        ensures gives { IfSome result (λ bytes. Gives (seal_of self.old) (pace_of self.old) to
             (linked self.old) (linked self.new) bytes.items) }
-        ensures fair { IfSome result (λ bytes. holds_back (linked self.old) ≡ false → Tells (linked self.old).node
+        ensures fair { IfSome result (λ bytes. Tells (linked self.old).node
             (λ limits me m. IfSome (sent_to to limits me m).1 IsFair)) }
         ensures peer { is_some result ≡ remains (linked self.old) to }
         ensures others { (linked self.new).others ≡ (linked self.old).others }
         ensures idle { result ≡ None → linked self.new ≡ linked self.old }
         ensures pace { pace_of self.new ≡ pace_of self.old }
         ensures seal { seal_of self.new ≡ seal_of self.old }
-        ensures identity { identity_of self.new ≡ identity_of self.old }
     {
         let me = self.me();
         if to == me || to >= self.lockstep().players() {
@@ -38,12 +36,9 @@ impl Link {
         if self.has_given_up(to) {
             return None;
         }
-        let message = message_of(&self.identity, self.lockstep().phase());
-        let held = self.holds_back();
-        let gathers = self.is_gathering();
-        let packet = next_unless(held, self.survivor.lockstep_mut(), to);
-        let settings = is_settings(gathers, &packet);
-        let (number, own) = self.peers[to as usize].parts(me, packet, settings);
+        let cause = told_cause(self.lockstep().phase());
+        let packet = next_packet(self.survivor.lockstep_mut(), to);
+        let (number, own) = self.peers[to as usize].parts(me, packet);
         let is_first = self.overdue.give(to);
         let parts = self.with_handed(to, is_first, own);
         self.overdue.hand(to, parts.as_slice());
@@ -54,8 +49,8 @@ impl Link {
             number,
             lead: line.own_lead,
             holes: line.missing(),
+            cause,
             counts: counts_of(self.lockstep()),
-            message,
             parts,
         };
         Some(seal_bundle(&self.sealer, &bundle))

@@ -12,7 +12,7 @@ const MOST_HANDED: u8 = 24;
 
 impl Link {
     ghost use Rattle.std.specs.Prelude.{◌≡◌, ◌<◌, ◌≤◌, ◌||◌, All, length, not, slice_index, true, false, IfSome};
-    ghost use Rattle.dn_link.specs.{Linked.has_given_up, Linked.is_peer, Linked.remains, Linking.identity_of, Linking.linked, Linking.seal_of, Surviving.HasTwoBehind, Surviving.IsHandedFor, Surviving.may_hand, Surviving.shares_gone};
+    ghost use Rattle.dn_link.specs.{Linked.has_given_up, Linked.is_peer, Linked.remains, Linking.linked, Linking.seal_of, Surviving.HasTwoBehind, Surviving.IsHandedFor, Surviving.may_hand, Surviving.shares_gone};
     ghost use Rattle.dn_link.specs.{Pacing.pace_of, Text.IsPart, Text.parts_bytes};
 
     /// Whether a player is not given up, or a peer has reported to have given it up too.
@@ -22,8 +22,8 @@ impl Link {
         !self.has_given_up(player) || self.reports_gone(to, player)
     }
 
-    /// Whether it may hand on commands to a peer: one who is not given up, and has given up all whom this player
-    /// has.
+    /// Whether it may hand on commands to a peer: one who is not given up, and has given up all whom this
+    /// player has.
     fn may_hand(&self, to: u8) -> bool
         ensures { result ≡ may_hand (linked self.now) to }
     {
@@ -60,7 +60,6 @@ impl Link {
         ensures link { linked self.new ≡ linked self.old }
         ensures pace { pace_of self.new ≡ pace_of self.old }
         ensures seal { seal_of self.new ≡ seal_of self.old }
-        ensures identity { identity_of self.new ≡ identity_of self.old }
     {
         let me = self.me();
         let had = self.had();
@@ -73,17 +72,17 @@ impl Link {
         self.overdue.tick(me, had, &reported);
     }
 
-    /// Whether its own commands come to a peer in time: fewer than a window are not reported. Where they are not,
-    /// what it handed on would come as late, and hold its own up.
+    /// Whether its own commands come to a peer in time: fewer than a window are not reported. Where they are
+    /// not, what it handed on would come as late, and hold its own up.
     fn is_in_time(&self, to: u8) -> bool
         requires { to < 4 }
     {
         let reported = self.peer(to).reported_of(self.me());
-        self.made().saturating_sub(reported) < u32::from(self.identity.ahead)
+        self.made().saturating_sub(reported) < self.lockstep().ahead()
     }
 
-    /// Whether commands are handed on to a peer at all: one that plays, and may be handed on any, and has this
-    /// player's own in time.
+    /// Whether commands are handed on to a peer at all: one that has not left, and may be handed on any, and
+    /// has this player's own in time.
     fn hands_on(&self, to: u8) -> bool
         requires { to < 4 }
         ensures peer { result ≡ true → is_peer (linked self.now).node to ≡ true }
@@ -92,7 +91,7 @@ impl Link {
         if !self.is_peer(to) {
             return false;
         }
-        self.may_hand(to) && self.peer(to).presence.is_playing() && self.is_in_time(to)
+        self.may_hand(to) && self.peer(to).left().is_none() && self.is_in_time(to)
     }
 
     /// From which on commands of a third player are handed on to a peer, if any are.
@@ -125,8 +124,8 @@ impl Link {
         Some(relay)
     }
 
-    /// The parts of a datagram to a peer, and behind them what is handed on of each third player, as far as there is
-    /// room. Nothing is but in the first datagram of a tick.
+    /// The parts of a datagram to a peer, and behind them what is handed on of each third player, as far as
+    /// there is room. Nothing is but in the first datagram of a tick.
     pub(super) fn with_handed(
         &self,
         to: u8,

@@ -1,58 +1,52 @@
-//! Who may leave.
+//! Who has left, and who may leave.
 
 use super::Link;
-use dn_machine::Phase;
 
 impl Link {
-    ghost use Rattle.std.specs.Prelude.{◌<◌, ◌&&◌, true, ◌≡◌};
-    ghost use Rattle.dn_link.specs.{Linked.is_out, Linked.may_leave, Linked.needs_nothing, Linked.never_played, Linked.none_needs, Linking.linked};
+    ghost use Rattle.std.specs.Prelude.{◌<◌, not, if◌then◌else◌, None, ◌≡◌};
+    ghost use Rattle.dn_link.specs.{Linked.is_peer, Linked.may_leave, Linked.needs_nothing, Linking.linked};
 
-    /// Whether nothing more is expected of a player: it has played and left, or is forgotten; or player 0 said
-    /// goodbye before its game, and without another player 0 there will be none.
-    fn is_out(&self, player: u8) -> bool
-        requires { player < 4 }
-        ensures { result ≡ is_out (linked self.now) player }
+    /// Why a peer has left, if its datagrams told: that it quit (1), that its demo is full (2), or that it
+    /// found another's world to differ (3). None for a number that is no peer's.
+    pub fn left(&self, player: u8) -> Option<u8>
+        ensures { result ≡ (if is_peer (linked self.now).node player then ((linked self.now).peers player).left else None) }
     {
-        self.peer(player).presence.has_left() || self.peer(0).presence.has_gone()
+        if self.is_peer(player) {
+            self.peer(player).left()
+        } else {
+            None
+        }
     }
 
     /// Whether a player needs nothing more of this one: it has itself left, or has acknowledged all commands
     /// and the end; or it is given up, or there is no such other player.
     pub(super) fn needs_nothing(&self, player: u8) -> bool
-        requires { player < 4 }
         ensures { result ≡ needs_nothing (linked self.now) player }
     {
         if !self.remains(player) || self.end(player).is_some() {
             return true;
         }
-        self.is_out(player) || self.made() < self.peer(player).reported_of(self.me())
+        let peer = self.peer(player);
+        peer.left().is_some() || self.made() < peer.reported_of(self.me())
     }
 
-    /// Whether it has ended before its game started.
-    fn never_played(&self) -> bool
-        ensures { result ≡ never_played (linked self.now).node }
+    /// Whether a player still needs commands of this one, or to know that it has left.
+    pub fn needs(&self, player: u8) -> bool
+        ensures { result ≡ not (needs_nothing (linked self.now) player) }
     {
-        matches!(self.lockstep().phase(), Phase::Ended(_)) && self.end(self.me()).is_none()
+        !self.needs_nothing(player)
     }
 
-    /// Whether each other player needs nothing more of this one.
-    fn none_needs(&self) -> bool
-        ensures { result ≡ none_needs (linked self.now) }
+    /// Whether nobody needs commands of this player any more, nor to know that it has left: each other player
+    /// has itself left, is given up, or has acknowledged all commands and the end. A peer that has left waits
+    /// for the same, by the counts of this one: give it some more datagrams, and limit the wait, since the last
+    /// datagram may be lost.
+    pub fn may_leave(&self) -> bool
+        ensures { result ≡ may_leave (linked self.now) }
     {
         self.needs_nothing(0)
             && self.needs_nothing(1)
             && self.needs_nothing(2)
             && self.needs_nothing(3)
-    }
-
-    /// Whether nobody needs commands of this player any more, nor to know that it has left: each other player
-    /// has itself left, is given up, or has acknowledged all commands and the end. A peer that has left waits for the same,
-    /// by the counts of this one: give it some more datagrams, and limit the wait, since the last datagram may
-    /// be lost. A player who has left before its game started may go at once; some more datagrams let the
-    /// others know.
-    pub fn may_leave(&self) -> bool
-        ensures { result ≡ may_leave (linked self.now) }
-    {
-        self.never_played() || self.none_needs()
     }
 }

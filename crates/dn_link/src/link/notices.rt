@@ -25,10 +25,10 @@ impl Link {
     ghost use Rattle.dn_survivor.specs.Telling.{report_for};
     ghost use Rattle.dn_survivor.specs.declared.answers.Reported.TheVariants as reported;
     ghost use Rattle.dn_link.specs.declared.received.Received.TheVariants as received;
-    ghost use Rattle.dn_link.specs.{Linked.IsWhole, Linked.surviving_of, Notices.HearsNotice, Notices.exclusion_for, Notices.notice_for, Pace.after_refusal, Linking.identity_of, Linking.linked, Linking.seal_of, Pacing.pace_of};
+    ghost use Rattle.dn_link.specs.{Linked.IsWhole, Linked.surviving_of, Notices.HearsNotice, Notices.exclusion_for, Notices.notice_for, Pace.after_refusal, Linking.linked, Linking.seal_of, Pacing.pace_of};
 
-    /// The report to a player, sealed, for each tick while somebody is given up, and while this player has left:
-    /// what `report` returns, which has the form of a report.
+    /// The report to a player, sealed, for each tick while somebody is given up, and while this player has
+    /// left: what `report` returns, which has the form of a report.
     pub fn report_datagram(&self, to: u8) -> Option<ArrayVec<u8, MAX_SEALED_REPORT>>
         ensures sealed { option_map (λ bytes. bytes.items) result ≡ notice_for (seal_of self.now) (linked self.now) to }
         ensures proper { IfSome (report_for (surviving_of (linked self.now)) to) IsReport }
@@ -39,8 +39,8 @@ impl Link {
         }
     }
 
-    /// What a player is told who is given up, sealed: that it is, and no more. None to any other. It changes nothing
-    /// there: the link answers `Excluded` of it.
+    /// What a player is told who is given up, sealed: that it is, and no more. None to any other. It changes
+    /// nothing there: the link answers `Excluded` of it.
     pub fn exclusion_datagram(&self, to: u8) -> Option<ArrayVec<u8, MAX_SEALED_REPORT>>
         ensures { option_map (λ bytes. bytes.items) result ≡ exclusion_for (seal_of self.now) (linked self.now) to }
     {
@@ -61,7 +61,6 @@ impl Link {
         ensures link { linked self.new ≡ linked self.old }
         ensures pace { pace_of self.new ≡ after_refusal (pace_of self.old) }
         ensures seal { seal_of self.new ≡ seal_of self.old }
-        ensures identity { identity_of self.new ≡ identity_of self.old }
     {
         self.pace.refuse();
         answer
@@ -77,7 +76,6 @@ impl Link {
         ensures quiet { IsWhole (linked self.old) → ((linked self.new).node ≡ (linked self.old).node)
             × ((linked self.new).peers ≡ (linked self.old).peers) }
         ensures seal { seal_of self.new ≡ seal_of self.old }
-        ensures identity { identity_of self.new ≡ identity_of self.old }
     {
         match open_report(&self.sealer, bytes) {
             Err(fault) => self.refuse(Received::Unreported(fault)),

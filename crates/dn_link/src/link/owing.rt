@@ -11,7 +11,7 @@ impl Link {
     ghost use Rattle.dn_machine.specs.declared.answers.Made.{Made as AnyMade};
     ghost use Rattle.dn_machine.specs.declared.answers.Made.TheVariants as made;
     ghost use Rattle.dn_lockstep.specs.Steps.{Steps};
-    ghost use Rattle.dn_link.specs.{Linking.identity_of, Linking.linked, Linking.seal_of, Pace.still_owed, Pacing.pace_of};
+    ghost use Rattle.dn_link.specs.{Linking.linked, Linking.seal_of, Pace.still_owed, Pacing.pace_of};
 
     /// Makes the command of this input.
     #[tactic(auto, using(dn_survivor::proofs::Steps::lent_steps))]
@@ -24,7 +24,6 @@ impl Link {
         ensures peers { (linked self.new).peers ≡ (linked self.old).peers }
         ensures pace { pace_of self.new ≡ pace_of self.old }
         ensures seal { seal_of self.new ≡ seal_of self.old }
-        ensures identity { identity_of self.new ≡ identity_of self.old }
     {
         match input {
             Input::Pressed(keys) => self.survivor.lockstep_mut().build(keys),
@@ -45,7 +44,6 @@ impl Link {
         ensures others { (linked self.new).others ≡ (linked self.old).others }
         ensures peers { (linked self.new).peers ≡ (linked self.old).peers }
         ensures seal { seal_of self.new ≡ seal_of self.old }
-        ensures identity { identity_of self.new ≡ identity_of self.old }
     {
         let Some(input) = self.pace.owed() else {
             return None;

@@ -5,17 +5,17 @@ use crate::line::{apart, lead_over, total};
 
 impl Link {
     ghost use Rattle.std.specs.Prelude.{◌<◌, ◌≤◌, ◌+◌, ◌&&◌, nat_abs, nat_lt, ◌≡◌};
-    ghost use Rattle.dn_link.specs.{Linking.identity_of, Linking.linked, Linking.seal_of, Pace.after_tick, Pace.difference, Pace.is_paced, Pace.lean, Pace.playing, Pace.differences, Pace.is_lossy};
+    ghost use Rattle.dn_link.specs.{Linking.linked, Linking.seal_of, Pace.after_tick, Pace.difference, Pace.is_paced, Pace.lean, Pace.playing, Pace.differences, Pace.is_lossy};
     ghost use Rattle.dn_link.specs.{Pace.is_lossy_to, Pace.wants_second, Pacing.pace_of};
 
-    /// Whether a player is a peer that plays, as far as it was heard.
+    /// Whether a player is a peer that was heard, and has not left as far as it was.
     fn is_paced(&self, player: u8) -> bool
         ensures { result ≡ is_paced (linked self.now) (pace_of self.now) player }
     {
         self.is_peer(player)
             && self.pace.line(player).newest.is_some()
             && self.end(player).is_none()
-            && self.peer(player).presence.is_playing()
+            && self.peer(player).left().is_none()
     }
 
     /// The difference between this player's lead and a peer's, as each saw its own at its last tick.
@@ -82,7 +82,6 @@ impl Link {
         ensures pace { pace_of self.new ≡ after_tick (linked self.old) (pace_of self.old) }
         ensures link { linked self.new ≡ linked self.old }
         ensures seal { seal_of self.new ≡ seal_of self.old }
-        ensures identity { identity_of self.new ≡ identity_of self.old }
     {
         let differences = self.differences();
         let playing = self.playing();

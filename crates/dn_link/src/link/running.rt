@@ -23,7 +23,7 @@ impl Link {
     ghost use Rattle.std.specs.Prelude.{ℤ, ◌+◌};
     ghost use Rattle.dn_machine.specs.Running.{on_run, row_held};
     ghost use Rattle.dn_lockstep.specs.Steps.{RunsBy, Tells};
-    ghost use Rattle.dn_link.specs.{Linked.IsWhole, Linking.identity_of, Linking.linked, Linking.seal_of, Pacing.pace_of, Surviving.RunsBut};
+    ghost use Rattle.dn_link.specs.{Linked.IsWhole, Linking.linked, Linking.seal_of, Pacing.pace_of, Surviving.RunsBut};
 
     /// As `Lockstep::run`, but no mark is compared of players who are given up.
     #[tactic(auto, using(dn_lockstep::proofs::After::steps))]
@@ -43,7 +43,6 @@ impl Link {
         ensures peers { (linked self.new).peers ≡ (linked self.old).peers }
         ensures pace { pace_of self.new ≡ pace_of self.old }
         ensures seal { seal_of self.new ≡ seal_of self.old }
-        ensures identity { identity_of self.new ≡ identity_of self.old }
     {
         let mut row = [None; 4];
         let ran = self.run_into(marks, &mut row);
@@ -70,7 +69,6 @@ impl Link {
         ensures peers { (linked self.new).peers ≡ (linked self.old).peers }
         ensures pace { pace_of self.new ≡ pace_of self.old }
         ensures seal { seal_of self.new ≡ seal_of self.old }
-        ensures identity { identity_of self.new ≡ identity_of self.old }
     {
         self.survivor.run_into(marks, row)
     }

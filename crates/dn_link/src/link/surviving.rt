@@ -1,20 +1,17 @@
 //! Who is given up for good, and what links report to each other of that.
 
-ghost use Rattle.std.specs.Prelude.{◌≡◌};
-ghost use Rattle.dn_link.specs.Surviving.{is_given_up};
-
 use super::Link;
 use dn_survivor::report::Report;
 use dn_survivor::{GivenUp, Reported};
 
 impl Link {
-    ghost use Rattle.std.specs.Prelude.{◌<◌, ◌≢◌, true, IfSome};
+    ghost use Rattle.std.specs.Prelude.{◌≡◌, ◌<◌, ◌≢◌, true, IfSome};
     ghost use Rattle.dn_machine.specs.declared.answers.Phase.TheVariants.{Gathering};
     ghost use Rattle.dn_survivor.specs.ReportBytes.{IsReport};
-    ghost use Rattle.dn_survivor.specs.{Calls.HearsReport, Calls.undecided_in, Telling.report_for};
+    ghost use Rattle.dn_survivor.specs.{Calls.HearsReport, Calls.awaits_report_of, Calls.undecided_in, Telling.report_for};
     ghost use Rattle.dn_survivor.specs.declared.answers.GivenUp.TheVariants as given_up;
     ghost use Rattle.dn_survivor.specs.declared.answers.Reported.TheVariants as reported;
-    ghost use Rattle.dn_link.specs.{Linked.IsWhole, Linked.has_given_up, Linked.remains, Linked.surviving_of, Linking.identity_of, Linking.linked, Linking.seal_of, Pacing.pace_of};
+    ghost use Rattle.dn_link.specs.{Linked.IsWhole, Linked.has_given_up, Linked.remains, Linked.surviving_of, Linking.linked, Linking.seal_of, Pacing.pace_of};
     ghost use Rattle.dn_link.specs.{Surviving.GivesUpPeer, Surviving.reports_gone};
 
     /// Whether a player is given up.
@@ -60,6 +57,13 @@ impl Link {
         self.survivor.undecided()
     }
 
+    /// As `Survivor::awaits_report_of`: whose report is awaited, while somebody is given up.
+    pub fn awaits_report_of(&self) -> Option<u8>
+        ensures { result ≡ awaits_report_of (surviving_of (linked self.now)) }
+    {
+        self.survivor.awaits_report_of()
+    }
+
     /// As `Survivor::report`: what a player who is not given up is to be told of the others, while somebody is
     /// given up or this player has left.
     pub fn report(&self, to: u8) -> Option<Report>
@@ -78,40 +82,21 @@ impl Link {
         ensures peers { (linked self.new).peers ≡ (linked self.old).peers }
         ensures pace { pace_of self.new ≡ pace_of self.old }
         ensures seal { seal_of self.new ≡ seal_of self.old }
-        ensures identity { identity_of self.new ≡ identity_of self.old }
     {
         self.survivor.hear(from, report)
     }
 
-    /// Gives up a player who vanished, for good, so that the others play on: as `Survivor::give_up`, and the
-    /// player is forgotten, too. From here on no datagram goes to it, nothing of it is taken, and neither the
-    /// start nor `may_leave` waits for it. A run that lacks a command of it waits until its end is decided: all
-    /// who play on must give it up, and hear each other's reports. Then the game goes on without it from the same
-    /// tic on at all of them. Where this link gathered, and plays after it, the game has started: the caller
-    /// begins its world.
+    /// Gives up a player who vanished, for good, so that the others play on: as `Survivor::give_up`. From here
+    /// on no datagram goes to it, nothing of it is taken, and `may_leave` does not wait for it. A run that
+    /// lacks a command of it waits until its end is decided: all who play on must give it up, and hear each
+    /// other's reports. Then the game goes on without it from the same tic on at all of them.
     pub fn give_up(&mut self, player: u8) -> GivenUp
         ensures given { GivesUpPeer player (linked self.old) (linked self.new) result }
         ensures waits { result ≡ given_up.Waiting → (linked self.old).node.phase ≢ Gathering
             → (linked self.new).node ≡ (linked self.old).node }
         ensures pace { pace_of self.new ≡ pace_of self.old }
         ensures seal { seal_of self.new ≡ seal_of self.old }
-        ensures identity { identity_of self.new ≡ identity_of self.old }
     {
-        let answer = self.survivor.give_up(player);
-        if !is_given_up(answer) {
-            return answer;
-        }
-        self.forget(player);
-        answer
-    }
-}
-
-/// Whether a player is given up by the call with this answer.
-fn is_given_up(answer: GivenUp) -> bool
-    ensures { result ≡ is_given_up answer }
-{
-    match answer {
-        GivenUp::Waiting | GivenUp::Decided | GivenUp::Untaken { .. } => true,
-        GivenUp::Already | GivenUp::NotAPlayer | GivenUp::NotPlaying => false,
+        self.survivor.give_up(player)
     }
 }

@@ -4,53 +4,41 @@ use super::Link;
 use super::notices::is_notice;
 use crate::bundle::Bundle;
 use crate::counting::reached;
+use crate::ends::left_by;
 use crate::hearing::hear_bundle;
-use crate::presence::{Presence, differs, is_fresh};
 use crate::reading::open_bundle;
-use crate::received::{Received, received_of};
+use crate::received::Received;
 
 impl Link {
-    ghost use Rattle.dn_link.specs.{Presence.may_come, Hearing.ByTest, Hearing.HearsAll, Packets.heard_in, Linked.IsWhole, Linked.Receives, Linked.ReceivesAs, Linked.done_with, Linked.has_given_up, Linked.takes, Linked.with_reached};
+    ghost use Rattle.dn_link.specs.{Hearing.HearsAll, Packets.heard_in, Linked.IsWhole, Linked.Receives, Linked.ReceivesAs, Linked.done_with, Linked.has_given_up, Linked.takes, Linked.with_reached};
     ghost use Rattle.dn_machine.specs.Node.{put};
-    ghost use Rattle.dn_link.specs.{Linked.hears, Linked.is_peer, Linked.met, Notices.HearsNotice, Notices.is_notice, Linking.identity_of, Linking.linked, Linking.seal_of, Pace.Paces};
+    ghost use Rattle.dn_link.specs.{Linked.is_peer, Linked.met, Notices.HearsNotice, Notices.is_notice, Linking.linked, Linking.seal_of, Pace.Paces};
     ghost use Rattle.dn_link.specs.{Pace.after_datagram, Pacing.pace_of};
-    ghost use Rattle.std.specs.Prelude.{ℕ, ◌<◌, ◌&&◌, not, true, false, Ok, ◌≡◌};
-    ghost use Rattle.dn_machine.specs.Game.{fresh};
+    ghost use Rattle.std.specs.Prelude.{ℕ, ◌<◌, true, false, Ok, ◌≡◌};
     ghost use Rattle.dn_survivor.specs.declared.answers.Reported.TheVariants as reported;
     ghost use Rattle.dn_link.specs.declared.received.Received.TheVariants as received;
 
-    /// How many commands of this player a peer no longer needs, by its presence and the count that it reported.
-    fn done_with(&self, presence: Presence, count: u32) -> u32
-        ensures { result ≡ done_with presence (linked self.now).node count }
+    /// How many commands of this player a peer no longer needs, that has left or reported this count.
+    fn done_with(&self, left: Option<u8>, count: u32) -> u32
+        ensures { result ≡ done_with left (linked self.now).node count }
     {
-        match presence {
-            Presence::Left(_) => self.made(),
-            _ => self.certain(count),
+        match left {
+            Some(_) => self.made(),
+            None => self.certain(count),
         }
     }
 
-    /// Notes who a peer is and what it has. If its identity differs, only the former is noted.
-    fn meet(&mut self, bundle: &Bundle, presence: Presence, differs: bool)
+    /// Notes what a peer has, and whether it has left.
+    fn meet(&mut self, bundle: &Bundle)
         requires { bundle.now.from < 4 }
-        ensures link { linked self.new ≡ met differs bundle.now presence (linked self.old) }
+        ensures link { linked self.new ≡ met bundle.now (linked self.old) }
         ensures pace { pace_of self.new ≡ pace_of self.old }
         ensures seal { seal_of self.new ≡ seal_of self.old }
-        ensures identity { identity_of self.new ≡ identity_of self.old }
     {
-        if differs {
-            self.peers[bundle.from as usize].is_now(presence);
-            return;
-        }
         let me = self.me();
-        let done = self.done_with(presence, bundle.counts.got[me as usize]);
-        self.peers[bundle.from as usize].tells(done, &bundle.counts.got, presence);
-    }
-
-    /// Whether the packets of a peer's datagram are heard, of whom this is known.
-    fn hears(&self, presence: Presence) -> bool
-        ensures { result ≡ hears (linked self.now) presence }
-    {
-        !self.is_gathering() || (self.all_ready() && presence.is_there())
+        let left = left_by(bundle, self.peer(bundle.from).left());
+        let done = self.done_with(left, bundle.counts.got[me as usize]);
+        self.peers[bundle.from as usize].tells(done, &bundle.counts.got, left);
     }
 
     /// Hears the packets of a datagram.
@@ -61,24 +49,9 @@ impl Link {
         ensures peers { (linked self.new).peers ≡ (linked self.old).peers }
         ensures pace { pace_of self.new ≡ pace_of self.old }
         ensures seal { seal_of self.new ≡ seal_of self.old }
-        ensures identity { identity_of self.new ≡ identity_of self.old }
     {
         let gone = self.survivor.others().gone;
         hear_bundle(self.survivor.lockstep_mut(), &gone, bundle)
-    }
-
-    /// Hears the packets of a datagram, if it does, and the datagram does not differ.
-    fn hear(&mut self, bundle: &Bundle, presence: Presence, differs: bool) -> bool
-        ensures heard { ByTest (not differs && hears (linked self.old) presence)
-            (HearsAll (heard_in (takes (linked self.old)) bundle.now) (linked self.old).node (linked self.new).node result)
-            (((linked self.new).node ≡ (linked self.old).node) × (result ≡ false)) }
-        ensures others { (linked self.new).others ≡ (linked self.old).others }
-        ensures peers { (linked self.new).peers ≡ (linked self.old).peers }
-        ensures pace { pace_of self.new ≡ pace_of self.old }
-        ensures seal { seal_of self.new ≡ seal_of self.old }
-        ensures identity { identity_of self.new ≡ identity_of self.old }
-    {
-        !differs && self.hears(presence) && self.hear_packets(bundle)
     }
 
     /// Notes what a player must have had when it made the last of its commands that are here.
@@ -89,7 +62,6 @@ impl Link {
         } }
         ensures pace { pace_of self.new ≡ pace_of self.old }
         ensures seal { seal_of self.new ≡ seal_of self.old }
-        ensures identity { identity_of self.new ≡ identity_of self.old }
     {
         let count = reached(self.lockstep(), player);
         self.peers[player as usize].has_reached(count);
@@ -102,7 +74,6 @@ impl Link {
         } }
         ensures pace { pace_of self.new ≡ pace_of self.old }
         ensures seal { seal_of self.new ≡ seal_of self.old }
-        ensures identity { identity_of self.new ≡ identity_of self.old }
     {
         self.note_reached(0);
         self.note_reached(1);
@@ -115,38 +86,25 @@ impl Link {
         requires peer { is_peer (linked self.old).node bundle.now.from ≡ true }
         requires few { bundle.now.from < 4 }
         requires stays { has_given_up (linked self.old) bundle.now.from ≡ false }
-        ensures heard { ReceivesAs (identity_of self.old) (pace_of self.old) (Ok bundle.now) (linked self.old) (linked self.new) result }
-        ensures pace { pace_of self.new ≡ after_datagram bundle.now
-            (may_come ((linked self.old).peers bundle.now.from).gave ((linked self.old).peers bundle.now.from).presence)
-            (pace_of self.old) }
+        ensures heard { ReceivesAs (Ok bundle.now) (linked self.old) (linked self.new) result }
+        ensures pace { pace_of self.new ≡ after_datagram bundle.now (pace_of self.old) }
         ensures others { (linked self.new).others ≡ (linked self.old).others }
         ensures seal { seal_of self.new ≡ seal_of self.old }
-        ensures identity { identity_of self.new ≡ identity_of self.old }
     {
-        let from = bundle.from;
-        let fresh = is_fresh(self.pace.line(from).newest, bundle.number);
-        let peer = self.peer(from);
-        let may_come = peer.presence.may_come(peer.gave);
-        let presence = peer
-            .presence
-            .after(&self.identity, peer.gave, fresh, bundle);
-        let differs = differs(&self.identity, &bundle.message, presence);
-        self.meet(bundle, presence, differs);
-        self.pace.hear(bundle, may_come);
-        let started = self.hear(bundle, presence, differs);
+        self.meet(bundle);
+        self.pace.hear(bundle);
+        let _ = self.hear_packets(bundle);
         self.note_all_reached();
-        received_of(differs, from, started)
+        Received::Heard(bundle.from)
     }
 
-    /// Takes in bytes that are not of the kind of reports: what is opened, if its sender is a peer who is not given
-    /// up.
+    /// Takes in bytes that are not of the kind of reports: what is opened, if its sender is a peer who is not
+    /// given up.
     fn receive_datagram(&mut self, bytes: &[u8]) -> Received
-        ensures heard { Receives (seal_of self.old) (identity_of self.old) (pace_of self.old) bytes.now (linked self.old)
-            (linked self.new) result }
+        ensures heard { Receives (seal_of self.old) bytes.now (linked self.old) (linked self.new) result }
         ensures pace { Paces (seal_of self.old) bytes.now (linked self.old) (pace_of self.old) (pace_of self.new) }
         ensures others { (linked self.new).others ≡ (linked self.old).others }
         ensures seal { seal_of self.new ≡ seal_of self.old }
-        ensures identity { identity_of self.new ≡ identity_of self.old }
     {
         let bundle = match open_bundle(&self.sealer, bytes) {
             Ok(bundle) => bundle,
@@ -161,13 +119,12 @@ impl Link {
         self.take_in(&bundle)
     }
 
-    /// Takes in any bytes, wherever they come from. Answers which peer's datagram they are, and whether the
-    /// game started with it; or whose report they are, and what became of it. Bytes that are neither to this
-    /// player in this game change nothing but what `refused` counts. A datagram whose sender is no peer, or is
-    /// given up, changes nothing.
+    /// Takes in any bytes, wherever they come from. Answers which peer's datagram they are; or whose report
+    /// they are, and what became of it. Bytes that are neither to this player in this game change nothing but
+    /// what `refused` counts. A datagram whose sender is no peer, or is given up, changes nothing.
     pub fn receive(&mut self, bytes: &[u8]) -> Received
-        ensures heard { is_notice bytes.now ≡ false → Receives (seal_of self.old) (identity_of self.old)
-            (pace_of self.old) bytes.now (linked self.old) (linked self.new) result }
+        ensures heard { is_notice bytes.now ≡ false → Receives (seal_of self.old) bytes.now (linked self.old)
+            (linked self.new) result }
         ensures pace { is_notice bytes.now ≡ false
             → Paces (seal_of self.old) bytes.now (linked self.old) (pace_of self.old) (pace_of self.new) }
         ensures told { is_notice bytes.now ≡ true → HearsNotice (seal_of self.old) bytes.now (linked self.old)
@@ -178,7 +135,6 @@ impl Link {
         ensures quiet { is_notice bytes.now ≡ true → IsWhole (linked self.old)
             → ((linked self.new).node ≡ (linked self.old).node) × ((linked self.new).peers ≡ (linked self.old).peers) }
         ensures seal { seal_of self.new ≡ seal_of self.old }
-        ensures identity { identity_of self.new ≡ identity_of self.old }
     {
         if is_notice(bytes) {
             self.receive_report(bytes)

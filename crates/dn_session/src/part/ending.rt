@@ -1,30 +1,17 @@
 //! How its game ends.
 
 ghost use Rattle.std.specs.Prelude.{◌≡◌, ◌&&◌, if◌then◌else◌, None, Some, is_some};
-ghost use Rattle.dn_link.specs.Pacing.{pace_of};
-ghost use Rattle.dn_session.specs.Playing.{without_lost, KeepsGame, LeavesGame};
+ghost use Rattle.dn_session.specs.Playing.{LeavesGame};
 
 use super::Part;
 use super::giving::is_giving;
 use crate::ending::{Ending, ended_by, may_give_up};
 use dn_link::Link;
 
-/// Who is lost is not waited for.
-fn let_go(link: &mut Link, ending: Ending)
-    ensures lost { without_lost ending link.old link.new }
-    ensures game { KeepsGame link.old link.new }
-    ensures pace { pace_of link.new ≡ pace_of link.old }
-{
-    if let Ending::Lost(player) = ending {
-        link.forget(player);
-    }
-}
-
 /// Its player leaves the game, as far as it has not ended.
-fn leave(link: &mut Link, ending: Ending)
-    ensures { LeavesGame ending link.old link.new }
+fn leave(link: &mut Link)
+    ensures { LeavesGame link.old link.new }
 {
-    let_go(link, ending);
     let _ = link.quit();
 }
 
@@ -36,7 +23,7 @@ impl Part {
     pub(super) fn end(&mut self, ending: Ending, now: u32)
         ensures { EndsNow (Some ending) now (playing self.old) (playing self.new) }
     {
-        leave(&mut self.link, ending);
+        leave(&mut self.link);
         self.progress = ended_by(ending, now);
     }
 

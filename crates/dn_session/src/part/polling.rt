@@ -3,7 +3,7 @@
 ghost use Rattle.std.specs.Prelude.{◌≡◌, ◌<◌, IfSome};
 
 use super::{Part, gone_from};
-use crate::ending::{Ending, Progress, ending_of, patience, waits};
+use crate::ending::{Ending, Progress, ending_of, is_unneeded, patience, waits};
 use crate::lead::{View, due};
 use crate::players::{is_any_awaited, view_of};
 
@@ -24,7 +24,7 @@ impl Part {
     ghost use Rattle.dn_session.specs.Playing.{after_half, looks, playing, view, GivesUpNow, PassesTime, PlaysOn, Polls, TicksWhen};
 
     /// What it sees of all players.
-    pub(super) fn view(&self, now: u32) -> View
+    pub fn view(&self, now: u32) -> View
         ensures { result ≡ view now (playing self.now) }
     {
         view_of(&self.link, &self.excluders, &self.watch, now)
@@ -92,7 +92,7 @@ impl Part {
         ensures { PassesTime (progress.Leaving ending since free) now (playing self.old) (playing self.new) }
     {
         self.tick_if_due(now);
-        self.progress = waits(self.link.may_leave(), ending, since, free, now);
+        self.progress = waits(is_unneeded(ending, &self.link), ending, since, free, now);
     }
 
     /// Half a tick later a second datagram is owed to those who miss some.

@@ -27,8 +27,8 @@ impl Part {
     ghost use Rattle.dn_lockstep.specs.Steps.{told_by};
     ghost use Rattle.dn_session.specs.Playing.{playing, RunsNext};
 
-    /// Runs the next tic, if it can be run, with the marks of the world; and builds the command that was owed, if there
-    /// is room for it now. Call it again while it runs.
+    /// Runs the next tic, if it can be run, with the marks of the world; and builds the command that was owed,
+    /// if there is room for it now. Call it again while it runs.
     pub(crate) fn run(&mut self, marks: &[i16; 4], row: &mut [Option<Move>; 4]) -> Ran
         ensures runs { RunsNext marks.now (playing self.old) (playing self.new) result (told_by result row.new) }
         ensures waits { (player : ℕ) → result ≡ ran.Waiting player → row.new ≡ row.old }

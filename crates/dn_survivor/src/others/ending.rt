@@ -81,7 +81,7 @@ impl Others {
     }
 
     /// Who told of the most commands of a player, of the others who are not given up.
-    fn teller(&self, players: u8, me: u8, player: u8) -> u8
+    pub fn teller(&self, players: u8, me: u8, player: u8) -> u8
         requires { players ≤ 4 }
         ensures is { result ≡ teller_of players me self.now player }
         ensures four { result < 4 }

@@ -12,7 +12,7 @@ returns-clause-in_time c = λ marking limits settings session links player to li
     (c.locksteps_agree.ensures.agreed marking limits settings session linked.game) were to below apart goes_on fits sent
 
 pub returns-clause-covered : goal.returns-clause-covered
-returns-clause-covered c = λ marking limits settings session links player to seal identity pace new bytes linked
+returns-clause-covered c = λ marking limits settings session links player to seal pace new bytes linked
     were four mine below apart goes_on time gives packet took. (covered marking limits settings session links
     player linked mine (c.locksteps_agree.ensures.agreed marking limits settings session linked.game) were four
-    to below apart seal identity pace new bytes gives (λ plays. time) goes_on).1 packet took
+    to below apart seal pace new bytes gives (λ plays. time) goes_on).1 packet took

@@ -26,16 +26,17 @@ use Rattle.dn_lockstep.specs.Told.{got, made}
 use Rattle.dn_lockstep.proofs.Shown.{has}
 use Rattle.dn_seal.specs.declared.seal.Seal.{Seal}
 use Rattle.dn_open.specs.Sealed.{sealing_of}
-use Rattle.dn_link.specs.{declared.bundle.Bundle.Bundle, declared.bundle.Identity.Identity, declared.bundle.Message.TheVariants.Game, declared.received.Received.Received, LinkedGame.IsGenuineDatagram, Counting.has_ended}
-use Rattle.dn_link.specs.{Linked.Linked, Linked.Receives, LinkedGame.AreLinked, Pacing.PaceState, Packets.own_in, Presence.message_of, Reading.IsDatagramOf, CaughtUp.AreCaughtUp, CaughtUp.Brings, CaughtUp.HasGrown}
+use Rattle.dn_link.specs.{declared.bundle.Bundle.Bundle, declared.received.Received.Received, LinkedGame.IsGenuineDatagram, Counting.has_ended}
+use Rattle.dn_link.specs.{Linked.Linked, Linked.Receives, LinkedGame.AreLinked, Packets.own_in, Reading.IsDatagramOf, CaughtUp.AreCaughtUp, CaughtUp.Brings, CaughtUp.HasGrown}
 use Rattle.dn_link.specs.{CaughtUp.IsInStepTo, CaughtUp.last_end, Rounds.AreRounds, Rounds.Arrives, Rounds.AreFairLines, Rounds.MakesAt, Rounds.Stretch, Rounds.WaitsAt}
 use Rattle.dn_link.proofs.{Bringing.brings, Bringing.brings_on, Leaving.unended}
 use Rattle.dn_machine.specs.Node as machine
 use Rattle.dn_link.proofs.Linking as base
 use Rattle.dn_link.proofs.caught_up.links_run_on.Goals as goal
 
--- of each round and player: how many commands it has made before its build and after it, how many tics it has run
--- then, and how many when it waits. In its delay-th round from a round on it has run what all had made in that
+-- of each round and player: how many commands it has made before its build and after it, how many tics it has
+-- run then, and how many when it waits. In its delay-th round from a round on it has run what all had made in
+-- that
 module _ (players count delay ahead base : ℕ) (some : 1 ≤ delay) (room : 1 ≤ ahead)
     (had made begun ran : ℕ → ℕ → ℕ)
     (build : (r p : ℕ) → r < count → p < players → min (had r p + 1) (begun r p + ahead) ≤ made r p)
@@ -292,11 +293,11 @@ module _ {marking : Marking} {limits : Limits} {settings : Settings} {last : ℕ
 -- what a law says of a datagram that arrives
 abbrev Brought : Marking → Limits → Settings → Type 0
 Brought marking limits settings =
-    (session : Session) (links : ℕ → Linked) (player : ℕ) (seal : Seal) (identity : Identity) (pace : PaceState)
+    (session : Session) (links : ℕ → Linked) (player : ℕ) (seal : Seal)
     (bytes : List ℕ) (new : Linked) (answer : Received) (bundle : Bundle) (count : ℕ) → AreLinked marking limits
     settings session links → AreCaughtUp limits links → player < limits.players → IsGenuineDatagram seal session
-    player bytes → IsInStepTo seal limits links player bytes → Receives seal identity pace bytes (links player)
-    new answer → IsDatagramOf (sealing_of seal player) bytes bundle → bundle.message ≡ Game → new.node.phase
+    player bytes → IsInStepTo seal limits links player bytes → Receives seal bytes (links player)
+    new answer → IsDatagramOf (sealing_of seal player) bytes bundle → new.node.phase
     ≡ Playing → Brings count links bundle → count ≤ got new.node bundle.from
 
 module _ {marking : Marking} {limits : Limits} {settings : Settings} {last : ℕ}
@@ -369,7 +370,7 @@ module _ {marking : Marking} {limits : Limits} {settings : Settings} {last : ℕ
     brings_then : Brings (made (at it.given player).node) (at it.given) bundle
     brings_then =
         let there = brings marking limits settings (stretch.sessions it.given) (at it.given) player was mine
-        (stretch.caught_up it.given (omega (arith, before))) peer below apart seal it.gives.identity it.gives.pace
+        (stretch.caught_up it.given (omega (arith, before))) peer below apart seal it.gives.pace
         (at (suc it.given) player) it.bytes it.gives.gives
         (λ goes_on. let soon = it.gives.soon in omega (arith, soon, room)) it.gives.soon
         (stretch.plays it.given player (omega (arith, before)) mine) it.gives.few it.gives.short in
@@ -394,12 +395,10 @@ module _ {marking : Marking} {limits : Limits} {settings : Settings} {last : ℕ
 
     all_there : got (at it.given player).node player ≤ got (at (suc it.taken) peer).node player
     all_there =
-        let has_it = brought (stretch.sessions it.taken) (at it.taken) peer seal it.takes.identity it.takes.pace it.bytes
+        let has_it = brought (stretch.sessions it.taken) (at it.taken) peer seal it.bytes
         (at (suc it.taken) peer) it.takes.answer bundle (made (at it.given player).node)
         (stretch.are it.taken (omega (arith, in_time))) (stretch.caught_up it.taken (omega (arith, in_time))) below
         it.takes.genuine it.takes.in_step it.takes.takes is_datagram
-        (it.gives.gives.message ∙ ap (message_of it.gives.identity)
-        (stretch.plays it.given player (omega (arith, before)) mine))
         (stretch.plays (suc it.taken) peer (omega (arith, in_time)) below) brings_later in
         let from : bundle.from ≡ player = it.gives.gives.from ∙ own in
         omega (

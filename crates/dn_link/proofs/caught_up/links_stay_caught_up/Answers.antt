@@ -7,7 +7,7 @@ use Rattle.dn_lockstep.specs.OneGame.{after_packet, after_relays, with_lockstep}
 use Rattle.dn_lockstep.specs.Told.{got}
 use Rattle.dn_link.specs.{Counting.has_ended, Linked.Linked, Linked.PeerState, CaughtUp.next_to, Relays.flights_of}
 use Rattle.dn_link.proofs.{Catching.build_quiet, Catching.ends_on, Catching.quit_quiet, Catching.run_quiet, Catching.shows_still, Catching.still, CatchingIn.received, CatchingOut.given_on_time, CatchingOut.was_in_step}
-use Rattle.dn_link.proofs.{Linking.forgets, Linking.forgets_node, Growing.build_holds, Growing.run_holds, Growing.quit_holds, Linking.much_by, Linking.shows}
+use Rattle.dn_link.proofs.{Growing.build_holds, Growing.run_holds, Growing.quit_holds, Linking.much_by, Linking.shows}
 use Rattle.dn_link.proofs.caught_up.links_stay_caught_up.Goals as goal
 
 pub returns-clause-built : goal.returns-clause-built
@@ -41,18 +41,6 @@ returns-clause-quit c = λ marking limits settings session links player new quit
     (step.step limits player m r).node (quit_quiet limits links player new mine were m))
     (λ peer. ap (λ (f : ℕ → PeerState). (f peer).kept) peers) much.1
 
-pub returns-clause-forgot : goal.returns-clause-forgot
-returns-clause-forgot c = λ marking limits settings session links player peer new linked were mine is.
-    let same = ap (λ (l : Linked). l.node) is ∙ forgets_node (links player) peer in
-    still limits links player new mine were (record {
-      others = λ p l n. ap (λ (n : Contents). got n p) same;
-      own = omega (arith, ap (λ (n : Contents). got n player) same);
-      sends = λ p l. ap (λ (n : Contents). next_to n p) same;
-      wants = λ p l. ap (λ (n : Contents). (n.peers p).want) same;
-      ran = omega (arith, ap (λ (n : Contents). n.ran) same);
-    }) (λ other. ap (λ (l : Linked). (l.peers other).kept) is ∙ (forgets (links player) peer other).0)
-    (λ was. ap has_ended same ∙ was)
-
 pub returns-clause-reported : goal.returns-clause-reported
 returns-clause-reported c = λ marking limits settings session links player new linked were mine same peers.
     still limits links player new mine were (record {
@@ -64,26 +52,26 @@ returns-clause-reported c = λ marking limits settings session links player new 
     }) (λ other. ap (λ (f : ℕ → PeerState). (f other).kept) peers) (λ was. ap has_ended same ∙ was)
 
 pub returns-clause-gave : goal.returns-clause-gave
-returns-clause-gave c = λ marking limits settings session links player to seal identity pace new bytes linked were four
+returns-clause-gave c = λ marking limits settings session links player to seal pace new bytes linked were four
     mine below apart fair in_time gives.
     let agreed = c.locksteps_agree.ensures.agreed marking limits settings session linked.game in
-    let later = c.linked_game_goes_on.ensures.gave marking limits settings session links player to seal identity pace
+    let later = c.linked_game_goes_on.ensures.gave marking limits settings session links player to seal pace
     new bytes linked mine fair gives in (
-      was_in_step marking limits settings session links player linked mine agreed were four to below apart seal identity
+      was_in_step marking limits settings session links player linked mine agreed were four to below apart seal
           pace new bytes gives in_time,
       given_on_time marking limits settings session links player linked mine agreed were four to below apart seal
-          identity pace new bytes gives in_time
+          pace new bytes gives in_time
           (ends_on session (after_relays (after_packet session player later.0 new.node) (flights_of to gives.handed)) player
           (links player).node new.node (linked.nodes player mine) refl later.2.1),
     )
 
 pub returns-clause-received : goal.returns-clause-received
-returns-clause-received c = λ marking limits settings session links player seal identity pace bytes new answer linked
+returns-clause-received c = λ marking limits settings session links player seal bytes new answer linked
     were mine genuine in_step receives.
     let agreed = c.locksteps_agree.ensures.agreed marking limits settings session linked.game in
-    let later = c.linked_game_goes_on.ensures.received marking limits settings session links player seal identity pace
+    let later = c.linked_game_goes_on.ensures.received marking limits settings session links player seal
     bytes new answer linked mine genuine receives in
     received c.letters_keep_one_game.ensures marking limits settings session links player linked mine agreed were new
     later.0 later.1
     (c.locksteps_agree.ensures.agreed marking limits settings (with_lockstep session player new.node) later.0.game)
-    seal identity pace bytes answer genuine in_step receives
+    seal bytes answer genuine in_step receives

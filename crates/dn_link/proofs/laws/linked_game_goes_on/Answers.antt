@@ -1,4 +1,3 @@
--- A peer that is given up, within one game.
 use Rattle.std.proofs.Common.{◌≡◌, ◌<◌, ℕ, List, refl, ap, sym, ◌∙◌, subst, pos, false, get_or}
 use Rattle.std.specs.Prelude.{slice_index}
 use Rattle.dn_setup.specs.Settings.{Settings}
@@ -12,41 +11,12 @@ use Rattle.dn_lockstep.specs.Marking.{Marking}
 use Rattle.dn_lockstep.specs.OneGame.{AreOneGame, Session, with_lockstep, world_told, after_build, after_run}
 use Rattle.dn_lockstep.specs.Steps.{RunsBy}
 use Rattle.dn_lockstep.specs.Steps.{marks_in, with_row, Steps}
-use Rattle.dn_link.specs.{declared.presence.Presence.TheVariants.Left, Kept.Unacknowledged, Linked.Linked, Linked.forgotten, LinkedGame.AreLinked, LinkedGame.IsLater}
-use Rattle.dn_link.proofs.{Linking.SameBut, Linking.forgets, Linking.forgets_left, Linking.forgets_node, Linking.forgets_others, Relinking.AreGiven, Relinking.later_by, Relinking.relinked, Linking.at_most}
+use Rattle.dn_link.specs.{Linked.Linked, LinkedGame.AreLinked, LinkedGame.IsLater}
+use Rattle.dn_link.proofs.{Relinking.AreGiven, Relinking.later_by, Relinking.relinked, Linking.at_most}
 use Rattle.dn_link.proofs.{Growing.HasAsMuch, Growing.as_much, Growing.build_holds, Growing.run_holds, Growing.quit_holds, Gives.gave_to, Linking.called, Linking.much_by, Receives.received}
 use Rattle.dn_survivor.specs.declared.others.Others.{Others}
 use Rattle.dn_link.proofs.Linking as base
 use Rattle.dn_link.proofs.laws.linked_game_goes_on.Goals as goal
-
-module _ (marking : Marking) (limits : Limits) (settings : Settings) (session : Session) (links : ℕ → Linked)
-    (player : ℕ) (linked : AreLinked marking limits settings session links) (mine : player < limits.players) where
-  abbrev old : Linked
-  old = links player
-
-  forgot : ((new : Contents) → new ≡ session.locksteps player
-      → AreOneGame marking limits settings (with_lockstep session player new))
-      → (peer : ℕ) (new : Linked) → new ≡ forgotten peer old
-      → AreLinked marking limits settings (with_lockstep session player new.node) (put links player new)
-      × IsLater session (with_lockstep session player new.node)
-  forgot kept_game peer new is_new =
-      let same_node = ap (λ (l : Linked). l.node) is_new ∙ forgets_node old peer
-      ∙ base.node marking limits settings session links player linked mine in
-      let same : SameBut old new.peers = subst (λ (l : Linked). SameBut old l.peers) (sym is_new) (forgets old peer) in
-      let later : Session = with_lockstep session player new.node in
-      let much = base.same_much marking limits settings session links player linked mine new.node same_node in
-      let is = later_by session later player new.node refl (λ which flight found. found) much in (
-        relinked marking limits settings session later links player new linked (kept_game new.node same_node) refl is
-            (ap (λ (o : Others). o.gone) (ap (λ (l : Linked). l.others) is_new ∙ forgets_others old peer))
-            (λ other. subst (λ (k : Unacknowledged). AreGiven session.given player other k.packets)
-            (sym (same other).0) (linked.kept player other mine))
-            (λ other which apart. at_most (ap (λ (l : List ℕ). slice_index l which) (same other).1)
-            (linked.reported player other which mine apart) (is.got other which apart))
-            (λ other cause was. base.left_on marking limits settings session links player linked mine later is other cause
-            (forgets_left old peer other cause
-            (subst (λ (l : Linked). (l.peers other).presence ≡ Left cause) is_new was))),
-        is,
-      )
 
 pub returns : goal.returns
 returns c =
@@ -80,17 +50,13 @@ returns c =
           (linked.nodes player mine) step)) refl refl (ap (λ (o : Others). o.gone) others) peers
           (much_by marking limits settings session links player linked mine new.node (λ limits me m. on_quit m)
           (λ answer. quit ≡ answer) step.step (quit_holds limits player (linked.game.last.nodes player)));
-      forgot = λ marking limits settings session links player peer new linked mine is_new.
-          forgot marking limits settings session links player linked mine
-          (λ now same. on.kept marking limits settings session player now linked.game same) peer new is_new;
-      gave = λ marking limits settings session links player to seal identity pace new bytes linked mine fair gives.
-          let sent = gave_to marking limits settings session links player linked mine
-          (λ now same. on.kept marking limits settings session player now linked.game same) seal identity pace to new
+      gave = λ marking limits settings session links player to seal pace new bytes linked mine fair gives.
+          let sent = gave_to marking limits settings session links player linked mine seal pace to new
           bytes fair gives in (sent.0, sent.1, (sent.2, sent.3));
-      received = λ marking limits settings session links player seal identity pace bytes new answer linked mine
+      received = λ marking limits settings session links player seal bytes new answer linked mine
           genuine receives. received marking limits settings session links player linked mine
           c.letters_keep_one_game.ensures (λ now same. on.kept marking limits settings session player now
-          linked.game same) seal identity pace bytes new answer genuine receives;
+          linked.game same) seal bytes new answer genuine receives;
       reported = λ marking limits settings session links player new linked mine same gone peers.
           called marking limits settings session links player linked mine (with_lockstep session player new.node) new
           (on.kept marking limits settings session player new.node linked.game (same ∙ linked.nodes player mine))

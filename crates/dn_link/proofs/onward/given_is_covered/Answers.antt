@@ -15,18 +15,18 @@ returns-clause-quit c = λ limits me to old new quit goes step same. quits limit
 
 -- src/onward.rt:34:1
 pub returns-clause-received : goal.returns-clause-received
-returns-clause-received c = λ limits me to seal identity pace bytes old new answer goes fit receives asks.
+returns-clause-received c = λ limits me to seal bytes old new answer goes fit receives asks.
     received (record { bytes = c.every_datagram_is_read.ensures; packet = c.every_packet_is_told.ensures }) limits me to
-    old new goes seal identity pace bytes answer fit receives asks
+    old new goes seal bytes answer fit receives asks
 
 -- src/onward.rt:34:1
 pub returns-clause-gave_another : goal.returns-clause-gave_another
-returns-clause-gave_another c = λ limits me to other seal identity pace old new bytes apart goes gives. gives_another limits me to old new goes other seal identity pace bytes apart gives
+returns-clause-gave_another c = λ limits me to other seal pace old new bytes apart goes gives. gives_another limits me to old new goes other seal pace bytes apart gives
 
 -- src/onward.rt:34:1
 pub returns-clause-gave : goal.returns-clause-gave
-returns-clause-gave c = λ limits me to seal identity pace old new bytes goes time gives. (covers limits me to old new goes seal identity pace bytes time gives).0
+returns-clause-gave c = λ limits me to seal pace old new bytes goes time gives. (covers limits me to old new goes seal pace bytes time gives).0
 
 -- src/onward.rt:34:1
 pub returns-clause-covered : goal.returns-clause-covered
-returns-clause-covered c = λ limits me to seal identity pace old new bytes goes time gives packet took. (covers limits me to old new goes seal identity pace bytes time gives).1 packet took
+returns-clause-covered c = λ limits me to seal pace old new bytes goes time gives packet took. (covers limits me to old new goes seal pace bytes time gives).1 packet took

@@ -10,8 +10,8 @@ use Rattle.dn_open.specs.Sealed.{sealing_of}
 use Rattle.dn_link.proofs.remaining.remaining_bytes_are_genuine.Goals as goal
 
 -- bytes have one kind
-kinds_apart : {A : Type 0} (bytes : List ℕ) → slice_index bytes 1 ≡ 2 → slice_index bytes 1 ≡ 3 → A
-kinds_apart bytes two three = absurd (omega (arith, two, three))
+kinds_apart : {A : Type 0} (bytes : List ℕ) → slice_index bytes 1 ≡ 5 → slice_index bytes 1 ≡ 3 → A
+kinds_apart bytes five three = absurd (omega (arith, five, three))
 
 not_opened : (fault : BundleFault) (bundle : Bundle)
     → ◌≡◌ {A = Result Bundle BundleFault} (Ok bundle) (Err fault) → ⊥

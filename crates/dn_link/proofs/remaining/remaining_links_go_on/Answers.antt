@@ -1,5 +1,5 @@
--- Packets with the same exact numbers and bytes: where a lockstep sends one, they are those of every node that it
--- represents.
+-- Packets with the same exact numbers and bytes: where a lockstep sends one, they are those of every node that
+-- it represents.
 use Rattle.std.proofs.Common.{◌≡◌, ℕ, Bool, true, false, List, length, refl, ap, sym, ◌∙◌, Option, Some, None, ◌<◌, [], ◌∷◌, append-nil, arith, subst, inl}
 use Rattle.std.specs.Prelude.{IfSome, if◌then◌else◌, nat_lt}
 use Rattle.std.specs.Option.{option_map}
@@ -17,12 +17,12 @@ use Rattle.dn_lockstep.specs.Represents.{Represents}
 use Rattle.dn_lockstep.specs.Steps.{Steps, Tells}
 use Rattle.dn_lockstep.specs.OneGame.{given_on}
 use Rattle.dn_lockstep.specs.Told.{command_told}
-use Rattle.dn_link.specs.{declared.bundle.Carried.Carried, Hearing.carried_of, Relays.Handed, Relays.flights_of, declared.bundle.Identity.Identity, Hearing.SendsCarried, Hearing.ByTest, Pacing.PaceState}
-use Rattle.dn_link.specs.{RemainingLinks.AreRemainingLinks, RemainingLinks.KeepsGiven, RemainingLinks.WasSealedIn, Linked.Gives, Linked.Linked, Linked.holds_back, Linked.is_peer, Linked.remains, Linked.surviving_of}
+use Rattle.dn_link.specs.{declared.bundle.Carried.Carried, Hearing.carried_of, Relays.Handed, Relays.flights_of, Hearing.SendsCarried, Pacing.PaceState}
+use Rattle.dn_link.specs.{RemainingLinks.AreRemainingLinks, RemainingLinks.KeepsGiven, RemainingLinks.WasSealedIn, Linked.Gives, Linked.Linked, Linked.is_peer, Linked.remains, Linked.surviving_of}
 use Rattle.dn_link.specs.{SealedReports.sealed_report_bytes}
 use Rattle.dn_lockstep.proofs.OneGame.{GoesBetween}
 use Rattle.dn_survivor.specs.{OneGame.AreRemaining, OneGame.Session, OneGame.after_packet, OneGame.after_relays, Telling.MayRelay, declared.others.Others.Others, Surviving.Surviving, Surviving.has_given_up}
-use Rattle.dn_link.proofs.{Handing.gives_all, Linking.goes_given, Linking.stays_kept, Relinking.found_later, Relinking.found_on, RemainingCalls.built, RemainingCalls.forgot, RemainingCalls.gives_up}
+use Rattle.dn_link.proofs.{Handing.gives_all, Linking.goes_given, Linking.stays_kept, Relinking.found_later, Relinking.found_on, RemainingCalls.built, RemainingCalls.gives_up}
 use Rattle.dn_link.proofs.{RemainingCalls.quits, RemainingCalls.reported, RemainingCalls.runs, RemainingCalls.same_link, RemainingCalls.told, SealedReports.told_sealed, RemainingReceives.received}
 use Rattle.dn_seal.specs.declared.seal.Seal.{Seal}
 use Rattle.dn_machine.specs.Node as machine
@@ -124,8 +124,8 @@ module _ (marking : Marking) (limits : Limits) (settings : Settings) (session : 
   survivor : surviving_of old ≡ session.survivors player
   survivor = base.survivor marking limits settings session links linked player mine
 
-  module _ (seal : Seal) (identity : Identity) (pace : PaceState) (to : ℕ) (new : Linked) (bytes : List ℕ)
-      (gives : Gives seal identity pace to old new bytes) where
+  module _ (seal : Seal) (pace : PaceState) (to : ℕ) (new : Linked) (bytes : List ℕ)
+      (gives : Gives seal pace to old new bytes) where
     -- it goes out in a datagram of this game, and the links are those of the game after it
     abbrev after_all : Option Flight → Session
     after_all packet =
@@ -182,26 +182,16 @@ module _ (marking : Marking) (limits : Limits) (settings : Settings) (session : 
               (found_later session.packets packet which one found);
           reports = λ which given found. found;
         })
-        (stays_kept session.packets packet player old new own seal identity pace to bytes gives between answer all) in (
+        (stays_kept session.packets packet player old new own seal pace to bytes gives between answer all) in (
           inl (
             gives.bundle,
             gives.fits,
             gives.is,
-            goes_given session.packets packet player old new own seal identity pace to bytes gives between answer all,
+            goes_given session.packets packet player old new own seal pace to bytes gives between answer all,
           ),
           on.0,
           on.1,
         )
-
-    -- what is held back changes no survivor
-    held : (new.node ≡ old.node) × (gives.given ≡ None) → IsGiven None
-    held step =
-        let same : surviving_of new ≡ surviving_of old = (λ i. record {
-          lockstep = step.0 i;
-          others = gives.others i;
-        }) in
-        gave_by None
-        (one_game.keeps marking limits settings linked.game player (surviving_of new) (same ∙ survivor)) tt step.1
 
     -- what is sent is the survivor's packet
     module _ (free : has_given_up (surviving_of old) to ≡ false)
@@ -253,17 +243,10 @@ module _ (marking : Marking) (limits : Limits) (settings : Settings) (session : 
                 (step.step limits player m shows).answer numbers gave.1.bytes),
           )
 
-    gave : remains old to ≡ true
-        → (holds_back old ≡ false → Tells old.node (λ limits me m. IfSome (sent_to to limits me m).1 IsFair))
+    gave : remains old to ≡ true → Tells old.node (λ limits me m. IfSome (sent_to to limits me m).1 IsFair)
         → (packet : Option Flight) × IsGiven packet
-    gave stays fair = go (holds_back old) refl gives.step
-      where
-        go : (test : Bool) → holds_back old ≡ test
-            → ByTest test ((new.node ≡ old.node) × (gives.given ≡ None)) (SendsCarried to old.node new.node gives.given)
-            → (packet : Option Flight) × IsGiven packet
-        go true is step = (None, held step)
-        go false is step =
-            sent (not-true (has_given_up (surviving_of old) to) (and_parts (is_peer old.node to) _ stays).1) (fair is) step
+    gave stays fair =
+        sent (not-true (has_given_up (surviving_of old) to) (and_parts (is_peer old.node to) _ stays).1) fair gives.step
 
 pub returns-clause-built : goal.returns-clause-built
 returns-clause-built c = λ marking limits settings session links player new input made linked mine.
@@ -277,18 +260,14 @@ pub returns-clause-quit : goal.returns-clause-quit
 returns-clause-quit c = λ marking limits settings session links player new quit linked mine.
     quits marking limits settings session links linked player mine new quit
 
-pub returns-clause-forgot : goal.returns-clause-forgot
-returns-clause-forgot c = λ marking limits settings session links player peer new linked mine.
-    forgot marking limits settings session links linked player mine peer new
-
 pub returns-clause-gave_up : goal.returns-clause-gave_up
 returns-clause-gave_up c = λ marking limits settings session links here player new answer linked mine.
     gives_up marking limits settings session links linked here mine player new answer
 
 pub returns-clause-gave : goal.returns-clause-gave
-returns-clause-gave c = λ marking limits settings session links player to seal identity pace new bytes linked mine stays
+returns-clause-gave c = λ marking limits settings session links player to seal pace new bytes linked mine stays
     fair gives.
-    let sent = gave marking limits settings session links linked player mine seal identity pace to new bytes gives stays
+    let sent = gave marking limits settings session links linked player mine seal pace to new bytes gives stays
     fair in (sent.0, sent.1.0, (sent.1.1, sent.1.2))
 
 pub returns-clause-told : goal.returns-clause-told
@@ -307,9 +286,9 @@ returns-clause-sealed c = λ marking limits settings session links player to sea
     )
 
 pub returns-clause-received : goal.returns-clause-received
-returns-clause-received c = λ marking limits settings session links player seal identity pace after bytes new answer
+returns-clause-received c = λ marking limits settings session links player seal pace after bytes new answer
     linked mine.
-    received marking limits settings session links linked player mine seal identity pace after bytes new answer
+    received marking limits settings session links linked player mine seal pace after bytes new answer
 
 pub returns-clause-reported : goal.returns-clause-reported
 returns-clause-reported c = λ marking limits settings session links which given new answer linked.

@@ -148,11 +148,11 @@ module _ {W S : Type 0} (state : W → S) (physics : Physics S) (limits : Limits
           ∙ take_all (length (session.told q)) (session.told r) (omega (arith, long))
     ]
 
-    worlds : two.one.began ≡ true → two.other.began ≡ true → length (session.told q) ≡ length (session.told r)
+    worlds : length (session.told q) ≡ length (session.told r)
         → state two.one.world ≡ state two.other.world
-    worlds here there long = (is.players q two.one two.one_is).world here
+    worlds long = (is.players q two.one two.one_is).world
         ∙ ap (λ (rows : List (List (Option Move))). world_by physics (world_told limits settings rows)) (rows_same long)
-        ∙ sym ((is.players r two.other two.other_is).world there)
+        ∙ sym (is.players r two.other two.other_is).world
 
   unread : (q p : ℕ) → q < limits.players → p < limits.players
       → got (session.survivors q).lockstep p ≤ length (session.told q) + (limits.ahead + limits.ahead)

@@ -1,9 +1,7 @@
 use Rattle.std.proofs.Common.{◌≡◌, ◌++◌, List, ℕ, ap, ◌∙◌, append_assoc}
 use Rattle.std.specs.List.{concat}
-use Rattle.dn_seal.specs.Hmac.{tag_of}
-use Rattle.dn_seal.specs.Sealing.{sealing}
-use Rattle.dn_session.specs.Cookies.{game_label}
-use Rattle.dn_session.specs.Terms.{terms_bytes}
+use Rattle.dn_seal.specs.{Hmac.tag_of, Sealing.sealing}
+use Rattle.dn_session.specs.{Cookies.game_label, Terms.terms_bytes}
 use Rattle.dn_session.proofs.cookies.game_of.Goals as goal
 
 pub returns : goal.returns

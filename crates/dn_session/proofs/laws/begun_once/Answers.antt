@@ -1,8 +1,5 @@
 use Rattle.std.proofs.Common.{◌≡◌, ℕ, List, refl, ◌∙◌, Result, Ok, Err, true}
-use Rattle.dn_session.specs.declared.greeting.Address.{Address}
-use Rattle.dn_session.specs.declared.greeting.Call.{Call}
-use Rattle.dn_session.specs.declared.greeting.GreetingFault.{GreetingFault}
-use Rattle.dn_session.specs.Hosting.{Lobby, on_call}
+use Rattle.dn_session.specs.{Hosting.Lobby, Hosting.on_call, declared.greeting.Address.Address, declared.greeting.Call.Call, declared.greeting.GreetingFault.GreetingFault}
 use Rattle.dn_session.proofs.Lobbies.{each_call}
 use Rattle.dn_session.proofs.laws.begun_once.Goals as goal
 

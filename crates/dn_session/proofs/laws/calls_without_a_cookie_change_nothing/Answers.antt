@@ -1,12 +1,7 @@
 use Rattle.std.proofs.Common.{◌≡◌, ℕ, List, Bool, refl, ap, ◌∙◌, Option, Some, None, Ok, true, false}
 use Rattle.std.specs.Prelude.{position}
-use Rattle.dn_session.specs.declared.greeting.Address.{Address}
-use Rattle.dn_session.specs.declared.greeting.Call.{Call}
-use Rattle.dn_session.specs.declared.greeting.Refusal.TheVariants.{Cookie}
-use Rattle.dn_session.specs.Cookies.{is_good}
-use Rattle.dn_session.specs.Hosting.{Lobby, on_call, on_opened, refused}
-use Rattle.dn_session.specs.Rests.{calls}
-use Rattle.dn_session.specs.Seats.{is_of}
+use Rattle.dn_session.specs.{Cookies.is_good, Hosting.Lobby, Hosting.on_call, Hosting.on_opened, Hosting.refused, Rests.calls, Seats.is_of, declared.greeting.Address.Address}
+use Rattle.dn_session.specs.{declared.greeting.Call.Call, declared.greeting.Refusal.TheVariants.Cookie}
 use Rattle.dn_session.proofs.Readings.{only}
 use Rattle.dn_session.proofs.laws.calls_without_a_cookie_change_nothing.Goals as goal
 

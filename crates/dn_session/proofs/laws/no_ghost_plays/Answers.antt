@@ -1,16 +1,12 @@
 use Rattle.std.proofs.Common.{◌≡◌, ℕ, List, sym, subst, Result, Ok, Err, true, false}
 use Rattle.std.specs.List.{list_all}
-use Rattle.dn_session.specs.declared.greeting.Address.{Address}
-use Rattle.dn_session.specs.declared.greeting.Call.{Call}
-use Rattle.dn_session.specs.declared.greeting.GreetingFault.{GreetingFault}
-use Rattle.dn_session.specs.Hosting.{Lobby, on_call}
-use Rattle.dn_session.specs.Seats.{is_ready}
+use Rattle.dn_session.specs.{Hosting.Lobby, Hosting.on_call, Seats.is_ready, declared.greeting.Address.Address, declared.greeting.Call.Call, declared.greeting.GreetingFault.GreetingFault}
 use Rattle.dn_session.proofs.Lobbies.{each_call}
 use Rattle.dn_session.proofs.laws.no_ghost_plays.Goals as goal
 
 -- a game that has begun has all its players
 abbrev IsFull : ℕ → Lobby → Type 0
-IsFull now l = l.begun ≡ true → list_all (is_ready now) l.seats ≡ true
+IsFull now l = l.begun ≡ true → list_all (is_ready now l.filled) l.seats ≡ true
 
 -- a lobby whose game has not begun has that too
 idle : (now : ℕ) (l : Lobby) → l.begun ≡ false → IsFull now l

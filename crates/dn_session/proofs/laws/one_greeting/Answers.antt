@@ -1,6 +1,5 @@
-use Rattle.dn_session.proofs.Hints.{one_hint}
-use Rattle.dn_session.proofs.Readings.{only}
-use Rattle.dn_session.specs.Rests.{calls, refusals, seatings}
+use Rattle.dn_session.proofs.{Hints.one_hint, Readings.only}
+use Rattle.dn_session.specs.{Rests.calls, Rests.refusals, Rests.seatings}
 use Rattle.dn_session.proofs.laws.one_greeting.Goals as goal
 
 pub returns-clause-calls : goal.returns-clause-calls

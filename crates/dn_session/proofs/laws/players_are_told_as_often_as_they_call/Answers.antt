@@ -1,10 +1,6 @@
 use Rattle.std.proofs.Common.{◌≡◌, ℕ, List, refl, ap, ◌∙◌, Option, Some, Ok, true}
 use Rattle.std.specs.Prelude.{position}
-use Rattle.dn_session.specs.declared.greeting.Address.{Address}
-use Rattle.dn_session.specs.declared.greeting.Call.{Call}
-use Rattle.dn_session.specs.Hosting.{Lobby, on_call, on_opened, seating}
-use Rattle.dn_session.specs.Rests.{calls}
-use Rattle.dn_session.specs.Seats.{is_of}
+use Rattle.dn_session.specs.{Hosting.Lobby, Hosting.on_call, Hosting.on_opened, Hosting.seating, Rests.calls, Seats.is_of, declared.greeting.Address.Address, declared.greeting.Call.Call}
 use Rattle.dn_session.proofs.Readings.{only}
 use Rattle.dn_session.proofs.laws.players_are_told_as_often_as_they_call.Goals as goal
 

@@ -1,10 +1,7 @@
 use Rattle.std.proofs.Common.{◌≡◌, ℕ, List, [], ◌∷◌, refl, ap}
 use Rattle.std.specs.Prelude.{map}
-use Rattle.dn_session.specs.declared.seats.Seat.{Seat}
+use Rattle.dn_session.specs.{Cookies.game_of, Joining.number_of, Seats.number_in, Seats.shown_at, declared.seats.Seat.Seat}
 use Rattle.dn_session.specs.declared.seats.Seat.TheVariants as seat
-use Rattle.dn_session.specs.Cookies.{game_of}
-use Rattle.dn_session.specs.Joining.{number_of}
-use Rattle.dn_session.specs.Seats.{number_in, shown_at}
 use Rattle.dn_session.proofs.laws.players_are_told_one_game.Goals as goal
 
 -- who holds a seat is told by its number

@@ -1,10 +1,8 @@
 use Rattle.std.proofs.Common.{◌≡◌, ℕ, refl, ap, true, false}
 use Rattle.std.specs.Prelude.{not}
 use Rattle.std.proofs.lemmas.Bool.{and_right}
-use Rattle.dn_session.specs.declared.greeting.Refused.{Refused}
+use Rattle.dn_session.specs.{Cookies.is_recent, Joining.Joining, Joining.is_answer, Joining.is_own, Joining.is_sure, Joining.on_refused, Joining.on_seating, declared.greeting.Refused.Refused}
 use Rattle.dn_session.specs.declared.greeting.Seating.{Seating}
-use Rattle.dn_session.specs.Cookies.{is_recent}
-use Rattle.dn_session.specs.Joining.{is_answer, is_own, is_sure, on_refused, on_seating, Joining}
 use Rattle.dn_session.proofs.laws.seated_joiners_heed_no_refusal.Goals as goal
 
 heeds_none : (r : Refused) (now : ℕ) (j : Joining) → is_sure now j ≡ true → on_refused r now j ≡ j

@@ -1,8 +1,7 @@
 use Rattle.std.proofs.Common.{◌≡◌, ap, ◌∙◌, Option, ℕ}
 use Rattle.dn_lockstep.specs.Contents.{Contents}
-use Rattle.dn_link.specs.Linked.{end_known}
-use Rattle.dn_link.specs.Linking.{linked}
-use Rattle.dn_session.specs.Players.{count_in, ends_by}
+use Rattle.dn_link.specs.{Linked.end_known, Linking.linked}
+use Rattle.dn_session.specs.{Players.count_in, Players.ends_by}
 use Rattle.dn_session.proofs.players.is_whole.Goals as goal
 
 pub returns : goal.returns

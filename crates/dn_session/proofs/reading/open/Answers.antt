@@ -1,8 +1,7 @@
 use Rattle.std.proofs.Common.{◌≡◌, ℕ, List, Option, sym, ◌∙◌, inl}
 use Rattle.dn_seal.specs.declared.seal.Seal.{Seal}
-use Rattle.dn_session.specs.declared.greeting.GreetingFault.{GreetingFault}
-use Rattle.dn_session.specs.Reading.{first_fault}
-use Rattle.dn_session.proofs.Readings.{only, opened}
+use Rattle.dn_session.specs.{Reading.first_fault, declared.greeting.GreetingFault.GreetingFault}
+use Rattle.dn_session.proofs.{Readings.only, Readings.opened}
 use Rattle.dn_session.proofs.reading.open.Goals as goal
 
 -- the fault that was found, as the sort has it

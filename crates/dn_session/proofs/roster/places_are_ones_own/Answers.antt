@@ -1,4 +1,4 @@
-use Rattle.dn_session.proofs.Rosters.{ones_game, ones_own}
+use Rattle.dn_session.proofs.{Rosters.ones_game, Rosters.ones_own}
 use Rattle.dn_session.proofs.roster.places_are_ones_own.Goals as goal
 
 pub returns-clause-game : goal.returns-clause-game

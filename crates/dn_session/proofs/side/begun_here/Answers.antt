@@ -1,7 +1,6 @@
 use Rattle.std.proofs.Common.{ap, ◌∙◌}
 use Rattle.std.specs.Option.{option_map}
-use Rattle.dn_session.specs.Hosting.{lobby}
-use Rattle.dn_session.specs.Session.{begun_here}
+use Rattle.dn_session.specs.{Hosting.lobby, Session.begun_here}
 use Rattle.dn_session.proofs.side.begun_here.Goals as goal
 
 pub returns : goal.returns

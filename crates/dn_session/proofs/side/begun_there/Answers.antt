@@ -1,6 +1,5 @@
 use Rattle.std.proofs.Common.{ap, ◌∙◌, Option, List, ℕ}
-use Rattle.dn_session.specs.Joining.{joining}
-use Rattle.dn_session.specs.Session.{begun_with}
+use Rattle.dn_session.specs.{Joining.joining, Session.begun_with}
 use Rattle.dn_session.proofs.side.begun_there.Goals as goal
 
 pub returns : goal.returns

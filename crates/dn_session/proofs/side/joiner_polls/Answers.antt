@@ -1,7 +1,5 @@
 use Rattle.std.proofs.Common.{ap, subst, sym, ◌∙◌, Option, List, ℕ}
-use Rattle.dn_session.specs.Joining.{joining}
-use Rattle.dn_session.specs.Roster.{IsJoining}
-use Rattle.dn_session.specs.Session.{reply_to}
+use Rattle.dn_session.specs.{Joining.joining, Roster.IsJoining, Session.reply_to}
 use Rattle.dn_session.proofs.Joiners.{timed_fits}
 use Rattle.dn_session.proofs.side.joiner_polls.Goals as goal
 

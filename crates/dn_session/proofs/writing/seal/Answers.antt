@@ -1,8 +1,6 @@
 use Rattle.std.proofs.Common.{◌≡◌, ◌++◌, ◌∷◌, [], List, ℕ, take, ap, ◌∙◌}
-use Rattle.dn_seal.specs.Hmac.{tag_of}
-use Rattle.dn_seal.specs.Hmac.{suite_byte}
-use Rattle.dn_seal.specs.Sealing.{sealing}
-use Rattle.dn_session.specs.Text.{body_bytes, head_bytes, kind_bytes}
+use Rattle.dn_seal.specs.{Hmac.suite_byte, Hmac.tag_of, Sealing.sealing}
+use Rattle.dn_session.specs.{Text.body_bytes, Text.head_bytes, Text.kind_bytes}
 use Rattle.dn_session.proofs.writing.seal.Goals as goal
 
 pub returns-clause-value : goal.returns-clause-value

@@ -8,4 +8,4 @@ pub returns-in-Some : goal.returns-in-Some
 returns-in-Some c = let b = c.build in
     told_lent joined_of c.args.link.now.link c.in-Some.held.now b.new.self _ _ _ b.result c.in-Some.ensures.live
     c.in-Some.ensures.value c.of.ensures (builds_of_same c.in-Some.held.now b.new.self (ap Pressed c.from_bits.ensures)
-    ((b.ensures.step, b.ensures.full, b.ensures.idle), b.ensures.others, b.ensures.peers, b.ensures.pace, (b.ensures.seal, b.ensures.identity)))
+    ((b.ensures.step, b.ensures.full, b.ensures.idle), b.ensures.others, b.ensures.peers, b.ensures.pace, b.ensures.seal))

@@ -12,5 +12,5 @@ returns-in-Some c =
       c.catch_up.ensures.idle,
       c.catch_up.ensures.others,
       c.catch_up.ensures.peers,
-      (c.catch_up.ensures.seal, c.catch_up.ensures.identity),
+      c.catch_up.ensures.seal,
     )

@@ -13,5 +13,5 @@ returns-in-Some c =
       subst (λ (x : ℤ). nat_abs x ≤ 34) (sym (wide ∙ c.from.ensures ∙ narrow)) c.lean.ensures.range,
       c.lean.ensures.link,
       c.lean.ensures.pace,
-      (c.lean.ensures.seal, c.lean.ensures.identity),
+      c.lean.ensures.seal,
     )

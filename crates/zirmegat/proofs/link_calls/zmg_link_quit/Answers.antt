@@ -10,5 +10,5 @@ returns-in-Some c =
       c.quit.ensures.others,
       c.quit.ensures.peers,
       c.quit.ensures.pace,
-      (c.quit.ensures.seal, c.quit.ensures.identity),
+      c.quit.ensures.seal,
     )

@@ -13,5 +13,5 @@ returns-in-Some c =
       c.run_into-ran.ensures.others,
       c.run_into-ran.ensures.peers,
       c.run_into-ran.ensures.pace,
-      (c.run_into-ran.ensures.seal, c.run_into-ran.ensures.identity),
+      c.run_into-ran.ensures.seal,
     )

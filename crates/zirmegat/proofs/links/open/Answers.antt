@@ -1,42 +1,49 @@
-use Rattle.std.proofs.Common.{◌≡◌, sym, ap, ◌∙◌, subst}
-use Rattle.std.specs.Prelude.{Option, Some, None, IfSome}
-use Rattle.std.specs.Option.{option_map}
-use Rattle.dn_lockstep.specs.{Contents.Contents, declared.config.Config.Config}
-use Rattle.zirmegat.specs.Links.{IsNew, Joined, joined_of, link_of}
-use Rattle.zirmegat.proofs.Opening.{opens_made, opens_none}
+use Rattle.std.proofs.Common.{ap, ◌∙◌, refl, subst}
+use Rattle.std.specs.Prelude.{None, Ok, Err}
+use Rattle.dn_lockstep.specs.{declared.config.Config.Config, Opening.IsAdmittedWithin, Opening.keyed, Opening.limits_within, Opening.whose_within, Represents.Represents}
+use Rattle.dn_machine.specs.Started.{started_node}
+use Rattle.zirmegat.specs.Links.{Joined, joined_of}
+use Rattle.zirmegat.specs.Opening.{config_of}
+use Rattle.zirmegat.proofs.Opening.{made_again, refused_again}
 use Rattle.zirmegat.proofs.links.open.Goals as goal
 
 pub returns-in-Ok-boxed : goal.returns-in-Ok-boxed
 returns-in-Ok-boxed c =
     let made : Joined = joined_of c.in-Ok-boxed.made.value in
-    let held : link_of c.of.result ≡ Some made = c.of.ensures in (
-      opens_made c.args.config.now c.args.ahead c.in-Ok.settings c.with.result _ made.link.node
-          (option_map (λ (n : Joined). n.link.node) (link_of c.of.result)) c.in-Ok.ensures c.with.ensures
-          c.in-Ok-boxed.ensures.admitted (ap (option_map (λ (n : Joined). n.link.node)) held)
-          c.in-Ok-boxed.ensures.fresh c.in-Ok-boxed.ensures.whose,
-      subst (λ (o : Option Joined). IfSome o (IsNew c.args.config.now c.args.ahead c.args.host c.args.seal)) (sym held) (
-        c.in-Ok-boxed.ensures.others,
-        c.in-Ok-boxed.ensures.peers,
-        c.in-Ok-boxed.ensures.pace,
-        c.in-Ok-boxed.ensures.seal,
-        c.in-Ok-boxed.ensures.identity ∙ ap (λ (w : Config). record {
-          players = w.players;
-          extra = w.extra;
-          ahead = c.args.ahead;
-          limit = w.limit;
-          host = c.args.host;
-        }) c.with.ensures,
+    let settings = c.in-Ok.settings in
+    let of = c.in-Ok-boxed.ensures in (
+      Ok settings,
+      c.in-Ok.ensures,
+      (
+        Ok made,
+        made_again (keyed (config_of c.args.config.now None) settings) c.args.ahead c.in-Ok-boxed.made made
+            (subst (λ (g : Config). IsAdmittedWithin (keyed g settings) c.args.ahead (Ok c.in-Ok-boxed.made)) c.with.ensures of.admitted),
+        (
+          refl,
+          c.of.ensures,
+          (
+            subst (λ (g : Config). Represents (limits_within g c.args.ahead) g.me made.link.node
+                (started_node g.players settings g.me)) c.with.ensures of.opened,
+            of.whose ∙ ap (λ (g : Config). whose_within g c.args.ahead) c.with.ensures,
+            of.others,
+            of.peers,
+            of.pace,
+            of.seal,
+          ),
+        ),
       ),
     )
 
-none_has : (New : Joined → Type 0) (made : Option Joined) → made ≡ None → IfSome made New
-none_has New made none = subst (λ (o : Option Joined). IfSome o New) (sym none) tt
-
 pub returns-in-Err-boxed : goal.returns-in-Err-boxed
 returns-in-Err-boxed c =
-    let lockstep : Option Joined → Option Contents = option_map (λ (n : Joined). n.link.node) in (
-      opens_none c.args.config.now c.args.ahead c.in-Ok.settings c.with.result c.in-Err-boxed.fault
-          c.fault_code.result (lockstep (link_of c.take.new.self)) c.in-Ok.ensures c.with.ensures
-          c.in-Err-boxed.ensures.admitted c.fault_code.ensures (ap lockstep c.take.ensures.left),
-      none_has (IsNew c.args.config.now c.args.ahead c.args.host c.args.seal) _ c.take.ensures.left,
+    let settings = c.in-Ok.settings in (
+      Ok settings,
+      c.in-Ok.ensures,
+      (
+        Err c.in-Err-boxed.fault,
+        refused_again (keyed (config_of c.args.config.now None) settings) c.args.ahead c.in-Err-boxed.fault
+            (subst (λ (g : Config). IsAdmittedWithin (keyed g settings) c.args.ahead (Err c.in-Err-boxed.fault)) c.with.ensures
+            c.in-Err-boxed.ensures.admitted),
+        (c.fault_code.ensures, c.take.ensures.left),
+      ),
     )

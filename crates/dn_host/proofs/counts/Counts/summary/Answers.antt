@@ -1,6 +1,6 @@
 -- What follows of a summary, whatever was told.
 use Rattle.std.proofs.Common.{◌≡◌, ◌≤◌, ◌<◌, ℕ, zero, suc, ◌+◌, max, Bool, true, false, cond, List, [], ◌∷◌, ◌++◌, length, fold, Option, Some, None, inl, inr, refl, sym, ap, ◌∙◌, subst, arith, length-append}
-use Rattle.std.specs.Prelude.{slice_index_or, sum, option_map}
+use Rattle.std.specs.Prelude.{slice_index_or, sum}
 use Rattle.std.proofs.Props.{props}
 use Rattle.std.proofs.lemmas.Bool.{cases_lt, lt-ltb, le-ltb}
 use Rattle.std.proofs.lemmas.List.Recursion.{is_count_by}
@@ -14,7 +14,7 @@ use Rattle.dn_link.specs.Linking.{linked}
 use Rattle.dn_measure.specs.{declared.arrivals.Arrivals.Arrivals, declared.felt.Felt.Felt, declared.felt.Felt.TheVariants.Never, declared.felt.Felt.TheVariants.Within, declared.felt.Felt.TheVariants.Longer, Histogram.IsFelt}
 use Rattle.dn_measure.specs.{Histogram.AreCountsOf, Histogram.IsPercentile, Measure.IsSummaryOf, Measure.samples_of, Measure.waits_of, Told.runs_of, declared.measure.Summary.Summary, declared.measure.Told.Told}
 use Rattle.dn_measure.specs.{Runs.as_count, Runs.gaps_in, Runs.is_gap, Runs.longest_of, Runs.times_between, Runs.times_in}
-use Rattle.dn_host.specs.{Arrived.arrivals_by, Arrived.arrivals_in, Arrived.since_then, Coming.figures_by_link, Summaries.IsNoLater, Summaries.IsWithin}
+use Rattle.dn_host.specs.{Arrived.arrivals_by, Arrived.arrivals_in, Arrived.figures_by_link, Summaries.IsNoLater, Summaries.IsWithin}
 use Rattle.dn_host.proofs.counts.Counts.summary.Goals as goal
 
 -- as many times as tics, with the one before the end
@@ -112,28 +112,26 @@ felt_in_order counts Longer (Within time) h m =
 felt_in_order counts Longer Longer h m = tt {0}
 
 -- what came of a player
-within : (figures : Option Figures) (late : ℕ) (before : Option Arrivals)
-    → IsWithin figures (since_then (option_map (arrivals_in late) figures) before)
-within None late before = tt {0}
-within (Some figures) late None = (omega arith, (omega arith, (omega arith, omega arith)))
-within (Some figures) late (Some before) = (omega arith, (omega arith, (omega arith, omega arith)))
+within : (figures : Option Figures) (late : ℕ) → IsWithin figures (arrivals_in figures late)
+within None late = tt {0}
+within (Some figures) late = (omega arith, (omega arith, (omega arith, omega arith)))
 
-all_within : (link : Linked) (pace : PaceState) (late : List ℕ) (before peers : List (Option Arrivals))
-    → peers ≡ arrivals_by link pace late before → (player : ℕ) → player < 4
+all_within : (link : Linked) (pace : PaceState) (late : List ℕ) (peers : List (Option Arrivals))
+    → peers ≡ arrivals_by link pace late → (player : ℕ) → player < 4
     → IsWithin (figures_by_link link pace player) (slice_index_or peers player None)
-all_within link pace late before peers is zero below =
+all_within link pace late peers is zero below =
     subst (λ (p : List (Option Arrivals)). IsWithin (figures_by_link link pace 0) (slice_index_or p 0 None)) (sym is)
-    (within (figures_by_link link pace 0) _ _)
-all_within link pace late before peers is (suc zero) below =
+    (within (figures_by_link link pace 0) _)
+all_within link pace late peers is (suc zero) below =
     subst (λ (p : List (Option Arrivals)). IsWithin (figures_by_link link pace 1) (slice_index_or p 1 None)) (sym is)
-    (within (figures_by_link link pace 1) _ _)
-all_within link pace late before peers is (suc (suc zero)) below =
+    (within (figures_by_link link pace 1) _)
+all_within link pace late peers is (suc (suc zero)) below =
     subst (λ (p : List (Option Arrivals)). IsWithin (figures_by_link link pace 2) (slice_index_or p 2 None)) (sym is)
-    (within (figures_by_link link pace 2) _ _)
-all_within link pace late before peers is (suc (suc (suc zero))) below =
+    (within (figures_by_link link pace 2) _)
+all_within link pace late peers is (suc (suc (suc zero))) below =
     subst (λ (p : List (Option Arrivals)). IsWithin (figures_by_link link pace 3) (slice_index_or p 3 None)) (sym is)
-    (within (figures_by_link link pace 3) _ _)
-all_within link pace late before peers is (suc (suc (suc (suc player)))) below = absurd (omega arith)
+    (within (figures_by_link link pace 3) _)
+all_within link pace late peers is (suc (suc (suc (suc player)))) below = absurd (omega arith)
 
 -- the facts have one proof at most
 IsNoLater-prop : (half most : Felt) → IsProp (IsNoLater half most)
@@ -191,6 +189,6 @@ returns-clause-by c =
       felt = ∥∥₁_elim some (IsNoLater-prop _ _)
           (λ m. felt_in m.0 m.1 _ _ _ _ _ m.2.keys (c.summary.ensures m.0 m.1 m.2));
       peers = λ player below. ∥∥₁_elim some (IsWithin-prop _ _) (λ m.
-          all_within (linked c.args.link.now) (pace_of c.args.link.now) c.args.self.now.late c.args.self.now.before _
+          all_within (linked c.args.link.now) (pace_of c.args.link.now) c.args.self.now.late _
           ((c.summary.ensures m.0 m.1 m.2).peers_are ∙ c.arrivals.ensures) player below);
     }

@@ -2,55 +2,49 @@ use Rattle.std.proofs.Common.{rules, ◌≡◌, ◌<◌, ◌+◌, List, ◌%◌,
 use Rattle.std.specs.Prelude.{Bool, None, ◌&&◌, ◌||◌, is_some}
 use Rattle.dn_machine.specs.Node.{put}
 use Rattle.dn_lockstep.specs.Contents.{Contents, contents}
-use Rattle.dn_link.specs.{Counting.counts_of, Hearing.SendsCarried, Hearing.ByTest, Line.LineState, Line.missing, Presence.message_of, Kept.going, Kept.kept_after, Kept.taken_by, Linked.PeerState, Linked.holds_back}
-use Rattle.dn_link.specs.{Linked.is_gathering, Linking.identity_of, Linking.linked, Linking.peers_of, Linking.state_of, Relays.AreLacked, Packing.ArePacked}
+use Rattle.dn_link.specs.{Counting.counts_of, Ends.told_cause, Hearing.SendsCarried, Line.LineState, Line.missing, Kept.going, Kept.kept_after, Kept.taken_by, Linked.PeerState}
+use Rattle.dn_link.specs.{Linking.linked, Linking.peers_of, Linking.state_of, Relays.AreLacked, Packing.ArePacked}
 use Rattle.dn_link.proofs.{Handing.may_before, Linking.same_reported, Places.peer_at, Places.peers_put}
 use Rattle.dn_link.proofs.link.Link.datagram.Goals as goal
 
 pub returns-clause-gives : goal.returns-clause-gives
 returns-clause-gives c =
     let peers = c.args.self.now.peers in
-    let packet = c.next_unless-packet.result in
+    let packet = c.next_packet-packet.result in
     let n = (linked c.args.self.now).node in
     let lent = contents c.lockstep_mut.result.now in
-    let after_it = contents c.next_unless-packet.new.lockstep in
+    let after_it = contents c.next_packet-packet.new.lockstep in
     let is_lent : lent ≡ n = c.lockstep_mut.ensures.value in
     let me : c.me-me.result ≡ n.me = c.me-me.ensures in
     let four : length peers ≡ 4 = search rules in
     let below : c.args.to < length peers = omega (arith, four, c.if-to-players.false, c.players.ensures, c.lockstep.result.now.few) in
     let here = peer_at peers c.args.to c.index-self-to.result below in
     let after = c.parts-number.ensures in
-    let settings : c.is_settings-settings.result ≡ (is_gathering n.phase && is_some packet) =
-    c.is_settings-settings.ensures ∙ (λ i. c.is_gathering-gathers.ensures i && is_some packet) in
     let line = c.line-line.result.now in
     let behind = c.with_handed-parts.ensures.behind.0 in
     let new_peers = peers_put peers c.args.to c.parts-number.new.self below
     ∙ ap (put (peers_of peers) c.args.to) (after.peer ∙ (λ i. record (here i) {
-      kept = kept_after (here i).kept (taken_by (here i).presence packet);
-      gave = (here i).gave || settings i;
+      kept = kept_after (here i).kept (taken_by (here i).left packet);
       number = ((here i).number + 1) % 2 ^ 32;
     })) in
     let old_peer = peers_of peers c.args.to in
     let reported = ap (λ (f : ℕ → PeerState). (f c.args.to).reported) new_peers
-    ∙ same_reported (peers_of peers) c.args.to (kept_after old_peer.kept (taken_by old_peer.presence packet))
-    (old_peer.gave || (is_gathering n.phase && is_some packet)) ((old_peer.number + 1) % 2 ^ 32) c.args.to in
+    ∙ same_reported (peers_of peers) c.args.to (kept_after old_peer.kept (taken_by old_peer.left packet))
+    ((old_peer.number + 1) % 2 ^ 32) c.args.to in
     let lacked = subst (λ (l : List ℕ). AreLacked l 0 behind.handed) reported behind.lacked in
     let led : to_z w8 (of_z w8 line.own_lead) ≡ line.own_lead = search rules in
     record {
       given = packet;
-      step = subst (λ (m : Contents). ByTest (holds_back (linked c.args.self.now)) ((after_it ≡ m)
-          × (packet ≡ None)) (SendsCarried c.args.to m after_it packet)) is_lent
-          (subst (λ (held : Bool). ByTest held ((after_it ≡ lent) × (packet ≡ None))
-          (SendsCarried c.args.to lent after_it packet)) c.holds_back-held.ensures c.next_unless-packet.ensures.step);
-      idle = λ none. c.next_unless-packet.ensures.idle none ∙ is_lent;
+      step = subst (λ (m : Contents). SendsCarried c.args.to m after_it packet) is_lent c.next_packet-packet.ensures.step;
+      idle = λ none. c.next_packet-packet.ensures.idle none ∙ is_lent;
       bundle = record {
         from = c.me-me.result;
         to = c.args.to;
         number = c.parts-number.result.0;
         lead = to_z w8 (of_z w8 line.own_lead);
         holes = c.missing.result;
+        cause = c.told_cause-cause.result;
         counts = c.counts_of.result;
-        message = c.message_of-message.result;
         parts = c.with_handed-parts.result;
       };
       is = c.seal_bundle.ensures.text;
@@ -60,7 +54,7 @@ returns-clause-gives c =
       number = after.number ∙ ap (λ (t : PeerState). t.number) here;
       lead = led ∙ ap (λ (l : LineState). l.own_lead) c.line-line.ensures;
       holes = c.missing.ensures ∙ ap missing c.line-line.ensures;
-      message = c.message_of-message.ensures ∙ ap (message_of (identity_of c.args.self.now))
+      cause = c.told_cause-cause.ensures ∙ ap told_cause
           (c.phase.ensures ∙ ap (λ (n : Contents). n.phase) c.lockstep-2.ensures);
       counts = c.counts_of.ensures ∙ ap counts_of c.lockstep-3.ensures;
       own = c.parts-number.result.1.items;
@@ -72,9 +66,9 @@ returns-clause-gives c =
       stay = behind.stay;
       may = may_before (linked c.args.self.now) _ c.args.to 0 _ _ refl behind;
       packed = subst (λ (t : PeerState). ArePacked n.me
-          (going t.kept (taken_by t.presence packet)) c.parts-number.result.1.items) here
+          (going t.kept (taken_by t.left packet)) c.parts-number.result.1.items) here
           (subst (λ (k : ℕ). ArePacked k (going (state_of (get_or peers c.args.to c.index-self-to.result)).kept
-          (taken_by (state_of (get_or peers c.args.to c.index-self-to.result)).presence packet))
+          (taken_by (state_of (get_or peers c.args.to c.index-self-to.result)).left packet))
           c.parts-number.result.1.items) me after.packed);
       others = refl;
       peers = new_peers;

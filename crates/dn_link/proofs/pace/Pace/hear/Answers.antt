@@ -12,4 +12,4 @@ returns c =
     let below : bundle.from < length lines = omega (arith, four, c.requires) in
     ap (λ (f : ℕ → LineState). record (state_of c.args.self.now) { lines = f })
     (place_put line_of new_line lines bundle.from c.hear.new.self below ∙ ap (put (lines_of lines) bundle.from)
-    (c.hear.ensures ∙ ap (heard_on bundle c.args.may_come) (place_at line_of new_line lines bundle.from _ below)))
+    (c.hear.ensures ∙ ap (heard_on bundle) (place_at line_of new_line lines bundle.from _ below)))

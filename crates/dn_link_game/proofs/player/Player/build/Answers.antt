@@ -19,5 +19,5 @@ returns-clause-goes_on g c limits settings session links player mine below is an
           c.build.ensures.step)
           (c.build.ensures.others ∙ sym (ap (λ (l : Linked). l.others) is.link))
           (c.build.ensures.peers ∙ sym (ap (λ (l : Linked). l.peers) is.link)),
-      record { link = refl; world = is.world; unbegun = is.unbegun },
+      record { link = refl; world = is.world },
     )

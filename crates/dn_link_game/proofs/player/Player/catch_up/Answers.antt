@@ -26,7 +26,7 @@ returns-clause-goes_on g c limits settings session links player mine below is an
             λ other apart. refl,
             c.remaining_links_go_on.ensures.kept marking limits settings session links player new mine below
                 (still.1 ∙ sym is.link),
-            record { link = refl; world = is.world; unbegun = is.unbegun },
+            record { link = refl; world = is.world },
           )
       | inr some ↦
           let made = c.catch_up.ensures.owed some.0 some.1 in (
@@ -39,6 +39,6 @@ returns-clause-goes_on g c limits settings session links player mine below is an
                 (subst (λ (l : Linked). Builds l.node new.node some.0 made.0) (sym is.link) made.2)
                 (c.catch_up.ensures.others ∙ sym (ap (λ (l : Linked). l.others) is.link))
                 (c.catch_up.ensures.peers ∙ sym (ap (λ (l : Linked). l.peers) is.link)),
-            record { link = refl; world = is.world; unbegun = is.unbegun },
+            record { link = refl; world = is.world },
           )
     ]

@@ -1,11 +1,11 @@
-use Rattle.std.proofs.Common.{◌≡◌, false, refl, sym, ap, ◌∙◌, subst}
+use Rattle.std.proofs.Common.{refl, sym, ap, ◌∙◌, subst}
 use Rattle.std.specs.Prelude.{IfSome}
 use Rattle.dn_lockstep.specs.Sent.{IsFair}
 use Rattle.dn_lockstep.specs.Sent.{sent_to}
 use Rattle.dn_lockstep.specs.Steps.{Tells}
 use Rattle.dn_survivor.specs.OneGame.{after_packet, after_relays, with_survivor}
-use Rattle.dn_link.specs.Linked.{Gives, Linked, holds_back, remains, surviving_of}
-use Rattle.dn_link.specs.Linking.{identity_of, linked, seal_of}
+use Rattle.dn_link.specs.Linked.{Gives, Linked, remains, surviving_of}
+use Rattle.dn_link.specs.Linking.{linked, seal_of}
 use Rattle.dn_link.specs.Pacing.{pace_of}
 use Rattle.dn_link.specs.Relays.{flights_of}
 use Rattle.dn_link_game.specs.Playing.{marking_of}
@@ -19,25 +19,25 @@ returns-in_default-clause-goes_on g c limits settings session links player mine 
       λ other apart. refl,
       c.remaining_links_go_on.ensures.kept (marking_of g.W.World.physics) limits settings session links player new
           mine below (c.datagram.ensures.idle c.in_default.is ∙ sym is.link),
-      record { link = refl; world = is.world; unbegun = is.unbegun },
+      record { link = refl; world = is.world },
     )
 
 pub returns-clause-goes_on : goal.returns-clause-goes_on
 returns-clause-goes_on g c limits settings session links player mine below is any =
     let new : Linked = linked c.datagram.new.self in
     let given = c.in-Some.ensures in
-    let gives = subst (λ (l : Linked). Gives (seal_of c.args.self.now.link) (identity_of c.args.self.now.link)
+    let gives = subst (λ (l : Linked). Gives (seal_of c.args.self.now.link)
     (pace_of c.args.self.now.link) c.args.to l new c.in-Some.bytes.items) (sym is.link) given.gives in
     let on = c.remaining_links_go_on.ensures.gave (marking_of g.W.World.physics) limits settings session links player
-    c.args.to (seal_of c.args.self.now.link) (identity_of c.args.self.now.link) (pace_of c.args.self.now.link) new
+    c.args.to (seal_of c.args.self.now.link) (pace_of c.args.self.now.link) new
     c.in-Some.bytes.items mine below
     (ap (λ (l : Linked). remains l c.args.to) is.link ∙ sym given.peer)
-    (subst (λ (l : Linked). holds_back l ≡ false
-    → Tells l.node (λ limits me m. IfSome (sent_to c.args.to limits me m).1 IsFair)) (sym is.link) given.fair)
+    (subst (λ (l : Linked). Tells l.node (λ limits me m. IfSome (sent_to c.args.to limits me m).1 IsFair))
+    (sym is.link) given.fair)
     gives in (
       after_relays (after_packet session player on.0 (surviving_of new)) (flights_of c.args.to gives.handed),
       ((refl, refl), on.1),
       λ other apart. refl,
       on.2,
-      record { link = refl; world = is.world; unbegun = is.unbegun },
+      record { link = refl; world = is.world },
     )

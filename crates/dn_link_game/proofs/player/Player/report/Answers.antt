@@ -42,6 +42,6 @@ returns g c = record {
         ((refl, refl), of_bytes (WasSealedIn seal later) c.report_datagram.result on.0),
         λ other apart. refl,
         (subst (AreRemainingLinks marking limits settings later) (put_own links player own is.link) on.1, on.2),
-        record { link = refl; world = is.world; unbegun = is.unbegun },
+        record { link = refl; world = is.world },
       );
 }

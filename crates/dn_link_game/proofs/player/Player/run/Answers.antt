@@ -1,23 +1,17 @@
 -- A run of a player, in whatever session it is.
-use Rattle.std.proofs.Common.{◌≡◌, ◌<◌, ◌≤◌, ℕ, List, [], ◌∷◌, ◌++◌, Option, None, refl, sym, ap, ◌∙◌, subst, true, false, true≢false, Some, arith}
+use Rattle.std.proofs.Common.{◌≡◌, ◌<◌, ◌≤◌, ℕ, List, [], ◌∷◌, ◌++◌, Option, refl, sym, ap, ◌∙◌, subst, Some, arith}
 use Rattle.std.proofs.lemmas.List.Sums.{fold_push}
 use Rattle.dn_tic.specs.declared.command.Move.{Move}
 use Rattle.dn_setup.specs.Settings.{Settings, start_of}
 use Rattle.dn_world.specs.Physics.{Physics}
 use Rattle.dn_machine.specs.Limits.{Limits}
-use Rattle.dn_machine.proofs.Put.{put_at, view_kept, put_off}
+use Rattle.dn_machine.proofs.Put.{put_at, put_off}
 use Rattle.dn_lockstep.specs.OneGame.{world_told, told_on}
 use Rattle.dn_lockstep.specs.Rows.{seats_of}
-use Rattle.dn_survivor.specs.{OneGame.Session, OneGame.after_run, OneGame.with_survivor, Surviving.Surviving}
+use Rattle.dn_survivor.specs.{OneGame.Session, OneGame.after_run, Surviving.Surviving}
 use Rattle.dn_link.specs.{Linked.Linked, RemainingLinks.AreRemainingLinks, Linked.surviving_of, Linking.linked, Surviving.RunsBut, RemainingLinks.StayRemaining}
 use Rattle.dn_link_game.specs.{Playing.IsPlayer, Playing.marking_of, Playing.world_by, declared.player.Player.Player}
 use Rattle.dn_link_game.proofs.player.Player.run.Goals as goal
-
--- a run that tells no row takes the session to one where only the survivor is another
-no_row : (session : Session) (player : ℕ) (now : Surviving)
-    → with_survivor session player now ≡ after_run session player None now
-no_row session player now = ap (λ (t : ℕ → List (List (Option Move))). record (with_survivor session player now) { told = t })
-    (sym (view_kept (λ (rows : List (List (Option Move))). rows) session.told player (session.told player) refl))
 
 -- what was told then
 told_then : (session : Session) (player : ℕ) (now : Surviving) (row : Option (List (Option Move)))
@@ -47,26 +41,14 @@ module _ {W S : Type 0} (state : W → S) (physics : Physics S) (limits : Limits
   ran_on session player now row rows its p same is = subst (λ (r : List (List (Option Move))).
       IsPlayer state physics limits settings r its p) (sym (told_then session player now row ∙ same)) is
 
-pub returns-then-not-self-clause-goes_on : goal.returns-then-not-self-clause-goes_on
-returns-then-not-self-clause-goes_on g c limits settings session links player mine below is any =
-    let now : Linked = linked c.args.self.now.link in (
-      with_survivor session player (surviving_of now),
-      no_row session player (surviving_of now),
-      λ other apart. refl,
-      c.remaining_links_go_on.ensures.kept (marking_of g.W.World.physics) limits settings session links player now
-          mine below (sym is.link),
-      record { link = refl; world = is.world; unbegun = is.unbegun },
-    )
-
 pub returns-in-Some-clause-goes_on : goal.returns-in-Some-clause-goes_on
 returns-in-Some-clause-goes_on g c limits settings session links player mine below is any =
     let new : Linked = linked c.run-ran.new.self in
-    let began : c.args.self.now.began ≡ true = c.if-not-self.false in
     let four = few g.W.World.physics limits settings session links player mine below in
     let on = c.remaining_links_go_on.ensures.ran (marking_of g.W.World.physics) limits settings session links player new
     c.marks-marks.result c.run-ran.result.0 c.run-ran.result.1 mine below
     (λ tic other ran there present. c.marks-marks.ensures other (omega (arith, there, four))
-    ∙ ap (λ w. g.W.World.physics.mark w other) (is.world began))
+    ∙ ap (λ w. g.W.World.physics.mark w other) is.world)
     (subst (λ (l : Linked). RunsBut c.marks-marks.result l new
     (λ answer told. (c.run-ran.result.0 ≡ answer) × (c.run-ran.result.1 ≡ told))) (sym is.link) c.run-ran.ensures.but)
     (c.run-ran.ensures.others ∙ sym (ap (λ (l : Linked). l.others) is.link))
@@ -79,21 +61,19 @@ returns-in-Some-clause-goes_on g c limits settings session links player mine bel
       ran_on g.W.World.state g.W.World.physics limits settings session player (surviving_of new) (Some c.in-Some.row)
           (session.told player ++ c.in-Some.row ∷ []) new _ refl (record {
             link = refl;
-            world = λ yes. stepped g.W.World.state g.W.World.physics limits settings (session.told player) c.in-Some.row
-                c.args.self.now.world c.step.new.self (is.world began) c.step.ensures;
-            unbegun = λ no. absurd (true≢false (sym began ∙ no));
+            world = stepped g.W.World.state g.W.World.physics limits settings (session.told player) c.in-Some.row
+                c.args.self.now.world c.step.new.self is.world c.step.ensures;
           }),
     )
 
 pub returns-in_default-clause-goes_on : goal.returns-in_default-clause-goes_on
 returns-in_default-clause-goes_on g c limits settings session links player mine below is any =
     let new : Linked = linked c.run-ran.new.self in
-    let began : c.args.self.now.began ≡ true = c.if-not-self.false in
     let four = few g.W.World.physics limits settings session links player mine below in
     let on = c.remaining_links_go_on.ensures.ran (marking_of g.W.World.physics) limits settings session links player new
     c.marks-marks.result c.run-ran.result.0 c.run-ran.result.1 mine below
     (λ tic other ran there present. c.marks-marks.ensures other (omega (arith, there, four))
-    ∙ ap (λ w. g.W.World.physics.mark w other) (is.world began))
+    ∙ ap (λ w. g.W.World.physics.mark w other) is.world)
     (subst (λ (l : Linked). RunsBut c.marks-marks.result l new
     (λ answer told. (c.run-ran.result.0 ≡ answer) × (c.run-ran.result.1 ≡ told))) (sym is.link) c.run-ran.ensures.but)
     (c.run-ran.ensures.others ∙ sym (ap (λ (l : Linked). l.others) is.link))
@@ -104,5 +84,5 @@ returns-in_default-clause-goes_on g c limits settings session links player mine 
       on,
       ran_on g.W.World.state g.W.World.physics limits settings session player (surviving_of new) c.run-ran.result.1
           (session.told player) new _ (ap (told_on (session.told player)) c.in_default.is)
-          (record { link = refl; world = is.world; unbegun = is.unbegun }),
+          (record { link = refl; world = is.world }),
     )

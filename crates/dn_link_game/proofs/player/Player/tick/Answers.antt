@@ -13,5 +13,5 @@ returns-clause-goes_on g c limits settings session links player mine below is an
       λ other apart. refl,
       c.remaining_links_go_on.ensures.kept (marking_of g.W.World.physics) limits settings session links player new
           mine below (c.lean.ensures.link ∙ sym is.link),
-      record { link = refl; world = is.world; unbegun = is.unbegun },
+      record { link = refl; world = is.world },
     )

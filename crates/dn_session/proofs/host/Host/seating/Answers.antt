@@ -1,7 +1,5 @@
 use Rattle.std.proofs.Common.{ap, ◌∙◌}
-use Rattle.dn_session.specs.declared.greeting.Seating.{Seating}
-use Rattle.dn_session.specs.Hosting.{lobby}
-use Rattle.dn_session.specs.Text.{greeting_bytes, seating_rest}
+use Rattle.dn_session.specs.{Hosting.lobby, Text.greeting_bytes, Text.seating_rest, declared.greeting.Seating.Seating}
 use Rattle.dn_session.proofs.host.Host.seating.Goals as goal
 
 pub returns-clause-value : goal.returns-clause-value

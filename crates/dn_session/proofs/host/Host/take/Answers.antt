@@ -1,9 +1,6 @@
 use Rattle.std.proofs.Common.{ℕ, Option, ap, sym, ◌∙◌}
 use Rattle.std.specs.Prelude.{slice_index_or}
-use Rattle.dn_session.specs.declared.seats.Seat.{Seat}
-use Rattle.dn_session.specs.declared.seats.Seat.TheVariants.{Absent}
-use Rattle.dn_session.specs.Hosting.{Lobby, lobby, on_player, seating, with_seat}
-use Rattle.dn_session.specs.Seats.{taken_again}
+use Rattle.dn_session.specs.{Hosting.Lobby, Hosting.lobby, Hosting.on_player, Hosting.seating, Hosting.with_seat, Seats.taken_again, declared.seats.Seat.Seat, declared.seats.Seat.TheVariants.Absent}
 use Rattle.dn_session.proofs.host.Host.take.Goals as goal
 
 pub returns-in-Some-clause-reply : goal.returns-in-Some-clause-reply

@@ -1,5 +1,5 @@
 use Rattle.std.proofs.Common.{subst, Bool}
-use Rattle.dn_session.specs.Playing.{playing, GivesWhen}
+use Rattle.dn_session.specs.{Playing.GivesWhen, Playing.playing}
 use Rattle.dn_session.proofs.part.Part.give.Goals as goal
 
 pub returns-clause-gives : goal.returns-clause-gives

@@ -1,6 +1,5 @@
 use Rattle.std.proofs.Common.{subst}
-use Rattle.dn_session.specs.declared.ticks.Ticks.{Ticks}
-use Rattle.dn_session.specs.Playing.{playing, PassesTick}
+use Rattle.dn_session.specs.{Playing.PassesTick, Playing.playing, declared.ticks.Ticks.Ticks}
 use Rattle.dn_session.proofs.part.Part.give_due.Goals as goal
 
 pub returns : goal.returns

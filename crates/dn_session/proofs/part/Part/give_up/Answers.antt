@@ -1,7 +1,6 @@
 use Rattle.std.proofs.Common.{◌≡◌, ap, subst, refl, ◌∙◌, Bool, true, false, ℕ, Some, None}
 use Rattle.std.specs.Prelude.{◌&&◌, if◌then◌else◌, is_some}
-use Rattle.dn_session.specs.Ending.{may_give_up}
-use Rattle.dn_session.specs.Playing.{is_giving, playing, view, GivesUpNow, Playing}
+use Rattle.dn_session.specs.{Ending.may_give_up, Playing.GivesUpNow, Playing.Playing, Playing.is_giving, Playing.playing, Playing.view}
 use Rattle.dn_session.proofs.part.Part.give_up.Goals as goal
 
 some_if : (test : Bool) (n : ℕ) → test ≡ is_some (if test then Some n else None)

@@ -1,6 +1,5 @@
 use Rattle.std.proofs.Common.{◌≡◌, subst, ◌∙◌, Option, ℕ}
-use Rattle.dn_session.specs.Lead.{due}
-use Rattle.dn_session.specs.Playing.{playing, GivesUpNow}
+use Rattle.dn_session.specs.{Lead.due, Playing.GivesUpNow, Playing.playing}
 use Rattle.dn_session.proofs.part.Part.give_up_due.Goals as goal
 
 pub returns : goal.returns

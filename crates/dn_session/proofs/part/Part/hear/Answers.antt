@@ -1,5 +1,5 @@
 use Rattle.std.proofs.Common.{◌≡◌, refl, subst, sym, ◌∙◌}
-use Rattle.dn_session.specs.Playing.{known_by, noted, playing, Playing, Takes}
+use Rattle.dn_session.specs.{Playing.Playing, Playing.Takes, Playing.known_by, Playing.noted, Playing.playing}
 use Rattle.dn_session.proofs.part.Part.hear.Goals as goal
 
 pub returns : goal.returns
@@ -18,7 +18,7 @@ returns c =
     × (p ≡ noted received c.args.from.now c.args.now (known_by old.link) (known_by p.link) (record old { link = p.link })))
     (sym end) (
       (
-        record { seal = c.receive-received.ensures.seal; identity = c.receive-received.ensures.identity },
+        c.receive-received.ensures.seal,
         c.receive-received.ensures.heard,
         c.receive-received.ensures.pace,
         c.receive-received.ensures.told,

@@ -1,6 +1,5 @@
 use Rattle.std.proofs.Common.{subst, sym, refl}
-use Rattle.dn_session.specs.declared.ending.Progress.{Progress}
-use Rattle.dn_session.specs.Playing.{playing, PassesTime}
+use Rattle.dn_session.specs.{Playing.PassesTime, Playing.playing, declared.ending.Progress.Progress}
 use Rattle.dn_session.proofs.part.Part.pass.Goals as goal
 
 pub returns-in-Playing : goal.returns-in-Playing

@@ -1,9 +1,6 @@
 use Rattle.std.proofs.Common.{subst, ap, ◌∙◌, Option}
 use Rattle.dn_link.specs.Linking.{linked}
-use Rattle.dn_session.specs.declared.ending.Ending.{Ending}
-use Rattle.dn_session.specs.declared.lead.View.{View}
-use Rattle.dn_session.specs.Ending.{ending_of}
-use Rattle.dn_session.specs.Playing.{playing, view, Playing, PlaysOn}
+use Rattle.dn_session.specs.{Ending.ending_of, Playing.Playing, Playing.PlaysOn, Playing.playing, Playing.view, declared.ending.Ending.Ending, declared.lead.View.View}
 use Rattle.dn_session.proofs.part.Part.play.Goals as goal
 
 pub returns : goal.returns

@@ -1,6 +1,5 @@
 use Rattle.std.proofs.Common.{subst, sym, Option}
-use Rattle.dn_session.specs.declared.ending.Ending.{Ending}
-use Rattle.dn_session.specs.Playing.{playing, PlaysOn}
+use Rattle.dn_session.specs.{Playing.PlaysOn, Playing.playing, declared.ending.Ending.Ending}
 use Rattle.dn_session.proofs.part.Part.play_on.Goals as goal
 
 pub returns-in-Some : goal.returns-in-Some

@@ -7,14 +7,14 @@ returns-clause-runs c = (
   c.run_into-ran.new.self,
   c.catch_up.result,
   (
-    record { seal = c.run_into-ran.ensures.seal; identity = c.run_into-ran.ensures.identity },
+    c.run_into-ran.ensures.seal,
     c.run_into-ran.ensures.but,
     c.run_into-ran.ensures.others,
     c.run_into-ran.ensures.peers,
     c.run_into-ran.ensures.pace,
   ),
   (
-    record { seal = c.catch_up.ensures.seal; identity = c.catch_up.ensures.identity },
+    c.catch_up.ensures.seal,
     c.catch_up.ensures.others,
     c.catch_up.ensures.peers,
     c.catch_up.ensures.none,

@@ -1,6 +1,5 @@
 use Rattle.std.proofs.Common.{sym}
-use Rattle.dn_session.specs.Playing.{playing}
-use Rattle.dn_session.specs.Sent.{is_owed_report}
+use Rattle.dn_session.specs.{Playing.playing, Sent.is_owed_report}
 use Rattle.dn_session.proofs.Firsts.{first_passes}
 use Rattle.dn_session.proofs.part.Part.send_report.Goals as goal
 

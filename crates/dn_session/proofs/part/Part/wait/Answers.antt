@@ -1,9 +1,6 @@
 use Rattle.std.proofs.Common.{◌≡◌, ap, ◌∙◌, Bool}
-use Rattle.dn_link.specs.Linked.{may_leave}
 use Rattle.dn_link.specs.Linking.{linked}
-use Rattle.dn_session.specs.declared.ending.Progress.{Progress}
-use Rattle.dn_session.specs.Ending.{waits}
-use Rattle.dn_session.specs.Playing.{playing}
+use Rattle.dn_session.specs.{Ending.waits, Playing.playing, declared.ending.Progress.Progress}
 use Rattle.dn_session.proofs.part.Part.wait.Goals as goal
 
 pub returns : goal.returns
@@ -11,5 +8,5 @@ returns c = (
   playing c.tick_if_due.new.self,
   c.tick_if_due.ensures,
   ap (λ (p : Progress). record (playing c.tick_if_due.new.self) { progress = p })
-      (c.waits-self.ensures ∙ ap (λ (free : Bool). waits free c.args.ending c.args.since c.args.free c.args.now) c.may_leave.ensures),
+      (c.waits-self.ensures ∙ ap (λ (free : Bool). waits free c.args.ending c.args.since c.args.free c.args.now) c.is_unneeded.ensures),
 )

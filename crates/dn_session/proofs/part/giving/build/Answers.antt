@@ -5,7 +5,7 @@ use Rattle.dn_session.proofs.part.giving.build.Goals as goal
 
 pub returns-in-Pressed : goal.returns-in-Pressed
 returns-in-Pressed c = subst (λ (input : Input). Builds input c.args.link.now c.build.new.self) (sym c.in-Pressed.is) (
-  record { seal = c.build.ensures.seal; identity = c.build.ensures.identity },
+  c.build.ensures.seal,
   (c.build.result, c.build.ensures.step, c.build.ensures.pace),
   c.build.ensures.others,
   c.build.ensures.peers,
@@ -13,7 +13,7 @@ returns-in-Pressed c = subst (λ (input : Input). Builds input c.args.link.now c
 
 pub returns-in-Given : goal.returns-in-Given
 returns-in-Given c = subst (λ (input : Input). Builds input c.args.link.now c.give.new.self) (sym c.in-Given.is) (
-  record { seal = c.give.ensures.seal; identity = c.give.ensures.identity },
+  c.give.ensures.seal,
   (c.give.result, c.give.ensures.step, c.give.ensures.pace),
   c.give.ensures.others,
   c.give.ensures.peers,

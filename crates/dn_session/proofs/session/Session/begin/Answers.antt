@@ -1,7 +1,6 @@
 use Rattle.std.proofs.Common.{◌≡◌, refl, subst, sym, ◌∙◌, Option, Some, None, Ok, true, false, Bool}
 use Rattle.std.specs.Prelude.{if◌then◌else◌, is_some}
-use Rattle.dn_session.specs.declared.side.Begun.{Begun}
-use Rattle.dn_session.specs.Session.{begins_now, begun_in, meeting, BeginsAs}
+use Rattle.dn_session.specs.{Session.BeginsAs, Session.begins_now, Session.begun_in, Session.meeting, declared.side.Begun.Begun}
 use Rattle.dn_session.proofs.session.Session.begin.Goals as goal
 
 pub returns-in-Ok : goal.returns-in-Ok

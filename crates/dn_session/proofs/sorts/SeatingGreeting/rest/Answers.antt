@@ -1,8 +1,7 @@
 use Rattle.std.proofs.Common.{◌≡◌, ◌++◌, ◌∷◌, [], List, ℕ, ap, ◌∙◌, append_assoc}
 use Rattle.std.specs.List.{flat_map}
 use Rattle.std.specs.Int.{w32, to_le_bytes}
-use Rattle.dn_session.specs.Terms.{bit, terms_bytes}
-use Rattle.dn_session.specs.Text.{shown_bytes}
+use Rattle.dn_session.specs.{Terms.bit, Terms.terms_bytes, Text.shown_bytes}
 use Rattle.dn_session.proofs.sorts.SeatingGreeting.rest.Goals as goal
 
 pub returns : goal.returns

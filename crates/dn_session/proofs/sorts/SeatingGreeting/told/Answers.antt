@@ -1,10 +1,6 @@
 use Rattle.std.proofs.Common.{◌≡◌, ◌≢◌, Option, ℕ, List, ap, sym, ◌∙◌, subst, take, drop, rules}
 use Rattle.std.specs.Prelude.{MatchOption}
-use Rattle.dn_session.specs.declared.greeting.Seating.{Seating}
-use Rattle.dn_session.specs.declared.terms.Terms.{Terms}
-use Rattle.dn_session.specs.Terms.{IsTerms}
-use Rattle.dn_session.specs.Text.{is_joiners_seat}
-use Rattle.dn_session.specs.Told.{told_seating, told_terms}
+use Rattle.dn_session.specs.{Terms.IsTerms, Text.is_joiners_seat, Told.told_seating, Told.told_terms, declared.greeting.Seating.Seating, declared.terms.Terms.Terms}
 use Rattle.dn_session.proofs.sorts.SeatingGreeting.told.Goals as goal
 
 -- the terms that stand there, if they are

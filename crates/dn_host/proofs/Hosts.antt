@@ -1,0 +1,169 @@
+-- A host's session stays a host's, which is never refused; and who had a seat has a link.
+use Rattle.std.proofs.Common.{◌≡◌, ℕ, Bool, true, false, List, Option, Some, None, Result, Ok, Err, refl, sym, ap, ◌∙◌, subst}
+use Rattle.std.specs.Option.{option_map, option_or}
+use Rattle.std.specs.Prelude.{is_some}
+use Rattle.std.proofs.lemmas.Bool.{false≢true}
+use Rattle.std.proofs.lemmas.Option.{none-some}
+use Rattle.dn_measure.specs.declared.end.End.{End}
+use Rattle.dn_session.specs.declared.ending.Ending.{Ending as GameEnding}
+use Rattle.dn_session.specs.declared.greeting.Address.{Address}
+use Rattle.dn_session.specs.declared.joiner.Stage.{Stage}
+use Rattle.dn_session.specs.declared.joiner.Stage.TheVariants as stage
+use Rattle.dn_session.specs.declared.part.Part.{Part}
+use Rattle.dn_session.specs.declared.side.Side.{Side}
+use Rattle.dn_session.specs.declared.side.Side.TheVariants as side
+use Rattle.dn_session.specs.declared.ending.Over.TheVariants as over
+use Rattle.dn_session.specs.Events.{over_by, over_in}
+use Rattle.dn_session.specs.Joining.{joining}
+use Rattle.dn_session.specs.Playing.{ended_as, playing}
+use Rattle.dn_lockstep.specs.declared.config.NodeFault.{NodeFault}
+use Rattle.dn_session.specs.declared.side.Begun.{Begun}
+use Rattle.dn_session.specs.Session.{link_in, BeginsAs, Calls, HearsGreeting, HearsWhen, Meeting, SendsCall, SendsReply}
+use Rattle.dn_host.specs.declared.ends.Ending.{Ending}
+use Rattle.dn_host.specs.declared.ends.Ending.TheVariants.{Ended, Refused, Hinted}
+use Rattle.dn_host.specs.declared.game.Game.{Game}
+use Rattle.dn_host.specs.Leaving.{LeavesFor, LeavesIf, LeavesWhen}
+use Rattle.dn_host.specs.Outcomes.{ended_with, is_refusal}
+use Rattle.dn_host.specs.Turns.{Acts, Goes, IsTurn, Scene, TakesTurns}
+use Rattle.dn_host.specs.Turns as turns
+use Rattle.dn_host.specs.Walks.{GivesInput}
+
+abbrev pub is_host : Side → Bool
+is_host (side.Host host) = true
+is_host (side.Joiner joiner) = false
+
+abbrev pub hosts : Meeting → Type 0
+hosts m = is_host m.lobby ≡ true
+
+-- what is told of a lobby by an equation
+same_lobby : (old new mid : Meeting) → new ≡ mid → hosts mid → hosts new
+same_lobby old new mid same host = subst hosts (sym same) host
+
+heard_host : (from : Address) (bytes : List ℕ) (now : ℕ) (old new : Side) (reply : Option (List ℕ))
+    → HearsGreeting from bytes now old new reply → is_host old ≡ true → is_host new ≡ true
+heard_host from bytes now (side.Host old) (side.Host new) reply heard host = refl
+heard_host from bytes now (side.Host old) (side.Joiner new) reply heard host = absurd heard
+heard_host from bytes now (side.Joiner old) new reply heard host = absurd (false≢true host)
+
+hears_host : (greets : Bool) (from : Address) (bytes : List ℕ) (now : ℕ) (old new : Meeting)
+    → HearsWhen greets from bytes now old new → hosts old → hosts new
+hears_host true from bytes now old new (side, reply, heard, same) host =
+    same_lobby old new _ same (heard_host from bytes now old.lobby side reply heard host)
+hears_host false from bytes now old new (does, same) host = same_lobby old new _ same host
+
+calls_host : (now : ℕ) (old new : Side) (call : Option (Address × List ℕ)) → Calls now old new call
+    → is_host old ≡ true → is_host new ≡ true
+calls_host now (side.Host old) new call (same, none) host = subst (λ (s : Side). is_host s ≡ true) (sym same) refl
+calls_host now (side.Joiner old) new call calls host = absurd (false≢true host)
+
+sends_call_host : (call : Option (Address × List ℕ)) (old new : Meeting) (sent : Option (Address × List ℕ))
+    → SendsCall call old new sent → hosts old → hosts new
+sends_call_host (Some call) old new sent (is, same) host = same_lobby old new _ same host
+sends_call_host None old new sent (does, same) host = same_lobby old new _ same host
+
+sends_host : (reply : Option (Address × List ℕ)) (old new : Meeting) (sent : Option (Address × List ℕ))
+    → SendsReply reply old new sent → hosts old → hosts new
+sends_host (Some reply) old new sent (is, same) host = same_lobby old new _ same host
+sends_host None old new sent sends host = sends_call_host old.call old new sent sends host
+
+gives_host : (now : ℕ) (given : Bool) (old new : Meeting) → GivesInput now given old new → hosts old → hosts new
+gives_host now true old new (keys, does, same) host = same_lobby old new _ same host
+gives_host now false old new same host = same_lobby old new _ same host
+
+leaves_for_host : (why : Option End) (now : ℕ) (a : Game) (k : Meeting) (b : Game) (l : Meeting)
+    → LeavesFor why now a k b l → hosts k → hosts l
+leaves_for_host None now a k b l (still, same) host = same_lobby k l _ same host
+leaves_for_host (Some why) now a k b l (does, quits, same) host = same_lobby k l _ same host
+
+leaves_if_host : (playing : Bool) (now : ℕ) (a : Game) (k : Meeting) (b : Game) (l : Meeting)
+    → LeavesIf playing now a k b l → hosts k → hosts l
+leaves_if_host true now a k b l leaves host = leaves_for_host _ now a k b l leaves host
+leaves_if_host false now a k b l (does, same) host = same_lobby k l _ same host
+
+leaves_host : (left : Option ℕ) (now : ℕ) (a : Game) (k : Meeting) (b : Game) (l : Meeting)
+    → LeavesWhen left now a k b l → hosts k → hosts l
+leaves_host (Some since) now a k b l (still, same) host = same_lobby k l _ same host
+leaves_host None now a k b l leaves host = leaves_if_host _ now a k b l leaves host
+
+acts_host : (now : ℕ) (a : Game) (k : Meeting) (b : Game) (l : Meeting) → Acts now a k b l → hosts k → hosts l
+acts_host now a k b l (turns.rests g m) host = host
+acts_host now a k b l (turns.follows c m d n e o one other) host =
+    acts_host now d n e o other (acts_host now c m d n one host)
+acts_host now a k b l (turns.gives c m d n given gives same) host = gives_host _ given m n gives host
+acts_host now a k b l (turns.runs c m d n ran runs same) host = same_lobby m n _ runs.3 host
+acts_host now a k b l (turns.leaves c m d n leaves) host = leaves_host c.left now c m d n leaves host
+acts_host now a k b l (turns.notes c d m notes) host = host
+acts_host now a k b l (turns.tells c d m tells same) host = host
+
+goes_host : {W : Type 0} {polls : W → Option (Address × List ℕ) → W → Type 0}
+    {sends : W → Address → List ℕ → W → Type 0} (now : ℕ) (a b : Scene W) → Goes polls sends now a b
+    → hosts a.session → hosts b.session
+goes_host now a b (turns.stays c) host = host
+goes_host now a b (turns.after c d e one other) host =
+    goes_host now d e other (goes_host now c d one host)
+goes_host now a b (turns.hears c d from bytes polled heard comes) host =
+    hears_host _ from bytes _ c.session d.session heard host
+goes_host now a b (turns.drops c wire from bytes polled greets) host = host
+goes_host now a b (turns.finds c wire polled) host = host
+goes_host now a b (turns.carries c m wire to bytes given sent) host = sends_host _ c.session m _ given host
+goes_host now a b (turns.owes c m none) host = sends_host _ c.session m _ none host
+goes_host now a b (turns.passes c m passed) host = subst hosts (sym passed.3) (calls_host _ _ _ _ passed.1 host)
+goes_host now a b (turns.plays c old new m is acts) host = acts_host now old c.session new m acts host
+
+begins_host : (begun : Option Begun) (now : ℕ) (old new : Meeting) (result : Result Bool NodeFault)
+    → BeginsAs begun now old new result → hosts old → hosts new
+begins_host None now old new result (is, same) host = same_lobby old new _ same host
+begins_host (Some begun) now old new (Ok began) (part, made, is, same) host = same_lobby old new _ same host
+begins_host (Some begun) now old new (Err fault) (made, same) host = same_lobby old new _ same host
+
+turn_host : {W : Type 0} {polls : W → Option (Address × List ℕ) → W → Type 0}
+    {sends : W → Address → List ℕ → W → Type 0} (seconds now : ℕ) (a d : Scene W)
+    → IsTurn polls sends seconds now a d → hosts a.session → hosts d.session
+turn_host seconds now a d (b, c, one, (starts, still), other) host =
+    goes_host now c d other (begins_host _ _ b.session c.session _ starts.1 (goes_host now a b one host))
+
+pub turns_host : {W : Type 0} {polls : W → Option (Address × List ℕ) → W → Type 0}
+    {sends : W → Address → List ℕ → W → Type 0} (seconds : ℕ) (a b : Scene W)
+    → TakesTurns polls sends seconds a b → hosts a.session → hosts b.session
+turns_host seconds a b (turns.none c) host = host
+turns_host seconds a b (turns.more c d e now before turn) host =
+    turn_host seconds now d e turn (turns_host seconds c d before host)
+
+-- how a session ends
+
+refuses : Option Ending → Bool
+refuses None = false
+refuses (Some ending) = is_refusal ending
+
+part_seated : (ending : Option GameEnding) (game : Option Game) (e : Ending)
+    → ended_with (option_map over.Ended ending) game ≡ Some e → is_refusal e ≡ false
+unfolding refuses
+part_seated None game e is = absurd (none-some e is)
+part_seated (Some ending) None e is = absurd (none-some e is)
+part_seated (Some ending) (Some game) e is = ap refuses (sym is)
+
+pub host_is_seated : (part : Option Part) (game : Option Game) (lobby : Side) (e : Ending)
+    → is_host lobby ≡ true → ended_with (over_in lobby part) game ≡ Some e → is_refusal e ≡ false
+host_is_seated None game (side.Host h) e host is = absurd (none-some e is)
+host_is_seated (Some part) game (side.Host h) e host is = part_seated (ended_as (playing part).progress) game e is
+host_is_seated part game (side.Joiner j) e host is = absurd (false≢true host)
+
+stage_refuses : (s : Stage) (game : Option Game) (e : Ending)
+    → ended_with (option_or (over_by s) None) game ≡ Some e → is_refusal e ≡ true
+unfolding refuses
+stage_refuses (stage.Refused refusal) game e is = ap refuses (sym is)
+stage_refuses (stage.Hinted hint) game e is = ap refuses (sym is)
+stage_refuses stage.Calling game e is = absurd (none-some e is)
+stage_refuses stage.Waiting game e is = absurd (none-some e is)
+stage_refuses stage.Seated game e is = absurd (none-some e is)
+stage_refuses stage.Playing game e is = absurd (none-some e is)
+
+lobby_refuses : (lobby : Side) (game : Option Game) (e : Ending) → ended_with (over_in lobby None) game ≡ Some e
+    → is_refusal e ≡ true
+lobby_refuses (side.Host host) game e is = absurd (none-some e is)
+lobby_refuses (side.Joiner joiner) game e is = stage_refuses (joining joiner).stage game e is
+
+pub seated_has_link : (part : Option Part) (game : Option Game) (lobby : Side) (e : Ending)
+    → ended_with (over_in lobby part) game ≡ Some e → is_refusal e ≡ false → is_some (link_in part) ≡ true
+seated_has_link (Some part) game lobby e is seated = refl
+seated_has_link None game lobby e is seated = absurd (false≢true (sym seated ∙ lobby_refuses lobby game e is))

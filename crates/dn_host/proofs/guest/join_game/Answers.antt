@@ -1,0 +1,24 @@
+use Rattle.std.proofs.Common.{Option, refl, subst}
+use Rattle.dn_session.specs.declared.session.Session.{Session}
+use Rattle.dn_session.specs.Session.{meeting}
+use Rattle.dn_host.specs.declared.ends.Outcome.{Outcome}
+use Rattle.dn_host.specs.declared.game.Game.{Game}
+use Rattle.dn_host.specs.declared.plan.Plan.{Plan}
+use Rattle.dn_host.specs.Outcomes.{IsJoined, IsPlayed}
+use Rattle.dn_host.specs.Turns.{scene_of}
+use Rattle.dn_host.proofs.Turned.{mapped, played_of}
+use Rattle.dn_host.proofs.guest.join_game.Goals as goal
+
+pub returns-clause-played : goal.returns-clause-played
+returns-clause-played g c =
+    let polls = g.W.Wire.polls in
+    let sends = g.W.Wire.sends in
+    mapped (IsPlayed polls sends c.new.result.plan.seconds (scene_of c.new.result c.args.wire.now) c.run.new.wire)
+    (IsJoined polls sends c.args.plan.now c.args.guest.now c.args.wire.now c.run.new.wire)
+    (λ o played. (
+      c.in_ok-draw.field-0,
+      c.in_ok-session.session,
+      c.in_ok-session.ensures.made,
+      played_of polls sends c.new.result c.in_ok-session.session c.args.plan.now c.args.wire.now c.run.new.wire o
+          c.new.ensures.session c.new.ensures.plan c.new.ensures.game played,
+    )) c.run.result c.run.ensures.played

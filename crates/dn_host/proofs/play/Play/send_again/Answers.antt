@@ -1,9 +1,0 @@
-use Rattle.std.proofs.Common.{◌∙◌}
-use Rattle.dn_host.proofs.Playing.{plays_on}
-use Rattle.dn_host.proofs.play.Play.send_again.Goals as goal
-
-pub loop-player-preserved : goal.loop-player-preserved
-loop-player-preserved g c = (
-  c.send_second.ensures.seal ∙ c.loop-player.invariant.0,
-  plays_on 0 0 0 0 _ _ _ c.loop-player.invariant.1 c.send_second.ensures.plays,
-)

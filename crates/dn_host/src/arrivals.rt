@@ -1,0 +1,122 @@
+//! What came from each player.
+
+ghost use Rattle.std.specs.Prelude.{◌≡◌};
+ghost use Rattle.dn_link.specs.{Linking.linked, Pacing.pace_of};
+ghost use Rattle.dn_host.specs.Arrived.{arrivals_in, came_of_each, figures_by, is_late, late_by, late_in, one_more, standing_in, standings_in};
+
+use dn_link::{Figures, Link};
+use dn_measure::{Arrivals, PeerStatus};
+
+/// What is known of the lines of four players.
+pub(crate) type Lines = [Option<Figures>; 4];
+
+/// What is known of each line.
+pub(crate) fn lines_of(link: &Link) -> Lines
+    ensures { result ≡ figures_by (linked link.now) (pace_of link.now) }
+{
+    [
+        link.figures(0),
+        link.figures(1),
+        link.figures(2),
+        link.figures(3),
+    ]
+}
+
+/// Whether a datagram came over a line after one that was sent later, by its figures before and after it.
+fn is_late(before: &Option<Figures>, after: &Option<Figures>) -> bool
+    ensures { result ≡ is_late before.now after.now }
+{
+    match (before, after) {
+        (Some(before), Some(after)) => before.came < after.came && after.lost < before.lost,
+        _ => false,
+    }
+}
+
+/// One more, if it is.
+fn one_more(is_late: bool, count: u32) -> u32
+    ensures { result ≡ one_more is_late count }
+{
+    if is_late {
+        count.saturating_add(1)
+    } else {
+        count
+    }
+}
+
+/// How many datagrams came late of each player, with the one that came between these figures.
+fn late_by(before: &Lines, after: &Lines, late: [u32; 4]) -> [u32; 4]
+    ensures { result ≡ late_by before.now after.now late }
+{
+    [
+        one_more(is_late(&before[0], &after[0]), late[0]),
+        one_more(is_late(&before[1], &after[1]), late[1]),
+        one_more(is_late(&before[2], &after[2]), late[2]),
+        one_more(is_late(&before[3], &after[3]), late[3]),
+    ]
+}
+
+/// How many came late, with what came between these figures, if there were lines.
+pub(crate) fn late_in(before: &Option<Lines>, after: &Option<Lines>, late: [u32; 4]) -> [u32; 4]
+    ensures { result ≡ late_in before.now after.now late }
+{
+    match before {
+        None => late,
+        Some(before) => match after {
+            None => late,
+            Some(after) => late_by(before, after, late),
+        },
+    }
+}
+
+/// What came over a line, so much of it late.
+fn arrivals_in(line: &Option<Figures>, late: u32) -> Option<Arrivals>
+    ensures { result ≡ arrivals_in line.now late }
+{
+    match line {
+        Some(line) => Some(Arrivals {
+            came: line.came,
+            lost: line.lost,
+            late,
+            twice: line.repeated,
+            old: line.too_old,
+        }),
+        None => None,
+    }
+}
+
+/// What came over each.
+pub(crate) fn came_of_each(lines: &Lines, late: [u32; 4]) -> [Option<Arrivals>; 4]
+    ensures { result ≡ came_of_each lines.now late }
+{
+    [
+        arrivals_in(&lines[0], late[0]),
+        arrivals_in(&lines[1], late[1]),
+        arrivals_in(&lines[2], late[2]),
+        arrivals_in(&lines[3], late[3]),
+    ]
+}
+
+/// How a player stands, so much of what came from it late.
+fn standing_in(line: &Option<Figures>, late: u32) -> Option<PeerStatus>
+    ensures { result ≡ standing_in line.now late }
+{
+    match (line, arrivals_in(line, late)) {
+        (Some(line), Some(arrivals)) => Some(PeerStatus {
+            lead: line.lead,
+            arrivals,
+        }),
+        _ => None,
+    }
+}
+
+/// How each stands.
+pub(crate) fn standings_in(lines: &Lines, late: [u32; 4]) -> [Option<PeerStatus>; 4]
+    ensures { result ≡ standings_in lines.now late }
+{
+    [
+        standing_in(&lines[0], late[0]),
+        standing_in(&lines[1], late[1]),
+        standing_in(&lines[2], late[2]),
+        standing_in(&lines[3], late[3]),
+    ]
+}

@@ -1,0 +1,49 @@
+//! What a datagram tells of its sender's end.
+
+ghost use Rattle.std.specs.Prelude.{◌≡◌};
+ghost use Rattle.dn_link.specs.Ends.{cause_byte, left_by, tells_end, told_cause};
+
+use crate::bundle::Bundle;
+use dn_machine::{Cause, Phase};
+
+/// The byte that stands for a cause.
+fn cause_byte(cause: Cause) -> u8
+    ensures { result ≡ cause_byte cause }
+{
+    match cause {
+        Cause::Quit => 1,
+        Cause::Full => 2,
+        Cause::Inconsistent { .. } => 3,
+    }
+}
+
+/// Why a player in this phase has ended; 0 of one that has not.
+pub(crate) fn told_cause(phase: Phase) -> u8
+    ensures { result ≡ told_cause phase }
+{
+    match phase {
+        Phase::Ended(cause) => cause_byte(cause),
+        Phase::Listening | Phase::Gathering | Phase::Playing => 0,
+    }
+}
+
+/// Whether a datagram tells all commands of its sender, and its end.
+fn tells_end(bundle: &Bundle) -> bool
+    ensures { result ≡ tells_end bundle.now }
+{
+    match bundle.counts.got.get(bundle.from as usize) {
+        Some(own) => bundle.counts.made < *own,
+        None => false,
+    }
+}
+
+/// Why its sender has left, as far as its datagrams told.
+pub(crate) fn left_by(bundle: &Bundle, left: Option<u8>) -> Option<u8>
+    ensures { result ≡ left_by bundle.now left }
+{
+    if bundle.cause > 0 && tells_end(bundle) {
+        Some(bundle.cause)
+    } else {
+        left
+    }
+}

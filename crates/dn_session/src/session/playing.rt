@@ -1,0 +1,70 @@
+//! What the player of a session does.
+
+use super::Session;
+use super::part_calls::{give_part, give_up_in, quit_part, run_part};
+use dn_machine::Ran;
+use dn_tic::{Input, Move};
+
+impl Session {
+    ghost use Rattle.std.specs.Prelude.{◌≡◌, ℕ, ℤ};
+    ghost use Rattle.dn_machine.specs.declared.answers.Ran.TheVariants as ran;
+    ghost use Rattle.dn_lockstep.specs.Steps.{told_by};
+    ghost use Rattle.dn_session.specs.Roster.{IsSide};
+    ghost use Rattle.dn_session.specs.Session.{can_give, meeting, GivesPart, GivesUpPart, Kicks, QuitsPart, RunsPart};
+
+    /// Its player gives the input of the tick that is due: whether one was. Else nothing changes.
+    pub fn give(&mut self, input: Input, now: u32) -> bool
+        ensures { GivesPart now input (meeting self.old).part (meeting self.new).part result
+            × (meeting self.new ≡ record (meeting self.old) { part = (meeting self.new).part }) }
+    {
+        give_part(&mut self.part, input, now)
+    }
+
+    /// Whether a tick is due, for which its player is to give an input.
+    pub fn wants_input(&self, now: u32) -> bool
+        ensures { result ≡ can_give now (meeting self.now).part }
+    {
+        match &self.part {
+            Some(part) => part.wants_input(now),
+            None => false,
+        }
+    }
+
+    /// Runs the next tic, if it can be run, with the marks of the world.
+    pub fn run(&mut self, marks: &[i16; 4], row: &mut [Option<Move>; 4]) -> Ran
+        ensures runs { RunsPart marks.now (meeting self.old).part (meeting self.new).part result (told_by result row.new)
+            × (meeting self.new ≡ record (meeting self.old) { part = (meeting self.new).part }) }
+        ensures waits { (player : ℕ) → result ≡ ran.Waiting player → row.new ≡ row.old }
+        ensures idle { result ≡ ran.NotPlaying → row.new ≡ row.old }
+        ensures off { (player : ℕ) (was should : ℤ) → result ≡ ran.Inconsistent player was should
+            → row.new ≡ row.old }
+    {
+        run_part(&mut self.part, marks, row)
+    }
+
+    /// Its player leaves the game, if it plays. Poll it and send on until it is over. In the lobby it does
+    /// nothing: there drop the session.
+    pub fn quit(&mut self, now: u32)
+        ensures { QuitsPart now (meeting self.old).part (meeting self.new).part
+            × (meeting self.new ≡ record (meeting self.old) { part = (meeting self.new).part }) }
+    {
+        quit_part(&mut self.part, now);
+    }
+
+    /// Its player gives up another, once the game has stood still for three seconds: any other, if it leads,
+    /// and else the one that leads. Whether it did.
+    pub fn give_up(&mut self, player: u8, now: u32) -> bool
+        ensures { GivesUpPart player now (meeting self.old).part (meeting self.new).part result
+            × (meeting self.new ≡ record (meeting self.old) { part = (meeting self.new).part }) }
+    {
+        give_up_in(&mut self.part, player, now)
+    }
+
+    /// Turns away who holds this seat, 1 to 3, if it is the host and the game has not begun.
+    pub fn kick(&mut self, seat: u8)
+        ensures kicks { Kicks seat (meeting self.old) (meeting self.new) }
+        ensures fits { IsSide (meeting self.old).lobby → IsSide (meeting self.new).lobby }
+    {
+        self.side.kick(seat);
+    }
+}
