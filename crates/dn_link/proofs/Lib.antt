@@ -1,4 +1,3 @@
-pub mod SealedReports
 pub mod Parts
 pub mod Items
 pub mod Wholes

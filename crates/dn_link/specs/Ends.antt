@@ -1,5 +1,5 @@
 -- What a datagram tells of its sender's end.
-use Rattle.std.specs.Prelude.{ℕ, ◌&&◌, if◌then◌else◌, Bool, nat_lt, Option, Some, slice_index}
+use Rattle.std.specs.Prelude.{ℕ, ◌==◌, ◌&&◌, if◌then◌else◌, Bool, nat_lt, Option, Some, slice_index}
 use Rattle.dn_machine.specs.declared.answers.Cause.{Cause}
 use Rattle.dn_machine.specs.declared.answers.Cause.TheVariants.{Quit, Full, Inconsistent}
 use Rattle.dn_machine.specs.declared.answers.Phase.{Phase}
@@ -16,6 +16,10 @@ cause_byte (Inconsistent player was should) = 3
 abbrev pub told_cause : Phase → ℕ
 told_cause (Ended cause) = cause_byte cause
 told_cause phase = 0
+
+-- its sender has given up the receiver, and tells no more
+abbrev pub excludes : Bundle → Bool
+excludes bundle = bundle.cause == 4
 
 -- its sender counts one command more than it made: it has told all of them, and its end
 abbrev pub tells_end : Bundle → Bool

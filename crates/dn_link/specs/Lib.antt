@@ -1,4 +1,3 @@
-pub mod SealedReports
 pub mod Text
 pub mod Told
 pub mod Reading
@@ -8,7 +7,6 @@ pub mod Ends
 pub mod Relays
 pub mod Linked
 pub mod Surviving
-pub mod Notices
 pub mod Linking
 pub mod Packing
 pub mod Kept

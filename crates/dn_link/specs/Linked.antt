@@ -1,5 +1,5 @@
 -- What a link keeps, what its calls do, and what is known of the line to a peer.
-use Rattle.std.specs.Prelude.{◌≡◌, ℕ, ◌+◌, ◌-◌, ◌%◌, ◌^◌, ◌==◌, ◌≤◌, ◌&&◌, ◌||◌, if◌then◌else◌, nat_lt, min, max, length, Bool, not, List, [], ◌∷◌, slice_index, ◌++◌, ◌≢◌, map, All, Option, is_none, is_some}
+use Rattle.std.specs.Prelude.{◌≡◌, ℕ, ◌+◌, ◌-◌, ◌%◌, ◌^◌, ◌==◌, ◌≤◌, ◌&&◌, ◌||◌, if◌then◌else◌, nat_lt, min, max, length, Bool, not, List, [], ◌∷◌, slice_index, ◌++◌, ◌≢◌, map, All, Option, is_none, is_some, pos}
 use Rattle.std.specs.Prelude.{None, Some, false, Result, Ok, Err}
 use Rattle.dn_seal.specs.declared.seal.Seal.{Seal}
 use Rattle.dn_machine.specs.Node.{put}
@@ -8,13 +8,19 @@ use Rattle.dn_lockstep.specs.Told.{made}
 use Rattle.dn_survivor.specs.OfOthers.{has}
 use Rattle.dn_survivor.specs.declared.others.Others.{Others}
 use Rattle.dn_survivor.specs.Surviving.{Surviving}
-use Rattle.dn_survivor.specs.Telling.{MayRelay}
+use Rattle.dn_survivor.specs.Telling.{MayRelay, report_for}
+use Rattle.dn_survivor.specs.Calls.{HearsReport}
+use Rattle.dn_survivor.specs.ReportBytes.{IsReadAs, report_bytes}
+use Rattle.dn_survivor.specs.declared.answers.Reported.{Reported}
+use Rattle.dn_survivor.specs.declared.answers.Reported.TheVariants.{Kept}
+use Rattle.dn_survivor.specs.declared.report.Report.{Report}
+use Rattle.dn_survivor.specs.declared.report.ReportFault.{ReportFault}
 use Rattle.dn_open.specs.Sealed.{sealing_of}
 use Rattle.dn_link.specs.declared.bundle.Bundle.{Bundle}
 use Rattle.dn_link.specs.declared.bundle.BundleFault.{BundleFault}
 use Rattle.dn_link.specs.declared.bundle.Carried.{Carried}
 use Rattle.dn_link.specs.declared.received.Received.{Received}
-use Rattle.dn_link.specs.declared.received.Received.TheVariants.{Unopened, Stranger, GivenUp, Heard}
+use Rattle.dn_link.specs.declared.received.Received.TheVariants.{Unopened, Stranger, GivenUp, Excluded, Heard}
 use Rattle.dn_link.specs.Reading.{IsBundledAs}
 use Rattle.dn_link.specs.Counting.{counts_of, held_of, reached}
 use Rattle.dn_link.specs.Hearing.{SendsCarried, ByTest, HearsAll}
@@ -26,8 +32,8 @@ use Rattle.dn_link.specs.Packing.{ArePacked}
 use Rattle.dn_link.specs.Relays.{AreHandedOn, AreLacked, Handed, handed_part}
 use Rattle.dn_link.specs.declared.bundle.Part.{Part}
 use Rattle.dn_link.specs.declared.bundle.Relay as relay
-use Rattle.dn_link.specs.Ends.{left_by, told_cause}
-use Rattle.dn_link.specs.Text.{IsBundle, sealed_bytes}
+use Rattle.dn_link.specs.Ends.{excludes, left_by, told_cause}
+use Rattle.dn_link.specs.Text.{IsBundle, parts_bytes, sealed_bytes}
 use Rattle.dn_link.specs.declared.tally.Figures.{Figures}
 
 -- what it keeps of a peer: the packets that the peer has not acknowledged, the most that the peer's datagrams
@@ -65,10 +71,24 @@ is_peer n player = nat_lt player n.players && not (player == n.me)
 abbrev pub remains : Linked → ℕ → Bool
 remains link player = is_peer link.node player && not (has_given_up link player)
 
+-- the report that goes to a peer beside these parts: the one that is for it, if there is room for its bytes
+abbrev pub fitting : ℕ → Option Report → Option Report
+fitting room None = None
+fitting room (Some report) = if nat_lt room (length (report_bytes report)) then None else Some report
+
+abbrev pub report_beside : Surviving → ℕ → List Part → Option Report
+report_beside now to parts = fitting (1139 - length (parts_bytes parts)) (report_for now to)
+
+-- its bytes, or none
+abbrev pub written : Option Report → List ℕ
+written None = []
+written (Some report) = report_bytes report
+
 -- a datagram to a peer: what is kept for the peer, with the packet of the moment if the peer takes it; behind
 -- these, commands of at most two third players, none of which the peer has reported, of no player who is given
--- up, and only if the peer may be handed any; how far the node is; by how many commands it led at its last
--- tick; how many datagrams of the peer are missing; and why the node has ended, if it has
+-- up, and only if the peer may be handed any; how far the node is; what it reports of those who are given up; by
+-- how many commands it led at its last tick; how many datagrams of the peer are missing; and why the node has
+-- ended, if it has
 pub record Gives (seal : Seal) (pace : PaceState) (to : ℕ) (old new : Linked) (bytes : List ℕ) : Type 0 where
   pub given : Option Carried
   pub step : SendsCarried to old.node new.node given
@@ -83,6 +103,7 @@ pub record Gives (seal : Seal) (pace : PaceState) (to : ℕ) (old new : Linked) 
   pub holes : bundle.holes ≡ missing (pace.lines to)
   pub cause : bundle.cause ≡ told_cause old.node.phase
   pub counts : bundle.counts ≡ counts_of new.node
+  pub report : bundle.report.items ≡ written (report_beside (surviving_of new) to bundle.parts.items)
   pub own : List Part
   pub handed : List Handed
   pub parts : bundle.parts.items ≡ own ++ map handed_part handed
@@ -136,13 +157,37 @@ abbrev pub with_reached : Contents → (ℕ → PeerState) → ℕ → PeerState
 with_reached node peers player =
     record (peers player) { kept = acknowledged (peers player).kept (reached node player) }
 
--- a datagram of a peer is taken in: what it tells of the peer, and its packets. What is heard then
--- acknowledges, for whoever made it
-pub record TakesIn (bundle : Bundle) (old new : Linked) : Type 0 where
+-- what a datagram tells of the peer is taken in, and its packets. What is heard then acknowledges, for whoever
+-- made it
+pub record TakesPackets (bundle : Bundle) (old new : Linked) : Type 0 where
   pub started : Bool
   pub heard : HearsAll (heard_in (takes old) bundle) old.node new.node started
   pub others : new.others ≡ old.others
   pub peers : new.peers ≡ with_reached new.node (met bundle old).peers
+
+-- a report of a player comes. While nobody is given up, and where one is kept and others are awaited, the lockstep
+-- stays as it is
+abbrev pub TakesReport : ℕ → Report → Linked → Linked → Type 0
+TakesReport from report old new =
+    (reported : Reported) × HearsReport from report (surviving_of old) (surviving_of new) reported
+    × (reported ≡ Kept → new.node ≡ old.node) × (IsWhole old → new.node ≡ old.node) × (new.peers ≡ old.peers)
+
+-- what bytes are read as: where they are no report, nothing comes
+abbrev pub TakesRead : ℕ → Result Report ReportFault → Linked → Linked → Type 0
+TakesRead from (Ok report) old new = TakesReport from report old new
+TakesRead from (Err fault) old new = new ≡ old
+
+-- a datagram of a peer is taken in: its packets, and then its report
+abbrev pub TakesIn : Bundle → Linked → Linked → Type 0
+TakesIn bundle old new =
+    (mid : Linked) × TakesPackets bundle old mid
+    × (read : Result Report ReportFault) × IsReadAs bundle.report.items read × TakesRead bundle.from read mid new
+
+-- what a peer who is not given up sent is taken in, unless it tells that it has given up this player
+abbrev pub HearsPeer : Bundle → Linked → Linked → Received → Type 0
+HearsPeer bundle old new answer =
+    ByTest (excludes bundle) ((answer ≡ Excluded bundle.from) × (new ≡ old))
+    ((answer ≡ Heard bundle.from) × TakesIn bundle old new)
 
 -- any bytes are opened as a datagram or for a fault, and what a peer's tells is taken in, who is not given up;
 -- all else changes nothing
@@ -151,13 +196,32 @@ ReceivesAs (Err fault) old new answer = (answer ≡ Unopened fault) × (new ≡ 
 ReceivesAs (Ok bundle) old new answer =
     ByTest (is_peer old.node bundle.from)
     (ByTest (has_given_up old bundle.from) ((answer ≡ GivenUp bundle.from) × (new ≡ old))
-    ((answer ≡ Heard bundle.from) × TakesIn bundle old new))
-    ((answer ≡ Stranger bundle.from) × (new ≡ old))
+    (HearsPeer bundle old new answer)) ((answer ≡ Stranger bundle.from) × (new ≡ old))
 
 abbrev pub Receives : Seal → List ℕ → Linked → Linked → Received → Type 0
 Receives seal bytes old new answer =
     (opened : Result Bundle BundleFault) × IsBundledAs (sealing_of seal old.node.me) bytes opened
     × ReceivesAs opened old new answer
+
+-- what one is told who is given up: that it is, and how far the node is
+abbrev pub exclusion : Linked → ℕ → Bundle
+exclusion link to =
+    record {
+      from = link.node.me;
+      to = to;
+      number = 0;
+      lead = pos 0;
+      holes = 0;
+      cause = 4;
+      counts = counts_of link.node;
+      report = record { items = [] };
+      parts = record { items = [] };
+    }
+
+-- sealed; nobody else is told so
+abbrev pub exclusion_for : Seal → Linked → ℕ → Option (List ℕ)
+exclusion_for seal link to =
+    if is_peer link.node to && has_given_up link to then Some (sealed_bytes seal (exclusion link to)) else None
 
 -- the tic after a player's last command, where a node knows it
 abbrev pub end_known : Contents → ℕ → Option ℕ

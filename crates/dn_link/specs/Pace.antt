@@ -1,5 +1,5 @@
 -- How the pace of a link changes.
-use Rattle.std.specs.Prelude.{◌≡◌, ℕ, ◌+◌, ◌&&◌, ◌||◌, if◌then◌else◌, Bool, List, nat_le, is_none, is_some, ◌+ℤ◌, ◌-ℤ◌, ℤ, pos, Option, None, Some, Result, Ok, Err}
+use Rattle.std.specs.Prelude.{◌≡◌, ℕ, ◌+◌, ◌&&◌, ◌||◌, not, if◌then◌else◌, Bool, List, nat_le, is_none, is_some, ◌+ℤ◌, ◌-ℤ◌, ℤ, pos, Option, None, Some, Result, Ok, Err}
 use Rattle.dn_tic.specs.declared.input.Input.{Input}
 use Rattle.dn_machine.specs.declared.answers.Made.{Made}
 use Rattle.dn_machine.specs.declared.answers.Made.TheVariants.{Full}
@@ -9,6 +9,7 @@ use Rattle.dn_seal.specs.declared.seal.Seal.{Seal}
 use Rattle.dn_open.specs.Sealed.{sealing_of}
 use Rattle.dn_link.specs.declared.bundle.Bundle.{Bundle}
 use Rattle.dn_link.specs.declared.bundle.BundleFault.{BundleFault}
+use Rattle.dn_link.specs.Ends.{excludes}
 use Rattle.dn_link.specs.Hearing.{ByTest}
 use Rattle.dn_link.specs.Leaning.{LeaningState, looks, step_of, worked_off, StretchingState, drops, stretches}
 use Rattle.dn_link.specs.Line.{LineState, heard_on, lead_over, missing}
@@ -47,7 +48,7 @@ after_refusal pace = record pace { refused = stops (pace.refused + 1) }
 abbrev pub PacesAs : Result Bundle BundleFault → Linked → PaceState → PaceState → Type 0
 PacesAs (Err fault) link old new = new ≡ after_refusal old
 PacesAs (Ok bundle) link old new =
-    ByTest (remains link bundle.from) (new ≡ after_datagram bundle old) (new ≡ old)
+    ByTest (remains link bundle.from && not (excludes bundle)) (new ≡ after_datagram bundle old) (new ≡ old)
 
 -- any bytes came
 abbrev pub Paces : Seal → List ℕ → Linked → PaceState → PaceState → Type 0

@@ -18,7 +18,7 @@ pub record IsDatagramOf (sealing : Sealing) (bytes : List ℕ) (bundle : Bundle)
 
 -- the datagrams of bundles
 abbrev pub bundles : Format
-bundles = record { kind = 5; least = 60; most = 1200 }
+bundles = record { kind = 5; least = 62; most = 1200 }
 
 -- the bundle, or the first fault that the bytes have; a holder of the key alone can cause the last
 abbrev pub IsBundledAs : Sealing → List ℕ → Result Bundle BundleFault → Type 0

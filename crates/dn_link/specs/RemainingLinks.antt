@@ -1,14 +1,13 @@
 -- The links of one game in which players may be given up.
-use Rattle.std.specs.Prelude.{◌≡◌, ◌<◌, ◌⊎◌, ℕ, List, All, Some, slice_get}
+use Rattle.std.specs.Prelude.{◌≡◌, ◌<◌, ℕ, List, All, Some, Ok, slice_get}
 use Rattle.dn_setup.specs.Settings.{Settings}
 use Rattle.dn_survivor.specs.declared.report.Report.{Report}
-use Rattle.dn_survivor.specs.ReportBytes.{IsReport}
+use Rattle.dn_survivor.specs.ReportBytes.{IsReadAs}
 use Rattle.dn_machine.specs.Flight.{Flight}
 use Rattle.dn_machine.specs.Limits.{Limits}
 use Rattle.dn_machine.specs.Node.{put}
 use Rattle.dn_lockstep.specs.Marking.{Marking}
 use Rattle.dn_seal.specs.declared.seal.Seal.{Seal}
-use Rattle.dn_link.specs.SealedReports.{IsReportFrom, sealed_report_bytes}
 use Rattle.dn_open.specs.Sealed.{sealing_of}
 use Rattle.dn_survivor.specs.OneGame.{AreRemaining, Given, Session}
 use Rattle.dn_link.specs.declared.bundle.Bundle.{Bundle}
@@ -40,26 +39,22 @@ abbrev pub StayRemaining : Marking → Limits → Settings → Session → (ℕ 
 StayRemaining marking limits settings session links player new later =
     AreRemainingLinks marking limits settings later (put links player new) × KeepsGiven session later
 
--- the bytes are a datagram that carries nothing but packets of this game, to whom they were given
-abbrev pub CarriesGiven : Seal → Session → List ℕ → Type 0
-CarriesGiven seal session bytes =
+-- this report was given by one player to another
+abbrev pub WasTold : List Given → (from to : ℕ) → Report → Type 0
+WasTold reports from to report =
+    (which : ℕ) × (slice_get reports which ≡ Some (record { from = from; to = to; report = report }))
+
+-- the bytes were sealed in this game: they are a datagram that carries nothing but packets of this game, to whom
+-- they were given, and no report but one that its sender gave to its receiver
+abbrev pub WasSealedIn : Seal → Session → List ℕ → Type 0
+WasSealedIn seal session bytes =
     (bundle : Bundle) × IsBundle bundle × (bytes ≡ sealed_bytes seal bundle)
     × All (WasGiven session.packets bundle.to) (packets_in bundle)
+    × ((report : Report) → IsReadAs bundle.report.items (Ok report)
+    → WasTold session.reports bundle.from bundle.to report)
 
--- the bytes are a report of this game, sealed by who gave it to whom it was given
-abbrev pub TellsGiven : Seal → Session → List ℕ → Type 0
-TellsGiven seal session bytes =
-    (which : ℕ) × (given : Given) × (slice_get session.reports which ≡ Some given) × IsReport given.report
-    × (bytes ≡ sealed_report_bytes seal given.from given.to given.report)
-
--- the bytes were sealed in this game, as a datagram or as a report
-abbrev pub WasSealedIn : Seal → Session → List ℕ → Type 0
-WasSealedIn seal session bytes = CarriesGiven seal session bytes ⊎ TellsGiven seal session bytes
-
--- the one thing that is asked of the network, and of whoever has it in hand: what a player opens, as a datagram
--- or as a report, was sealed as such in this game before. No tag was forged
-pub record IsGenuineIn (seal : Seal) (session : Session) (player : ℕ) (bytes : List ℕ) : Type 0 where
-  pub datagram : (bundle : Bundle) → IsDatagramOf (sealing_of seal player) bytes bundle
-      → CarriesGiven seal session bytes
-  pub report : (from : ℕ) (report : Report) → IsReportFrom (sealing_of seal player) bytes from report
-      → TellsGiven seal session bytes
+-- the one thing that is asked of the network, and of whoever has it in hand: what a player opens was sealed in
+-- this game before. No tag was forged
+abbrev pub IsGenuineIn : Seal → Session → ℕ → List ℕ → Type 0
+IsGenuineIn seal session player bytes =
+    (bundle : Bundle) → IsDatagramOf (sealing_of seal player) bytes bundle → WasSealedIn seal session bytes

@@ -1,7 +1,7 @@
 -- The datagram of a bundle.
 use Rattle.std.specs.Prelude.{ℕ, ◌+◌, ◌<◌, ◌≡◌, ◌≤◌, ◌^◌, ◌*◌, ◌/◌, List, [], ◌∷◌, ◌++◌, length, All, IfSome, FitsSigned}
 use Rattle.std.specs.List.{flat_map}
-use Rattle.std.specs.Int.{w8, w32, cast_unsigned, to_le_bytes}
+use Rattle.std.specs.Int.{w8, w16, w32, cast_unsigned, to_le_bytes}
 use Rattle.dn_seal.specs.declared.seal.Seal.{Seal}
 use Rattle.dn_seal.specs.Envelope.{ask_bytes}
 use Rattle.dn_seal.specs.Hmac.{tag_of}
@@ -42,13 +42,17 @@ part_bytes (Relay relay) = relay_head relay ∷ run_bytes relay.run
 abbrev pub parts_bytes : List Part → List ℕ
 parts_bytes parts = length parts ∷ flat_map part_bytes parts
 
+-- the bytes of a report, or none, behind their number
+abbrev pub report_field : List ℕ → List ℕ
+report_field report = to_le_bytes w16 (length report) ++ report
+
 -- what the tag is over: the suite, kind 5 and the game, then from whom to whom, the datagram's number, the
--- lead, the holes, why the sender ended, the counts, and the parts
+-- lead, the holes, why the sender ended, the counts, the report, and the parts
 abbrev pub bundle_bytes : Seal → Bundle → List ℕ
 bundle_bytes seal bundle =
     front_bytes seal 5 ++ (bundle.from ∷ bundle.to ∷ []) ++ to_le_bytes w32 bundle.number
     ++ (cast_unsigned w8 bundle.lead ∷ bundle.holes ∷ bundle.cause ∷ []) ++ counts_bytes bundle.counts
-    ++ parts_bytes bundle.parts.items
+    ++ report_field bundle.report.items ++ parts_bytes bundle.parts.items
 
 -- the bytes that are sent
 abbrev pub sealed_bytes : Seal → Bundle → List ℕ
@@ -87,7 +91,8 @@ pub record AreCounts (counts : Counts) : Type 0 where
 pub record IsBundle (bundle : Bundle) : Type 0 where
   pub number : bundle.number < 2 ^ 32
   pub lead : FitsSigned w8 bundle.lead
-  pub cause : bundle.cause ≤ 3
+  pub cause : bundle.cause ≤ 4
   pub counts : AreCounts bundle.counts
+  pub report : length bundle.report.items ≤ 397
   pub few : length bundle.parts.items ≤ 24
   pub parts : All IsPart bundle.parts.items

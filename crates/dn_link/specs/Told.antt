@@ -1,7 +1,7 @@
 -- What bytes tell, part by part.
 use Rattle.std.specs.Prelude.{ℕ, zero, suc, ◌+◌, ◌-◌, ◌*◌, ◌/◌, ◌%◌, ◌==◌, ◌||◌, nat_lt, if◌then◌else◌, List, [], ◌∷◌, length, take, drop, slice_index, Option, Some, None}
 use Rattle.std.specs.Option.{option_map}
-use Rattle.std.specs.Int.{w8, w32, cast_signed, from_le_bytes}
+use Rattle.std.specs.Int.{w8, w16, w32, cast_signed, from_le_bytes}
 use Rattle.dn_seal.specs.Opening.{ask_in}
 use Rattle.dn_link.specs.declared.bundle.Bundle.{Bundle}
 use Rattle.dn_link.specs.declared.bundle.Carried.{Carried}
@@ -81,6 +81,10 @@ abbrev pub told_parts : List ℕ → Option (List Part)
 told_parts [] = None
 told_parts (count ∷ bytes) = if nat_lt 24 count then None else told_all count bytes
 
+-- how many bytes of a report stand behind the counts
+abbrev pub report_size : List ℕ → ℕ
+report_size body = from_le_bytes w16 (take 2 (drop 43 body))
+
 -- the bundle of these parts
 abbrev pub bundle_with : List ℕ → List Part → Bundle
 bundle_with body parts =
@@ -92,10 +96,13 @@ bundle_with body parts =
       holes = slice_index body 17;
       cause = slice_index body 18;
       counts = told_counts (drop 19 body);
+      report = record { items = take (report_size body) (drop 45 body) };
       parts = record { items = parts };
     }
 
 -- what stands under a tag
 abbrev pub told_bundle : List ℕ → Option Bundle
 told_bundle body =
-    if nat_lt 3 (slice_index body 18) then None else option_map (bundle_with body) (told_parts (drop 43 body))
+    if nat_lt 4 (slice_index body 18) || nat_lt 397 (report_size body)
+    then None
+    else option_map (bundle_with body) (told_parts (drop (45 + report_size body) body))

@@ -1,6 +1,7 @@
 //! What is in one datagram of a link, and why bytes are not one.
 
 use arrayvec::ArrayVec;
+use dn_survivor::report::MAX_REPORT;
 use thiserror::Error;
 
 /// A packet of 1997 with its exact numbers in front.
@@ -84,10 +85,12 @@ pub struct Bundle {
     /// How many datagrams of the receiver the sender misses.
     pub holes: u8,
     /// Why the sender has ended: that it quit (1), that its demo is full (2), or that it found another's world
-    /// to differ (3); 0 while it plays.
+    /// to differ (3); 0 while it plays. Or that it has given up the receiver (4): then the rest does not count.
     pub cause: u8,
     /// How far the sender is.
     pub counts: Counts,
+    /// The bytes of the sender's report, while it has given up somebody or has left; else none.
+    pub report: ArrayVec<u8, MAX_REPORT>,
     /// The packets for the receiver, oldest first, up to where there may be no room for one more.
     pub parts: ArrayVec<Part, 24>,
 }
@@ -95,7 +98,7 @@ pub struct Bundle {
 /// Why bytes are no datagram of this game and to this player: the first of these faults that they have.
 #[derive(Clone, Copy, Debug, PartialEq, Eq, Error)]
 pub enum BundleFault {
-    /// Fewer than 60 bytes.
+    /// Fewer than 62 bytes.
     #[error("too short for a datagram of a link")]
     Short,
     /// More than 1,200 bytes.

@@ -1,10 +1,13 @@
 //! What a datagram tells of its sender's end.
 
 ghost use Rattle.std.specs.Prelude.{◌≡◌};
-ghost use Rattle.dn_link.specs.Ends.{cause_byte, left_by, tells_end, told_cause};
+ghost use Rattle.dn_link.specs.Ends.{cause_byte, excludes, left_by, tells_end, told_cause};
 
 use crate::bundle::Bundle;
 use dn_machine::{Cause, Phase};
+
+/// The cause of one that has given up the receiver.
+pub(crate) const EXCLUDES: u8 = 4;
 
 /// The byte that stands for a cause.
 fn cause_byte(cause: Cause) -> u8
@@ -25,6 +28,13 @@ pub(crate) fn told_cause(phase: Phase) -> u8
         Phase::Ended(cause) => cause_byte(cause),
         Phase::Listening | Phase::Gathering | Phase::Playing => 0,
     }
+}
+
+/// Whether the sender of a datagram has given up its receiver.
+pub(crate) fn excludes(bundle: &Bundle) -> bool
+    ensures { result ≡ excludes bundle.now }
+{
+    bundle.cause == EXCLUDES
 }
 
 /// Whether a datagram tells all commands of its sender, and its end.

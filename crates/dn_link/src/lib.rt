@@ -13,7 +13,6 @@ mod laws;
 mod leaning;
 mod line;
 mod link;
-pub mod notice;
 mod onward;
 mod overdue;
 mod pace;

@@ -2,31 +2,36 @@
 
 ghost use Rattle.std.specs.Prelude.{◌≤◌, ◌≡◌, length, Result};
 ghost use Rattle.dn_seal.specs.Sealing.{sealing};
-ghost use Rattle.dn_link.specs.{declared.bundle.Bundle.Bundle, declared.bundle.BundleFault.BundleFault, Told.told_bundle, Reading.IsBundledAs};
+ghost use Rattle.dn_link.specs.{declared.bundle.Bundle.Bundle, declared.bundle.BundleFault.BundleFault, Told.report_size, Told.told_bundle, Reading.IsBundledAs};
 
 mod fields;
 pub(crate) mod parts;
 
 use crate::bundle::{Bundle, BundleFault};
 use crate::writing::KIND;
-use dn_seal::{Sealer, tic_at};
-use fields::counts_in;
+use arrayvec::ArrayVec;
+use dn_seal::{Sealer, append, tic_at};
+use dn_survivor::report::MAX_REPORT;
+use fields::{counts_in, report_size};
 use parts::parts_in;
 
-/// The highest byte for which a player has ended.
-const MOST_CAUSE: u8 = 3;
+/// The highest byte of a cause.
+const MOST_CAUSE: u8 = 4;
 
 /// The bundle in these bytes, the first twelve of which were tested.
 fn bundle_in(body: &[u8]) -> Option<Bundle>
-    requires { 44 ≤ length body.now }
+    requires { 46 ≤ length body.now }
     ensures { result ≡ told_bundle body.now }
 {
-    if body[18] > MOST_CAUSE {
+    let size = report_size(body);
+    if body[18] > MOST_CAUSE || size > MAX_REPORT || body.len() < 45 + size {
         return None;
     }
-    let Some(parts) = parts_in(&body[43..]) else {
+    let Some(parts) = parts_in(&body[45 + size..]) else {
         return None;
     };
+    let mut report = ArrayVec::new();
+    append(&mut report, &body[45..45 + size]);
     Some(Bundle {
         from: body[10],
         to: body[11],
@@ -35,6 +40,7 @@ fn bundle_in(body: &[u8]) -> Option<Bundle>
         holes: body[17],
         cause: body[18],
         counts: counts_in(&body[19..]),
+        report,
         parts,
     })
 }
@@ -46,7 +52,7 @@ pub fn open_bundle(sealer: &Sealer, bytes: &[u8]) -> Result<Bundle, BundleFault>
     ensures only { (read : Result Bundle BundleFault)
         → IsBundledAs (sealing sealer.now) bytes.now read → result ≡ read }
 {
-    if bytes.len() < 60 {
+    if bytes.len() < 62 {
         return Err(BundleFault::Short);
     }
     if bytes.len() > 1200 {

@@ -48,7 +48,7 @@ pub(crate) fn relay_of(lockstep: &Lockstep, player: u8, start: u32, most: u8) ->
 }
 
 /// How many bytes parts take, and their number.
-fn parts_len(parts: &[Part]) -> usize
+pub(crate) fn parts_len(parts: &[Part]) -> usize
     requires { length (parts_bytes parts.now) ≤ 1118 }
     ensures { result ≡ length (parts_bytes parts.now) }
 {

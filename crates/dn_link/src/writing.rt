@@ -2,7 +2,7 @@
 
 ghost use Rattle.std.specs.Prelude.{◌≤◌, ◌≡◌, ◌+◌, ◌++◌, All, length};
 ghost use Rattle.dn_seal.specs.Sealing.{sealing};
-ghost use Rattle.dn_link.specs.Text.{AreCounts, IsBundle, IsPart, carried_bytes, counts_bytes, part_bytes, parts_bytes, sealed_bytes};
+ghost use Rattle.dn_link.specs.Text.{AreCounts, IsBundle, IsPart, carried_bytes, counts_bytes, part_bytes, parts_bytes, report_field, sealed_bytes};
 
 use crate::bundle::{Bundle, Carried, Counts, Part};
 use arrayvec::ArrayVec;
@@ -25,6 +25,16 @@ fn append_counts(bytes: &mut ArrayVec<u8, 1200>, counts: &Counts)
     append(bytes, &b.to_le_bytes());
     append(bytes, &c.to_le_bytes());
     append(bytes, &d.to_le_bytes());
+}
+
+/// Appends the bytes of a report, or none, behind their number.
+fn append_report(bytes: &mut ArrayVec<u8, 1200>, report: &[u8])
+    requires short { length report.now ≤ 397 }
+    requires room { length bytes.old.items + 2 + length report.now ≤ 1200 }
+    ensures { bytes.new.items ≡ bytes.old.items ++ report_field report.now }
+{
+    append(bytes, &(report.len() as u16).to_le_bytes());
+    append(bytes, report);
 }
 
 /// Appends a packet as it is.
@@ -80,12 +90,12 @@ fn append_parts(bytes: &mut ArrayVec<u8, 1200>, parts: &[Part])
     }
 }
 
-/// The datagram of a bundle. What a datagram has beside its parts is 43 bytes, and the tag.
+/// The datagram of a bundle. What a datagram has beside its report and its parts is 45 bytes, and the tag.
 pub fn seal_bundle(sealer: &Sealer, bundle: &Bundle) -> ArrayVec<u8, 1200>
     requires from { bundle.now.from ≡ (sealing sealer.now).me }
     requires fit { All IsPart bundle.now.parts.items }
-    requires cause { bundle.now.cause ≤ 3 }
-    requires room { length (parts_bytes bundle.now.parts.items) ≤ 1118 }
+    requires cause { bundle.now.cause ≤ 4 }
+    requires room { length bundle.now.report.items + length (parts_bytes bundle.now.parts.items) ≤ 1139 }
     ensures text { result.items ≡ sealed_bytes (sealing sealer.now).seal bundle.now }
     ensures fits { IsBundle bundle.now }
 {
@@ -98,6 +108,7 @@ pub fn seal_bundle(sealer: &Sealer, bundle: &Bundle) -> ArrayVec<u8, 1200>
         &[bundle.lead.cast_unsigned(), bundle.holes, bundle.cause],
     );
     append_counts(&mut bytes, &bundle.counts);
+    append_report(&mut bytes, bundle.report.as_slice());
     append_parts(&mut bytes, bundle.parts.as_slice());
     let tag = sealer.tag(bytes.as_slice());
     append(&mut bytes, &tag);

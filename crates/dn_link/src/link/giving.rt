@@ -16,7 +16,8 @@ impl Link {
 
     /// The datagram to a peer, for each tick: the packets that are kept until it acknowledges their commands
     /// and the one of the moment, oldest first, up to where there may be no room for one more, and how far this
-    /// player is. After the end it says why. None to a number that is no peer's, nor to one who is given up.
+    /// player is. After the end it says why; and then, or while somebody is given up, it has the report to the peer.
+    /// None to a number that is no peer's, nor to one who is given up.
     #[tactic(auto, using(crate::proofs::Handing::may_before, crate::proofs::Linking::same_reported, crate::proofs::Places::peer_at, crate::proofs::Places::peers_put))]
     pub fn datagram(&mut self, to: u8) -> Option<ArrayVec<u8, 1200>>
         ensures gives { IfSome result (λ bytes. Gives (seal_of self.old) (pace_of self.old) to
@@ -42,6 +43,7 @@ impl Link {
         let is_first = self.overdue.give(to);
         let parts = self.with_handed(to, is_first, own);
         self.overdue.hand(to, parts.as_slice());
+        let report = self.report_beside(to, parts.as_slice());
         let line = self.pace.line(to);
         let bundle = Bundle {
             from: me,
@@ -51,6 +53,7 @@ impl Link {
             holes: line.missing(),
             cause,
             counts: counts_of(self.lockstep()),
+            report,
             parts,
         };
         Some(seal_bundle(&self.sealer, &bundle))

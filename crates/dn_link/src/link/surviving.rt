@@ -1,17 +1,14 @@
-//! Who is given up for good, and what links report to each other of that.
+//! Who is given up for good, and what the others reported of that.
 
 use super::Link;
-use dn_survivor::report::Report;
-use dn_survivor::{GivenUp, Reported};
+use dn_survivor::GivenUp;
 
 impl Link {
-    ghost use Rattle.std.specs.Prelude.{◌≡◌, ◌<◌, ◌≢◌, true, IfSome};
+    ghost use Rattle.std.specs.Prelude.{◌≡◌, ◌<◌, ◌≢◌, true};
     ghost use Rattle.dn_machine.specs.declared.answers.Phase.TheVariants.{Gathering};
-    ghost use Rattle.dn_survivor.specs.ReportBytes.{IsReport};
-    ghost use Rattle.dn_survivor.specs.{Calls.HearsReport, Calls.awaits_report_of, Calls.undecided_in, Telling.report_for};
+    ghost use Rattle.dn_survivor.specs.{Calls.awaits_report_of, Calls.undecided_in};
     ghost use Rattle.dn_survivor.specs.declared.answers.GivenUp.TheVariants as given_up;
-    ghost use Rattle.dn_survivor.specs.declared.answers.Reported.TheVariants as reported;
-    ghost use Rattle.dn_link.specs.{Linked.IsWhole, Linked.has_given_up, Linked.remains, Linked.surviving_of, Linking.linked, Linking.seal_of, Pacing.pace_of};
+    ghost use Rattle.dn_link.specs.{Linked.has_given_up, Linked.remains, Linked.surviving_of, Linking.linked, Linking.seal_of, Pacing.pace_of};
     ghost use Rattle.dn_link.specs.{Surviving.GivesUpPeer, Surviving.reports_gone};
 
     /// Whether a player is given up.
@@ -62,28 +59,6 @@ impl Link {
         ensures { result ≡ awaits_report_of (surviving_of (linked self.now)) }
     {
         self.survivor.awaits_report_of()
-    }
-
-    /// As `Survivor::report`: what a player who is not given up is to be told of the others, while somebody is
-    /// given up or this player has left.
-    pub fn report(&self, to: u8) -> Option<Report>
-        ensures told { result ≡ report_for (surviving_of (linked self.now)) to }
-        ensures proper { IfSome result IsReport }
-    {
-        self.survivor.report(to)
-    }
-
-    /// As `Survivor::hear`: a report came from a player to this one.
-    pub fn hear_report(&mut self, from: u8, report: Report) -> Reported
-        ensures heard { HearsReport from report (surviving_of (linked self.old)) (surviving_of (linked self.new)) result }
-        ensures gone { (linked self.new).others.gone ≡ (linked self.old).others.gone }
-        ensures waits { result ≡ reported.Kept → (linked self.new).node ≡ (linked self.old).node }
-        ensures quiet { IsWhole (linked self.old) → (linked self.new).node ≡ (linked self.old).node }
-        ensures peers { (linked self.new).peers ≡ (linked self.old).peers }
-        ensures pace { pace_of self.new ≡ pace_of self.old }
-        ensures seal { seal_of self.new ≡ seal_of self.old }
-    {
-        self.survivor.hear(from, report)
     }
 
     /// Gives up a player who vanished, for good, so that the others play on: as `Survivor::give_up`. From here

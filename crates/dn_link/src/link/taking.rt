@@ -1,22 +1,19 @@
 //! What comes in.
 
 use super::Link;
-use super::notices::is_notice;
 use crate::bundle::Bundle;
 use crate::counting::reached;
-use crate::ends::left_by;
+use crate::ends::{excludes, left_by};
 use crate::hearing::hear_bundle;
 use crate::reading::open_bundle;
 use crate::received::Received;
 
 impl Link {
-    ghost use Rattle.dn_link.specs.{Hearing.HearsAll, Packets.heard_in, Linked.IsWhole, Linked.Receives, Linked.ReceivesAs, Linked.done_with, Linked.has_given_up, Linked.takes, Linked.with_reached};
+    ghost use Rattle.dn_link.specs.{Ends.excludes, Hearing.ByTest, Hearing.HearsAll, Packets.heard_in, Linked.HearsPeer, Linked.Receives, Linked.TakesPackets, Linked.done_with, Linked.takes, Linked.with_reached};
     ghost use Rattle.dn_machine.specs.Node.{put};
-    ghost use Rattle.dn_link.specs.{Linked.is_peer, Linked.met, Notices.HearsNotice, Notices.is_notice, Linking.linked, Linking.seal_of, Pace.Paces};
-    ghost use Rattle.dn_link.specs.{Pace.after_datagram, Pacing.pace_of};
-    ghost use Rattle.std.specs.Prelude.{ℕ, ◌<◌, true, false, Ok, ◌≡◌};
-    ghost use Rattle.dn_survivor.specs.declared.answers.Reported.TheVariants as reported;
-    ghost use Rattle.dn_link.specs.declared.received.Received.TheVariants as received;
+    ghost use Rattle.dn_link.specs.{Linked.met, Linking.linked, Linking.seal_of, Pace.Paces};
+    ghost use Rattle.dn_link.specs.{Pace.after_datagram, Pace.after_refusal, Pacing.pace_of};
+    ghost use Rattle.std.specs.Prelude.{◌<◌, ◌≡◌};
 
     /// How many commands of this player a peer no longer needs, that has left or reported this count.
     fn done_with(&self, left: Option<u8>, count: u32) -> u32
@@ -81,29 +78,54 @@ impl Link {
         self.note_reached(3);
     }
 
-    /// Takes in the datagram of a peer.
-    fn take_in(&mut self, bundle: &Bundle) -> Received
-        requires peer { is_peer (linked self.old).node bundle.now.from ≡ true }
+    /// Takes in what a peer's datagram tells of the peer, and its packets.
+    fn take_packets(&mut self, bundle: &Bundle)
         requires few { bundle.now.from < 4 }
-        requires stays { has_given_up (linked self.old) bundle.now.from ≡ false }
-        ensures heard { ReceivesAs (Ok bundle.now) (linked self.old) (linked self.new) result }
+        ensures heard { TakesPackets bundle.now (linked self.old) (linked self.new) }
         ensures pace { pace_of self.new ≡ after_datagram bundle.now (pace_of self.old) }
-        ensures others { (linked self.new).others ≡ (linked self.old).others }
         ensures seal { seal_of self.new ≡ seal_of self.old }
     {
         self.meet(bundle);
         self.pace.hear(bundle);
         let _ = self.hear_packets(bundle);
         self.note_all_reached();
+    }
+
+    /// Takes in the datagram of a peer who is not given up.
+    fn take_in(&mut self, bundle: &Bundle) -> Received
+        requires few { bundle.now.from < 4 }
+        ensures heard { HearsPeer bundle.now (linked self.old) (linked self.new) result }
+        ensures pace { ByTest (excludes bundle.now) (pace_of self.new ≡ pace_of self.old)
+            (pace_of self.new ≡ after_datagram bundle.now (pace_of self.old)) }
+        ensures gone { (linked self.new).others.gone ≡ (linked self.old).others.gone }
+        ensures seal { seal_of self.new ≡ seal_of self.old }
+    {
+        if excludes(bundle) {
+            return Received::Excluded(bundle.from);
+        }
+        self.take_packets(bundle);
+        self.take_report(bundle.from, bundle.report.as_slice());
         Received::Heard(bundle.from)
     }
 
-    /// Takes in bytes that are not of the kind of reports: what is opened, if its sender is a peer who is not
-    /// given up.
-    fn receive_datagram(&mut self, bytes: &[u8]) -> Received
+    /// Counts bytes that are no datagram to this player, and answers so.
+    fn refuse(&mut self, answer: Received) -> Received
+        ensures answer { result ≡ answer }
+        ensures link { linked self.new ≡ linked self.old }
+        ensures pace { pace_of self.new ≡ after_refusal (pace_of self.old) }
+        ensures seal { seal_of self.new ≡ seal_of self.old }
+    {
+        self.pace.refuse();
+        answer
+    }
+
+    /// Takes in any bytes, wherever they come from, and answers which peer's datagram they are. Bytes that are no
+    /// datagram to this player in this game change nothing but what `refused` counts. A datagram changes nothing
+    /// whose sender is no peer, or is given up, or has given up this player.
+    pub fn receive(&mut self, bytes: &[u8]) -> Received
         ensures heard { Receives (seal_of self.old) bytes.now (linked self.old) (linked self.new) result }
         ensures pace { Paces (seal_of self.old) bytes.now (linked self.old) (pace_of self.old) (pace_of self.new) }
-        ensures others { (linked self.new).others ≡ (linked self.old).others }
+        ensures gone { (linked self.new).others.gone ≡ (linked self.old).others.gone }
         ensures seal { seal_of self.new ≡ seal_of self.old }
     {
         let bundle = match open_bundle(&self.sealer, bytes) {
@@ -117,29 +139,5 @@ impl Link {
             return Received::GivenUp(bundle.from);
         }
         self.take_in(&bundle)
-    }
-
-    /// Takes in any bytes, wherever they come from. Answers which peer's datagram they are; or whose report
-    /// they are, and what became of it. Bytes that are neither to this player in this game change nothing but
-    /// what `refused` counts. A datagram whose sender is no peer, or is given up, changes nothing.
-    pub fn receive(&mut self, bytes: &[u8]) -> Received
-        ensures heard { is_notice bytes.now ≡ false → Receives (seal_of self.old) bytes.now (linked self.old)
-            (linked self.new) result }
-        ensures pace { is_notice bytes.now ≡ false
-            → Paces (seal_of self.old) bytes.now (linked self.old) (pace_of self.old) (pace_of self.new) }
-        ensures told { is_notice bytes.now ≡ true → HearsNotice (seal_of self.old) bytes.now (linked self.old)
-            (pace_of self.old) (linked self.new) (pace_of self.new) result }
-        ensures gone { (linked self.new).others.gone ≡ (linked self.old).others.gone }
-        ensures waits { is_notice bytes.now ≡ true → (from : ℕ) → result ≡ received.Reported from reported.Kept
-            → (linked self.new).node ≡ (linked self.old).node }
-        ensures quiet { is_notice bytes.now ≡ true → IsWhole (linked self.old)
-            → ((linked self.new).node ≡ (linked self.old).node) × ((linked self.new).peers ≡ (linked self.old).peers) }
-        ensures seal { seal_of self.new ≡ seal_of self.old }
-    {
-        if is_notice(bytes) {
-            self.receive_report(bytes)
-        } else {
-            self.receive_datagram(bytes)
-        }
     }
 }

@@ -1,0 +1,75 @@
+//! What a link tells of those who are given up: reports, beside the parts of its datagrams; and to one who is
+//! given up that it is.
+
+use super::Link;
+use crate::bundle::{Bundle, Part};
+use crate::counting::counts_of;
+use crate::ends::EXCLUDES;
+use crate::relaying::parts_len;
+use crate::writing::seal_bundle;
+use arrayvec::ArrayVec;
+use dn_survivor::report::{MAX_REPORT, decode};
+
+/// How many bytes a datagram has for its report and its parts.
+const ROOM: usize = 1139;
+
+impl Link {
+    ghost use Rattle.std.specs.Prelude.{◌≡◌, ◌+◌, ◌≤◌, ℕ, length, Result, option_map};
+    ghost use Rattle.dn_survivor.specs.ReportBytes.{IsReadAs};
+    ghost use Rattle.dn_survivor.specs.declared.report.{Report.Report, ReportFault.ReportFault};
+    ghost use Rattle.dn_link.specs.{Linked.TakesRead, Linked.exclusion_for, Linked.report_beside, Linked.surviving_of, Linked.written, Linking.linked, Linking.seal_of};
+    ghost use Rattle.dn_link.specs.{Pacing.pace_of, Text.parts_bytes};
+
+    /// The bytes of the report to a peer, if there is one, and room for it beside these parts.
+    pub(super) fn report_beside(&self, to: u8, parts: &[Part]) -> ArrayVec<u8, MAX_REPORT>
+        requires { length (parts_bytes parts.now) ≤ 1118 }
+        ensures bytes { result.items ≡ written (report_beside (surviving_of (linked self.now)) to parts.now) }
+        ensures room { length result.items + length (parts_bytes parts.now) ≤ 1139 }
+    {
+        let mut bytes = ArrayVec::new();
+        let Some(report) = self.survivor.report(to) else {
+            return bytes;
+        };
+        let mut room = [0; MAX_REPORT];
+        let size = report.encode(&mut room);
+        if size <= ROOM - parts_len(parts) {
+            dn_seal::append(&mut bytes, &room[..size]);
+        }
+        bytes
+    }
+
+    /// Takes in what a peer's datagram has as its report, if it is one.
+    pub(super) fn take_report(&mut self, from: u8, bytes: &[u8])
+        ensures told { (read : Result Report ReportFault) × IsReadAs bytes.now read
+            × TakesRead from read (linked self.old) (linked self.new) }
+        ensures gone { (linked self.new).others.gone ≡ (linked self.old).others.gone }
+        ensures pace { pace_of self.new ≡ pace_of self.old }
+        ensures seal { seal_of self.new ≡ seal_of self.old }
+    {
+        if let Ok(report) = decode(bytes) {
+            let _ = self.survivor.hear(from, report);
+        }
+    }
+
+    /// What a player is told who is given up: that it is, and no more. None to any other. It changes nothing
+    /// there: the link answers `Excluded`.
+    pub fn exclusion_datagram(&self, to: u8) -> Option<ArrayVec<u8, 1200>>
+        ensures { option_map (λ bytes. bytes.items) result ≡ exclusion_for (seal_of self.now) (linked self.now) to }
+    {
+        if !self.is_peer(to) || !self.has_given_up(to) {
+            return None;
+        }
+        let bundle = Bundle {
+            from: self.me(),
+            to,
+            number: 0,
+            lead: 0,
+            holes: 0,
+            cause: EXCLUDES,
+            counts: counts_of(self.lockstep()),
+            report: ArrayVec::new(),
+            parts: ArrayVec::new(),
+        };
+        Some(seal_bundle(&self.sealer, &bundle))
+    }
+}
