@@ -13,7 +13,8 @@ use Rattle.dn_lockstep.specs.Tables.{count_of}
 use Rattle.dn_lockstep.specs.Told.{got, made}
 use Rattle.dn_seal.specs.{declared.seal.Seal.Seal, Opening.Sealing}
 use Rattle.dn_open.specs.Sealed.{sealing_of}
-use Rattle.dn_link.specs.{declared.bundle.Bundle.Bundle, declared.bundle.BundleFault.BundleFault, declared.received.Received.Received, declared.received.Received.TheVariants.GivenUp, declared.received.Received.TheVariants.Heard}
+use Rattle.dn_link.specs.{declared.bundle.Bundle.Bundle, declared.bundle.BundleFault.BundleFault, declared.received.Received.Received, declared.received.Received.TheVariants.Excluded, declared.received.Received.TheVariants.GivenUp, declared.received.Received.TheVariants.Heard, Ends.excludes, Linked.HearsPeer}
+use Rattle.dn_link.proofs.Reporting.{AreTakenIn, taken_whole}
 use Rattle.dn_link.specs.{declared.received.Received.TheVariants.Stranger, LinkedGame.HasReached, LinkedGame.IsGenuineDatagram, LinkedGame.WasGiven, LinkedGame.AreLinked, LinkedGame.IsLater, Hearing.ByTest, Hearing.HearsAll}
 use Rattle.dn_link.specs.{Kept.IsKeptRising, Kept.Unacknowledged, Kept.acknowledged, CaughtUp.next_to, Packets.heard_in, Packets.own_in, Packets.packets_in, Reading.IsBundledAs, Reading.IsDatagramOf, Text.IsBundle, Text.sealed_bytes}
 use Rattle.dn_link.specs.{CaughtUp.AreCaughtUp, CaughtUp.Brings, CaughtUp.HasNoGap, CaughtUp.IsCaughtUp, CaughtUp.IsInStep, CaughtUp.IsInStepTo, CaughtUp.IsKeptChain, CaughtUp.StayCaughtUp, CaughtUp.last_end}
@@ -193,7 +194,7 @@ module _ (letters : LettersKeep) (marking : Marking) (limits : Limits) (settings
     stays was = ap has_ended (sym (put_at session.locksteps player player new.node refl))
         ∙ later.ended player (ap has_ended (sym node) ∙ was)
 
-    module _ (takes_it : TakesIn bundle old new) where
+    module _ (takes_it : AreTakenIn bundle old new) where
       came : Came
       came = (came_heard takes_it.started takes_it.heard).0
 
@@ -344,15 +345,15 @@ module _ (letters : LettersKeep) (marking : Marking) (limits : Limits) (settings
           (takes : (bundle : Bundle) (below : bundle.from < limits.players) (apart : bundle.from ≢ player)
           (goes : bundle.to ≡ player) (all : All (WasGiven session.given player) (packets_in bundle))
           (reached : HasReached session.locksteps bundle) (step : IsInStep limits links bundle)
-          (is : IsDatagramOf (sealing_of seal player) bytes bundle) → TakesIn bundle old new → P) where
+          (is : IsDatagramOf (sealing_of seal player) bytes bundle) → AreTakenIn bundle old new → P) where
         as_bundle : (bundle : Bundle) → IsDatagramOf (sealing_of seal player) bytes bundle
             → ReceivesAs (Ok bundle) old new answer → P
         as_bundle bundle is comes = go (is_peer old.node bundle.from) refl comes
           where
-            of_peer : is_peer old.node bundle.from ≡ true → (test : Bool)
-                → ByTest test ((answer ≡ GivenUp bundle.from) × (new ≡ old)) ((answer ≡ Heard bundle.from) × TakesIn bundle old new) → P
-            of_peer peer true comes = other comes.1
-            of_peer peer false comes =
+            of_plain : is_peer old.node bundle.from ≡ true → (test : Bool)
+                → ByTest test ((answer ≡ Excluded bundle.from) × (new ≡ old)) ((answer ≡ Heard bundle.from) × TakesIn bundle old new) → P
+            of_plain peer true comes = other comes.1
+            of_plain peer false comes =
                 let both = and_parts (nat_lt bundle.from old.node.players) (not (bundle.from == old.node.me)) peer in
                 let inside = ltb-true bundle.from old.node.players both.0 in
                 let count = (base.shows marking limits settings session links player linked mine).whose.players in
@@ -365,12 +366,17 @@ module _ (letters : LettersKeep) (marking : Marking) (limits : Limits) (settings
                 takes bundle (omega (arith, inside, count))
                 (λ e. true≢false (sym both.1 ∙ ap not (eq-eqb bundle.from old.node.me (e ∙ sym own))))
                 is.to (subst (λ (k : ℕ). All (WasGiven session.given k) (packets_in bundle)) is.to all) reached
-                (subst (IsInStep limits links) one step.3) is comes.1
+                (subst (IsInStep limits links) one step.3) is
+                (taken_whole bundle old new (linked.whole player mine) comes.1)
+
+            of_peer : is_peer old.node bundle.from ≡ true → (test : Bool)
+                → ByTest test ((answer ≡ GivenUp bundle.from) × (new ≡ old)) (HearsPeer bundle old new answer) → P
+            of_peer peer true comes = other comes.1
+            of_peer peer false comes = of_plain peer (excludes bundle) comes
 
             go : (test : Bool) → is_peer old.node bundle.from ≡ test → ByTest test
                 (ByTest (has_given_up old bundle.from) ((answer ≡ GivenUp bundle.from) × (new ≡ old))
-                ((answer ≡ Heard bundle.from) × TakesIn bundle old new))
-                ((answer ≡ Stranger bundle.from) × (new ≡ old)) → P
+                (HearsPeer bundle old new answer)) ((answer ≡ Stranger bundle.from) × (new ≡ old)) → P
             go true peer comes = of_peer peer (has_given_up old bundle.from) comes
             go false peer comes = other comes.1
 
@@ -418,13 +424,17 @@ module _ (letters : LettersKeep) (marking : Marking) (limits : Limits) (settings
           (subst (λ (k : ℕ). IsBundledAs (sealing_of seal k) bytes receives.0) own receives.1)) in
           let comes = subst (λ (r : Result Bundle BundleFault). ReceivesAs r old new answer) opened receives.2 in
           let inner = subst (λ (test : Bool). ByTest test (ByTest (has_given_up old bundle.from)
-          ((answer ≡ GivenUp bundle.from) × (new ≡ old)) ((answer ≡ Heard bundle.from) × TakesIn bundle old new))
+          ((answer ≡ GivenUp bundle.from) × (new ≡ old)) (HearsPeer bundle old new answer))
           ((answer ≡ Stranger bundle.from) × (new ≡ old))) peer comes in
-          let taken : (answer ≡ Heard bundle.from) × TakesIn bundle old new =
+          let heard : HearsPeer bundle old new answer =
           subst (λ (test : Bool). ByTest test ((answer ≡ GivenUp bundle.from) × (new ≡ old))
-          ((answer ≡ Heard bundle.from) × TakesIn bundle old new)) (linked.whole player mine bundle.from) inner in
+          (HearsPeer bundle old new answer)) (linked.whole player mine bundle.from) inner in
+          let taken : (answer ≡ Heard bundle.from) × TakesIn bundle old new =
+          subst (λ (test : Bool). ByTest test ((answer ≡ Excluded bundle.from) × (new ≡ old))
+          ((answer ≡ Heard bundle.from) × TakesIn bundle old new)) step.plain heard in
           let last = brings bundle step.sender apart is.to (subst (λ (k : ℕ). All (WasGiven session.given k)
-          (packets_in bundle)) is.to all) reached step taken.1 plays in
+          (packets_in bundle)) is.to all) reached step
+          (taken_whole bundle old new (linked.whole player mine) taken.1) plays in
           let to : links bundle.to ≡ old = ap links is.to in
           let more = brings_it (ap (λ (l : Linked). has_ended l.node) to ∙ not_ended) in
           let same_end = ap (λ (l : Linked). last_end (got l.node bundle.from) (own_in bundle)) to in

@@ -1,6 +1,6 @@
 -- The links of a game stay caught up where one gives a datagram, which is in step.
 use Rattle.std.proofs.Common.{◌≡◌, ◌≢◌, ◌<◌, ◌≤◌, ◌+◌, ◌-◌, ◌%◌, ◌^◌, ℕ, Bool, true, false, List, [], ◌∷◌, ◌++◌, length, map, take, refl, ap, sym, ◌∙◌, subst, arith, Option, Some, None, All, inl, inr}
-use Rattle.std.specs.Prelude.{◌&&◌, ◌||◌, if◌then◌else◌, is_some, min, nat_lt, unwrap_or}
+use Rattle.std.specs.Prelude.{◌==◌, ◌&&◌, ◌||◌, if◌then◌else◌, is_some, min, nat_lt, unwrap_or}
 use Rattle.std.specs.Option.{option_map}
 use Rattle.std.proofs.lemmas.Bool.{cases_eq, cond_both, true≢false}
 use Rattle.std.proofs.lemmas.List.Elements.{All-take}
@@ -24,6 +24,7 @@ use Rattle.dn_link.specs.{LinkedGame.AreLinked, CaughtUp.GoesOn, CaughtUp.IsInTi
 use Rattle.dn_link.specs.{CaughtUp.IsCaughtUp, CaughtUp.IsInStep, CaughtUp.IsKeptChain, CaughtUp.StayCaughtUp, CaughtUp.WasInStep}
 use Rattle.dn_link.proofs.{Catching.relinked, Bringing.gives_own, Following.covers, Following.kept_rises, Leaving.unended, Linking.taken_given, Sending.Sends, Sending.sends, Makers.IsQuiet, Makers.first_goes}
 use Rattle.dn_link.proofs.{Makers.going_asks, Makers.going_goes, Makers.keeps_chain, Makers.later_goes}
+use Rattle.dn_link.proofs.Reporting.{told_plain}
 use Rattle.dn_machine.specs.Node as machine
 use Rattle.dn_link.specs.Kept as keep
 use Rattle.dn_link.proofs.Linking as base
@@ -365,6 +366,7 @@ module _ (marking : Marking) (limits : Limits) (settings : Settings) (session : 
     sender = omega (arith, from_is, mine);
     receiver = omega (arith, gives.goes, below);
     apart = λ e. apart (sym gives.goes ∙ sym e ∙ from_is);
+    plain = ap (λ (k : ℕ). k == 4) gives.cause ∙ told_plain old.node.phase;
     asks = subst (All IsQuiet) (sym sent_is) (All-take IsQuiet gives.packed.count (map (opened_from old.node.me) packets)
         (going_asks old.node.me (old.peers to).kept taken asks_taken was.chain));
     follows = λ e.

@@ -18,6 +18,7 @@ pub mod Places
 pub mod Letters
 pub mod Handing
 pub mod RemainingCalls
+pub mod Reporting
 pub mod RemainingReceives
 pub mod Hearer
 pub mod Arriving

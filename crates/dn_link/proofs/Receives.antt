@@ -11,13 +11,13 @@ use Rattle.dn_lockstep.specs.OneGame.{AreOneGame, Session, with_lockstep}
 use Rattle.dn_seal.specs.declared.seal.Seal.{Seal}
 use Rattle.dn_open.specs.Sealed.{sealing_of}
 use Rattle.dn_link.specs.{declared.bundle.Bundle.Bundle, declared.bundle.BundleFault.BundleFault, Counting.has_ended, Counting.has_of}
-use Rattle.dn_link.specs.{Counting.held_of, declared.received.Received.Received, declared.received.Received.TheVariants.GivenUp, declared.received.Received.TheVariants.Heard}
+use Rattle.dn_link.specs.{Counting.held_of, declared.received.Received.Received, declared.received.Received.TheVariants.Excluded, declared.received.Received.TheVariants.GivenUp, declared.received.Received.TheVariants.Heard, Ends.excludes, Linked.HearsPeer}
 use Rattle.dn_link.specs.{declared.received.Received.TheVariants.Stranger, LinkedGame.HasReached, LinkedGame.WasGiven, LinkedGame.IsGenuineDatagram, Hearing.ByTest, Hearing.HearsAll, LinkedGame.AreLinked, LinkedGame.IsLater}
 use Rattle.dn_link.specs.{Pacing.PaceState, Packets.heard_in, Packets.packets_in, Reading.IsBundledAs, Linked.Linked, Linked.Receives, Linked.ReceivesAs, Linked.TakesIn, Linked.PeerState}
 use Rattle.dn_link.specs.{Linked.has_given_up, Linked.is_peer, Linked.met, Linked.takes as takes_of}
 use Rattle.dn_link.proofs.{Leaving.has_left, Leaving.parts_heard, Keeping.LettersKeep, Keeping.all_keeps, Growing.HasAsMuch, Growing.all_grows, Relinking.AreKept, Relinking.met_kept, Relinking.reached_kept}
 use Rattle.dn_link.proofs.{Relinking.later_by, Relinking.relinked, Linking.at_most, Linking.larger_most, Linking.same_bundle}
-use Rattle.dn_survivor.specs.declared.others.Others.{Others}
+use Rattle.dn_link.proofs.Reporting.{AreTakenIn, taken_whole}
 use Rattle.dn_link.proofs.Linking as base
 
 module _ (marking : Marking) (limits : Limits) (settings : Settings) (session : Session) (links : ℕ → Linked)
@@ -40,7 +40,7 @@ module _ (marking : Marking) (limits : Limits) (settings : Settings) (session : 
   module _ (letters : LettersKeep) (kept_game : (new : Contents) → new ≡ session.locksteps player
       → AreOneGame marking limits settings (with_lockstep session player new)) where
     taken_in : (bundle : Bundle) (new : Linked) → All (WasGiven session.given player) (packets_in bundle)
-        → HasReached session.locksteps bundle → TakesIn bundle old new
+        → HasReached session.locksteps bundle → AreTakenIn bundle old new
         → AreLinked marking limits settings (with_lockstep session player new.node) (put links player new)
         × IsLater session (with_lockstep session player new.node)
     taken_in bundle new all reached takes =
@@ -79,7 +79,7 @@ module _ (marking : Marking) (limits : Limits) (settings : Settings) (session : 
               ∙ ap (λ (t : PeerState). t.left) (put_off old.peers bundle.from peer _ off)) ∙ is_left)
         ]) in (
           relinked marking limits settings session later links player new linked game refl is
-              (ap (λ (o : Others). o.gone) takes.others) (subst (AreKept session.given player) (sym takes.peers)
+              takes.gone (subst (AreKept session.given player) (sym takes.peers)
               (reached_kept session.given player new.node (met bundle old).peers
               (met_kept session.given player old bundle (λ peer. linked.kept player peer mine))))
               told left,
@@ -104,22 +104,30 @@ module _ (marking : Marking) (limits : Limits) (settings : Settings) (session : 
         stays same =
             stays_linked new (kept_game new.node (ap (λ (l : Linked). l.node) same ∙ linked.nodes player mine)) same
 
-        of_peer : (test : Bool) → ByTest test ((answer ≡ GivenUp bundle.from) × (new ≡ old))
+        of_plain : (test : Bool) → ByTest test ((answer ≡ Excluded bundle.from) × (new ≡ old))
             ((answer ≡ Heard bundle.from) × TakesIn bundle old new)
             → AreLinked marking limits settings (with_lockstep session player new.node) (put links player new)
             × IsLater session (with_lockstep session player new.node)
-        of_peer true comes = stays comes.1
-        of_peer false comes =
+        of_plain true comes = stays comes.1
+        of_plain false comes =
             let was = genuine bundle is in
             let same = same_bundle seal bytes bundle was.0 player is was.1 was.2 in
             let all = subst (λ (b : Bundle). All (WasGiven session.given b.to) (packets_in b)) same was.3 in
             let reached = subst (HasReached session.locksteps) same was.4 in
             taken_in bundle new
-            (subst (λ (k : ℕ). All (WasGiven session.given k) (packets_in bundle)) is.to all) reached comes.1
+            (subst (λ (k : ℕ). All (WasGiven session.given k) (packets_in bundle)) is.to all) reached
+            (taken_whole bundle old new (linked.whole player mine) comes.1)
+
+        of_peer : (test : Bool) → ByTest test ((answer ≡ GivenUp bundle.from) × (new ≡ old))
+            (HearsPeer bundle old new answer)
+            → AreLinked marking limits settings (with_lockstep session player new.node) (put links player new)
+            × IsLater session (with_lockstep session player new.node)
+        of_peer true comes = stays comes.1
+        of_peer false comes = of_plain (excludes bundle) comes
 
         go : (test : Bool) → ByTest test
             (ByTest (has_given_up old bundle.from) ((answer ≡ GivenUp bundle.from) × (new ≡ old))
-            ((answer ≡ Heard bundle.from) × TakesIn bundle old new)) ((answer ≡ Stranger bundle.from) × (new ≡ old))
+            (HearsPeer bundle old new answer)) ((answer ≡ Stranger bundle.from) × (new ≡ old))
             → AreLinked marking limits settings (with_lockstep session player new.node) (put links player new)
             × IsLater session (with_lockstep session player new.node)
         go true comes = of_peer (has_given_up old bundle.from) comes

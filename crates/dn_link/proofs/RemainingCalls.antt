@@ -1,5 +1,5 @@
 -- The links of one game in which players may be given up stay so.
-use Rattle.std.proofs.Common.{◌≡◌, ◌<◌, ℕ, ℤ, pos, Bool, true, false, List, get_or, refl, ap, sym, ◌∙◌, subst, Option, Some, inl, inr, None}
+use Rattle.std.proofs.Common.{◌≡◌, ◌<◌, ℕ, ℤ, pos, Bool, true, false, List, get_or, refl, ap, sym, ◌∙◌, subst, Option, Some, inl, inr, None, [], ◌∷◌}
 use Rattle.std.specs.Prelude.{slice_get}
 use Rattle.std.proofs.lemmas.Bool.{cases_eq}
 use Rattle.dn_tic.specs.{declared.command.Move.Move, declared.input.Input.Input}
@@ -21,7 +21,8 @@ use Rattle.dn_survivor.specs.{declared.answers.GivenUp.GivenUp, declared.answers
 use Rattle.dn_survivor.specs.{OneGame.with_survivor, declared.others.Others.Others, Calls.GivesUpUnless, Calls.HearsReportUnless, Calls.refused_give_up, Calls.refused_report}
 use Rattle.dn_survivor.proofs.OneGame as one_game
 use Rattle.dn_link.specs.{Linked.Linked, Linked.PeerState, Linked.surviving_of, RemainingLinks.AreRemainingLinks, RemainingLinks.KeepsGiven, Surviving.GivesUpPeer}
-use Rattle.dn_link.proofs.{Relinking.AreKept, SealedReports.reports_stay, Relinking.AreGiven, Relinking.all_later, Relinking.all_put}
+use Rattle.dn_link.proofs.{Relinking.AreKept, Relinking.AreGiven, Relinking.all_later, Relinking.all_put, Relinking.found_on}
+use Rattle.dn_survivor.specs.OneGame.{reports_on}
 
 -- Whose a survivor is stays.
 
@@ -47,6 +48,13 @@ gives_up_own player old new answer gives = go (refused_give_up old player) gives
     go None steps = ap (λ w. w.me) steps.1.same
 
 -- The calls.
+
+-- a report that was given is, when one more was
+pub reports_stay : (reports : List Given) (from to : ℕ) (report : Option Report) (which : ℕ) (given : Given)
+    → slice_get reports which ≡ Some given → slice_get (reports_on reports from to report) which ≡ Some given
+reports_stay reports from to None which given found = found
+reports_stay reports from to (Some report) which given found =
+    found_on reports (record { from = from; to = to; report = report } ∷ []) which given found
 
 -- what was given is where no more was
 pub nothing_given : (session later : Session) → later.packets ≡ session.packets → later.reports ≡ session.reports

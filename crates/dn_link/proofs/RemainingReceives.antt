@@ -1,20 +1,21 @@
 -- What a link takes in, within one game in which players may be given up.
-use Rattle.std.proofs.Common.{◌≡◌, ◌<◌, ℕ, Bool, true, false, List, refl, ap, sym, ◌∙◌, subst, arith, All, Some, inl, inr}
-use Rattle.std.specs.Prelude.{◌&&◌, not, Result, Ok, Err}
-use Rattle.dn_survivor.specs.{declared.report.Report.Report, declared.others.Others.Others, OfOthers.has, OneGame.AreRemaining, OneGame.Given, OneGame.Session, OneGame.with_survivor}
+use Rattle.std.proofs.Common.{◌≡◌, ◌<◌, ℕ, Bool, true, false, List, refl, ap, sym, ◌∙◌, subst, All, inl, inr}
+use Rattle.std.specs.Prelude.{Result, Ok, Err}
+use Rattle.dn_survivor.specs.{Calls.HearsReport, Surviving.Surviving, declared.report.Report.Report, declared.report.ReportFault.ReportFault, ReportBytes.IsReadAs, declared.others.Others.Others, OfOthers.has, OneGame.AreRemaining, OneGame.Session, OneGame.with_survivor}
 use Rattle.dn_setup.specs.Settings.{Settings}
 use Rattle.dn_machine.specs.{Limits.Limits, Node.put}
+use Rattle.dn_machine.proofs.Put.{put_at}
 use Rattle.dn_lockstep.specs.{Contents.Contents, Marking.Marking}
 use Rattle.dn_seal.specs.declared.seal.Seal.{Seal}
-use Rattle.dn_link.specs.{declared.notice.ReportDatagramFault.ReportDatagramFault, SealedReports.IsOpenedAs, declared.bundle.Bundle.Bundle, declared.bundle.BundleFault.BundleFault}
-use Rattle.dn_link.specs.{declared.received.Received.Received, declared.received.Received.TheVariants.GivenUp, declared.received.Received.TheVariants.Heard}
-use Rattle.dn_link.specs.{declared.received.Received.TheVariants.Stranger, LinkedGame.WasGiven, Counting.held_of, Hearing.ByTest, Hearing.HearsAll, Notices.HearsNotice, Notices.HearsNoticeAs, Notices.is_notice}
-use Rattle.dn_link.specs.{Pacing.PaceState, Packets.heard_in, Packets.packets_in, Reading.IsBundledAs, Reading.IsDatagramOf, RemainingLinks.AreRemainingLinks, RemainingLinks.CarriesGiven, RemainingLinks.IsGenuineIn}
-use Rattle.dn_link.specs.{Linked.Linked, Linked.Receives, Linked.ReceivesAs, Linked.TakesIn, Linked.PeerState, Linked.has_given_up, Linked.is_peer, Linked.met, Linked.surviving_of}
+use Rattle.dn_link.specs.{declared.bundle.Bundle.Bundle, declared.bundle.BundleFault.BundleFault, Ends.excludes}
+use Rattle.dn_link.specs.{declared.received.Received.Received, declared.received.Received.TheVariants.Excluded, declared.received.Received.TheVariants.GivenUp, declared.received.Received.TheVariants.Heard}
+use Rattle.dn_link.specs.{declared.received.Received.TheVariants.Stranger, LinkedGame.WasGiven, Counting.held_of, Hearing.ByTest, Hearing.HearsAll}
+use Rattle.dn_link.specs.{Packets.heard_in, Packets.packets_in, Reading.IsBundledAs, Reading.IsDatagramOf, RemainingLinks.AreRemainingLinks, RemainingLinks.KeepsGiven, RemainingLinks.IsGenuineIn, RemainingLinks.WasSealedIn, RemainingLinks.WasTold}
+use Rattle.dn_link.specs.{Linked.HearsPeer, Linked.Linked, Linked.Receives, Linked.ReceivesAs, Linked.TakesIn, Linked.TakesPackets, Linked.TakesRead, Linked.PeerState, Linked.has_given_up, Linked.is_peer, Linked.met, Linked.surviving_of}
 use Rattle.dn_link.specs.{Linked.takes}
 use Rattle.dn_open.specs.Sealed.{sealing_of}
-use Rattle.dn_link.proofs.{Keeping.all_along, Linking.same_bundle, Relinking.AreKept, Relinking.met_kept, Relinking.reached_kept, Letters.AreWith, Letters.MayBeHeard, Letters.packet_keeps, SealedReports.opened_given}
-use Rattle.dn_link.proofs.{RemainingCalls.GoOn, RemainingCalls.nothing_given, Leaving.parts_from, Leaving.parts_heard}
+use Rattle.dn_link.proofs.{Keeping.all_along, Linking.same_bundle, Relinking.AreKept, Relinking.met_kept, Relinking.reached_kept, Letters.AreWith, Letters.MayBeHeard, Letters.packet_keeps}
+use Rattle.dn_link.proofs.{RemainingCalls.GoOn, RemainingCalls.nothing_given, Leaving.parts_from, Leaving.parts_heard, Reporting.put_twice}
 use Rattle.dn_survivor.proofs.OneGame as one_game
 use Rattle.dn_link.proofs.RemainingCalls as base
 
@@ -45,7 +46,7 @@ module _ (marking : Marking) (limits : Limits) (settings : Settings) (session : 
       (base.survivor marking limits settings session links linked player mine)
 
   taken_in : (bundle : Bundle) (new : Linked) → All (WasGiven session.packets player) (packets_in bundle)
-      → has old.others.gone bundle.from ≡ false → TakesIn bundle old new → HasTaken new
+      → has old.others.gone bundle.from ≡ false → TakesPackets bundle old new → HasTaken new
   taken_in bundle new all free takes_it =
       let game = all_along (MayBeHeard marking limits settings session player old.others) AreHere
       (packet_keeps marking limits settings session player old.others) (heard_in (takes old) bundle) old.node
@@ -66,15 +67,51 @@ module _ (marking : Marking) (limits : Limits) (settings : Settings) (session : 
       (met_kept session.packets player old bundle
       (base.all_kept marking limits settings session links linked player mine))))
 
+  -- and then the report, if it is one
+  module _ (bundle : Bundle) (mid new : Linked) (taken : HasTaken mid) (of : bundle.to ≡ player)
+      (told : (report : Report) → IsReadAs bundle.report.items (Ok report)
+      → WasTold session.reports bundle.from bundle.to report) where
+    abbrev later : Session
+    later = with_survivor session player (surviving_of mid)
+
+    -- the session and the links of two calls, one after the other, are those of one
+    as_one : (new : Linked) → AreRemainingLinks marking limits settings
+        (with_survivor later player (surviving_of new)) (put (put links player mid) player new) → HasTaken new
+    as_one new are = (
+      subst (λ (survivors : ℕ → Surviving). AreRemainingLinks marking limits settings
+          (record session { survivors = survivors }) (put links player new))
+          (put_twice session.survivors player (surviving_of mid) (surviving_of new))
+          (subst (AreRemainingLinks marking limits settings (with_survivor later player (surviving_of new)))
+          (put_twice links player mid new) are),
+      nothing_given session (with_survivor session player (surviving_of new)) refl refl,
+    )
+
+    reported : (read : Result Report ReportFault) → IsReadAs bundle.report.items read
+        → TakesRead bundle.from read mid new → HasTaken new
+    reported (Err fault) is same = subst HasTaken (sym same) taken
+    reported (Ok report) is (answer, hears, waits, quiet, peers) =
+        let was = told report is in
+        let here : put links player mid bundle.to ≡ mid = put_at links player bundle.to mid of in
+        let on = base.reported marking limits settings later (put links player mid) taken.0 was.0
+        (record { from = bundle.from; to = bundle.to; report = report }) new answer was.1
+        (subst (λ (l : Linked). HearsReport bundle.from report (surviving_of l) (surviving_of new) answer) (sym here) hears)
+        (peers ∙ ap (λ (l : Linked). l.peers) (sym here)) in
+        as_one new (subst (λ (k : ℕ). AreRemainingLinks marking limits settings
+        (with_survivor later k (surviving_of new)) (put (put links player mid) k new)) of on.0)
+
   -- a datagram that is opened
   opened_in : (seal : Seal) (bytes : List ℕ) (new : Linked)
-      (answer : Received) (bundle : Bundle) → CarriesGiven seal session bytes
+      (answer : Received) (bundle : Bundle) → WasSealedIn seal session bytes
       → IsDatagramOf (sealing_of seal player) bytes bundle → has old.others.gone bundle.from ≡ false
       → TakesIn bundle old new → HasTaken new
-  opened_in seal bytes new answer bundle was is free comes =
+  opened_in seal bytes new answer bundle was is free (mid, packets, read, reads, comes) =
       let same = same_bundle seal bytes bundle was.0 player is was.1 was.2 in
       let all = subst (λ (b : Bundle). All (WasGiven session.packets b.to) (packets_in b)) same was.3 in
-      taken_in bundle new (subst (λ (k : ℕ). All (WasGiven session.packets k) (packets_in bundle)) is.to all) free comes
+      let told = subst (λ (b : Bundle). (report : Report) → IsReadAs b.report.items (Ok report)
+      → WasTold session.reports b.from b.to report) same was.4 in
+      let taken = taken_in bundle mid
+      (subst (λ (k : ℕ). All (WasGiven session.packets k) (packets_in bundle)) is.to all) free packets in
+      reported bundle mid new taken is.to told read reads comes
 
   received_as : (seal : Seal) (bytes : List ℕ) (new : Linked)
       (answer : Received) → IsGenuineIn seal session player bytes → (opened : Result Bundle BundleFault)
@@ -84,49 +121,26 @@ module _ (marking : Marking) (limits : Limits) (settings : Settings) (session : 
   received_as seal bytes new answer genuine (Ok bundle) is comes =
       go (is_peer old.node bundle.from) comes
     where
+      of_plain : has_given_up old bundle.from ≡ false → (test : Bool)
+          → ByTest test ((answer ≡ Excluded bundle.from) × (new ≡ old))
+          ((answer ≡ Heard bundle.from) × TakesIn bundle old new) → HasTaken new
+      of_plain free true comes = same_link new comes.1
+      of_plain free false comes = opened_in seal bytes new answer bundle (genuine bundle is) is free comes.1
+
       of_peer : (test : Bool) → has_given_up old bundle.from ≡ test
-          → ByTest test ((answer ≡ GivenUp bundle.from) × (new ≡ old)) ((answer ≡ Heard bundle.from) × TakesIn bundle old new)
+          → ByTest test ((answer ≡ GivenUp bundle.from) × (new ≡ old)) (HearsPeer bundle old new answer)
           → HasTaken new
       of_peer true gone comes = same_link new comes.1
-      of_peer false free comes =
-          opened_in seal bytes new answer bundle (genuine.datagram bundle is) is free comes.1
+      of_peer false free comes = of_plain free (excludes bundle) comes
 
       go : (test : Bool) → ByTest test
           (ByTest (has_given_up old bundle.from) ((answer ≡ GivenUp bundle.from) × (new ≡ old))
-          ((answer ≡ Heard bundle.from) × TakesIn bundle old new))
-          ((answer ≡ Stranger bundle.from) × (new ≡ old)) → HasTaken new
+          (HearsPeer bundle old new answer)) ((answer ≡ Stranger bundle.from) × (new ≡ old)) → HasTaken new
       go true comes = of_peer (has_given_up old bundle.from) refl comes
       go false comes = same_link new comes.1
 
-  -- a report that is opened
-  noticed_as : (seal : Seal) (pace after : PaceState) (bytes : List ℕ) (new : Linked) (answer : Received)
-      → IsGenuineIn seal session player bytes → (opened : Result (ℕ × Report) ReportDatagramFault)
-      → IsOpenedAs (sealing_of seal player) bytes opened → HearsNoticeAs opened old pace new after answer
-      → HasTaken new
-  noticed_as seal pace after bytes new answer genuine (Err fault) is comes = same_link new comes.1
-  noticed_as seal pace after bytes new answer genuine (Ok (from, report)) is (reported, said, hears, peers, paced) =
-      let was = genuine.report from report is in
-      let given : Given = was.1 in
-      let telling = (one_game.told_at marking limits settings linked.game was.0 given was.2).2 in
-      let few = (linked.game.nodes player mine).few in
-      let is_given = opened_given seal player bytes from report given (omega (arith, telling.sender, few))
-      telling.apart was.3 was.4 is in
-      let found = was.2 ∙ ap (λ (g : Given). Some g) is_given in
-      base.reported marking limits settings session links linked was.0
-      (record { from = from; to = player; report = report }) new reported found hears peers
-
-  pub received : (seal : Seal) (pace after : PaceState) (bytes : List ℕ) (new : Linked)
-      (answer : Received) → IsGenuineIn seal session player bytes
-      → (is_notice bytes ≡ false → Receives seal bytes old new answer)
-      → (is_notice bytes ≡ true → HearsNotice seal bytes old pace new after answer) → HasTaken new
-  received seal pace after bytes new answer genuine receives notices = go (is_notice bytes) refl
-    where
-      go : (test : Bool) → is_notice bytes ≡ test → HasTaken new
-      go true is =
-          let comes = notices is in
-          noticed_as seal pace after bytes new answer genuine comes.0
-          (subst (λ (k : ℕ). IsOpenedAs (sealing_of seal k) bytes comes.0) own comes.1) comes.2
-      go false is =
-          let comes = receives is in
-          received_as seal bytes new answer genuine comes.0
-          (subst (λ (k : ℕ). IsBundledAs (sealing_of seal k) bytes comes.0) own comes.1) comes.2
+  pub received : (seal : Seal) (bytes : List ℕ) (new : Linked) (answer : Received)
+      → IsGenuineIn seal session player bytes → Receives seal bytes old new answer → HasTaken new
+  received seal bytes new answer genuine comes =
+      received_as seal bytes new answer genuine comes.0
+      (subst (λ (k : ℕ). IsBundledAs (sealing_of seal k) bytes comes.0) own comes.1) comes.2

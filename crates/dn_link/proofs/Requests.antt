@@ -1,5 +1,5 @@
 -- What comes in leaves the packets to a peer as they go on, unless the peer asks for commands past those.
-use Rattle.std.proofs.Common.{◌≡◌, ◌≢◌, ◌≤◌, ◌⊎◌, ◌&&◌, ◌||◌, ℕ, Bool, true, false, List, [], ◌∷◌, refl, ap, sym, ◌∙◌, subst, arith, Option, All, inl, inr, ◌<◌, ◌+◌, ◌/◌, ◌%◌, ◌^◌, zero, suc, ◌++◌, length, take, drop}
+use Rattle.std.proofs.Common.{◌≡◌, ◌≢◌, ◌≤◌, ◌⊎◌, ◌&&◌, ◌||◌, ℕ, Bool, true, false, List, [], ◌∷◌, refl, ap, sym, ◌∙◌, subst, arith, Option, Some, None, All, inl, inr, ◌<◌, ◌+◌, ◌/◌, ◌%◌, ◌^◌, zero, suc, ◌++◌, length, take, drop}
 use Rattle.std.specs.Prelude.{IfSome, not, Result, Ok, Err, slice_index}
 use Rattle.std.proofs.lemmas.Bool.{cases_eq}
 use Rattle.std.proofs.lemmas.List.Elements.{All-head, All-tail, All-nil, All-cons, All-append, All-take, All-drop}
@@ -17,12 +17,14 @@ use Rattle.dn_lockstep.specs.{Contents.Contents, Received.IsTold, Represents.Rep
 use Rattle.dn_lockstep.proofs.Shown.{made_is}
 use Rattle.dn_open.specs.{Arrivals.HearsOpened, declared.hearing.Arrived.Arrived, Sealed.sealing_of}
 use Rattle.dn_link.specs.{declared.bundle.Bundle.Bundle, declared.bundle.BundleFault.BundleFault, declared.bundle.Part.Part, declared.bundle.Part.TheVariants.Whole, declared.bundle.Part.TheVariants.Run, declared.bundle.Part.TheVariants.Relay}
-use Rattle.dn_link.specs.{declared.received.Received.Received, declared.received.Received.TheVariants.GivenUp, declared.received.Received.TheVariants.Heard, declared.received.Received.TheVariants.Stranger, Counting.held_of, Counting.reached}
+use Rattle.dn_link.specs.{declared.received.Received.Received, declared.received.Received.TheVariants.Excluded, declared.received.Received.TheVariants.GivenUp, declared.received.Received.TheVariants.Heard, Ends.excludes, declared.received.Received.TheVariants.Stranger, Counting.held_of, Counting.reached}
 use Rattle.dn_link.specs.{Hearing.ByTest, Hearing.HearsAll, Hearing.HearsUntil, Hearing.is_start, Kept.IsKeptRising, CaughtUp.AskWithin, CaughtUp.AsksWithin, CaughtUp.GoesOn, CaughtUp.IsGone, CaughtUp.StillGoesOn, Reading.IsBundledAs}
-use Rattle.dn_link.specs.{Linked.Linked, Linked.PeerState, Linked.Receives, Linked.ReceivesAs, Linked.TakesIn, Linked.after_report, Linked.has_given_up, Linked.is_peer, Linked.met, Linked.takes, Linked.with_reached}
+use Rattle.dn_link.specs.{Linked.Linked, Linked.PeerState, Linked.Receives, Linked.ReceivesAs, Linked.TakesIn, Linked.TakesPackets, Linked.TakesRead, Linked.HearsPeer, Linked.surviving_of, Linked.after_report, Linked.has_given_up, Linked.is_peer, Linked.met, Linked.takes, Linked.with_reached}
 use Rattle.dn_link.proofs.{Sending.opened_asked, Following.next_same, Following.same_peers, Following.still, Leaving.parts_from, Leaving.parts_heard, Leaving.stays_left, Covered.rises_past, Sending.resend_of}
+use Rattle.dn_survivor.specs.{Calls.HearsReport, Calls.HearsReportUnless, Calls.refused_report, OfOthers.with_newest, Surviving.Surviving, declared.answers.Reported.Reported, declared.report.Report.Report, declared.report.ReportFault.ReportFault}
+use Rattle.dn_link.proofs.Reporting.{report_same}
 use Rattle.dn_link.specs.Packets.{packets_of, heard_in, packets_in, short_body, short_packet, short_packets, opened_from}
-use Rattle.dn_link.specs.Text.{relay_head, run_bytes, bundle_bytes, carried_bytes, counts_bytes, part_bytes, parts_bytes, sealed_bytes}
+use Rattle.dn_link.specs.Text.{relay_head, run_bytes, bundle_bytes, carried_bytes, counts_bytes, part_bytes, parts_bytes, report_field, sealed_bytes}
 
 -- The packets of a datagram are of its sender, and bytes.
 abbrev IsByte : ℕ → Type 0
@@ -94,7 +96,7 @@ all_of_bytes from (part ∷ parts) low all =
     (part_of_bytes from part low (before (part_bytes part) (flat_map part_bytes parts) all))
     (all_of_bytes from parts low (after (part_bytes part) (flat_map part_bytes parts) all))
 
--- the bytes of a datagram up to its ends, its number, its lead, and its counts
+-- the bytes of a datagram up to its ends, its number, its lead, its counts, and its report
 abbrev to_ends : Seal → Bundle → List ℕ
 to_ends seal bundle = front_bytes seal 5 ++ (bundle.from ∷ bundle.to ∷ [])
 
@@ -107,20 +109,24 @@ to_lead seal bundle = to_number seal bundle ++ (cast_unsigned w8 bundle.lead ∷
 abbrev to_counts : Seal → Bundle → List ℕ
 to_counts seal bundle = to_lead seal bundle ++ counts_bytes bundle.counts
 
+abbrev to_report : Seal → Bundle → List ℕ
+to_report seal bundle = to_counts seal bundle ++ report_field bundle.report.items
+
 -- what a datagram carries
 packets_of_bytes : (seal : Seal) (bundle : Bundle) → AreBytes (sealed_bytes seal bundle)
     → All (IsSpelled) (packets_in bundle)
 packets_of_bytes seal bundle all =
     let parts : List ℕ = parts_bytes bundle.parts.items in
     let whole = before (bundle_bytes seal bundle) (tag_of seal.key (bundle_bytes seal bundle)) all in
-    let counts = before (to_counts seal bundle) parts whole in
+    let report = before (to_report seal bundle) parts whole in
+    let counts = before (to_counts seal bundle) (report_field bundle.report.items) report in
     let lead = before (to_lead seal bundle) (counts_bytes bundle.counts) counts in
     let number = before (to_number seal bundle) (cast_unsigned w8 bundle.lead ∷ bundle.holes ∷ bundle.cause ∷ []) lead in
     let ends = before (to_ends seal bundle) (to_le_bytes w32 bundle.number) number in
     let low = All-head IsByte bundle.from (bundle.to ∷ [])
     (after (front_bytes seal 5) (bundle.from ∷ bundle.to ∷ []) ends) in
     all_of_bytes bundle.from bundle.parts.items low (All-tail IsByte (length bundle.parts.items)
-    (flat_map part_bytes bundle.parts.items) (after (to_counts seal bundle) parts whole))
+    (flat_map part_bytes bundle.parts.items) (after (to_report seal bundle) parts whole))
 
 -- What comes in.
 
@@ -229,7 +235,7 @@ module _ (are : AreRead) (limits : Limits) (me to : ℕ) (old new : Linked) (goe
     more : (old.peers to).kept.covered ≤ (new.peers to).kept.covered
     gone : IsGone (old.peers to).left → IsGone (new.peers to).left
 
-  is_met : (bundle : Bundle) → TakesIn bundle old new → IsMet
+  is_met : (bundle : Bundle) → TakesPackets bundle old new → IsMet
   is_met bundle takes =
       let now : new.peers to ≡ with_reached new.node (met bundle old).peers to =
       ap (λ (f : ℕ → PeerState). f to) takes.peers in
@@ -271,7 +277,7 @@ module _ (are : AreRead) (limits : Limits) (me to : ℕ) (old new : Linked) (goe
 
   taken_in : (bundle : Bundle) → All IsSpelled (packets_in bundle) → (made me goes_old.node ≤ (new.peers to).kept.covered)
       ⊎ (bundle.from ≡ to → AskWithin (new.peers to).kept.covered (packets_in bundle))
-      → TakesIn bundle old new → StillGoesOn limits me to old new
+      → TakesPackets bundle old new → StillGoesOn limits me to old new
   taken_in bundle all within takes_it =
       let met_now = is_met bundle takes_it in
       let heeds : Heeds are limits me to (new.peers to).kept.covered goes_old.node new.node =
@@ -294,6 +300,36 @@ module _ (are : AreRead) (limits : Limits) (me to : ℕ) (old new : Linked) (goe
         ])
       ]
 
+-- a report that comes with a datagram
+module _ (limits : Limits) (me to : ℕ) (old new : Linked) (goes_old : GoesOn limits me to old) where
+  reported : (from : ℕ) (report : Report) (answer : Reported)
+      → HearsReport from report (surviving_of old) (surviving_of new) answer → new.peers ≡ old.peers
+      → StillGoesOn limits me to old new
+  reported from report answer hears peers = go (refused_report (surviving_of old) from report) hears
+    where
+      go : (refused : Option Reported)
+          → HearsReportUnless refused from report (surviving_of old) (surviving_of new) answer
+          → StillGoesOn limits me to old new
+      go (Some reason) stays =
+          same_peers limits me to old new goes_old goes_old.node (subst (λ (s : Surviving). Represents limits me
+          s.lockstep goes_old.node) (sym stays.1) goes_old.shows) refl peers
+      go None steps =
+          same_peers limits me to old new goes_old _ (steps.1.step limits me goes_old.node goes_old.shows).node
+          (report_same limits me to (with_newest old.others from report) goes_old.node) peers
+
+  read : (from : ℕ) (told : Result Report ReportFault) → TakesRead from told old new → StillGoesOn limits me to old new
+  read from (Err fault) same =
+      same_peers limits me to old new goes_old goes_old.node
+      (subst (λ (l : Linked). Represents limits me l.node goes_old.node) (sym same) goes_old.shows) refl
+      (ap (λ (l : Linked). l.peers) same)
+  read from (Ok report) (answer, hears, waits, quiet, peers) = reported from report answer hears peers
+
+read_peers : (from : ℕ) (told : Result Report ReportFault) (mid new : Linked) → TakesRead from told mid new
+    → new.peers ≡ mid.peers
+read_peers from (Err fault) mid new same = ap (λ (l : Linked). l.peers) same
+read_peers from (Ok report) mid new (answer, hears, waits, quiet, peers) = peers
+
+module _ (are : AreRead) (limits : Limits) (me to : ℕ) (old new : Linked) (goes_old : GoesOn limits me to old) where
   -- all that the node made is covered, or the peer asks for no more than is
   abbrev IsWithin : Seal → List ℕ → Type 0
   IsWithin seal bytes =
@@ -303,29 +339,44 @@ module _ (are : AreRead) (limits : Limits) (me to : ℕ) (old new : Linked) (goe
       → AreBytes bytes → IsWithin seal bytes
       → (opened : Result Bundle BundleFault) → IsBundledAs (sealing_of seal me) bytes opened
       → ReceivesAs opened old new answer → StillGoesOn limits me to old new
-  received_as seal bytes answer fit asks (Err fault) is comes = nothing comes.1
+  received_as seal bytes answer fit asks (Err fault) is comes = nothing are limits me to old new goes_old comes.1
   received_as seal bytes answer fit asks (Ok bundle) is comes = go (is_peer old.node bundle.from) comes
     where
       count : made_in old.node ≡ made me goes_old.node
       count = made_is limits me old.node goes_old.node goes_old.shows
           (omega (arith, goes_old.mine, goes_old.shows.whose.number, goes_old.shows.whose.players))
 
-      of_peer : (test : Bool) → ByTest test ((answer ≡ GivenUp bundle.from) × (new ≡ old))
-          ((answer ≡ Heard bundle.from) × TakesIn bundle old new) → StillGoesOn limits me to old new
-      of_peer true comes = nothing comes.1
-      of_peer false comes =
-          taken_in bundle
+      same : new ≡ old → StillGoesOn limits me to old new
+      same is = nothing are limits me to old new goes_old is
+
+      -- its packets, and then its report
+      taken : TakesIn bundle old new → StillGoesOn limits me to old new
+      taken (mid, packets, told, reads, comes) =
+          let kept = ap (λ (f : ℕ → PeerState). (f to).kept.covered) (read_peers bundle.from told mid new comes) in
+          let first = taken_in are limits me to old mid goes_old bundle
           (packets_of_bytes seal bundle (subst AreBytes is.is fit)) (elim asks [
-            | inl all ↦ inl (omega (arith, all, count))
-            | inr none ↦ inr (none bundle is)
-          ]) comes.1
+            | inl all ↦ inl (omega (arith, all, count, kept))
+            | inr none ↦ inr (λ from. subst (λ (k : ℕ). AskWithin k (packets_in bundle)) kept (none bundle is from))
+          ]) packets in
+          let second = read limits me to mid new first.goes bundle.from told comes in
+          record { goes = second.goes; covered = omega (arith, first.covered, second.covered) }
+
+      of_plain : (test : Bool) → ByTest test ((answer ≡ Excluded bundle.from) × (new ≡ old))
+          ((answer ≡ Heard bundle.from) × TakesIn bundle old new) → StillGoesOn limits me to old new
+      of_plain true comes = same comes.1
+      of_plain false comes = taken comes.1
+
+      of_peer : (test : Bool) → ByTest test ((answer ≡ GivenUp bundle.from) × (new ≡ old))
+          (HearsPeer bundle old new answer) → StillGoesOn limits me to old new
+      of_peer true comes = same comes.1
+      of_peer false comes = of_plain (excludes bundle) comes
 
       go : (test : Bool) → ByTest test
           (ByTest (has_given_up old bundle.from) ((answer ≡ GivenUp bundle.from) × (new ≡ old))
-          ((answer ≡ Heard bundle.from) × TakesIn bundle old new)) ((answer ≡ Stranger bundle.from) × (new ≡ old))
+          (HearsPeer bundle old new answer)) ((answer ≡ Stranger bundle.from) × (new ≡ old))
           → StillGoesOn limits me to old new
       go true comes = of_peer (has_given_up old bundle.from) comes
-      go false comes = nothing comes.1
+      go false comes = same comes.1
 
   pub received : (seal : Seal) (bytes : List ℕ) (answer : Received)
       → AreBytes bytes → Receives seal bytes old new answer → IsWithin seal bytes → StillGoesOn limits me to old new

@@ -1,12 +1,12 @@
 -- A bundle is read back, and what is read is what stands there, one part after the other. So bytes are read
 -- as one thing.
 use Rattle.std.proofs.Common.{◌≡◌, ◌<◌, ◌≤◌, ◌+◌, ◌^◌, ℕ, List, [], ◌∷◌, ◌++◌, length, take, drop, refl, ap, sym, ◌∙◌, subst, arith, append_assoc, Option, Some, None, All, inl, inr, w8, ℤ, to_z, of_z, zero}
-use Rattle.std.proofs.Common.{suc, append-nil, ◌≢◌, ◌-◌, Result, Ok, Err}
+use Rattle.std.proofs.Common.{suc, get_or, append-nil, ◌≢◌, ◌-◌, Result, Ok, Err}
 use Rattle.std.specs.Prelude.{slice_index, FitsSigned}
 use Rattle.std.specs.Option.{option_map}
-use Rattle.std.specs.Int.{w32, cast_signed, cast_unsigned, to_le_bytes}
+use Rattle.std.specs.Int.{w16, w32, cast_signed, cast_unsigned, from_le_bytes, to_le_bytes}
 use Rattle.std.specs.Prelude.{nat_lt, false}
-use Rattle.std.proofs.lemmas.{Bool.cases_lt, Bool.lt-ltb, Bool.le-ltb, Int.to_z-of_z, Int.of_z-to_z, List.take-append-drop, List.length-drop, List.drop-drop, Nat.from_le_bytes-to_le_bytes_4, Option.same_Some}
+use Rattle.std.proofs.lemmas.{Bool.cases_lt, Bool.lt-ltb, Bool.le-ltb, Int.to_z-of_z, Int.of_z-to_z, List.take-append-drop, List.length-drop, List.drop-drop, Nat.from_le_bytes-to_le_bytes_2, Nat.from_le_bytes-to_le_bytes_4, Nat.le_bytes_2, Option.same_Some}
 use Rattle.std.proofs.lemmas.{Option.none-some, List.length-append, List.length-take-le, List.length-take, List.take-take, List.get_or-take, List.get_or_past}
 use Rattle.std.proofs.Math.Seq.{drop-append_seam, take-append_seam}
 use Rattle.dn_seal.specs.declared.seal.Seal.{Seal}
@@ -14,9 +14,9 @@ use Rattle.dn_seal.specs.Hmac.{suite_byte, tag_of}
 use Rattle.dn_seal.proofs.{Openings.four_bytes}
 use Rattle.dn_seal.specs.Opening.{Sealing, told_game, IsOfKind, IsOfGame, IsFor, IsTagged, told_body, told_tag}
 use Rattle.dn_seal.proofs.Envelopes.{length-tag, eight}
-use Rattle.dn_link.specs.{declared.bundle.Bundle.Bundle, declared.bundle.Part.Part, Text.counts_bytes, Text.parts_bytes, Text.bundle_bytes, Text.IsBundle}
+use Rattle.dn_link.specs.{declared.bundle.Bundle.Bundle, declared.bundle.Part.Part, Text.counts_bytes, Text.parts_bytes, Text.report_field, Text.bundle_bytes, Text.IsBundle}
 use Rattle.dn_link.specs.{Text.IsPart, Text.part_bytes, declared.bundle.BundleFault.BundleFault, Reading.IsDatagramOf, Reading.IsBundledAs, Reading.bundles}
-use Rattle.dn_link.specs.Told.{number_at, told_counts, told_parts, bundle_with, told_bundle, told_part, told_all}
+use Rattle.dn_link.specs.Told.{number_at, report_size, told_counts, told_parts, bundle_with, told_bundle, told_part, told_all}
 use Rattle.dn_link.proofs.Parts.{Fit, fit_drop, small, counts_back, length-counts, counts_is}
 use Rattle.dn_link.proofs.Items.{all_back, all_is, opened}
 use Rattle.dn_link.specs.declared.bundle.BundleFault.TheVariants.{Short, Long, Game, Receiver, Tag, Form}
@@ -102,8 +102,11 @@ abbrev head_bytes : Seal → Bundle → List ℕ
 head_bytes seal b = headed (suite_byte seal.suite) (take 8 seal.game) b
 
 -- and what follows them
+abbrev last_bytes : Bundle → List ℕ
+last_bytes b = report_field b.report.items ++ parts_bytes b.parts.items
+
 abbrev rest_bytes : Bundle → List ℕ
-rest_bytes b = counts_bytes b.counts ++ parts_bytes b.parts.items
+rest_bytes b = counts_bytes b.counts ++ last_bytes b
 
 parted : (seal : Seal) (b : Bundle) → bundle_bytes seal b ≡ head_bytes seal b ++ rest_bytes b
 parted seal b = grind (arith, append_assoc)
@@ -125,12 +128,32 @@ module _ (seal : Seal) (b : Bundle) (long : 8 ≤ length seal.game) (is : IsBund
   after_head : drop 19 (bundle_bytes seal b) ≡ rest_bytes b
   after_head = by_head seal b long (drop 19) (rest_bytes b) (λ x0 x1 x2 x3 x4 x5 x6 x7. refl)
 
-  after_counts : drop 43 (bundle_bytes seal b) ≡ parts_bytes b.parts.items
+  after_counts : drop 43 (bundle_bytes seal b) ≡ last_bytes b
   after_counts =
       let size = length-counts b.counts is.counts.four in
       sym (drop-drop 24 19 (bundle_bytes seal b)) ∙ ap (drop 24) after_head
       ∙ ap (λ (n : ℕ). drop n (rest_bytes b)) (sym size)
-      ∙ drop-append_seam (counts_bytes b.counts) (parts_bytes b.parts.items)
+      ∙ drop-append_seam (counts_bytes b.counts) (last_bytes b)
+
+  abbrev report : List ℕ
+  report = b.report.items
+
+  size_back : report_size (bundle_bytes seal b) ≡ length report
+  size_back =
+      let few = is.report in
+      ap (λ (xs : List ℕ). from_le_bytes w16 (take 2 xs)) after_counts
+      ∙ from_le_bytes-to_le_bytes_2 (length report) (omega (arith, few))
+
+  after_size : drop 45 (bundle_bytes seal b) ≡ report ++ parts_bytes b.parts.items
+  after_size = sym (drop-drop 2 43 (bundle_bytes seal b)) ∙ ap (drop 2) after_counts
+
+  report_back : take (report_size (bundle_bytes seal b)) (drop 45 (bundle_bytes seal b)) ≡ report
+  report_back = (λ i. take (size_back i) (after_size i)) ∙ take-append_seam report (parts_bytes b.parts.items)
+
+  after_report : drop (45 + report_size (bundle_bytes seal b)) (bundle_bytes seal b) ≡ parts_bytes b.parts.items
+  after_report =
+      sym (drop-drop (report_size (bundle_bytes seal b)) 45 (bundle_bytes seal b))
+      ∙ (λ i. drop (size_back i) (after_size i)) ∙ drop-append_seam report (parts_bytes b.parts.items)
 
   parts_back : told_parts (parts_bytes b.parts.items) ≡ Some b.parts.items
   parts_back = grind (arith, le-ltb, all_back)
@@ -157,12 +180,15 @@ module _ (seal : Seal) (b : Bundle) (long : 8 ≤ length seal.game) (is : IsBund
 
   bundle_back : told_bundle (bundle_bytes seal b) ≡ Some b
   bundle_back =
-      let few : nat_lt 3 (slice_index (bundle_bytes seal b) 18) ≡ false =
-      ap (nat_lt 3) cause ∙ le-ltb 3 b.cause is.cause in
-      let parts : told_parts (drop 43 (bundle_bytes seal b)) ≡ Some b.parts.items = ap told_parts after_counts ∙ parts_back in
+      let few : nat_lt 4 (slice_index (bundle_bytes seal b) 18) ≡ false =
+      ap (nat_lt 4) cause ∙ le-ltb 4 b.cause is.cause in
+      let short : nat_lt 397 (report_size (bundle_bytes seal b)) ≡ false =
+      ap (nat_lt 397) size_back ∙ le-ltb 397 (length report) is.report in
+      let parts : told_parts (drop (45 + report_size (bundle_bytes seal b)) (bundle_bytes seal b)) ≡ Some b.parts.items =
+      ap told_parts after_report ∙ parts_back in
       let counts : told_counts (drop 19 (bundle_bytes seal b)) ≡ b.counts =
-      ap told_counts after_head ∙ counts_back b.counts (parts_bytes b.parts.items) is.counts in
-      rw (few, parts) (λ i. Some (record {
+      ap told_counts after_head ∙ counts_back b.counts (last_bytes b) is.counts in
+      rw (few, short, parts) (λ i. Some (record {
         from = from i;
         to = to i;
         number = number i;
@@ -170,6 +196,7 @@ module _ (seal : Seal) (b : Bundle) (long : 8 ≤ length seal.game) (is : IsBund
         holes = holes i;
         cause = cause i;
         counts = counts i;
+        report = record { items = report_back i };
         parts = b.parts;
       }))
 
@@ -193,13 +220,26 @@ number_small _ fits long = absurd (omega arith)
 signed_fits : (byte : ℕ) → byte < 256 → FitsSigned w8 (cast_signed w8 byte)
 signed_fits byte below = omega (arith, Rattle.std.proofs.lemmas.Int.ints)
 
+-- two bytes are a number, and what follows stands behind it
+field_is : (bytes : List ℕ) → Fit bytes → 2 ≤ length bytes
+    → bytes ≡ to_le_bytes w16 (from_le_bytes w16 (take 2 bytes)) ++ drop 2 bytes
+field_is (a ∷ b ∷ rest) fits long =
+    let two = le_bytes_2 (a ∷ b ∷ []) (from_le_bytes w16 (a ∷ b ∷ [])) refl (two_fit a b (fits 0) (fits 1)) refl in
+    λ i. sym two i ++ rest
+  where
+    two_fit : (a b : ℕ) → a < 256 → b < 256 → (i : ℕ) → get_or (a ∷ b ∷ []) i 0 < 256
+    two_fit a b la lb zero = la
+    two_fit a b la lb (suc zero) = lb
+    two_fit a b la lb (suc (suc i)) = omega arith
+field_is _ fits long = absurd (omega arith)
+
 -- bytes that are read as a bundle
 pub record IsWhole (seal : Seal) (body : List ℕ) (b : Bundle) : Type 0 where
   pub fits : IsBundle b
   pub to : slice_index body 11 ≡ b.to
   pub spelled : body ≡ bundle_bytes seal b
 
-module _ (seal : Seal) (body : List ℕ) (fits : Fit body) (long : 44 ≤ length body)
+module _ (seal : Seal) (body : List ℕ) (fits : Fit body) (long : 46 ≤ length body)
     (suite : slice_index body 0 ≡ suite_byte seal.suite) (kind : slice_index body 1 ≡ 5)
     (told : told_game body ≡ take 8 seal.game) where
   counted : (bytes : List ℕ) (parts : List Part) → told_parts bytes ≡ Some parts → Fit bytes
@@ -214,18 +254,30 @@ module _ (seal : Seal) (body : List ℕ) (fits : Fit body) (long : 44 ≤ length
         (omega (arith, all.count), all.fit, λ i. sym all.count i ∷ all.spelled i)
   ]
 
-  with_parts : slice_index body 18 ≤ 3 → (b : Bundle) (o : Option (List Part)) → told_parts (drop 43 body) ≡ o
+  abbrev size : ℕ
+  size = report_size body
+
+  abbrev rest : List ℕ
+  rest = drop (45 + size) body
+
+  with_parts : slice_index body 18 ≤ 4 → size ≤ 397 → (b : Bundle) (o : Option (List Part)) → told_parts rest ≡ o
       → option_map (bundle_with body) o ≡ Some b → IsWhole seal body b
-  with_parts low b None is e = absurd (none-some b e)
-  with_parts low b (Some parts) is e =
-      let rest = counted (drop 43 body) parts is (fit_drop 43 body fits) in
+  with_parts low short b None is e = absurd (none-some b e)
+  with_parts low short b (Some parts) is e =
+      let all = counted rest parts is (fit_drop (45 + size) body fits) in
       let behind = length-drop 19 body in
       let counts = counts_is (drop 19 body) (fit_drop 19 body fits) (omega (arith, behind)) in
       let bundle : Bundle = bundle_with body parts in
       let lead : cast_unsigned w8 (cast_signed w8 (slice_index body 16)) ≡ slice_index body 16 =
       of_z-to_z w8 (slice_index body 16) (fits 16) in
       let head = head_is body seal bundle fits (omega arith) suite kind told refl refl refl lead refl refl in
-      let last : drop 43 body ≡ parts_bytes parts = rest.2 in
+      let full : size ≤ length (drop 45 body) =
+      whole_size parts is (length-drop 45 body) (length-drop (45 + size) body) in
+      let sized : length (take size (drop 45 body)) ≡ size = length-take-le size (drop 45 body) full in
+      let last : drop 43 body ≡ last_bytes bundle =
+      field_is (drop 43 body) (fit_drop 43 body fits) (omega (arith, length-drop 43 body))
+      ∙ (λ i. to_le_bytes w16 (sym sized i) ++ cut i) ∙ (λ i. to_le_bytes w16 (length (take size (drop 45 body)))
+      ++ (take size (drop 45 body) ++ (behind_it ∙ all.2) i)) in
       let middle : drop 19 body ≡ rest_bytes bundle =
       sym (take-append-drop 24 (drop 19 body)) ∙ (λ i. counts.spelled i ++ (drop-drop 24 19 body ∙ last) i) in
       subst (IsWhole seal body) (same_Some bundle b e) (record {
@@ -234,36 +286,80 @@ module _ (seal : Seal) (body : List ℕ) (fits : Fit body) (long : 44 ≤ length
           lead = signed_fits (slice_index body 16) (fits 16);
           cause = low;
           counts = counts.are;
-          few = rest.0;
-          parts = rest.1;
+          report = omega (arith, sized, short);
+          few = all.0;
+          parts = all.1;
         };
         to = refl;
         spelled = sym (take-append-drop 19 body) ∙ (λ i. head i ++ middle i) ∙ sym (parted seal bundle);
       })
+    where
+      -- behind the two bytes stand the report and the rest
+      cut : drop 2 (drop 43 body) ≡ take size (drop 45 body) ++ drop size (drop 45 body)
+      cut = drop-drop 2 43 body ∙ sym (take-append-drop size (drop 45 body))
+
+      behind_it : drop size (drop 45 body) ≡ rest
+      behind_it = drop-drop size 45 body
+
+      whole_size : (parts : List Part) → told_parts rest ≡ Some parts → length (drop 45 body) ≡ length body - 45
+          → length rest ≡ length body - (45 + size) → size ≤ length (drop 45 body)
+      whole_size parts is one other = some_left rest is (λ some. omega (arith, one, other, some))
+        where
+          some_left : (xs : List ℕ) → told_parts xs ≡ Some parts → {A : Type 0} → (1 ≤ length xs → A) → A
+          some_left [] none go = absurd (none-some parts none)
+          some_left (x ∷ xs) told go = go (omega arith)
 
   bundle_is : (b : Bundle) → told_bundle body ≡ Some b → IsWhole seal body b
-  bundle_is b e = elim (cases_lt 3 (slice_index body 18)) [
-    | inl many ↦ let on = lt-ltb 3 (slice_index body 18) many in
+  bundle_is b e = elim (cases_lt 4 (slice_index body 18)) [
+    | inl many ↦ let on = lt-ltb 4 (slice_index body 18) many in
         let none : ◌≡◌ {A = Option Bundle} None (Some b) = rw on at e in absurd (none-some b none)
-    | inr few ↦ let off = le-ltb 3 (slice_index body 18) few in
-        with_parts few b (told_parts (drop 43 body)) refl (rw off at e)
+    | inr few ↦ let off = le-ltb 4 (slice_index body 18) few in elim (cases_lt 397 size) [
+      | inl long ↦ let on = lt-ltb 397 size long in
+          let none : ◌≡◌ {A = Option Bundle} None (Some b) = rw (off, on) at e in absurd (none-some b none)
+      | inr short ↦ let fit = le-ltb 397 size short in
+          with_parts few short b (told_parts rest) refl (rw (off, fit) at e)
+    ]
   ]
 
 -- what a reading step by step tells
 module _ (body : List ℕ) where
-  pub no_cause : 3 < slice_index body 18 → None ≡ told_bundle body
-  no_cause many = let on = lt-ltb 3 (slice_index body 18) many in rw on refl
+  abbrev its_size : ℕ
+  its_size = report_size body
 
-  pub no_parts : slice_index body 18 ≤ 3 → told_parts (drop 43 body) ≡ None → None ≡ told_bundle body
-  no_parts few none = let off = le-ltb 3 (slice_index body 18) few in rw (off, none) refl
+  pub no_cause : 4 < slice_index body 18 → None ≡ told_bundle body
+  no_cause many = let on = lt-ltb 4 (slice_index body 18) many in rw on refl
 
-  pub all_told : (b : Bundle) → slice_index body 18 ≤ 3 → told_parts (drop 43 body) ≡ Some b.parts.items
+  pub no_report : slice_index body 18 ≤ 4 → 397 < its_size → None ≡ told_bundle body
+  no_report few many =
+      let off = le-ltb 4 (slice_index body 18) few in
+      let on = lt-ltb 397 its_size many in
+      rw (off, on) refl
+
+  pub no_parts : slice_index body 18 ≤ 4 → its_size ≤ 397 → told_parts (drop (45 + its_size) body) ≡ None
+      → None ≡ told_bundle body
+  no_parts few short none =
+      let off = le-ltb 4 (slice_index body 18) few in
+      let fit = le-ltb 397 its_size short in
+      rw (off, fit, none) refl
+
+  pub too_short : slice_index body 18 ≤ 4 → its_size ≤ 397 → length body < 45 + its_size → None ≡ told_bundle body
+  too_short few short long =
+      no_parts few short (of_none (drop (45 + its_size) body) (omega (arith, length-drop (45 + its_size) body, long)))
+    where
+      of_none : (xs : List ℕ) → length xs ≡ 0 → told_parts xs ≡ None
+      of_none [] none = refl
+      of_none (x ∷ xs) none = absurd (omega (arith, none))
+
+  pub all_told : (b : Bundle) → slice_index body 18 ≤ 4 → its_size ≤ 397
+      → told_parts (drop (45 + its_size) body) ≡ Some b.parts.items
       → b.from ≡ slice_index body 10 → b.to ≡ slice_index body 11 → b.number ≡ number_at 12 body
       → b.lead ≡ cast_signed w8 (slice_index body 16) → b.holes ≡ slice_index body 17 → b.cause ≡ slice_index body 18
-      → b.counts ≡ told_counts (drop 19 body) → Some b ≡ told_bundle body
-  all_told b few all from to number lead holes cause counts =
-      let off = le-ltb 3 (slice_index body 18) few in
-      rw (off, all) (λ i. Some (record {
+      → b.counts ≡ told_counts (drop 19 body) → b.report.items ≡ take its_size (drop 45 body)
+      → Some b ≡ told_bundle body
+  all_told b few short all from to number lead holes cause counts report =
+      let off = le-ltb 4 (slice_index body 18) few in
+      let fit = le-ltb 397 its_size short in
+      rw (off, fit, all) (λ i. Some (record {
         from = from i;
         to = to i;
         number = number i;
@@ -271,6 +367,7 @@ module _ (body : List ℕ) where
         holes = holes i;
         cause = cause i;
         counts = counts i;
+        report = record { items = report i };
         parts = b.parts;
       }))
 
@@ -280,7 +377,7 @@ module _ (body : List ℕ) where
   signed byte z below e = ap (λ (x : ℤ). to_z w8 (of_z w8 x)) e ∙ to_z-of_z w8 (cast_signed w8 byte) (signed_fits byte below)
 
 -- Bytes are read as one thing.
-body_long : (seal : Seal) (b : Bundle) → 8 ≤ length seal.game → IsBundle b → 44 ≤ length (bundle_bytes seal b)
+body_long : (seal : Seal) (b : Bundle) → 8 ≤ length seal.game → IsBundle b → 46 ≤ length (bundle_bytes seal b)
 body_long seal b long is = grind (arith, parted, length-append, head_bytes, rest_bytes, length-head, length-counts)
 
 module _ (s : Sealing) (bytes : List ℕ) (b : Bundle) (is : IsDatagramOf s bytes b) where
@@ -318,11 +415,11 @@ game_front : (ys : List ℕ) → 10 ≤ length ys → told_game (take 10 ys) ≡
 game_front (v ∷ k ∷ a ∷ b ∷ c ∷ d ∷ e ∷ f ∷ g ∷ h ∷ rest) long = refl
 game_front _ long = absurd (omega arith)
 
-told_front : (xs : List ℕ) → 60 ≤ length xs → told_game (told_body xs) ≡ told_game xs
+told_front : (xs : List ℕ) → 62 ≤ length xs → told_game (told_body xs) ≡ told_game xs
 told_front xs long = grind (arith, length-take-le, game_front, take-take)
 
 module _ (s : Sealing) (bytes : List ℕ) where
-  pub only_short : length bytes < 60 → (read : Result Bundle BundleFault) → IsBundledAs s bytes read
+  pub only_short : length bytes < 62 → (read : Result Bundle BundleFault) → IsBundledAs s bytes read
       → Err Short ≡ read
   only_short few read h = grind (arith, tagged)
 

@@ -14,6 +14,7 @@ use Rattle.dn_open.specs.Sealed.{sealing_of}
 use Rattle.dn_link.specs.declared.bundle.Bundle.{Bundle}
 use Rattle.dn_link.specs.declared.bundle.Carried.{Carried}
 use Rattle.dn_link.specs.Counting.{has_ended}
+use Rattle.dn_link.specs.Ends.{excludes}
 use Rattle.dn_link.specs.Kept.{IsKeptRising, Unacknowledged, end_of}
 use Rattle.dn_link.specs.Linked.{Linked}
 use Rattle.dn_link.specs.Packets.{own_in, packets_in}
@@ -107,13 +108,15 @@ AreCaughtUp limits links =
     (player peer : ℕ) → player < limits.players → peer < limits.players → peer ≢ player
     → IsCaughtUp limits player peer (links player) (links peer)
 
--- a datagram between two players asks for nothing again; and unless its receiver has ended, its sender's
+-- a datagram between two players is one of its sender to a peer who is not given up, and asks for nothing again;
+-- and unless its receiver has ended, its sender's
 -- packets have no gap behind what the receiver has of the sender. Of commands that it hands on nothing is said:
 -- those past a gap are not heard
 pub record IsInStep (limits : Limits) (links : ℕ → Linked) (bundle : Bundle) : Type 0 where
   pub sender : bundle.from < limits.players
   pub receiver : bundle.to < limits.players
   pub apart : bundle.from ≢ bundle.to
+  pub plain : excludes bundle ≡ false
   pub asks : All (λ packet. packet.ask ≡ None) (own_in bundle)
   pub follows : has_ended (links bundle.to).node ≡ false
       → HasNoGap (got (links bundle.to).node bundle.from) (own_in bundle)

@@ -1,5 +1,5 @@
 -- What a link keeps, what its calls do, and what is known of the line to a peer.
-use Rattle.std.specs.Prelude.{◌≡◌, ℕ, ◌+◌, ◌-◌, ◌%◌, ◌^◌, ◌==◌, ◌≤◌, ◌&&◌, ◌||◌, if◌then◌else◌, nat_lt, min, max, length, Bool, not, List, [], ◌∷◌, slice_index, ◌++◌, ◌≢◌, map, All, Option, is_none, is_some, pos}
+use Rattle.std.specs.Prelude.{◌≡◌, ℕ, ◌+◌, ◌-◌, ◌%◌, ◌^◌, ◌==◌, ◌≤◌, ◌&&◌, ◌||◌, if◌then◌else◌, nat_lt, min, max, length, Bool, not, List, [], ◌∷◌, slice_index, ◌++◌, ◌≢◌, map, All, Option, is_none, is_some, pos, IfSome}
 use Rattle.std.specs.Prelude.{None, Some, false, Result, Ok, Err}
 use Rattle.dn_seal.specs.declared.seal.Seal.{Seal}
 use Rattle.dn_machine.specs.Node.{put}
@@ -10,7 +10,7 @@ use Rattle.dn_survivor.specs.declared.others.Others.{Others}
 use Rattle.dn_survivor.specs.Surviving.{Surviving}
 use Rattle.dn_survivor.specs.Telling.{MayRelay, report_for}
 use Rattle.dn_survivor.specs.Calls.{HearsReport}
-use Rattle.dn_survivor.specs.ReportBytes.{IsReadAs, report_bytes}
+use Rattle.dn_survivor.specs.ReportBytes.{IsReadAs, IsReport, report_bytes}
 use Rattle.dn_survivor.specs.declared.answers.Reported.{Reported}
 use Rattle.dn_survivor.specs.declared.answers.Reported.TheVariants.{Kept}
 use Rattle.dn_survivor.specs.declared.report.Report.{Report}
@@ -104,6 +104,7 @@ pub record Gives (seal : Seal) (pace : PaceState) (to : ℕ) (old new : Linked) 
   pub cause : bundle.cause ≡ told_cause old.node.phase
   pub counts : bundle.counts ≡ counts_of new.node
   pub report : bundle.report.items ≡ written (report_beside (surviving_of new) to bundle.parts.items)
+  pub proper : IfSome (report_beside (surviving_of new) to bundle.parts.items) IsReport
   pub own : List Part
   pub handed : List Handed
   pub parts : bundle.parts.items ≡ own ++ map handed_part handed

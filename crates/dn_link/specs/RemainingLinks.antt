@@ -1,5 +1,5 @@
 -- The links of one game in which players may be given up.
-use Rattle.std.specs.Prelude.{◌≡◌, ◌<◌, ℕ, List, All, Some, Ok, slice_get}
+use Rattle.std.specs.Prelude.{◌≡◌, ◌<◌, ℕ, List, All, Option, Some, Ok, slice_get}
 use Rattle.dn_setup.specs.Settings.{Settings}
 use Rattle.dn_survivor.specs.declared.report.Report.{Report}
 use Rattle.dn_survivor.specs.ReportBytes.{IsReadAs}
@@ -9,11 +9,13 @@ use Rattle.dn_machine.specs.Node.{put}
 use Rattle.dn_lockstep.specs.Marking.{Marking}
 use Rattle.dn_seal.specs.declared.seal.Seal.{Seal}
 use Rattle.dn_open.specs.Sealed.{sealing_of}
-use Rattle.dn_survivor.specs.OneGame.{AreRemaining, Given, Session}
+use Rattle.dn_survivor.specs.OneGame.{AreRemaining, Given, Session, after_packet, after_relays, after_report}
 use Rattle.dn_link.specs.declared.bundle.Bundle.{Bundle}
 use Rattle.dn_link.specs.LinkedGame.{WasGiven}
-use Rattle.dn_link.specs.Linked.{Linked, surviving_of}
+use Rattle.dn_link.specs.Linked.{Gives, Linked, report_beside, surviving_of}
 use Rattle.dn_link.specs.Packets.{opened_from, packets_in}
+use Rattle.dn_link.specs.Pacing.{PaceState}
+use Rattle.dn_link.specs.Relays.{flights_of}
 use Rattle.dn_link.specs.Reading.{IsDatagramOf}
 use Rattle.dn_link.specs.Text.{IsBundle, sealed_bytes}
 
@@ -38,6 +40,14 @@ pub record KeepsGiven (session later : Session) : Type 0 where
 abbrev pub StayRemaining : Marking → Limits → Settings → Session → (ℕ → Linked) → ℕ → Linked → Session → Type 0
 StayRemaining marking limits settings session links player new later =
     AreRemainingLinks marking limits settings later (put links player new) × KeepsGiven session later
+
+-- after a datagram to a peer, with this packet of the survivor: the packet was given, if there is one, and so were
+-- the commands of third players that the datagram hands on, and its report
+abbrev pub after_datagram : {seal : Seal} {pace : PaceState} {old new : Linked} {bytes : List ℕ} → Session
+    → (player to : ℕ) → Option Flight → Gives seal pace to old new bytes → Session
+after_datagram {seal} {pace} {old} {new} {bytes} session player to packet gives =
+    after_report (after_relays (after_packet session player packet (surviving_of new)) (flights_of to gives.handed))
+    player to (report_beside (surviving_of new) to gives.bundle.parts.items)
 
 -- this report was given by one player to another
 abbrev pub WasTold : List Given → (from to : ℕ) → Report → Type 0

@@ -66,7 +66,7 @@ pub fn links_stay_caught_up()
         → IsGenuineDatagram seal session player bytes → IsInStepTo seal limits links player bytes
         → Receives seal bytes (links player) new answer
         → StayCaughtUp limits links player new }
-    ensures reported { (marking : Marking) (limits : Limits) (settings : Settings) (session : Session) (links : ℕ → Linked)
+    ensures kept { (marking : Marking) (limits : Limits) (settings : Settings) (session : Session) (links : ℕ → Linked)
         (player : ℕ) (new : Linked)
         → AreLinked marking limits settings session links → AreCaughtUp limits links → player < limits.players
         → new.node ≡ (links player).node → new.peers ≡ (links player).peers

@@ -67,8 +67,8 @@ pub fn linked_game_starts()
 
 /// And so they stay after each call on one of them, whatever bytes come in, as long as what it opens was sealed
 /// in this game before; what `Link::datagram` gives was. At a run the caller hands in the marks of a world that
-/// moved on by the rows that it was told. Nobody is given up: so what `Link::receive` says of a report that
-/// comes, by its clauses `quiet` and `gone`, is what `reported` asks.
+/// moved on by the rows that it was told. Nobody is given up. `kept` is of a call that keeps the lockstep and
+/// the peers.
 pub fn linked_game_goes_on()
     ensures built { (marking : Marking) (limits : Limits) (settings : Settings) (session : Session) (links : ℕ → Linked)
         (player : ℕ) (new : Linked) (input : Input) (made : Made)
@@ -108,7 +108,7 @@ pub fn linked_game_goes_on()
         → IsGenuineDatagram seal session player bytes
         → Receives seal bytes (links player) new answer
         → StayLinked marking limits settings session links player new (with_lockstep session player new.node) }
-    ensures reported { (marking : Marking) (limits : Limits) (settings : Settings) (session : Session) (links : ℕ → Linked)
+    ensures kept { (marking : Marking) (limits : Limits) (settings : Settings) (session : Session) (links : ℕ → Linked)
         (player : ℕ) (new : Linked)
         → AreLinked marking limits settings session links → player < limits.players
         → new.node ≡ (links player).node → new.others.gone ≡ (links player).others.gone

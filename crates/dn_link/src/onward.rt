@@ -47,15 +47,14 @@ pub fn kept_covers()
 {}
 
 /// The tic from which a peer is to be sent commands is not past those that are covered for it: at the start;
-/// after every call on the link but `receive`, `hear_report`, `give_up` and a datagram to this peer; after any
-/// bytes came in but a report, unless the peer asks for a later command than are covered when not all are; and
-/// after a datagram to this peer, unless it comes too late. If it does not, the packet that it gives is then
-/// covered. It comes too late if more commands were made from that tic on than the node keeps, or more than
-/// twenty-four that the peer has not acknowledged. While nobody is given up, the links of one game are caught
-/// up: then a peer asks for no commands again, and has acknowledged all but two windows of them, which are
-/// twenty-four at most. So `caught_up_links_cover` (`covered`) needs neither premise, but only that no more
-/// commands were made than the node keeps. A run counts where nobody is given up; of a report, and of giving a
-/// player up for good, nothing is said here.
+/// after every call on the link but `receive`, `give_up` and a datagram to this peer; after any bytes came in,
+/// unless the peer asks for a later command than are covered when not all are; and after a datagram to this
+/// peer, unless it comes too late. If it does not, the packet that it gives is then covered. It comes too late
+/// if more commands were made from that tic on than the node keeps, or more than twenty-four that the peer has
+/// not acknowledged. While nobody is given up, the links of one game are caught up: then a peer asks for no
+/// commands again, and has acknowledged all but two windows of them, which are twenty-four at most. So
+/// `caught_up_links_cover` (`covered`) needs neither premise, but only that no more commands were made than the
+/// node keeps. A run counts where nobody is given up; of giving a player up for good nothing is said here.
 #[tactic(auto, using(crate::proofs::Requests::received, crate::proofs::Following::builds, crate::proofs::Following::covers, crate::proofs::Following::gives_another, crate::proofs::Following::quits, crate::proofs::Following::runs))]
 pub fn given_is_covered()
     ensures opened { (limits : Limits) (settings : Settings) (me to : ℕ) (link : Linked)

@@ -23,8 +23,14 @@ fn bundle_in(body: &[u8]) -> Option<Bundle>
     requires { 46 ≤ length body.now }
     ensures { result ≡ told_bundle body.now }
 {
+    if body[18] > MOST_CAUSE {
+        return None;
+    }
     let size = report_size(body);
-    if body[18] > MOST_CAUSE || size > MAX_REPORT || body.len() < 45 + size {
+    if size > MAX_REPORT {
+        return None;
+    }
+    if body.len() < 45 + size {
         return None;
     }
     let Some(parts) = parts_in(&body[45 + size..]) else {

@@ -4,10 +4,9 @@ ghost use Rattle.dn_setup.specs.Settings.{IsSettings};
 ghost use Rattle.dn_machine.specs.Started.{started_node};
 ghost use Rattle.dn_lockstep.specs.Opening.{IsGame};
 ghost use Rattle.dn_survivor.specs.OneGame.{started_session};
-ghost use Rattle.std.specs.Prelude.{◌≡◌, ◌<◌, ◌≤◌, ℕ, ℤ, pos, Bool, true, false, List, [], get_or, Option, Some, IfSome, Err, slice_get};
+ghost use Rattle.std.specs.Prelude.{◌≡◌, ◌<◌, ◌≤◌, ℕ, ℤ, pos, Bool, true, false, List, [], get_or, Option, IfSome, Err};
 ghost use Rattle.dn_tic.specs.{declared.command.Move.Move, declared.input.Input.Input};
 ghost use Rattle.dn_setup.specs.Settings.{Settings};
-ghost use Rattle.dn_survivor.specs.{declared.report.Report.Report, ReportBytes.IsReport};
 ghost use Rattle.dn_machine.specs.{declared.answers.Made.Made, declared.answers.Ran.Ran, Flight.Flight, Limits.Limits, Limits.IsWindow, Running.is_over};
 ghost use Rattle.dn_machine.specs.{Running.on_quit, Running.on_run_but};
 ghost use Rattle.dn_lockstep.specs.Told.{Builds};
@@ -18,17 +17,13 @@ ghost use Rattle.dn_lockstep.specs.OneGame.{world_told};
 ghost use Rattle.dn_lockstep.specs.Represents.{Represents};
 ghost use Rattle.dn_lockstep.specs.Steps.{RunsBy, Steps, Tells};
 ghost use Rattle.dn_survivor.specs.OfOthers.{nothing_kept};
-ghost use Rattle.dn_survivor.specs.{Agreed.AreAgreedInPairs, Agreed.FitInPairs, Calls.HearsReport, Agreed.DemosAgreeInPairs, OneGame.Given, OneGame.Session, OneGame.after_build, OneGame.after_packet};
-ghost use Rattle.dn_survivor.specs.{OneGame.after_report, OneGame.after_run, OneGame.with_survivor, Telling.report_for, declared.answers.GivenUp.GivenUp};
-ghost use Rattle.dn_survivor.specs.{declared.answers.Reported.Reported};
+ghost use Rattle.dn_survivor.specs.{Agreed.AreAgreedInPairs, Agreed.FitInPairs, Agreed.DemosAgreeInPairs, OneGame.Session, OneGame.after_build};
+ghost use Rattle.dn_survivor.specs.{OneGame.after_run, OneGame.with_survivor, declared.answers.GivenUp.GivenUp};
 ghost use Rattle.dn_seal.specs.declared.seal.Seal.{Seal};
-ghost use Rattle.dn_link.specs.{declared.notice.ReportDatagramFault.ReportDatagramFault, SealedReports.IsOpenedAs};
 ghost use Rattle.dn_open.specs.Sealed.{sealing_of};
 ghost use Rattle.dn_link.specs.{declared.bundle.Bundle.Bundle, declared.bundle.BundleFault.BundleFault, declared.received.Received.Received, Linked.Gives};
-ghost use Rattle.dn_link.specs.{Linked.Linked, Linked.Receives, Linked.has_given_up, Linked.remains, Linked.surviving_of, Linking.new_peer, Notices.HearsNotice};
-ghost use Rattle.dn_link.specs.{Notices.is_notice, Notices.notice_for, Pacing.PaceState, Reading.IsBundledAs, RemainingLinks.AreRemainingLinks, RemainingLinks.IsGenuineIn, RemainingLinks.KeepsGiven};
-ghost use Rattle.dn_survivor.specs.OneGame.{after_relays};
-ghost use Rattle.dn_link.specs.Relays.{flights_of};
+ghost use Rattle.dn_link.specs.{Linked.Linked, Linked.Receives, Linked.has_given_up, Linked.remains, Linked.surviving_of, Linking.new_peer};
+ghost use Rattle.dn_link.specs.{Pacing.PaceState, Reading.IsBundledAs, RemainingLinks.AreRemainingLinks, RemainingLinks.IsGenuineIn, RemainingLinks.KeepsGiven, RemainingLinks.after_datagram};
 ghost use Rattle.dn_link.specs.{RemainingLinks.StayRemaining, RemainingLinks.WasSealedIn, Surviving.GivesUpPeer, Text.IsBundle, Text.sealed_bytes};
 
 use dn_survivor::{remaining_game_starts, survivors_agree};
@@ -51,12 +46,10 @@ pub fn remaining_links_start()
 }
 
 /// And so they stay after each call on one of them, whatever bytes come in, as long as what it opens was sealed
-/// in this game before: what `Link::datagram` and `Link::report_datagram` give was. At a run the caller hands
-/// in the marks of a world that moved on by the rows that it was told, of the players who take part in the tic;
-/// and a report that is handed in by itself comes as `Link::report` gave it, to whom it was given. Whom a link
-/// gives up, and when, is not asked. `built` is of `build`, `give` and `catch_up`, `gave` of `datagram`, `told`
-/// of `report`, `sealed` of `report_datagram`, `received` of `receive`, `reported` of `hear_report`, and `kept`
-/// of a call that changes nothing.
+/// in this game before: what `Link::datagram` and `Link::exclusion_datagram` give was. At a run the caller hands
+/// in the marks of a world that moved on by the rows that it was told, of the players who take part in the tic.
+/// Whom a link gives up, and when, is not asked. `built` is of `build`, `give` and `catch_up`, `gave` of
+/// `datagram`, `received` of `receive`, and `kept` of a call that changes nothing.
 pub fn remaining_links_go_on()
     ensures built { (marking : Marking) (limits : Limits) (settings : Settings) (session : Session) (links : ℕ → Linked)
         (player : ℕ) (new : Linked) (input : Input) (made : Made)
@@ -97,40 +90,15 @@ pub fn remaining_links_go_on()
         → Tells (links player).node (λ limits me m. IfSome (sent_to to limits me m).1 IsFair)
         → (gives : Gives seal pace to (links player) new bytes)
         → (packet : Option Flight)
-        × WasSealedIn seal
-        (after_relays (after_packet session player packet (surviving_of new)) (flights_of to gives.handed)) bytes
+        × WasSealedIn seal (after_datagram session player to packet gives) bytes
         × StayRemaining marking limits settings session links player new
-        (after_relays (after_packet session player packet (surviving_of new)) (flights_of to gives.handed)) }
-    ensures told { (marking : Marking) (limits : Limits) (settings : Settings) (session : Session) (links : ℕ → Linked)
-        (player to : ℕ) (report : Option Report)
-        → AreRemainingLinks marking limits settings session links → player < limits.players
-        → report ≡ report_for (surviving_of (links player)) to
-        → AreRemainingLinks marking limits settings (after_report session player to report) links
-        × KeepsGiven session (after_report session player to report) }
-    ensures sealed { (marking : Marking) (limits : Limits) (settings : Settings) (session : Session) (links : ℕ → Linked)
-        (player to : ℕ) (seal : Seal) (report : Option Report) (bytes : Option (List ℕ))
-        → AreRemainingLinks marking limits settings session links → player < limits.players
-        → report ≡ report_for (surviving_of (links player)) to → IfSome report IsReport
-        → bytes ≡ notice_for seal (links player) to
-        → IfSome bytes (WasSealedIn seal (after_report session player to report))
-        × AreRemainingLinks marking limits settings (after_report session player to report) links
-        × KeepsGiven session (after_report session player to report) }
+        (after_datagram session player to packet gives) }
     ensures received { (marking : Marking) (limits : Limits) (settings : Settings) (session : Session) (links : ℕ → Linked)
-        (player : ℕ) (seal : Seal) (pace after : PaceState) (bytes : List ℕ) (new : Linked)
-        (answer : Received)
+        (player : ℕ) (seal : Seal) (bytes : List ℕ) (new : Linked) (answer : Received)
         → AreRemainingLinks marking limits settings session links → player < limits.players
-        → IsGenuineIn seal session player bytes
-        → (is_notice bytes ≡ false → Receives seal bytes (links player) new answer)
-        → (is_notice bytes ≡ true → HearsNotice seal bytes (links player) pace new after answer)
+        → IsGenuineIn seal session player bytes → Receives seal bytes (links player) new answer
         → StayRemaining marking limits settings session links player new
         (with_survivor session player (surviving_of new)) }
-    ensures reported { (marking : Marking) (limits : Limits) (settings : Settings) (session : Session) (links : ℕ → Linked)
-        (which : ℕ) (given : Given) (new : Linked) (answer : Reported)
-        → AreRemainingLinks marking limits settings session links → slice_get session.reports which ≡ Some given
-        → HearsReport given.from given.report (surviving_of (links given.to)) (surviving_of new) answer
-        → new.peers ≡ (links given.to).peers
-        → StayRemaining marking limits settings session links given.to new
-        (with_survivor session given.to (surviving_of new)) }
     ensures kept { (marking : Marking) (limits : Limits) (settings : Settings) (session : Session) (links : ℕ → Linked)
         (player : ℕ) (new : Linked)
         → AreRemainingLinks marking limits settings session links → player < limits.players
@@ -140,20 +108,17 @@ pub fn remaining_links_go_on()
 {}
 
 /// What was sealed in such a game may come to any link of it at any later time, and so may bytes that a link
-/// refuses, and a datagram without packets. So whoever hands in nothing but these keeps what
+/// refuses, and a datagram without packets and report. So whoever hands in nothing but these keeps what
 /// `remaining_links_go_on` asks of bytes that come in.
-#[tactic(auto, using(crate::proofs::SealedReports::one_opening, crate::proofs::Linking::opened_later, crate::proofs::SealedReports::not_both, crate::proofs::Wholes::only_bundle))]
 pub fn remaining_bytes_are_genuine()
     ensures stay { (seal : Seal) (session later : Session) (bytes : List ℕ) → KeepsGiven session later
         → WasSealedIn seal session bytes → WasSealedIn seal later bytes }
     ensures empty { (seal : Seal) (session : Session) (bundle : Bundle) → IsBundle bundle → bundle.parts.items ≡ []
-        → WasSealedIn seal session (sealed_bytes seal bundle) }
+        → bundle.report.items ≡ [] → WasSealedIn seal session (sealed_bytes seal bundle) }
     ensures genuine { (seal : Seal) (session : Session) (player : ℕ) (bytes : List ℕ)
         → WasSealedIn seal session bytes → IsGenuineIn seal session player bytes }
     ensures refused { (seal : Seal) (session : Session) (player : ℕ) (bytes : List ℕ) (fault : BundleFault)
-        (other : ReportDatagramFault)
-        → IsBundledAs (sealing_of seal player) bytes (Err fault)
-        → IsOpenedAs (sealing_of seal player) bytes (Err other) → IsGenuineIn seal session player bytes }
+        → IsBundledAs (sealing_of seal player) bytes (Err fault) → IsGenuineIn seal session player bytes }
 {}
 
 /// The survivors of such links agree, in all that `survivors_agree` says: any two players of whom neither has

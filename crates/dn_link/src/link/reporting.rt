@@ -14,16 +14,17 @@ use dn_survivor::report::{MAX_REPORT, decode};
 const ROOM: usize = 1139;
 
 impl Link {
-    ghost use Rattle.std.specs.Prelude.{◌≡◌, ◌+◌, ◌≤◌, ℕ, length, Result, option_map};
-    ghost use Rattle.dn_survivor.specs.ReportBytes.{IsReadAs};
+    ghost use Rattle.std.specs.{Prelude.◌≡◌, Prelude.◌+◌, Prelude.◌≤◌, Prelude.IfSome, Prelude.Result, Prelude.length, Option.option_map};
+    ghost use Rattle.dn_survivor.specs.ReportBytes.{IsReadAs, IsReport};
     ghost use Rattle.dn_survivor.specs.declared.report.{Report.Report, ReportFault.ReportFault};
-    ghost use Rattle.dn_link.specs.{Linked.TakesRead, Linked.exclusion_for, Linked.report_beside, Linked.surviving_of, Linked.written, Linking.linked, Linking.seal_of};
+    ghost use Rattle.dn_link.specs.{Linked.TakesRead, Linked.exclusion, Linked.exclusion_for, Linked.report_beside, Linked.surviving_of, Linked.written, Linking.linked, Linking.seal_of};
     ghost use Rattle.dn_link.specs.{Pacing.pace_of, Text.parts_bytes};
 
     /// The bytes of the report to a peer, if there is one, and room for it beside these parts.
     pub(super) fn report_beside(&self, to: u8, parts: &[Part]) -> ArrayVec<u8, MAX_REPORT>
         requires { length (parts_bytes parts.now) ≤ 1118 }
         ensures bytes { result.items ≡ written (report_beside (surviving_of (linked self.now)) to parts.now) }
+        ensures proper { IfSome (report_beside (surviving_of (linked self.now)) to parts.now) IsReport }
         ensures room { length result.items + length (parts_bytes parts.now) ≤ 1139 }
     {
         let mut bytes = ArrayVec::new();
@@ -51,15 +52,12 @@ impl Link {
         }
     }
 
-    /// What a player is told who is given up: that it is, and no more. None to any other. It changes nothing
-    /// there: the link answers `Excluded`.
-    pub fn exclusion_datagram(&self, to: u8) -> Option<ArrayVec<u8, 1200>>
-        ensures { option_map (λ bytes. bytes.items) result ≡ exclusion_for (seal_of self.now) (linked self.now) to }
+    /// That a player is given up, for it.
+    fn exclusion(&self, to: u8) -> Bundle
+        ensures is { result ≡ exclusion (linked self.now) to }
+        ensures from { result.from ≡ (linked self.now).node.me }
     {
-        if !self.is_peer(to) || !self.has_given_up(to) {
-            return None;
-        }
-        let bundle = Bundle {
+        Bundle {
             from: self.me(),
             to,
             number: 0,
@@ -69,7 +67,17 @@ impl Link {
             counts: counts_of(self.lockstep()),
             report: ArrayVec::new(),
             parts: ArrayVec::new(),
-        };
-        Some(seal_bundle(&self.sealer, &bundle))
+        }
+    }
+
+    /// What a player is told who is given up: that it is, and no more. None to any other. It changes nothing
+    /// there: the link answers `Excluded`.
+    pub fn exclusion_datagram(&self, to: u8) -> Option<ArrayVec<u8, 1200>>
+        ensures { option_map (λ bytes. bytes.items) result ≡ exclusion_for (seal_of self.now) (linked self.now) to }
+    {
+        if !self.is_peer(to) || !self.has_given_up(to) {
+            return None;
+        }
+        Some(seal_bundle(&self.sealer, &self.exclusion(to)))
     }
 }

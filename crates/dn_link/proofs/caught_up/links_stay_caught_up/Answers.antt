@@ -41,8 +41,8 @@ returns-clause-quit c = λ marking limits settings session links player new quit
     (step.step limits player m r).node (quit_quiet limits links player new mine were m))
     (λ peer. ap (λ (f : ℕ → PeerState). (f peer).kept) peers) much.1
 
-pub returns-clause-reported : goal.returns-clause-reported
-returns-clause-reported c = λ marking limits settings session links player new linked were mine same peers.
+pub returns-clause-kept : goal.returns-clause-kept
+returns-clause-kept c = λ marking limits settings session links player new linked were mine same peers.
     still limits links player new mine were (record {
       others = λ p l n. ap (λ (n : Contents). got n p) same;
       own = omega (arith, ap (λ (n : Contents). got n player) same);

@@ -57,7 +57,7 @@ returns c =
           genuine receives. received marking limits settings session links player linked mine
           c.letters_keep_one_game.ensures (λ now same. on.kept marking limits settings session player now
           linked.game same) seal bytes new answer genuine receives;
-      reported = λ marking limits settings session links player new linked mine same gone peers.
+      kept = λ marking limits settings session links player new linked mine same gone peers.
           called marking limits settings session links player linked mine (with_lockstep session player new.node) new
           (on.kept marking limits settings session player new.node linked.game (same ∙ linked.nodes player mine))
           refl refl gone peers

@@ -1,9 +1,9 @@
-use Rattle.std.proofs.Common.{◌≡◌, ◌≤◌, ℕ, drop, ap, sym, ◌∙◌, refl, arith, Some, rules}
+use Rattle.std.proofs.Common.{◌≡◌, ◌≤◌, ◌<◌, ◌+◌, ◌-◌, ◌++◌, ℕ, length, drop, take, ap, sym, ◌∙◌, refl, arith, Some, rules}
 use Rattle.std.specs.Prelude.{slice_index}
 use Rattle.std.specs.Option.{option_map}
 use Rattle.std.proofs.lemmas.List.{take_rest}
 use Rattle.arrayvec.specs.ArrayVec.{ArrayVec}
-use Rattle.dn_link.specs.{declared.bundle.Part.Part, Told.told_counts, Told.told_parts}
+use Rattle.dn_link.specs.{declared.bundle.Part.Part, Told.report_size, Told.told_counts, Told.told_parts}
 use Rattle.dn_link.proofs.Wholes.{no_cause, no_parts, all_told, signed}
 use Rattle.dn_link.proofs.reading.bundle_in.Goals as goal
 
@@ -13,15 +13,25 @@ returns-then-body-gt-MOST_CAUSE c = no_cause c.args.body.now (search rules)
 pub returns-in_default : goal.returns-in_default
 returns-in_default c =
     let body = c.args.body.now in
-    let few : slice_index body 18 ≤ 3 = search rules in
-    no_parts body few (sym (c.parts_in.ensures ∙ ap told_parts (take_rest body 43))
+    let same = c.report_size-size.ensures in
+    let few : slice_index body 18 ≤ 4 = search rules in
+    let low : c.report_size-size.result ≤ 397 = search rules in
+    no_parts body few (omega (arith, same, low)) (sym (c.parts_in.ensures
+    ∙ ap told_parts (take_rest body (45 + c.report_size-size.result) ∙ ap (λ (n : ℕ). drop (45 + n) body) same))
     ∙ ap (option_map (λ (found : ArrayVec Part). found.items)) c.in_default.is)
 
 pub returns : goal.returns
 returns c =
     let body = c.args.body.now in
-    let few : slice_index body 18 ≤ 3 = search rules in
-    all_told body _ few (sym (c.parts_in.ensures ∙ ap told_parts (take_rest body 43))
+    let size = c.report_size-size.result in
+    let same = c.report_size-size.ensures in
+    let few : slice_index body 18 ≤ 4 = search rules in
+    let low : size ≤ 397 = search rules in
+    let cut : 45 + size - 45 ≡ size = omega arith in
+    let report : c.append.new.bytes.items ≡ take (report_size body) (drop 45 body) =
+    c.append.ensures ∙ (λ i. c.new-report.ensures i ++ take ((cut ∙ same) i) (drop 45 body)) in
+    all_told body _ few (omega (arith, same, low)) (sym (c.parts_in.ensures
+    ∙ ap told_parts (take_rest body (45 + size) ∙ ap (λ (n : ℕ). drop (45 + n) body) same))
     ∙ ap (option_map (λ (found : ArrayVec Part). found.items)) c.in-Some.is)
     refl refl c.tic_at.ensures (signed body _ _ (omega (arith, c.type_inv.body 16)) c.cast_signed.ensures) refl refl
-    (c.counts_in.ensures ∙ ap told_counts (take_rest body 19))
+    (c.counts_in.ensures ∙ ap told_counts (take_rest body 19)) report

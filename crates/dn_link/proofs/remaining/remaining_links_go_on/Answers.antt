@@ -1,6 +1,6 @@
 -- Packets with the same exact numbers and bytes: where a lockstep sends one, they are those of every node that
 -- it represents.
-use Rattle.std.proofs.Common.{◌≡◌, ℕ, Bool, true, false, List, length, refl, ap, sym, ◌∙◌, Option, Some, None, ◌<◌, [], ◌∷◌, append-nil, arith, subst, inl}
+use Rattle.std.proofs.Common.{◌≡◌, ℕ, Bool, true, false, List, length, refl, ap, sym, ◌∙◌, Option, Some, None, ◌<◌, [], ◌∷◌, append-nil, arith, subst, inl, inr, ◌-◌}
 use Rattle.std.specs.Prelude.{IfSome, if◌then◌else◌, nat_lt}
 use Rattle.std.specs.Option.{option_map}
 use Rattle.std.proofs.lemmas.Bool.{cond_both, and_parts, not-true}
@@ -18,12 +18,12 @@ use Rattle.dn_lockstep.specs.Steps.{Steps, Tells}
 use Rattle.dn_lockstep.specs.OneGame.{given_on}
 use Rattle.dn_lockstep.specs.Told.{command_told}
 use Rattle.dn_link.specs.{declared.bundle.Carried.Carried, Hearing.carried_of, Relays.Handed, Relays.flights_of, Hearing.SendsCarried, Pacing.PaceState}
-use Rattle.dn_link.specs.{RemainingLinks.AreRemainingLinks, RemainingLinks.KeepsGiven, RemainingLinks.WasSealedIn, Linked.Gives, Linked.Linked, Linked.is_peer, Linked.remains, Linked.surviving_of}
-use Rattle.dn_link.specs.{SealedReports.sealed_report_bytes}
+use Rattle.dn_link.specs.{RemainingLinks.AreRemainingLinks, RemainingLinks.KeepsGiven, RemainingLinks.WasSealedIn, RemainingLinks.WasTold, RemainingLinks.after_datagram, Linked.Gives, Linked.Linked, Linked.is_peer, Linked.remains, Linked.report_beside, Linked.surviving_of}
+use Rattle.dn_link.specs.Text.{parts_bytes}
 use Rattle.dn_lockstep.proofs.OneGame.{GoesBetween}
-use Rattle.dn_survivor.specs.{OneGame.AreRemaining, OneGame.Session, OneGame.after_packet, OneGame.after_relays, Telling.MayRelay, declared.others.Others.Others, Surviving.Surviving, Surviving.has_given_up}
+use Rattle.dn_survivor.specs.{OneGame.AreRemaining, OneGame.Session, OneGame.after_packet, OneGame.after_relays, OneGame.after_report, OneGame.reports_on, Telling.MayRelay, Telling.report_for, declared.others.Others.Others, declared.report.Report.Report, Surviving.Surviving, Surviving.has_given_up}
 use Rattle.dn_link.proofs.{Handing.gives_all, Linking.goes_given, Linking.stays_kept, Relinking.found_later, Relinking.found_on, RemainingCalls.built, RemainingCalls.gives_up}
-use Rattle.dn_link.proofs.{RemainingCalls.quits, RemainingCalls.reported, RemainingCalls.runs, RemainingCalls.same_link, RemainingCalls.told, SealedReports.told_sealed, RemainingReceives.received}
+use Rattle.dn_link.proofs.{RemainingCalls.quits, RemainingCalls.reports_stay, RemainingCalls.runs, RemainingCalls.same_link, RemainingCalls.told, RemainingReceives.received, Reporting.fits_or_not, Reporting.told_last, Reporting.written_is}
 use Rattle.dn_seal.specs.declared.seal.Seal.{Seal}
 use Rattle.dn_machine.specs.Node as machine
 use Rattle.dn_survivor.proofs.OneGame as one_game
@@ -131,10 +131,14 @@ module _ (marking : Marking) (limits : Limits) (settings : Settings) (session : 
     after_all packet =
         after_relays (after_packet session player packet (surviving_of new)) (flights_of to gives.handed)
 
+    abbrev told_now : Option Report
+    told_now = report_beside (surviving_of new) to gives.bundle.parts.items
+
     abbrev IsGiven : Option Flight → Type 0
     IsGiven packet =
-        WasSealedIn seal (after_all packet) bytes × AreRemainingLinks marking limits settings (after_all packet)
-        (put links player new) × KeepsGiven session (after_all packet)
+        WasSealedIn seal (after_datagram session player to packet gives) bytes
+        × AreRemainingLinks marking limits settings (after_datagram session player to packet gives)
+        (put links player new) × KeepsGiven session (after_datagram session player to packet gives)
 
     -- what it has given up, and heard, stays with the packet
     may_still : MayRelay (surviving_of old) to → MayRelay (surviving_of new) to
@@ -169,6 +173,21 @@ module _ (marking : Marking) (limits : Limits) (settings : Settings) (session : 
             (ap (λ (s : Surviving). command_told s.lockstep who tic) here ∙ told) fair)
             (given_on session.packets packet) gives.handed game gives.handed_on
 
+    -- and the report, if there is one and room for it
+    tells_on : (packet : Option Flight)
+        → AreRemainingLinks marking limits settings (after_all packet) (put links player new)
+        → AreRemainingLinks marking limits settings (after_report (after_all packet) player to told_now)
+        (put links player new)
+    tells_on packet are = elim (fits_or_not (1139 - length (parts_bytes gives.bundle.parts.items)) (report_for (surviving_of new) to)) [
+      | inl none ↦ subst (λ (o : Option Report). AreRemainingLinks marking limits settings
+          (after_report (after_all packet) player to o) (put links player new)) (sym none) are
+      | inr fits ↦
+          let here : surviving_of (put links player new player) ≡ surviving_of new =
+          ap surviving_of (put_at links player player new refl) in
+          (told marking limits settings (after_all packet) (put links player new) are player mine to told_now
+          (fits ∙ ap (λ (s : Surviving). report_for s to) (sym here))).0
+    ]
+
     gave_by : (packet : Option Flight)
         → AreRemaining marking limits settings (after_packet session player packet (surviving_of new))
         → GoesBetween player to packet → gives.given ≡ option_map carried_of packet → IsGiven packet
@@ -183,14 +202,22 @@ module _ (marking : Marking) (limits : Limits) (settings : Settings) (session : 
           reports = λ which given found. found;
         })
         (stays_kept session.packets packet player old new own seal pace to bytes gives between answer all) in (
-          inl (
+          (
             gives.bundle,
             gives.fits,
             gives.is,
             goes_given session.packets packet player old new own seal pace to bytes gives between answer all,
+            λ report reads.
+                let is = written_is told_now gives.bundle.report.items report gives.proper gives.report reads in
+                subst (λ (from : ℕ). WasTold (reports_on session.reports player to told_now) from gives.bundle.to report)
+                (sym (gives.from ∙ own)) (subst (λ (k : ℕ). WasTold (reports_on session.reports player to told_now) player k report)
+                (sym gives.goes) (told_last session.reports player to told_now report is)),
           ),
-          on.0,
-          on.1,
+          tells_on packet on.0,
+          record {
+            packets = on.1.packets;
+            reports = λ which given found. reports_stay session.reports player to told_now which given found;
+          },
         )
 
     -- what is sent is the survivor's packet
@@ -270,29 +297,9 @@ returns-clause-gave c = λ marking limits settings session links player to seal 
     let sent = gave marking limits settings session links linked player mine seal pace to new bytes gives stays
     fair in (sent.0, sent.1.0, (sent.1.1, sent.1.2))
 
-pub returns-clause-told : goal.returns-clause-told
-returns-clause-told c = λ marking limits settings session links player to report linked mine.
-    told marking limits settings session links linked player mine to report
-
-pub returns-clause-sealed : goal.returns-clause-sealed
-returns-clause-sealed c = λ marking limits settings session links player to seal report bytes linked mine is proper
-    sealed.
-    let me = (links player).node.me in
-    let on = told marking limits settings session links linked player mine to report is in (
-      told_sealed seal session me player to report bytes (base.own marking limits settings session links linked
-          player mine) proper (sealed ∙ ap (option_map (sealed_report_bytes seal me to)) (sym is)),
-      on.0,
-      on.1,
-    )
-
 pub returns-clause-received : goal.returns-clause-received
-returns-clause-received c = λ marking limits settings session links player seal pace after bytes new answer
-    linked mine.
-    received marking limits settings session links linked player mine seal pace after bytes new answer
-
-pub returns-clause-reported : goal.returns-clause-reported
-returns-clause-reported c = λ marking limits settings session links which given new answer linked.
-    reported marking limits settings session links linked which given new answer
+returns-clause-received c = λ marking limits settings session links player seal bytes new answer linked mine.
+    received marking limits settings session links linked player mine seal bytes new answer
 
 pub returns-clause-kept : goal.returns-clause-kept
 returns-clause-kept c = λ marking limits settings session links player new linked mine.

@@ -3,7 +3,7 @@ use Rattle.std.specs.Prelude.{FitsSigned}
 use Rattle.std.proofs.lemmas.Int.{to_z-of_z}
 use Rattle.std.specs.Int.{cast_unsigned}
 use Rattle.dn_seal.specs.{Hmac.tag_of, Sealing.sealing, Sealing.front_bytes}
-use Rattle.dn_link.specs.Text.{counts_bytes, parts_bytes, bundle_bytes}
+use Rattle.dn_link.specs.Text.{counts_bytes, parts_bytes, report_field, bundle_bytes}
 use Rattle.dn_link.proofs.writing.seal_bundle.Goals as goal
 
 pub returns-clause-text : goal.returns-clause-text
@@ -21,10 +21,11 @@ returns-clause-text c =
     c.cast_unsigned.ensures ∙ ap (cast_unsigned w8) (to_z-of_z w8 b.lead fits) in
     let four = c.append-4.ensures ∙ (λ i. three i ++ lead i ∷ b.holes ∷ b.cause ∷ []) in
     let five = c.append_counts.ensures.more ∙ ap (λ (xs : List ℕ). xs ++ counts_bytes b.counts) four in
+    let six = c.append_report.ensures ∙ (λ i. five i ++ report_field (c.as_slice.ensures.value i)) in
     let body : c.append_parts.new.bytes.items ≡ bundle_bytes s.seal b =
-    c.append_parts.ensures.more ∙ (λ i. five i ++ parts_bytes (c.as_slice.ensures.value i)) in
+    c.append_parts.ensures.more ∙ (λ i. six i ++ parts_bytes (c.as_slice-2.ensures.value i)) in
     let tag : c.tag-tag.result ≡ tag_of s.seal.key (bundle_bytes s.seal b) =
-    c.tag-tag.ensures ∙ ap (tag_of s.seal.key) (c.as_slice-2.ensures.value ∙ body) in
+    c.tag-tag.ensures ∙ ap (tag_of s.seal.key) (c.as_slice-3.ensures.value ∙ body) in
     c.append-5.ensures ∙ (λ i. body i ++ tag i)
 
 pub returns-clause-fits : goal.returns-clause-fits
@@ -34,6 +35,7 @@ returns-clause-fits c =
       lead = search rules;
       counts = c.append_counts.ensures.fits;
       cause = c.requires.cause;
+      report = search rules;
       few = search rules;
       parts = c.requires.fit;
     }

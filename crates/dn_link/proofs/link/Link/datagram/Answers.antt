@@ -1,5 +1,7 @@
 use Rattle.std.proofs.Common.{rules, ◌≡◌, ◌<◌, ◌+◌, List, ◌%◌, ◌^◌, ℕ, length, get_or, w8, to_z, of_z, refl, ap, ◌∙◌, subst, arith}
-use Rattle.std.specs.Prelude.{Bool, None, ◌&&◌, ◌||◌, is_some}
+use Rattle.std.specs.Prelude.{Bool, None, ◌&&◌, ◌||◌, is_some, IfSome}
+use Rattle.dn_survivor.specs.{ReportBytes.IsReport, Surviving.Surviving}
+use Rattle.dn_link.specs.{Linked.report_beside, Linked.written, declared.bundle.Part.Part}
 use Rattle.dn_machine.specs.Node.{put}
 use Rattle.dn_lockstep.specs.Contents.{Contents, contents}
 use Rattle.dn_link.specs.{Counting.counts_of, Ends.told_cause, Hearing.SendsCarried, Line.LineState, Line.missing, Kept.going, Kept.kept_after, Kept.taken_by, Linked.PeerState}
@@ -32,6 +34,7 @@ returns-clause-gives c =
     ∙ same_reported (peers_of peers) c.args.to (kept_after old_peer.kept (taken_by old_peer.left packet))
     ((old_peer.number + 1) % 2 ^ 32) c.args.to in
     let lacked = subst (λ (l : List ℕ). AreLacked l 0 behind.handed) reported behind.lacked in
+    let now : Surviving = record { lockstep = after_it; others = (linked c.args.self.now).others } in
     let led : to_z w8 (of_z w8 line.own_lead) ≡ line.own_lead = search rules in
     record {
       given = packet;
@@ -45,6 +48,7 @@ returns-clause-gives c =
         holes = c.missing.result;
         cause = c.told_cause-cause.result;
         counts = c.counts_of.result;
+        report = c.report_beside-report.result;
         parts = c.with_handed-parts.result;
       };
       is = c.seal_bundle.ensures.text;
@@ -57,6 +61,10 @@ returns-clause-gives c =
       cause = c.told_cause-cause.ensures ∙ ap told_cause
           (c.phase.ensures ∙ ap (λ (n : Contents). n.phase) c.lockstep-2.ensures);
       counts = c.counts_of.ensures ∙ ap counts_of c.lockstep-3.ensures;
+      report = subst (λ (parts : List Part). c.report_beside-report.result.items ≡ written (report_beside now c.args.to parts))
+          c.as_slice-2.ensures.value c.report_beside-report.ensures.bytes;
+      proper = subst (λ (parts : List Part). IfSome (report_beside now c.args.to parts) IsReport)
+          c.as_slice-2.ensures.value c.report_beside-report.ensures.proper;
       own = c.parts-number.result.1.items;
       handed = behind.handed;
       parts = behind.parts;

@@ -1,0 +1,157 @@
+-- What a report changes in a link, where one comes with a datagram; and what it has as its bytes.
+use Rattle.std.proofs.Common.{◌≡◌, ◌⊎◌, ℕ, Bool, true, false, List, [], ◌∷◌, ◌++◌, zero, suc, refl, ap, sym, ◌∙◌, subst, arith, Option, Some, None, inl, inr, length}
+use Rattle.std.specs.Prelude.{IfSome, Result, Ok, Err, if◌then◌else◌, nat_lt, ◌==◌}
+use Rattle.std.proofs.lemmas.Bool.{cases_eq, cond_both}
+use Rattle.std.proofs.lemmas.Option.{none-some, same_Some}
+use Rattle.dn_tic.specs.declared.command.TicCmd.{TicCmd}
+use Rattle.dn_machine.specs.{Limits.Limits, Node.put, Settling.settled_one}
+use Rattle.dn_machine.specs.Node as machine
+use Rattle.dn_machine.proofs.Put.{put_at, put_off, same_functions}
+use Rattle.dn_machine.specs.declared.peer.Peer.{Peer}
+use Rattle.dn_machine.specs.declared.answers.Cause.TheVariants.{Quit, Full, Inconsistent}
+use Rattle.dn_machine.specs.declared.answers.Phase.{Phase}
+use Rattle.dn_machine.specs.declared.answers.Phase.TheVariants.{Listening, Gathering, Playing, Ended}
+use Rattle.dn_remain.specs.Vanished.Calls.{can_decide}
+use Rattle.dn_lockstep.specs.Contents.{Contents}
+use Rattle.dn_lockstep.specs.Settling.{missing, on_settle, refused_end, settled_unless}
+use Rattle.dn_lockstep.specs.declared.lockstep.settling.Settled.{Settled}
+use Rattle.dn_survivor.specs.{Calls.HearsReport, Calls.decided_by, Calls.end_by, Calls.heard_by, Calls.settled_below, OfOthers.commands_of, OfOthers.first_of, OfOthers.has, OfOthers.nodes_of, OfOthers.own_of}
+use Rattle.dn_survivor.specs.{OneGame.Given, OneGame.reports_on, ReportBytes.IsReadAs, ReportBytes.IsReport, ReportBytes.report_bytes, declared.answers.Reported.Reported, declared.others.Others.Others}
+use Rattle.dn_survivor.specs.{declared.report.Report.Report, declared.report.ReportFault.ReportFault}
+use Rattle.dn_survivor.proofs.ReportBytes.{one_reading}
+use Rattle.dn_link.specs.Ends.{told_cause}
+use Rattle.dn_link.specs.{declared.bundle.Bundle.Bundle, Hearing.HearsAll, Linked.IsWhole, Linked.Linked, Linked.PeerState, Linked.TakesIn, Linked.TakesRead, Linked.fitting, Linked.met, Linked.surviving_of}
+use Rattle.dn_link.specs.{Linked.takes, Linked.with_reached, Linked.written, Packets.heard_in, RemainingLinks.WasTold}
+use Rattle.dn_link.proofs.{RemainingCalls.hears_same, Relinking.last_at, Relinking.still_whole, Sending.resend_of}
+
+-- Where nobody is given up.
+
+-- a report leaves the lockstep, the peers and who is given up as they were
+quiet_read : (from : ℕ) (read : Result Report ReportFault) (mid new : Linked) → IsWhole mid → TakesRead from read mid new
+    → (new.node ≡ mid.node) × (new.others.gone ≡ mid.others.gone) × (new.peers ≡ mid.peers)
+quiet_read from (Err fault) mid new whole same = (
+  ap (λ (l : Linked). l.node) same,
+  ap (λ (l : Linked). l.others.gone) same,
+  ap (λ (l : Linked). l.peers) same,
+)
+quiet_read from (Ok report) mid new whole (reported, hears, waits, quiet, peers) = (
+  quiet whole,
+  (hears_same from report (surviving_of mid) (surviving_of new) reported hears).1,
+  peers,
+)
+
+-- so a datagram is taken in as its packets are
+pub record AreTakenIn (bundle : Bundle) (old new : Linked) : Type 0 where
+  pub started : Bool
+  pub heard : HearsAll (heard_in (takes old) bundle) old.node new.node started
+  pub gone : new.others.gone ≡ old.others.gone
+  pub peers : new.peers ≡ with_reached new.node (met bundle old).peers
+
+pub taken_whole : (bundle : Bundle) (old new : Linked) → IsWhole old → TakesIn bundle old new
+    → AreTakenIn bundle old new
+taken_whole bundle old new whole (mid, packets, read, is, comes) =
+    let gone : mid.others.gone ≡ old.others.gone = ap (λ (o : Others). o.gone) packets.others in
+    let quiet = quiet_read bundle.from read mid new (still_whole old mid gone whole) comes in
+    record {
+      started = packets.started;
+      heard = subst (λ (n : Contents). HearsAll (heard_in (takes old) bundle) old.node n packets.started)
+          (sym quiet.0) packets.heard;
+      gone = quiet.1 ∙ gone;
+      peers = quiet.2 ∙ packets.peers
+          ∙ ap (λ (n : Contents). with_reached n (met bundle old).peers) (sym quiet.0);
+    }
+
+-- what is given to a peer does not tell that it is given up
+pub told_plain : (phase : Phase) → (told_cause phase == 4) ≡ false
+told_plain Listening = refl
+told_plain Gathering = refl
+told_plain Playing = refl
+told_plain (Ended Quit) = refl
+told_plain (Ended Full) = refl
+told_plain (Ended (Inconsistent player was should)) = refl
+
+-- From which tic on a player is sent commands stays, whoever's end is taken.
+module _ (limits : Limits) (me to : ℕ) where
+  abbrev Same : machine.Node → machine.Node → Type 0
+  Same m new = resend_of new to ≡ resend_of m to
+
+  abbrev IsSame : {A : Type 0} → machine.Node → machine.Node × A → Type 0
+  IsSame m after = Same m after.0
+
+  one_same : (m : machine.Node) (player : ℕ) (commands : List TicCmd) → Same m (settled_one m player commands)
+  one_same m player commands =
+      let peer : Peer = record (m.peers player) { end = Some (length commands); want = false } in
+      elim (cases_eq to player) [
+        | inl at ↦ ap (λ (p : Peer). p.resend) (put_at m.peers player to peer at)
+            ∙ ap (λ (k : ℕ). (m.peers k).resend) (sym at)
+        | inr off ↦ ap (λ (p : Peer). p.resend) (put_off m.peers player to peer off)
+      ]
+
+  unless_same : (refused : Option Settled) (m : machine.Node) (player end first : ℕ) (commands : List TicCmd)
+      → Same m (settled_unless refused m player end first commands).0
+  unless_same (Some reason) m player end first commands = refl
+  unless_same None m player end first commands =
+      one_same m player (m.held player ++ missing (machine.got m player) end first commands)
+
+  settle_same : (m : machine.Node) (player end first : ℕ) (commands : List TicCmd)
+      → Same m (on_settle limits me m player end first commands).0
+  unfolding on_settle
+  settle_same m player end first commands =
+      unless_same (refused_end limits me m player end first commands) m player end first commands
+
+  below_same : (others : Others) (bound : ℕ) (m : machine.Node) → Same m (settled_below limits me others bound m).0
+  unfolding settled_below
+  below_same others zero m = refl
+  below_same others (suc player) m =
+      cond_both (has others.gone player) _ _ (IsSame m)
+      (λ on. settle_same (settled_below limits me others player m).0 player (end_by limits me others player
+      (settled_below limits me others player m).0) (first_of limits.players me others player)
+      (commands_of limits.players me others player) ∙ below_same others player m)
+      (λ off. below_same others player m)
+
+  decided_same : (others : Others) (m : machine.Node) → Same m (decided_by limits me others m).0
+  decided_same others m =
+      cond_both (can_decide limits.players me (own_of others (λ player. 0)) (nodes_of others)) _ _ (IsSame m)
+      (λ on. below_same others limits.players m) (λ off. refl)
+
+  pub report_same : (others : Others) (m : machine.Node) → Same m (heard_by limits me others m).0
+  report_same others m = decided_same others m
+
+-- The bytes of a report are read as it, and none as any.
+pub written_is : (told : Option Report) (bytes : List ℕ) (report : Report) → IfSome told IsReport
+    → bytes ≡ written told → IsReadAs bytes (Ok report) → told ≡ Some report
+written_is None bytes report proper is (fits, spelled) = absurd (no_bytes (sym is ∙ spelled))
+  where
+    no_bytes : [] ≡ report_bytes report → ⊥
+    no_bytes e = cc
+written_is (Some told) bytes report proper is reads =
+    go (one_reading bytes (Ok told) (Ok report) (proper, is) reads)
+  where
+    go : ◌≡◌ {A = Result Report ReportFault} (Ok told) (Ok report) → Some told ≡ Some report
+    go e = cc
+
+-- there is room for it or not
+pub fits_or_not : (room : ℕ) (report : Option Report) → (fitting room report ≡ None) ⊎ (fitting room report ≡ report)
+fits_or_not room None = inl refl
+fits_or_not room (Some report) = go (nat_lt room (length (report_bytes report)))
+  where
+    go : (test : Bool) → ((if test then None else Some report) ≡ None)
+        ⊎ ((if test then None else Some report) ≡ Some report)
+    go true = inl refl
+    go false = inr refl
+
+-- Reports that were given.
+
+-- the one that was given last was given
+pub told_last : (reports : List Given) (from to : ℕ) (told : Option Report) (report : Report) → told ≡ Some report
+    → WasTold (reports_on reports from to told) from to report
+told_last reports from to told report is =
+    subst (λ (o : Option Report). WasTold (reports_on reports from to o) from to report) (sym is)
+    (length reports, last_at reports (record { from = from; to = to; report = report }))
+
+-- a function that has another value at one place, and then one more
+pub put_twice : {A : Type 0} (f : ℕ → A) (i : ℕ) (x y : A) → put (put f i x) i y ≡ put f i y
+put_twice f i x y = same_functions (λ j. elim (cases_eq j i) [
+  | inl at ↦ put_at (put f i x) i j y at ∙ sym (put_at f i j y at)
+  | inr off ↦ put_off (put f i x) i j y off ∙ put_off f i j x off ∙ sym (put_off f i j y off)
+])

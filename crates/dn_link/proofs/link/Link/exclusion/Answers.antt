@@ -1,0 +1,19 @@
+use Rattle.std.proofs.Common.{◌≡◌, ap, ◌∙◌, refl, w8, to_z, of_z, rules}
+use Rattle.std.specs.Prelude.{pos}
+use Rattle.dn_link.specs.{Counting.counts_of, Linking.linked}
+use Rattle.dn_link.proofs.link.Link.exclusion.Goals as goal
+
+pub returns-clause-is : goal.returns-clause-is
+returns-clause-is c =
+    let counts = c.counts_of.ensures ∙ ap counts_of c.lockstep.ensures in
+    λ i. record {
+      from = c.me.ensures i;
+      to = c.args.to;
+      number = 0;
+      lead = pos 0;
+      holes = 0;
+      cause = 4;
+      counts = counts i;
+      report = record { items = c.new.ensures i };
+      parts = record { items = c.new-2.ensures i };
+    }
