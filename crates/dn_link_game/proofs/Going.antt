@@ -135,10 +135,7 @@ module _ {W S : Type 0} (state : W → S) (physics : Physics S) (limits : Limits
 
   -- and bytes of which it is asked
   pub asked : (bytes : List ℕ) → IsGenuine seal g.given.items i bytes → IsGenuineIn (seal_of player.link) session i bytes
-  asked bytes ask = of_player bytes (record {
-    datagram = λ bundle e. (genuine seal session i bytes (was bytes (ask.datagram bundle e))).datagram bundle e;
-    report = λ from report e. (genuine seal session i bytes (was bytes (ask.report from report e))).report from report e;
-  })
+  asked bytes ask = of_player bytes (λ bundle e. genuine seal session i bytes (was bytes (ask bundle e)) bundle e)
 
 -- a datagram joins those that were given
 pub joins : (P : ArrayVec ℕ → Type 0) (new grown old : List (ArrayVec ℕ)) (one : ArrayVec ℕ) → new ≡ grown ++ one ∷ []

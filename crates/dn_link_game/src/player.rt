@@ -7,7 +7,6 @@ ghost use Rattle.dn_link.specs.{Linked.surviving_of, Linking.linked, Linking.sea
 ghost use Rattle.dn_link_game.specs.Playing.{CatchesUp, GoesOn, GoesOnIf, TakesNothing};
 
 use arrayvec::ArrayVec;
-use dn_link::notice::MAX_SEALED_REPORT;
 use dn_link::{Link, Received, remaining_links_go_on};
 use dn_machine::{Made, Ran};
 use dn_survivor::GivenUp;
@@ -62,16 +61,6 @@ impl<W: World> Player<W> {
     {
         remaining_links_go_on();
         self.link.lean()
-    }
-
-    /// The report to a peer, sealed.
-    pub fn report(&self, to: u8) -> Option<ArrayVec<u8, MAX_SEALED_REPORT>>
-        ensures goes_on { GoesOn W.state W.physics self.now self.now (λ session player later.
-            TakesNothing session later
-            × IfSome result (λ bytes. WasSealedIn (seal_of self.now.link) later bytes.items)) }
-    {
-        remaining_links_go_on();
-        self.link.report_datagram(to)
     }
 
     /// Runs a tic, by the marks of its world, and steps the world by the row.

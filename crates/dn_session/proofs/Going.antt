@@ -10,9 +10,9 @@ use Rattle.dn_machine.proofs.{Put.put_at, Put.put_off, Put.same_functions}
 use Rattle.dn_lockstep.specs.{Marking.Marking, OneGame.told_on}
 use Rattle.dn_open.specs.Sealed.{sealing_of}
 use Rattle.dn_seal.specs.declared.seal.Seal.{Seal}
-use Rattle.dn_survivor.specs.{OneGame.Session, OneGame.after_build, OneGame.after_run, OneGame.with_survivor, declared.report.Report.Report}
-use Rattle.dn_link.specs.{Linked.Linked, Linked.surviving_of, Linking.linked, Linking.seal_of, Notices.is_notice, Pacing.pace_of, RemainingLinks.AreRemainingLinks, RemainingLinks.KeepsGiven}
-use Rattle.dn_link.specs.{RemainingLinks.StayRemaining, declared.link.Link.Link, declared.received.Received.Received}
+use Rattle.dn_survivor.specs.OneGame.{Session, after_build, after_run, with_survivor}
+use Rattle.dn_link.specs.{Linked.Linked, Linked.surviving_of, Linking.linked, Linking.seal_of, Pacing.pace_of, RemainingLinks.AreRemainingLinks, RemainingLinks.KeepsGiven}
+use Rattle.dn_link.specs.{RemainingLinks.StayRemaining, declared.link.Link.Link}
 use Rattle.dn_link.proofs.RemainingCalls as calls
 use Rattle.dn_session.specs.{Ending.ending_of, Ending.patience, Joining.has_come, Lead.due, Parts.AreMarksOf, Parts.AreParts, Parts.GoOn, Parts.links_of, Playing.Builds, Playing.CatchesUp}
 use Rattle.dn_session.specs.{Playing.EndsNow, Playing.GivesUpNow, Playing.GivesWhen, Playing.LeavesGame, Playing.PassesTime, Playing.Playing, Playing.PlaysOn, Playing.Polls, Playing.RunsNext}

@@ -5,7 +5,6 @@ pub mod Joiners
 pub mod Lobbies
 pub mod Numbers
 pub mod Going
-pub mod Hearing
 pub mod Sending
 pub mod Readings
 pub mod Rosters

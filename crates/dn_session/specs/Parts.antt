@@ -1,15 +1,13 @@
 -- The parts of the players of one game: their links are those of one game, whatever their sessions do.
-use Rattle.std.specs.Prelude.{◌≡◌, ◌≢◌, ◌<◌, ◌⊎◌, ℕ, ℤ, pos, true, false, get_or, List, Option, Some, None, IfSome}
+use Rattle.std.specs.Prelude.{◌≡◌, ◌<◌, ℕ, ℤ, pos, false, get_or, List, Option, None}
 use Rattle.dn_tic.specs.declared.command.Move.{Move}
 use Rattle.dn_setup.specs.Settings.{Settings}
 use Rattle.dn_machine.specs.declared.answers.Ran.TheVariants as ran
 use Rattle.dn_machine.specs.{Limits.Limits, Node.put, Running.is_over, declared.answers.Ran.Ran}
 use Rattle.dn_lockstep.specs.{Contents.Contents, Contents.end_in, Marking.Marking, OneGame.told_on, OneGame.world_told, Opening.limits_within, declared.config.Config.Config}
-use Rattle.dn_open.specs.Sealed.{sealing_of}
 use Rattle.dn_seal.specs.declared.seal.Seal.{Seal}
-use Rattle.dn_survivor.specs.{OfOthers.has, OneGame.Given, OneGame.Session, ReportBytes.IsReport, declared.report.Report.Report}
-use Rattle.dn_link.specs.{Linked.Linked, Linking.linked, Linking.seal_of, Reading.IsDatagramOf, RemainingLinks.AreRemainingLinks, RemainingLinks.CarriesGiven, RemainingLinks.KeepsGiven}
-use Rattle.dn_link.specs.{RemainingLinks.TellsGiven, RemainingLinks.WasSealedIn, SealedReports.IsReportFrom, SealedReports.sealed_report_bytes, declared.bundle.Bundle.Bundle}
+use Rattle.dn_survivor.specs.OneGame.{Session}
+use Rattle.dn_link.specs.{Linked.Linked, Linking.linked, Linking.seal_of, RemainingLinks.AreRemainingLinks, RemainingLinks.KeepsGiven}
 use Rattle.dn_session.specs.{Playing.Playing, declared.terms.Terms.Terms}
 
 -- the limits of a game of these terms, which are those of each of its players
@@ -38,23 +36,6 @@ pub record GoOn (marking : Marking) (limits : Limits) (settings : Settings) (sea
   pub stay : AreParts marking limits settings seal later (put parts player new)
   pub given : KeepsGiven session later
   pub told : (other : ℕ) → later.told other ≡ put session.told player (told_on (session.told player) row) other
-
--- bytes tell a player that it is given up, as another sealed them for it
-abbrev pub TellsGone : Seal → List ℕ → Type 0
-TellsGone seal bytes = (given : Given) × (given.from < 4) × (given.from ≢ given.to) × IsReport given.report
-    × (has given.report.gone given.to ≡ true)
-    × (bytes ≡ sealed_report_bytes seal given.from given.to given.report)
-
--- what was sealed in the game, or tells a player that it is given up, whoever sealed that
-abbrev pub WasSentIn : Seal → Session → List ℕ → Type 0
-WasSentIn seal session bytes = WasSealedIn seal session bytes ⊎ TellsGone seal bytes
-
--- what a player opens was sent in this game before: a datagram, a report, or one that it is given up
-pub record IsGenuineTo (seal : Seal) (session : Session) (player : ℕ) (bytes : List ℕ) : Type 0 where
-  pub datagram : (bundle : Bundle) → IsDatagramOf (sealing_of seal player) bytes bundle
-      → CarriesGiven seal session bytes
-  pub report : (from : ℕ) (report : Report) → IsReportFrom (sealing_of seal player) bytes from report
-      → TellsGiven seal session bytes ⊎ (has report.gone player ≡ true)
 
 -- the marks are those of a world that moved on by the rows that its player was told: of each player who takes part
 abbrev pub AreMarksOf : Marking → Limits → Settings → Session → ℕ → Contents → List ℤ → Ran → Type 0

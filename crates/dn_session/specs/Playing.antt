@@ -4,22 +4,21 @@ use Rattle.dn_tic.specs.{declared.command.Move.Move, declared.input.Input.Input}
 use Rattle.dn_machine.specs.{Running.on_quit, Sending.on_build, declared.answers.Made.Made, declared.answers.Ran.Ran}
 use Rattle.dn_lockstep.specs.Steps.{Steps}
 use Rattle.dn_survivor.specs.declared.answers.GivenUp.{GivenUp}
-use Rattle.dn_link.specs.{Linked.Receives, Linked.has_given_up, Linked.remains, Linking.linked, Linking.seal_of, Notices.HearsNotice, Notices.is_notice, Pace.Paces, Pace.after_input, Pace.after_tick}
+use Rattle.dn_link.specs.{Linked.Receives, Linked.has_given_up, Linked.remains, Linking.linked, Linking.seal_of, Pace.Paces, Pace.after_input, Pace.after_tick}
 use Rattle.dn_link.specs.{Pace.lean, Pace.still_owed, Pace.wants_second, Pacing.pace_of, Surviving.GivesUpPeer, Surviving.RunsBut, declared.link.Link.Link, declared.received.Received.Received}
-use Rattle.dn_link.specs.declared.received.Received.TheVariants.{Reported}
 use Rattle.dn_link.specs.declared.received.Received.TheVariants as received
-use Rattle.dn_survivor.specs.declared.answers.Reported.TheVariants as reported
 use Rattle.dn_session.specs.{Coming.counts_in, Coming.has_more, Coming.heard_of, Coming.is_late_in, Coming.is_new_in, Coming.is_news_of, Coming.line_of, Coming.lines_in, Ending.ended_by}
 use Rattle.dn_session.specs.{Ending.ending_of, Ending.is_unneeded, Ending.may_give_up, Ending.patience, Ending.waits, Joining.has_come, Lead.due, Places.heard_at, Places.place_of, Players.four}
 use Rattle.dn_session.specs.{Players.is_any_awaited, Players.view_of, Ticks.half_taken, Ticks.is_due, Ticks.passed, Ticks.resumed, Watch.looked_at, declared.ending.Ending.Ending}
-use Rattle.dn_session.specs.{declared.ending.Progress.Progress, declared.greeting.Address.Address, declared.lead.View.View, declared.part.Exclusion.Exclusion, declared.part.Owed.Owed}
+use Rattle.dn_session.specs.{declared.ending.Progress.Progress, declared.greeting.Address.Address, declared.lead.View.View, declared.part.Exclusion.Exclusion}
 use Rattle.dn_session.specs.{declared.part.Part.Part, declared.part.hearing.Known.Known, declared.places.Places.Places, declared.terms.Policy.Policy, declared.ticks.Ticks.Ticks}
 use Rattle.dn_session.specs.declared.watch.Watch.{Watch}
 use Rattle.dn_session.specs.declared.ending.Ending.TheVariants as ending
 use Rattle.dn_session.specs.declared.ending.Progress.TheVariants as progress
 
 -- its link; when ticks are due; for how long others were silent; where they are; who has told that it has given up
--- this player; whom it is to tell so; what else is to be sent; how far it is; and what becomes of a player who vanishes
+-- this player; whom it is to tell so; to whom a datagram is owed; how far it is; and what becomes of a player who
+-- vanishes
 pub record Playing : Type 0 where
   pub link : Link
   pub ticks : Ticks
@@ -27,7 +26,7 @@ pub record Playing : Type 0 where
   pub places : Places
   pub excluders : List Bool
   pub exclusions : List Exclusion
-  pub owed : Owed
+  pub owed : List Bool
   pub progress : Progress
   pub policy : Policy
 
@@ -62,12 +61,8 @@ ended_as progress = None
 -- any bytes come to the link
 abbrev pub Takes : List ℕ → Link → Link → Received → Type 0
 Takes bytes old new received =
-    KeepsGame old new
-    × (is_notice bytes ≡ false
-    → Receives (seal_of old) bytes (linked old) (linked new) received)
-    × (is_notice bytes ≡ false → Paces (seal_of old) bytes (linked old) (pace_of old) (pace_of new))
-    × (is_notice bytes ≡ true
-    → HearsNotice (seal_of old) bytes (linked old) (pace_of old) (linked new) (pace_of new) received)
+    KeepsGame old new × Receives (seal_of old) bytes (linked old) (linked new) received
+    × Paces (seal_of old) bytes (linked old) (pace_of old) (pace_of new)
 
 -- what is known of players by it: of each line, and how many of each player's commands are here
 abbrev pub known_by : Link → Known
@@ -99,7 +94,7 @@ place_after (Some player) from now before after places =
 
 -- who has told that it has given up this player
 abbrev pub excluders_by : Received → List Bool → List Bool
-excluders_by (Reported from reported.Excluded) excluders = slice_set excluders from true
+excluders_by (received.Excluded from) excluders = slice_set excluders from true
 excluders_by received excluders = excluders
 
 -- one who is given up is told so, where its datagram came from, once a second at most
@@ -136,12 +131,12 @@ HearsBytes from bytes now old new =
 
 -- Ticks.
 
--- a datagram and a report are owed to each
-abbrev pub owes_all : Owed
-owes_all = record { datagrams = replicate 4 true; reports = replicate 4 true }
+-- a datagram is owed to each
+abbrev pub owes_all : List Bool
+owes_all = replicate 4 true
 
-abbrev pub owes_nobody : Owed
-owes_nobody = record { datagrams = replicate 4 false; reports = replicate 4 false }
+abbrev pub owes_nobody : List Bool
+owes_nobody = replicate 4 false
 
 -- a tick goes by for the link
 abbrev pub Leans : Link → Link → ℤ → Type 0
@@ -149,7 +144,7 @@ Leans old new by =
     KeepsGame old new × (linked new ≡ linked old) × (pace_of new ≡ after_tick (linked old) (pace_of old))
     × (by ≡ lean (linked old) (pace_of old))
 
--- the tick that is due goes by: all are owed a datagram and a report
+-- the tick that is due goes by: all are owed a datagram
 abbrev pub PassesTick : Playing → Playing → Type 0
 PassesTick old new =
     (by : ℤ) × Leans old.link new.link by
@@ -193,7 +188,7 @@ is_made (Some (Made.Made tic)) = true
 is_made result = false
 
 -- if one was built, all are owed a datagram
-abbrev pub owed_by : Option Made → Owed → Owed
+abbrev pub owed_by : Option Made → List Bool → List Bool
 owed_by result owed = if is_made result then owes_all else owed
 
 -- a tic is run, or not
@@ -265,14 +260,11 @@ PassesTime (progress.Over end) now old new = new ≡ old
 -- half a tick later a second datagram is owed to those who miss some
 abbrev pub owed_second : Playing → List Bool
 owed_second p =
-    map (λ player. slice_index_or p.owed.datagrams player false || wants_second (linked p.link) (pace_of p.link) player)
-    four
+    map (λ player. slice_index_or p.owed player false || wants_second (linked p.link) (pace_of p.link) player) four
 
 abbrev pub after_half : ℕ → Playing → Playing
 after_half now p =
-    if has_come now p.ticks.half
-    then record p { ticks = half_taken now p.ticks; owed = record p.owed { datagrams = owed_second p } }
-    else p
+    if has_come now p.ticks.half then record p { ticks = half_taken now p.ticks; owed = owed_second p } else p
 
 abbrev pub Polls : ℕ → Playing → Playing → Type 0
 Polls now old new = (mid : Playing) × PassesTime old.progress now old mid × (new ≡ after_half now mid)

@@ -1,9 +1,7 @@
 -- What a player's part sends, and where to.
 use Rattle.std.specs.Prelude.{⊤, ◌≡◌, ℕ, ◌&&◌, Bool, not, false, if◌then◌else◌, List, position, slice_index_or, slice_set, Option, Some, None, IfSome, is_some}
 use Rattle.dn_lockstep.specs.{Sent.IsFair, Sent.sent_to, Steps.Tells}
-use Rattle.dn_survivor.specs.{ReportBytes.IsReport, Telling.report_for}
-use Rattle.dn_link.specs.{Linked.Gives, Linked.Linked, Linked.has_given_up, Linked.is_peer, Linked.remains, Linked.surviving_of, Linking.linked, Linking.seal_of, Notices.exclusion_for}
-use Rattle.dn_link.specs.{Notices.notice_for, Pacing.pace_of}
+use Rattle.dn_link.specs.{Linked.Gives, Linked.Linked, Linked.exclusion, Linked.exclusion_for, Linked.has_given_up, Linked.is_peer, Linked.remains, Linking.linked, Linking.seal_of, Pacing.pace_of, Text.IsBundle}
 use Rattle.dn_session.specs.{Places.place_of, Players.four, Playing.KeepsGame, Playing.Playing, Playing.exclusion_of, declared.greeting.Address.Address, declared.part.sending.Transmit.Transmit}
 
 -- bytes, and where they go to
@@ -17,20 +15,11 @@ address_of p player = (place_of player p.places).address
 -- a datagram is owed to a player who remains, and it is known where that one is
 abbrev pub is_owed : Playing → ℕ → Bool
 is_owed p player =
-    slice_index_or p.owed.datagrams player false && (remains (linked p.link) player && is_some (address_of p player))
-
--- a report is
-abbrev pub is_owed_report : Playing → ℕ → Bool
-is_owed_report p player =
-    slice_index_or p.owed.reports player false
-    && (is_some (report_for (surviving_of (linked p.link)) player) && is_some (address_of p player))
+    slice_index_or p.owed player false && (remains (linked p.link) player && is_some (address_of p player))
 
 -- the lowest to whom one is
 abbrev pub first_owed : Playing → Option ℕ
 first_owed p = position (is_owed p) four
-
-abbrev pub first_owed_report : Playing → Option ℕ
-first_owed_report p = position (is_owed_report p) four
 
 -- the packet of the moment, if there is one, is one that a datagram can carry
 abbrev pub IsFairTo : ℕ → Linked → Type 0
@@ -44,18 +33,7 @@ SendsTo player old new sent =
     × IsFairTo player (linked old.link)
     × Gives (seal_of old.link) (pace_of old.link) player (linked old.link) (linked new.link) bytes
     × KeepsGame old.link new.link × (pace_of new.link ≡ pace_of old.link)
-    × (new ≡ record old {
-      link = new.link;
-      owed = record old.owed { datagrams = slice_set old.owed.datagrams player false };
-    })
-
--- a report
-abbrev pub Reports : ℕ → Playing → Playing → Option (Address × List ℕ) → Type 0
-Reports player old new sent =
-    (address : Address) × (bytes : List ℕ) × (address_of old player ≡ Some address) × (sent ≡ Some (address, bytes))
-    × (notice_for (seal_of old.link) (linked old.link) player ≡ Some bytes)
-    × IfSome (report_for (surviving_of (linked old.link)) player) IsReport
-    × (new ≡ record old { owed = record old.owed { reports = slice_set old.owed.reports player false } })
+    × (new ≡ record old { link = new.link; owed = slice_set old.owed player false })
 
 -- one is to be told that it is given up
 abbrev pub is_owed_exclusion : Playing → ℕ → Bool
@@ -72,17 +50,14 @@ Excludes None old new sent = (sent ≡ None) × (new ≡ old)
 Excludes (Some player) old new sent =
     (address : Address) × (bytes : List ℕ) × ((exclusion_of old.exclusions player).to ≡ Some address)
     × (sent ≡ Some (address, bytes)) × (exclusion_for (seal_of old.link) (linked old.link) player ≡ Some bytes)
+    × IsBundle (exclusion (linked old.link) player)
     × (new ≡ record old {
       exclusions = slice_set old.exclusions player (record (exclusion_of old.exclusions player) { to = None });
     })
 
--- the reports go behind the datagrams, and that behind the reports
-abbrev pub SendsReport : Option ℕ → Playing → Playing → Option (Address × List ℕ) → Type 0
-SendsReport None old new sent = Excludes (first_owed_exclusion old) old new sent
-SendsReport (Some player) old new sent = Reports player old new sent
-
+-- that goes behind the datagrams that are owed
 abbrev pub SendsFirst : Option ℕ → Playing → Playing → Option (Address × List ℕ) → Type 0
-SendsFirst None old new sent = SendsReport (first_owed_report old) old new sent
+SendsFirst None old new sent = Excludes (first_owed_exclusion old) old new sent
 SendsFirst (Some player) old new sent = SendsTo player old new sent
 
 -- what is sent next, if anything is

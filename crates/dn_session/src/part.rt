@@ -2,7 +2,7 @@
 
 ghost use Rattle.std.specs.Prelude.{◌≡◌, map, false, replicate, None};
 ghost use Rattle.dn_link.specs.{Linked.has_given_up, Linking.linked};
-ghost use Rattle.dn_session.specs.{Players.four, Playing.owes_all};
+ghost use Rattle.dn_session.specs.Players.{four};
 
 mod ending;
 mod giving;
@@ -21,23 +21,6 @@ use crate::watch::Watch;
 use dn_link::Link;
 pub use sending::Transmit;
 pub(crate) use sending::widened;
-
-/// To whom a datagram is owed, and to whom a report.
-#[derive(Clone, Copy, Debug, PartialEq, Eq)]
-pub(crate) struct Owed {
-    datagrams: [bool; 4],
-    reports: [bool; 4],
-}
-
-/// All are owed both.
-fn owes_all() -> Owed
-    ensures { result ≡ owes_all }
-{
-    Owed {
-        datagrams: [true; 4],
-        reports: [true; 4],
-    }
-}
 
 /// Whom a link has given up.
 fn gone_from(link: &Link) -> [bool; 4]
@@ -64,8 +47,8 @@ const NO_EXCLUSION: Exclusion = Exclusion {
     told: None,
 };
 
-/// A player's part in its game: its link, when its ticks are due, where the others are, whom it waits for, what
-/// is to be sent, and how far it is.
+/// A player's part in its game: its link, when its ticks are due, where the others are, whom it waits for, to whom
+/// a datagram is owed, and how far it is.
 #[derive(Drop)]
 pub struct Part {
     link: Link,
@@ -74,7 +57,7 @@ pub struct Part {
     places: Places,
     excluders: [bool; 4],
     exclusions: [Exclusion; 4],
-    owed: Owed,
+    owed: [bool; 4],
     progress: Progress,
     policy: Policy,
 }
@@ -107,10 +90,7 @@ impl Part {
             places,
             excluders: [false; 4],
             exclusions: [NO_EXCLUSION; 4],
-            owed: Owed {
-                datagrams: [false; 4],
-                reports: [false; 4],
-            },
+            owed: [false; 4],
             progress: Progress::Playing,
             policy,
         }

@@ -7,9 +7,9 @@ ghost use Rattle.dn_machine.specs.{Limits.Limits, declared.answers.Ran.Ran};
 ghost use Rattle.dn_lockstep.specs.{Marking.Marking};
 ghost use Rattle.dn_seal.specs.declared.seal.Seal.{Seal};
 ghost use Rattle.dn_survivor.specs.OneGame.{started_session, Session};
-ghost use Rattle.dn_link.specs.{Linked.surviving_of, Linking.linked, RemainingLinks.KeepsGiven};
+ghost use Rattle.dn_link.specs.{Linked.surviving_of, Linking.linked, RemainingLinks.IsGenuineIn, RemainingLinks.KeepsGiven, RemainingLinks.WasSealedIn};
 ghost use Rattle.dn_session.specs.declared.{greeting.Address.Address, side.Begun.Begun, terms.Terms.Terms};
-ghost use Rattle.dn_session.specs.Parts.{limits_of, links_of, AreMarksOf, AreParts, GoOn, IsGenuineTo, WasSentIn};
+ghost use Rattle.dn_session.specs.Parts.{limits_of, links_of, AreMarksOf, AreParts, GoOn};
 ghost use Rattle.dn_session.specs.Playing.{Playing, GivesUpBy, GivesWhen, HearsBytes, Polls, QuitsBy, RunsNext};
 ghost use Rattle.dn_session.specs.{Sent.SendsNext, Session.game_seal, Session.IsPartOf, Terms.IsTerms};
 
@@ -30,14 +30,14 @@ pub fn sessions_play()
     windows_hold();
 }
 
-/// And so they stay after each call on one of their sessions, as long as what it opens was sent in this game
+/// And so they stay after each call on one of their sessions, as long as what it opens was sealed in this game
 /// before. At a run the caller hands in the marks of a world that moved on by the rows that it was told. Whom a
 /// session gives up, and when, is not asked.
 pub fn sessions_play_on()
     ensures hears { (marking : Marking) (limits : Limits) (settings : Settings) (seal : Seal) (session : Session)
         (parts : ℕ → Playing) (p now : ℕ) (from : Address) (bytes : List ℕ) (new : Playing)
         → AreParts marking limits settings seal session parts → p < limits.players
-        → IsGenuineTo seal session p bytes → HearsBytes from bytes now (parts p) new
+        → IsGenuineIn seal session p bytes → HearsBytes from bytes now (parts p) new
         → GoOn marking limits settings seal session parts p new None }
     ensures gives { (marking : Marking) (limits : Limits) (settings : Settings) (seal : Seal) (session : Session)
         (parts : ℕ → Playing) (p now : ℕ) (due : Bool) (input : Input) (new : Playing)
@@ -65,17 +65,18 @@ pub fn sessions_play_on()
         → AreParts marking limits settings seal session parts → p < limits.players
         → SendsNext (parts p) new sent
         → (on : GoOn marking limits settings seal session parts p new None)
-        × IfSome sent (λ (s : Address × List ℕ). WasSentIn seal on.later s.1) }
+        × IfSome sent (λ (s : Address × List ℕ). WasSealedIn seal on.later s.1) }
 {
     remaining_links_go_on();
+    remaining_bytes_are_genuine();
 }
 
 /// What was sent in such a game may come to any part of it, at any later time.
 pub fn sent_bytes_are_genuine()
     ensures stay { (seal : Seal) (session later : Session) (bytes : List ℕ) → KeepsGiven session later
-        → WasSentIn seal session bytes → WasSentIn seal later bytes }
+        → WasSealedIn seal session bytes → WasSealedIn seal later bytes }
     ensures genuine { (seal : Seal) (session : Session) (player : ℕ) (bytes : List ℕ)
-        → WasSentIn seal session bytes → IsGenuineTo seal session player bytes }
+        → WasSealedIn seal session bytes → IsGenuineIn seal session player bytes }
 {
     remaining_bytes_are_genuine();
 }

@@ -3,7 +3,7 @@
 ghost use Rattle.std.specs.Prelude.{◌≡◌};
 ghost use Rattle.dn_session.specs.Playing.{is_giving, Builds};
 
-use super::{Part, owes_all};
+use super::Part;
 use crate::ending::Progress;
 use dn_link::Link;
 use dn_tic::Input;
@@ -39,7 +39,7 @@ impl Part {
     {
         let lean = self.link.lean();
         self.ticks.pass(lean);
-        self.owed = owes_all();
+        self.owed = [true; 4];
     }
 
     /// Whether its player is to give a command now.

@@ -10,7 +10,6 @@ use crate::greeting::Address;
 use crate::players::count_in;
 use dn_link::{Link, Received};
 use dn_lockstep::Lockstep;
-use dn_survivor::Reported;
 
 /// How many commands of each player are here.
 fn counts_in(lockstep: &Lockstep) -> [u32; 4]
@@ -137,11 +136,7 @@ impl Part {
           excluders = excluders_by received.now (playing self.old).excluders;
         } }
     {
-        if let Received::Reported {
-            from,
-            reported: Reported::Excluded,
-        } = received
-        {
+        if let Received::Excluded(from) = received {
             if *from < 4 {
                 self.excluders[usize::from(*from)] = true;
             }

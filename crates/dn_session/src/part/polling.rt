@@ -100,8 +100,8 @@ impl Part {
         ensures { playing self.new ≡ after_half now (playing self.old) }
     {
         if self.ticks.takes_half(now) {
-            let [zero, one, two, three] = self.owed.datagrams;
-            self.owed.datagrams = [
+            let [zero, one, two, three] = self.owed;
+            self.owed = [
                 zero || self.link.wants_second(0),
                 one || self.link.wants_second(1),
                 two || self.link.wants_second(2),

@@ -3,7 +3,7 @@
 ghost use Rattle.std.specs.Prelude.{◌≡◌};
 ghost use Rattle.dn_session.specs.Playing.{is_made, owed_by};
 
-use super::{Owed, Part, owes_all};
+use super::Part;
 use dn_machine::{Made, Ran};
 use dn_tic::Move;
 
@@ -14,11 +14,11 @@ fn is_made(made: Option<Made>) -> bool
     matches!(made, Some(Made::Made(_)))
 }
 
-/// To whom something is owed, where this command was built.
-fn owed_by(made: Option<Made>, owed: Owed) -> Owed
+/// To whom a datagram is owed, where this command was built.
+fn owed_by(made: Option<Made>, owed: [bool; 4]) -> [bool; 4]
     ensures { result ≡ owed_by made owed }
 {
-    if is_made(made) { owes_all() } else { owed }
+    if is_made(made) { [true; 4] } else { owed }
 }
 
 impl Part {

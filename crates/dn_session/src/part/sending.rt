@@ -29,7 +29,7 @@ pub(crate) fn widened<const ROOM: usize>(bytes: &ArrayVec<u8, ROOM>) -> ArrayVec
 
 impl Part {
     ghost use Rattle.std.specs.Prelude.{option_map, true, Some};
-    ghost use Rattle.dn_session.specs.Sent.{first_owed, first_owed_exclusion, first_owed_report, is_owed, is_owed_exclusion, is_owed_report, sent_of, Excludes, Reports, SendsNext, SendsReport, SendsTo};
+    ghost use Rattle.dn_session.specs.Sent.{first_owed, first_owed_exclusion, is_owed, is_owed_exclusion, sent_of, Excludes, SendsNext, SendsTo};
     ghost use Rattle.dn_session.specs.Playing.{playing};
 
     /// Whether a datagram is owed to a player.
@@ -37,18 +37,8 @@ impl Part {
         requires { player < 4 }
         ensures { result ≡ is_owed (playing self.now) player }
     {
-        self.owed.datagrams[player as usize]
+        self.owed[player as usize]
             && !is_gone_from(&self.link, player)
-            && self.places.at(player).is_some()
-    }
-
-    /// Whether a report is.
-    fn is_owed_report(&self, player: u8) -> bool
-        requires { player < 4 }
-        ensures { result ≡ is_owed_report (playing self.now) player }
-    {
-        self.owed.reports[player as usize]
-            && self.link.report(player).is_some()
             && self.places.at(player).is_some()
     }
 
@@ -60,41 +50,16 @@ impl Part {
         [0, 1, 2, 3].iter().position(|player| self.is_owed(*player))
     }
 
-    /// The lowest to whom a report is.
-    fn first_owed_report(&self) -> Option<usize>
-        ensures value { result ≡ first_owed_report (playing self.now) }
-        ensures within { IfSome result (λ n. n < 4) }
-    {
-        [0, 1, 2, 3]
-            .iter()
-            .position(|player| self.is_owed_report(*player))
-    }
-
     /// The datagram that is owed to a player.
     fn send(&mut self, player: u8) -> Option<Transmit>
         requires few { player < 4 }
         requires owed { is_owed (playing self.old) player ≡ true }
         ensures { SendsTo player (playing self.old) (playing self.new) (option_map sent_of result) }
     {
-        self.owed.datagrams[player as usize] = false;
+        self.owed[player as usize] = false;
         let to = self.places.at(player)?;
         let bytes = self.link.datagram(player)?;
         Some(Transmit { to, bytes })
-    }
-
-    /// The report that is owed to a player.
-    fn report(&mut self, player: u8) -> Option<Transmit>
-        requires few { player < 4 }
-        requires owed { is_owed_report (playing self.old) player ≡ true }
-        ensures { Reports player (playing self.old) (playing self.new) (option_map sent_of result) }
-    {
-        self.owed.reports[player as usize] = false;
-        let to = self.places.at(player)?;
-        let report = self.link.report_datagram(player)?;
-        Some(Transmit {
-            to,
-            bytes: widened(&report),
-        })
     }
 
     /// Whether a player is to be told that it is given up.
@@ -125,10 +90,7 @@ impl Part {
         let to = self.exclusions[player as usize].to?;
         self.exclusions[player as usize].to = None;
         let bytes = self.link.exclusion_datagram(player)?;
-        Some(Transmit {
-            to,
-            bytes: widened(&bytes),
-        })
+        Some(Transmit { to, bytes })
     }
 
     /// What one is told who is given up, if one is to be told.
@@ -142,24 +104,13 @@ impl Part {
         }
     }
 
-    /// The report that is to be sent next, if one is; or what one is told who is given up.
-    fn send_report(&mut self) -> Option<Transmit>
-        ensures { SendsReport (first_owed_report (playing self.old)) (playing self.old) (playing self.new)
-            (option_map sent_of result) }
-    {
-        match self.first_owed_report() {
-            Some(player) => self.report(player as u8),
-            None => self.exclude(),
-        }
-    }
-
     /// What is to be sent next, if anything is.
     pub(crate) fn transmit(&mut self) -> Option<Transmit>
         ensures { SendsNext (playing self.old) (playing self.new) (option_map sent_of result) }
     {
         match self.first_owed() {
             Some(player) => self.send(player as u8),
-            None => self.send_report(),
+            None => self.exclude(),
         }
     }
 }

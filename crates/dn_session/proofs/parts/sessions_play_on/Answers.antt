@@ -1,22 +1,26 @@
-use Rattle.std.proofs.Common.{◌≡◌, ◌<◌, ℕ, List, Option, refl, ap, sym, subst, Some, None, inl, inr}
-use Rattle.std.specs.Prelude.{if◌then◌else◌, IfSome}
+use Rattle.std.proofs.Common.{◌≡◌, ℕ, List, Option, refl, ap, sym, subst, ◌∙◌, Some, None}
+use Rattle.std.specs.Prelude.{◌&&◌, if◌then◌else◌, IfSome}
 use Rattle.dn_setup.specs.Settings.{Settings}
-use Rattle.dn_machine.specs.{Limits.Limits, Node.put}
+use Rattle.dn_machine.specs.Limits.{Limits}
 use Rattle.dn_lockstep.specs.Marking.{Marking}
 use Rattle.dn_seal.specs.declared.seal.Seal.{Seal}
-use Rattle.dn_survivor.specs.{OneGame.Session, OneGame.after_packet, OneGame.after_relays, OneGame.after_report, OneGame.with_survivor, Telling.report_for}
-use Rattle.dn_link.specs.{Linked.Linked, Linked.surviving_of, Linking.linked, Linking.seal_of, Notices.notice_for, Pacing.pace_of, Relays.flights_of, RemainingLinks.AreRemainingLinks}
-use Rattle.dn_link.specs.RemainingLinks.{WasSealedIn}
+use Rattle.dn_survivor.specs.OneGame.{Session, with_survivor}
+use Rattle.dn_link.specs.{Linked.Receives, Linked.exclusion, Linked.has_given_up, Linked.is_peer, Linked.surviving_of, Linking.linked, Linking.seal_of, Pacing.pace_of}
+use Rattle.dn_link.specs.{RemainingLinks.WasSealedIn, RemainingLinks.after_datagram, Text.sealed_bytes}
 use Rattle.dn_session.specs.declared.ending.Ending.TheVariants as ending
-use Rattle.dn_session.specs.{Parts.AreParts, Parts.GoOn, Parts.WasSentIn, Parts.links_of, Playing.Playing, Playing.given_up_at, Playing.is_giving, Playing.looks, Sent.Excludes, Sent.SendsFirst}
-use Rattle.dn_session.specs.{Sent.SendsNext, Sent.SendsReport, Sent.first_owed, Sent.first_owed_exclusion, Sent.first_owed_report, declared.greeting.Address.Address}
-use Rattle.dn_session.proofs.{Going.ends, Going.gives, Going.gives_up, Going.kept, Going.polls, Going.runs_next, Going.silently_and, Going.then_catches, Hearing.hears, Sending.owed_remains}
-use Rattle.dn_session.proofs.{Sending.tells_gone, Sending.unput}
+use Rattle.dn_session.specs.{Parts.GoOn, Parts.links_of, Playing.Playing, Playing.given_up_at, Playing.is_giving, Playing.looks, Sent.Excludes, Sent.SendsFirst}
+use Rattle.dn_session.specs.{Sent.first_owed, Sent.first_owed_exclusion, declared.greeting.Address.Address}
+use Rattle.dn_session.proofs.{Going.ends, Going.gives, Going.gives_up, Going.kept, Going.polls, Going.runs_next, Going.silently, Going.silently_and, Going.then_catches}
+use Rattle.dn_session.proofs.{Sending.given_if, Sending.owed_remains}
 use Rattle.dn_session.proofs.parts.sessions_play_on.Goals as goal
 
 pub returns-clause-hears : goal.returns-clause-hears
 returns-clause-hears c = λ marking limits settings seal session parts p now from bytes new are few genuine took.
-    hears marking limits settings seal session parts p are few bytes genuine now from new took
+    silently marking limits settings seal session parts p are few new
+    (with_survivor session p (surviving_of (linked new.link))) took.1.0
+    (c.remaining_links_go_on.ensures.received marking limits settings session (links_of parts) p seal bytes
+    (linked new.link) took.0 are.links few genuine
+    (subst (λ (s : Seal). Receives s bytes (links_of parts p) (linked new.link) took.0) (are.sealed p few) took.1.1)) refl
 
 pub returns-clause-gives : goal.returns-clause-gives
 returns-clause-gives c = λ marking limits settings seal session parts p now due input new are few given.
@@ -41,12 +45,12 @@ returns-clause-gives_up c = λ marking limits settings seal session parts p now 
     gives_up marking limits settings seal session parts p are few (given_up_at now player (parts p))
     (looks now (parts p)) new refl gone
 
--- it goes on, and what it sent was sent in the game
+-- it goes on, and what it sent was sealed in the game
 abbrev Sends : Marking → Limits → Settings → Seal → Session → (ℕ → Playing) → ℕ → Playing
     → Option (Address × List ℕ) → Type 0
 Sends marking limits settings seal session parts p new sent =
     (on : GoOn marking limits settings seal session parts p new None)
-    × IfSome sent (λ (s : Address × List ℕ). WasSentIn seal on.later s.1)
+    × IfSome sent (λ (s : Address × List ℕ). WasSealedIn seal on.later s.1)
 
 pub returns-clause-sends : goal.returns-clause-sends
 returns-clause-sends c = λ marking limits settings seal session parts p new sent are few sends.
@@ -58,45 +62,33 @@ returns-clause-sends c = λ marking limits settings seal session parts p new sen
           let on : GoOn marking limits settings seal session parts p new None =
           kept marking limits settings seal session parts p are few new (ap (λ (q : Playing). linked q.link) is.1)
           (ap (λ (q : Playing). seal_of q.link) is.1) in
-          (on, subst (λ (o : Option (Address × List ℕ)). IfSome o (λ one. WasSentIn seal on.later one.1)) (sym is.0) tt)
+          (on, subst (λ (o : Option (Address × List ℕ)). IfSome o (λ one. WasSealedIn seal on.later one.1)) (sym is.0) tt)
       | Some player ↦ λ is.
           let on : GoOn marking limits settings seal session parts p new None =
-          kept marking limits settings seal session parts p are few new (ap (λ (q : Playing). linked q.link) is.5)
-          (ap (λ (q : Playing). seal_of q.link) is.5) in (
+          kept marking limits settings seal session parts p are few new (ap (λ (q : Playing). linked q.link) is.6)
+          (ap (λ (q : Playing). seal_of q.link) is.6) in
+          let told = exclusion (links p) player in
+          let spelled : is.1 ≡ sealed_bytes seal told =
+          given_if (is_peer (links p).node player && has_given_up (links p) player)
+          (sealed_bytes (seal_of (parts p).link) told) is.1 is.4
+          ∙ ap (λ (k : Seal). sealed_bytes k told) (are.sealed p few) in (
             on,
-            subst (λ (o : Option (Address × List ℕ)). IfSome o (λ one. WasSentIn seal on.later one.1)) (sym is.3)
-                (inr (tells_gone marking limits settings seal session parts p are few player is.1 is.4)),
+            subst (λ (o : Option (Address × List ℕ)). IfSome o (λ one. WasSealedIn seal on.later one.1)) (sym is.3)
+                (subst (WasSealedIn seal on.later) (sym spelled)
+                (c.remaining_bytes_are_genuine.ensures.empty seal on.later told is.5 refl refl)),
           )
-    ] in
-    let reports : (first : Option ℕ) → SendsReport first (parts p) new sent → Goal =
-    λ first. elim first as (λ k. SendsReport k (parts p) new sent → Goal) [
-      | None ↦ excludes (first_owed_exclusion (parts p))
-      | Some player ↦ λ is.
-          let report = report_for (surviving_of (links p)) player in
-          let told = c.remaining_links_go_on.ensures.sealed marking limits settings session links p player
-          (seal_of (parts p).link) report (Some is.1) are.links few refl is.5 (sym is.4) in
-          let same = ap (λ (q : Playing). linked q.link) is.6 in
-          let later = after_report session p player report in
-          silently_and marking limits settings seal session parts p are few
-          (λ (s : Session). IfSome sent (λ (one : Address × List ℕ). WasSentIn seal s one.1)) new later
-          (ap (λ (q : Playing). seal_of q.link) is.6) (
-            subst (AreRemainingLinks marking limits settings later) (sym (unput links p (linked new.link) same)) told.1,
-            told.2,
-          ) refl (subst (λ (o : Option (Address × List ℕ)). IfSome o (λ one. WasSentIn seal later one.1)) (sym is.3)
-          (inl (subst (λ (k : Seal). WasSealedIn k later is.1) (are.sealed p few) told.0)))
     ] in
     let datagrams : (first : Option ℕ) → first_owed (parts p) ≡ first → SendsFirst first (parts p) new sent → Goal =
     λ first. elim first as (λ k. first_owed (parts p) ≡ k → SendsFirst k (parts p) new sent → Goal) [
-      | None ↦ λ none. reports (first_owed_report (parts p))
+      | None ↦ λ none. excludes (first_owed_exclusion (parts p))
       | Some player ↦ λ some is.
           let gave = c.remaining_links_go_on.ensures.gave marking limits settings session links p player
           (seal_of (parts p).link) (pace_of (parts p).link) (linked new.link) is.1
           are.links few (owed_remains (parts p) player some) is.4 is.5 in
-          let later = after_relays (after_packet session p gave.0 (surviving_of (linked new.link)))
-          (flights_of player is.5.handed) in
+          let later = after_datagram session p player gave.0 is.5 in
           silently_and marking limits settings seal session parts p are few
-          (λ (s : Session). IfSome sent (λ (one : Address × List ℕ). WasSentIn seal s one.1)) new later is.6 gave.2 refl
-          (subst (λ (o : Option (Address × List ℕ)). IfSome o (λ one. WasSentIn seal later one.1)) (sym is.3)
-          (inl (subst (λ (k : Seal). WasSealedIn k later is.1) (are.sealed p few) gave.1)))
+          (λ (s : Session). IfSome sent (λ (one : Address × List ℕ). WasSealedIn seal s one.1)) new later is.6 gave.2 refl
+          (subst (λ (o : Option (Address × List ℕ)). IfSome o (λ one. WasSealedIn seal later one.1)) (sym is.3)
+          (subst (λ (k : Seal). WasSealedIn k later is.1) (are.sealed p few) gave.1))
     ] in
     datagrams (first_owed (parts p)) refl sends

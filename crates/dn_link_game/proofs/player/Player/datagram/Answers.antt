@@ -3,11 +3,11 @@ use Rattle.std.specs.Prelude.{IfSome}
 use Rattle.dn_lockstep.specs.Sent.{IsFair}
 use Rattle.dn_lockstep.specs.Sent.{sent_to}
 use Rattle.dn_lockstep.specs.Steps.{Tells}
-use Rattle.dn_survivor.specs.OneGame.{after_packet, after_relays, with_survivor}
+use Rattle.dn_survivor.specs.OneGame.{with_survivor}
 use Rattle.dn_link.specs.Linked.{Gives, Linked, remains, surviving_of}
 use Rattle.dn_link.specs.Linking.{linked, seal_of}
 use Rattle.dn_link.specs.Pacing.{pace_of}
-use Rattle.dn_link.specs.Relays.{flights_of}
+use Rattle.dn_link.specs.RemainingLinks.{after_datagram}
 use Rattle.dn_link_game.specs.Playing.{marking_of}
 use Rattle.dn_link_game.proofs.player.Player.datagram.Goals as goal
 
@@ -35,7 +35,7 @@ returns-clause-goes_on g c limits settings session links player mine below is an
     (subst (λ (l : Linked). Tells l.node (λ limits me m. IfSome (sent_to c.args.to limits me m).1 IsFair))
     (sym is.link) given.fair)
     gives in (
-      after_relays (after_packet session player on.0 (surviving_of new)) (flights_of c.args.to gives.handed),
+      after_datagram session player c.args.to on.0 gives,
       ((refl, refl), on.1),
       λ other apart. refl,
       on.2,

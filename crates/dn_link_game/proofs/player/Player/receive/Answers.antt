@@ -2,8 +2,6 @@ use Rattle.std.proofs.Common.{refl, sym, subst}
 use Rattle.dn_survivor.specs.OneGame.{with_survivor}
 use Rattle.dn_link.specs.Linked.{Linked, Receives, surviving_of}
 use Rattle.dn_link.specs.Linking.{linked, seal_of}
-use Rattle.dn_link.specs.Notices.{HearsNotice}
-use Rattle.dn_link.specs.Pacing.{pace_of}
 use Rattle.dn_link_game.specs.Playing.{marking_of}
 use Rattle.dn_link_game.proofs.player.Player.receive.Goals as goal
 
@@ -15,11 +13,8 @@ returns-clause-goes_on g c limits settings session links player mine below is ge
       refl,
       λ other apart. refl,
       c.remaining_links_go_on.ensures.received (marking_of g.W.World.physics) limits settings session links
-          player (seal_of old) (pace_of old) (pace_of c.receive.new.self) c.args.bytes.now new
-          c.receive.result mine below genuine
-          (λ no. subst (λ (l : Linked). Receives (seal_of old) c.args.bytes.now l new c.receive.result) (sym is.link)
-          (c.receive.ensures.heard no))
-          (λ yes. subst (λ (l : Linked). HearsNotice (seal_of old) c.args.bytes.now l (pace_of old) new
-          (pace_of c.receive.new.self) c.receive.result) (sym is.link) (c.receive.ensures.told yes)),
+          player (seal_of old) c.args.bytes.now new c.receive.result mine below genuine
+          (subst (λ (l : Linked). Receives (seal_of old) c.args.bytes.now l new c.receive.result) (sym is.link)
+          c.receive.ensures.heard),
       record { link = refl; world = is.world },
     )

@@ -17,12 +17,7 @@ returns c =
     subst (λ (p : Playing). Takes c.args.bytes.now old.link p.link received
     × (p ≡ noted received c.args.from.now c.args.now (known_by old.link) (known_by p.link) (record old { link = p.link })))
     (sym end) (
-      (
-        c.receive-received.ensures.seal,
-        c.receive-received.ensures.heard,
-        c.receive-received.ensures.pace,
-        c.receive-received.ensures.told,
-      ),
+      (c.receive-received.ensures.seal, c.receive-received.ensures.heard, c.receive-received.ensures.pace),
       refl,
     ) in
     (received, both.0, both.1)
