@@ -1,6 +1,6 @@
 -- A dissector for Wireshark and tshark of a netgame's datagrams: those of 1997, which plain nodes send, the
--- envelopes of sealed nodes, the datagrams of links, reports, and the greetings of hosts and those who join.
--- docs/PROTOCOL.md has their layouts.
+-- envelopes of sealed nodes, the datagrams of links, with their reports, and the greetings of hosts and those
+-- who join. docs/PROTOCOL.md has their layouts.
 --
 --     wireshark -X lua_script:tools/doom.lua
 --
@@ -19,15 +19,15 @@ local THIRD, MAX_HEAD = 32, 159 -- of a run's first byte: the unit of a third pl
 local EXIT, RETRANSMIT, SETUP, KILL = 8, 4, 2, 1
 local SUM = 0x10000000 -- the checksum word has the flags in units of this
 local HEAD, TAG = 12, 16 -- bytes of the head that all but greetings have, and of the tag
-local PACKET, REPORT, GREETING, LINK = 1, 3, 4, 5 -- the kinds
-local KINDS = { [PACKET] = "one datagram", [REPORT] = "a report", [GREETING] = "a greeting",
-    [LINK] = "a link's datagram" }
+local PACKET, GREETING, LINK = 1, 4, 5 -- the kinds
+local KINDS = { [PACKET] = "one datagram", [GREETING] = "a greeting", [LINK] = "a link's datagram" }
 local SUITES = { [0] = "none: a hint", "shared secret", "open game" }
-local PROTOCOLS = { [PACKET] = seal, [LINK] = link, [REPORT] = report }
-local SIZES = { [PACKET] = { 37, 141 }, [LINK] = { 60, 1200 }, [REPORT] = { 29, 425 } }
--- behind the head of a link's datagram: where the parts stand; and the highest cause
-local PARTS, MAX_CAUSE = 31, 3
-local CAUSES = { [0] = "plays", "quit", "full demo", "world differs" }
+local PROTOCOLS = { [PACKET] = seal, [LINK] = link }
+local SIZES = { [PACKET] = { 37, 141 }, [LINK] = { 62, 1200 } }
+-- behind the head of a link's datagram: where the number of a report's bytes stands, and these; the most of
+-- them, and the highest cause
+local REPORT_SIZE, REPORT, MAX_REPORT, MAX_CAUSE = 31, 33, 397, 4
+local CAUSES = { [0] = "plays", "quit", "full demo", "world differs", "has given up the receiver" }
 local NAME, VERSION = "zirmegat", 2 -- of greetings
 local CALL, SEATING, REFUSAL, HINT = 1, 2, 3, 4 -- their sorts
 local SORTS = { "call", "seating", "refusal", "hint" }
@@ -96,10 +96,11 @@ local l = {
     number = P.uint32("doom_link.number", "Number"),
     lead = P.int8("doom_link.lead", "Lead over the receiver"),
     holes = P.uint8("doom_link.holes", "Datagrams missing"),
-    cause = named("doom_link.cause", "Why its sender ended", CAUSES),
+    cause = named("doom_link.cause", "Why its sender ended, or that it gave up the receiver", CAUSES),
     made = P.uint32("doom_link.made", "Commands made"),
     ran = P.uint32("doom_link.ran", "Tics run"),
     got = P.uint32("doom_link.got", "Commands that it has"),
+    report = P.uint16("doom_link.report", "Bytes of the report"),
     parts = P.uint8("doom_link.parts", "Number of parts"),
     part = P.none("doom_link.part", "Part"),
     run = P.uint8("doom_link.part.run", "Packets in the run, or 0 for one as it is"),
@@ -175,6 +176,8 @@ doom.experts = { faults.short, faults.many, faults.length, faults.sum, asks }
 local unlike = wrong("doom_seal.unlike", "The packet differs from what stands in front of it")
 local refused = wrong("doom_seal.refused", "Refused")
 seal.experts = { unlike, refused }
+local unreported = wrong("doom_report.none", "No report")
+report.experts = { unreported }
 local unread = wrong("doom_greeting.refused", "Refused")
 greeting.experts = { unread }
 
@@ -307,9 +310,9 @@ end
 
 -- The parts, as far as they have the form; and whether all bytes have it.
 local function parts_in(r)
-    local count, parts, place = r(0, 1):uint(), {}, 1
-    if count > MAX_PARTS then return parts, false end
-    for k = 1, count do
+    local parts, place = {}, 1
+    if r:len() == 0 or r(0, 1):uint() > MAX_PARTS then return parts, false end
+    for k = 1, r(0, 1):uint() do
         parts[k] = part_in(from(r, place))
         if not parts[k] then return parts, false end
         place = place + parts[k].all:len()
@@ -332,23 +335,6 @@ local function add_part(tree, part, sender)
     if is_unlike(part.packet, part.exact, sender) then item:add_proto_expert_info(unlike) end
     add_datagram(item, part.packet, part.exact)
     return words_of(part.packet, part.exact)
-end
-
--- What stands between the head of a link's datagram and its tag; and what it says, in few words.
-local function add_link(tree, r, sender)
-    local root = tree:add(link, r)
-    root:add_le(l.number, r(0, 4))
-    root:add(l.lead, r(4, 1))
-    root:add(l.holes, r(5, 1))
-    root:add(l.cause, r(6, 1))
-    root:add_le(l.made, r(7, 4))
-    root:add_le(l.ran, r(11, 4))
-    for player = 0, 3 do root:add_le(l.got, r(15 + 4 * player, 4)):append_text(" of player " .. player) end
-    root:add(l.parts, r(PARTS, 1))
-    local words = ("number %d, %s, made %d, ran %d"):format(r(0, 4):le_uint(), CAUSES[r(6, 1):uint()] or "?",
-        r(7, 4):le_uint(), r(11, 4):le_uint())
-    for _, part in ipairs((parts_in(r(PARTS)))) do words = words .. "; " .. add_part(root, part, sender) end
-    return words
 end
 
 -- The first fault of a report's bytes behind those of some players, where the next may have a number from
@@ -388,9 +374,14 @@ local function add_told(tree, r)
     return ("has %d of player %d"):format(count, player)
 end
 
--- What stands between the head of a report and its tag; and what it says, in few words.
+-- A report; and what it says, in few words. What has another form changes nothing, and is no report.
 local function add_report(tree, r)
     local root, first, words = tree:add(report, r), r(0, 1):uint(), "given up"
+    local all, fault = told_in(r)
+    if fault then
+        root:add_proto_expert_info(unreported, "No report, for its " .. fault)
+        return "no report, " .. fault
+    end
     add_all(root:add(t.gone, r(0, 1)), { t.gone0, t.gone1, t.gone2, t.gone3 }, r(0, 1))
     root:add(t.left, r(0, 1))
     for player = 0, 3 do
@@ -398,18 +389,40 @@ local function add_report(tree, r)
     end
     if first % 16 == 0 then words = words .. " nobody" end
     if first > 127 then words = words .. ", left" end
-    for _, told in ipairs((told_in(r))) do words = words .. "; " .. add_told(root, told) end
+    for _, one in ipairs(all) do words = words .. "; " .. add_told(root, one) end
+    return words
+end
+
+-- How many bytes of a report are announced, in what stands between the head of a link's datagram and its tag.
+local function report_size(r) return r(REPORT_SIZE, 2):le_uint() end
+
+-- The parts, behind the report; none where its bytes are too many.
+local function behind_report(r)
+    if report_size(r) > MAX_REPORT then return r(0, 0) end
+    return from(r, REPORT + report_size(r))
+end
+
+-- What stands between the head of a link's datagram and its tag; and what it says, in few words.
+local function add_link(tree, r, sender)
+    local root, parts = tree:add(link, r), behind_report(r)
+    root:add_le(l.number, r(0, 4))
+    root:add(l.lead, r(4, 1))
+    root:add(l.holes, r(5, 1))
+    root:add(l.cause, r(6, 1))
+    root:add_le(l.made, r(7, 4))
+    root:add_le(l.ran, r(11, 4))
+    for player = 0, 3 do root:add_le(l.got, r(15 + 4 * player, 4)):append_text(" of player " .. player) end
+    root:add_le(l.report, r(REPORT_SIZE, 2))
+    local words = ("number %d, %s, made %d, ran %d"):format(r(0, 4):le_uint(), CAUSES[r(6, 1):uint()] or "?",
+        r(7, 4):le_uint(), r(11, 4):le_uint())
+    if parts:len() == 0 then return words end
+    if report_size(r) > 0 then words = words .. "; " .. add_report(root, r(REPORT, report_size(r))) end
+    root:add(l.parts, parts(0, 1))
+    for _, part in ipairs((parts_in(parts))) do words = words .. "; " .. add_part(root, part, sender) end
     return words
 end
 
 local function body_of(r) return r(HEAD, r:len() - HEAD - TAG) end
-
--- For what receivers refuse a report of a right length.
-local function report_fault(r)
-    local sender, form = r(10, 1):uint(), select(2, told_in(body_of(r)))
-    if sender > 3 or sender == r(11, 1):uint() then return "sender" end
-    return form and "form, " .. form
-end
 
 -- For what receivers of any game refuse sealed bytes, as far as it is seen without the key.
 local function seal_fault(r)
@@ -417,15 +430,14 @@ local function seal_fault(r)
     local sizes = SIZES[kind]
     if not sizes or r(0, 1):uint() < 1 or r(0, 1):uint() > 2 then return "suite or kind" end
     if r:len() < sizes[1] or r:len() > sizes[2] then return "length" end
-    if kind == REPORT then return report_fault(r) end
     local is_formed = exact_in(body_of(r)(0, 9))
     if kind == LINK then
-        is_formed = body_of(r)(6, 1):uint() <= MAX_CAUSE and select(2, parts_in(from(body_of(r), PARTS)))
+        is_formed = body_of(r)(6, 1):uint() <= MAX_CAUSE and select(2, parts_in(behind_report(body_of(r))))
     end
     if not is_formed then return "form" end
 end
 
--- An envelope, a link's datagram or a report; and what it says, in few words.
+-- An envelope or a link's datagram; and what it says, in few words.
 local function add_sealed(tree, r)
     local fault, root = seal_fault(r), tree:add(seal, r)
     if fault then root:add_proto_expert_info(refused, "Refused for its " .. fault) end
@@ -439,8 +451,6 @@ local function add_sealed(tree, r)
     local kind, sender, body, words = r(1, 1):uint(), r(10, 1):uint(), body_of(r), nil
     if kind == LINK then
         words = add_link(tree, body, sender)
-    elseif kind == REPORT then
-        words = add_report(tree, body)
     else
         local exact, packet = exact_in(body(0, 9)), from(body, 9)
         add_exact(root, body(0, 9))

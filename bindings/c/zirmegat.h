@@ -601,7 +601,7 @@ typedef struct zmg_heard {
     uint32_t code, number;
 } zmg_heard;
 
-/* Why a datagram or a report was dropped. It changed nothing. */
+/* Why a datagram was dropped. It changed nothing. */
 #define ZMG_DROP_SHORT 1u        /* fewer than 8 bytes */
 #define ZMG_DROP_MANY 2u         /* it announces more than twelve commands */
 #define ZMG_DROP_LENGTH 3u       /* its length does not match the commands that it announces */
@@ -617,7 +617,6 @@ typedef struct zmg_heard {
 #define ZMG_DROP_OVERRUN 12u     /* more tics ahead than the node keeps commands */
 #define ZMG_DROP_NOT_PLAYING 13u /* the game has not started here, or this node has ended */
 #define ZMG_DROP_END 14u         /* it contradicts the sender's end */
-#define ZMG_DROP_GIVEN_UP 15u    /* of a report: its sender is given up */
 
 /* Takes in a datagram from player `from`. It is up to the transport to know who sent it. A packet carries
  * only the low bytes of tics, so the transport passes in none whose start or ask lies more than 64 tics from
@@ -730,8 +729,8 @@ size_t zmg_lockstep_demo(zmg_lockstep *node, size_t from, uint8_t *out, size_t r
  * what zmg_lockstep_receive requires, the caller owes:
  *   - Delivery. If nothing gets through, the game waits, and nothing worse happens.
  *   - One link of each player: no second one with the same number, and none that goes on from a copy of
- *     memory. All that is sealed comes from zmg_link_datagram and zmg_link_report: a
- *     player who seals datagrams other than by these calls can send the others different commands.
+ *     memory. All that is sealed comes from zmg_link_datagram: a player who seals datagrams in another way can
+ *     send the others different commands.
  *   - One number for each game, its players, its settings and all else that must be the same at all of them:
  *     sixteen random bytes that one draws and sends to the others, or what a session makes of its terms. The
  *     number need not be secret, but each player must get the one that was drawn: whoever can hand a
@@ -757,8 +756,7 @@ size_t zmg_lockstep_demo(zmg_lockstep *node, size_t from, uint8_t *out, size_t r
  *         while (zmg_link_run(&link, marks of the world, row).code == ZMG_RUN_RAN) step the world by row
  *         if (zmg_link_catch_up(&link).code == ZMG_BUILD_MADE) send to each other player, and run once more
  *     where a player has vanished for good, and the others are to play on, at each of them:
- *         zmg_link_give_up(&link, player);
- *         from then on also send to each other player, at each tick, what zmg_link_report gives
+ *         zmg_link_give_up(&link, player);  and go on with ticks: their datagrams tell the others
  *     to leave:
  *         zmg_link_quit(&link);
  *         go on with ticks and bytes until zmg_link_may_leave(&link), but not for ever, and two seconds more
@@ -834,22 +832,25 @@ uint32_t zmg_link_quit(zmg_link *link);
  * every packet that is kept for the player, oldest first, as far as they fit, also once the link has ended.
  * Behind them, if there is room, it may hand on commands of third players of whom the player seems to hear
  * nothing: so two who cannot reach each other play on through a third. A datagram that hands nothing on has not
- * a byte more for that. Returns 0, and leaves the link and out as they were, if room is below ZMG_LINK_SIZE, if
- * `to` is not another player's number, or if that player is given up by zmg_link_give_up. */
+ * a byte more for that. While somebody is given up, and once the link has left, it also has the report: what
+ * this link has of the others, whom it has given up, and whether it has left. If the packets leave no room for
+ * the report, it goes with a later datagram. Returns 0, and leaves the link and out as they were, if room is
+ * below ZMG_LINK_SIZE, if `to` is not another player's number, or if that player is given up by
+ * zmg_link_give_up. */
 size_t zmg_link_datagram(zmg_link *link, uint8_t to, uint8_t *out, size_t room);
 
-/* What a link made of bytes. With ZMG_LINK_RECEIVE_STRANGER and ZMG_LINK_RECEIVE_GIVEN_UP nothing changed, and
- * with ZMG_LINK_RECEIVE_UNOPENED and ZMG_LINK_RECEIVE_UNREPORTED nothing but the count of zmg_link_refused. */
-#define ZMG_LINK_RECEIVE_HEARD 0u     /* a datagram of `player`, which was taken in */
-#define ZMG_LINK_RECEIVE_STRANGER 1u  /* sealed in this game, under a number that is not another player's */
-#define ZMG_LINK_RECEIVE_UNOPENED 2u  /* not a datagram to this player in this game; reason says why */
-#define ZMG_LINK_RECEIVE_GIVEN_UP 3u  /* sealed in this game by `player`, who is given up by zmg_link_give_up */
-#define ZMG_LINK_RECEIVE_REPORTED 4u  /* the report of `player`; reason says what became of it (ZMG_REPORT_) */
-#define ZMG_LINK_RECEIVE_UNREPORTED 5u /* of the kind of reports, but not another player's to this one in this
-                                       * game; reason says why (ZMG_BUNDLE_) */
+/* What a link made of bytes. Nothing changed but with ZMG_LINK_RECEIVE_HEARD, and with
+ * ZMG_LINK_RECEIVE_UNOPENED the count of zmg_link_refused. */
+#define ZMG_LINK_RECEIVE_HEARD 0u    /* a datagram of `player`, which was taken in */
+#define ZMG_LINK_RECEIVE_STRANGER 1u /* sealed in this game, under a number that is not another player's */
+#define ZMG_LINK_RECEIVE_UNOPENED 2u /* not a datagram to this player in this game; reason says why */
+#define ZMG_LINK_RECEIVE_GIVEN_UP 3u /* sealed in this game by `player`, who is given up by zmg_link_give_up */
+#define ZMG_LINK_RECEIVE_EXCLUDED 4u /* sealed in this game by `player`, who tells that it has given up this
+                                      * player. No call of a link writes such a datagram; one of a session
+                                      * does */
 
 /* Why bytes are not a datagram: the first of these that holds. */
-#define ZMG_BUNDLE_SHORT 1u    /* fewer than 60 bytes */
+#define ZMG_BUNDLE_SHORT 1u    /* fewer than 62 bytes */
 #define ZMG_BUNDLE_LONG 2u     /* more than ZMG_LINK_SIZE */
 #define ZMG_BUNDLE_SUITE 3u    /* another suite, or not a sealed datagram at all */
 #define ZMG_BUNDLE_KIND 4u     /* sealed, but not a link's datagram: a greeting of a host, say */
@@ -858,22 +859,9 @@ size_t zmg_link_datagram(zmg_link *link, uint8_t to, uint8_t *out, size_t room);
 #define ZMG_BUNDLE_TAG 7u      /* altered or forged, or the secrets or the last eight bytes of the numbers
                                 * differ */
 #define ZMG_BUNDLE_FORM 8u     /* its content has a form that no link writes */
-#define ZMG_BUNDLE_SENDER 9u   /* of a report: its sender is no player, or this one */
 
-/* What became of a report. One that is dropped has its ZMG_DROP_: _STRANGER where its sender is not another
- * player, _NOT_PLAYING where the link has ended, _GIVEN_UP. Nothing changed but with the first two and
- * from ZMG_REPORT_UNTAKEN on. */
-#define ZMG_REPORT_KEPT 0u     /* it is kept; reports are missing, if somebody is given up */
-#define ZMG_REPORT_DECIDED 1u  /* it is kept, and where the commands of all who are given up end is known */
-#define ZMG_REPORT_EXCLUDED 2u /* its sender has given up this player */
-#define ZMG_REPORT_IMPROPER 3u /* it tells of its sender's or its receiver's commands, which none does */
-#define ZMG_REPORT_STALE 4u    /* it is older than the newest of its sender */
-#define ZMG_REPORT_UNTAKEN 16u /* it is kept, but an end cannot be taken: this plus a ZMG_SETTLE_. Some report
-                                * is false, but it need not be this one */
-
-/* reason: see ZMG_BUNDLE_ and ZMG_REPORT_; 0 except with ZMG_LINK_RECEIVE_UNOPENED, _REPORTED and _UNREPORTED,
- * and with the first of them too if the handle holds no link. player: the sender; 0 with
- * ZMG_LINK_RECEIVE_UNOPENED and ZMG_LINK_RECEIVE_UNREPORTED. */
+/* reason: see ZMG_BUNDLE_; 0 except with ZMG_LINK_RECEIVE_UNOPENED, and with it too if the handle holds no
+ * link. player: the sender; 0 with ZMG_LINK_RECEIVE_UNOPENED. */
 typedef struct zmg_received {
     uint32_t code, reason;
     uint8_t player;
@@ -930,16 +918,6 @@ uint32_t zmg_link_reports_gone(zmg_link *link, uint8_t teller, uint8_t player);
  * given up one who has not given up the same players, as far as it reported. Ask it while somebody is given
  * up. */
 zmg_number zmg_link_undecided(zmg_link *link);
-
-/* How many bytes of room zmg_link_report needs: a report has no more. */
-#define ZMG_REPORT_SIZE 425u
-
-/* Writes the report to player `to` to the front of out, and returns how many bytes it has: what this link has
- * of the others, whom it has given up, and whether it has left. Send one to each other player at each tick
- * while somebody is given up, also once the link has left; zmg_link_receive takes it. Returns 0, and leaves out
- * as it was, if room is below ZMG_REPORT_SIZE, if `to` is not another player's number or is given up, or while
- * this link has given up nobody and has not left. */
-size_t zmg_link_report(zmg_link *link, uint8_t to, uint8_t *out, size_t room);
 
 /* Returns 1 if no other player needs anything more from this one: each has left, or is given up, or has
  * acknowledged all commands of this one and that it has left. Else returns 0, and 0 if the handle holds no

@@ -25,7 +25,7 @@ SETUP = ["doom.setup." + name for name in
 EXACT = ["doom.exact." + name for name in ("start", "asked", "ask")]
 SEAL = ["doom_seal." + name for name in ("suite", "kind", "from", "to")]
 LINK = ["doom_link." + name for name in
-        ("number", "lead", "holes", "cause", "made", "ran", "got", "parts", "part.run", "part.player",
+        ("number", "lead", "holes", "cause", "made", "ran", "got", "report", "parts", "part.run", "part.player",
          "part.length")]
 REPORT = ["doom_report." + name for name in
           ("gone", "gone.player0", "gone.player1", "gone.player2", "gone.player3", "left", "player", "count",
@@ -39,13 +39,13 @@ BYTES = ["doom_seal.tag", "doom_seal.game"]
 BYTES += ["doom_greeting." + name for name in
           ("name", "number", "cookie", "identity", "called", "zeros", "host", "own", "holder.number",
            "holder.address", "holder.called", "tag")]
-SEAL_FAULTS = ["doom_seal.unlike", "doom_seal.refused", "doom_greeting.refused"]
+SEAL_FAULTS = ["doom_seal.unlike", "doom_seal.refused", "doom_report.none", "doom_greeting.refused"]
 FIELDS = (FAULTS + PACKET + COMMAND + FLAGS + BUTTONS + SETUP + EXACT + SEAL + LINK + REPORT + GREETING
           + SEAL_FAULTS + ["doom.checksum", "doom.checksum.calculated", "doom.retransmit"]
           + ["doom_seal.tag", "doom_seal.game"])
 NAMES = ["doom." + name for name in ("flags", "ask", "start", "player", "count")]
-PROTOCOLS = {"packet": "DOOM_SEAL", "link": "DOOM_LINK", "report": "DOOM_REPORT",
-             "greeting": "DOOM_GREETING"}
+PROTOCOLS = {"packet": "DOOM_SEAL", "link": "DOOM_LINK", "greeting": "DOOM_GREETING"}
+CAUSES = ["plays", "quit", "full demo", "world differs", "has given up the receiver"]
 REASONS = ["the cookie is not good", "no seat is to be had", "the game has begun", "another number of players",
            "another identity", "turned away"]
 SHOWN = {"dropped 1 short": "doom.short", "dropped 2 many": "doom.many", "dropped 3 length": "doom.length",
@@ -187,11 +187,13 @@ def compare_shown(args):
 
 @dataclasses.dataclass
 class Told:
-    """A line of main.rt.in: the bytes, their kind, why they are refused, if they are, whether the bytes of a
-    packet in them are none, and the fields that it says."""
+    """A line of main.rt.in: the bytes, their kind, why they are refused, if they are, why what stands in the
+    place of a report is none, if it is, whether the bytes of a packet in them are none, and the fields that it
+    says."""
     payload: bytes
     kind: str
     refused: str
+    unreported: str
     is_inner: bool
     wanted: dict
 
@@ -205,11 +207,13 @@ def told(line):
     """What a line of main.rt.in says."""
     numbers, words = line.split("|")
     kind, *words = words.split()
-    wanted, refused, is_inner = collections.defaultdict(list), "", False
+    wanted, refused, unreported, is_inner = collections.defaultdict(list), "", "", False
     for word in words:
         field, sign, word = word.partition("=")
         if field == "refused":
-            refused = word.replace(",", ", ")
+            refused = word
+        elif field == "unreported":
+            unreported, wanted["doom_report.none"] = word, True
         elif not sign:
             assert field == "inner", line
             is_inner = True
@@ -219,7 +223,7 @@ def told(line):
             wanted[field] = True
         else:
             wanted[field].append(int(word))
-    return Told(bytes_in(numbers), kind, refused, is_inner, with_bits(dict(wanted)))
+    return Told(bytes_in(numbers), kind, refused, unreported, is_inner, with_bits(dict(wanted)))
 
 
 def with_frame(line):
@@ -235,13 +239,23 @@ def with_frame(line):
     return wanted
 
 
-def report_info(wanted):
+def report_info(line, wanted):
     """The words of a report in the Info column."""
+    if line.unreported:
+        return f"no report, {line.unreported}"
     gone = [f" {player}" for player in range(4) if wanted[f"doom_report.gone.player{player}"] == [1]]
     words = "given up" + ("".join(gone) or " nobody") + (", left" if wanted["doom_report.left"] == [1] else "")
     for player, count in zip(wanted.get("doom_report.player", []), wanted.get("doom_report.count", [])):
         words += f"; has {count} of player {player}"
     return words
+
+
+def link_info(line, wanted):
+    """The words of a link's datagram in the Info column, up to its parts."""
+    number, cause, made, ran, size = (wanted["doom_link." + name][0]
+                                      for name in ("number", "cause", "made", "ran", "report"))
+    words = f"number {number}, {CAUSES[cause]}, made {made}, ran {ran}"
+    return words + ("; " + report_info(line, wanted) if size else "")
 
 
 def greeting_info(wanted):
@@ -294,14 +308,14 @@ def check_opened(line, protocol, info, found):
     if protocol != PROTOCOLS[line.kind]:
         fail(payload, {"protocol": protocol}, {"protocol": PROTOCOLS[line.kind]})
     words = f"{payload[10]} > {payload[11]}: " if line.kind != "greeting" else greeting_info(wanted)
-    words += report_info(wanted) if line.kind == "report" else ""
-    is_whole = line.kind in ("packet", "link") or info == words
+    words += link_info(line, wanted) if line.kind == "link" else ""
+    is_whole = line.kind != "greeting" or info == words
     if not info.startswith(words) or not is_whole or ("refused" in info) != line.is_inner:
         fail(payload, {"info": info}, {"info": words})
 
 
 def compare_told(args):
-    """Envelopes, datagrams of links, reports and greetings against what the crates read."""
+    """Envelopes, datagrams of links and greetings against what the crates read."""
     counts = collections.Counter()
     with open(args.lines) as file:
         lines = [told(line) for line in file]
@@ -310,9 +324,12 @@ def compare_told(args):
         counts[line.kind] += 1
         counts["datagrams"] += 1
         counts["unlike"] += "doom_seal.unlike" in line.wanted
+        counts["report"] += "doom_report.gone" in line.wanted
+        if line.unreported:
+            counts[f"no report for {line.unreported}:"] += 1
         counts["refused" if line.refused else "inner" if line.is_inner else "opened"] += 1
         if line.refused:
-            counts[f"{line.kind} refused for {line.refused.replace(', ', ' ')}:"] += 1
+            counts[f"{line.kind} refused for {line.refused}:"] += 1
         if is_wrong(line) and not args.ports:
             if found or protocol.startswith("DOOM"):
                 fail(payload, found, {})

@@ -22,8 +22,9 @@
 
 enum { GAMES = 2, NODES = 4, BAG = 64, MOST = ZMG_LINK_SIZE + 100, NEAR = 64, PART = 24 * 8 };
 
-/* Places in a datagram: its sender, what the sender has of each player, and the parts. The bytes of a tag. */
-enum { FROM = 10, GOT = 27, PARTS = 43, TAG = 16 };
+/* Places in a datagram: its sender, what the sender has of each player, and how many bytes its report has.
+ * These stand behind that, and then the parts. The bytes of a tag. */
+enum { FROM = 10, GOT = 27, REPORT = 43, TAG = 16 };
 
 static unsigned long received;
 
@@ -257,7 +258,8 @@ static const uint8_t *read_run(const uint8_t *at, uint8_t from, carried *packets
 
 /* Reads all packets of a datagram that was heard or given: how many. Those of third players stand last. */
 static size_t read_packets(const uint8_t *bytes, size_t length, carried *packets) {
-    const uint8_t *at = bytes + PARTS, *end = bytes + length - TAG;
+    const uint8_t *report = bytes + REPORT + 2, *end = bytes + length - TAG;
+    const uint8_t *at = report + bytes[REPORT] + 256 * bytes[REPORT + 1];
     size_t count = 0;
     for (unsigned parts = *at++; parts; parts--) {
         if (*at == 0) {
@@ -478,10 +480,7 @@ static void read_all(seat *s) {
 
 /* ---- Datagrams of any kind ---- */
 
-/* Bytes whose second one was turned into a 3 are of the kind of reports. */
-static int is_refused(zmg_received answer) {
-    return answer.code == ZMG_LINK_RECEIVE_UNOPENED || answer.code == ZMG_LINK_RECEIVE_UNREPORTED;
-}
+static int is_refused(zmg_received answer) { return answer.code == ZMG_LINK_RECEIVE_UNOPENED; }
 
 /* The link and its twin hear the bytes, and the node their packets. */
 static zmg_received receive(seat *s, const uint8_t *bytes, size_t length) {

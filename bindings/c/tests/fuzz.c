@@ -155,7 +155,7 @@ static zmg_heard receive(unsigned k, uint8_t from, const uint8_t *text, size_t l
     zmg_heard heard = zmg_lockstep_receive(&nodes[k], from, text, length);
     zmg_heard twin = zmg_lockstep_receive(&twins[k], from, text, length);
     MUST(heard.code == twin.code && heard.number == twin.number);
-    MUST(heard.code == ZMG_RECEIVE_DROPPED ? 1 <= heard.number && heard.number < ZMG_DROP_GIVEN_UP
+    MUST(heard.code == ZMG_RECEIVE_DROPPED ? 1 <= heard.number && heard.number <= ZMG_DROP_END
         : heard.code == ZMG_RECEIVE_TAKEN ? 1 <= heard.number && heard.number <= 12 : heard.number == 0);
     count(4, heard.code);
     watch(k);

@@ -621,7 +621,6 @@ static void no_link(void) {
     IS(zmg_link_has_given_up(&other_link, 1), 0);
     IS(zmg_link_reports_gone(&other_link, 0, 1), 0);
     IS(zmg_link_undecided(&other_link).known, 0);
-    IS(zmg_link_report(&other_link, 0, bytes, sizeof bytes), 0);
     IS(zmg_link_can_build(&other_link), 0);
     IS(zmg_link_command(&other_link, 0, 0).known, 0);
     IS(zmg_link_run(&other_link, no_marks, row).code, ZMG_RUN_NOT_PLAYING);
@@ -776,10 +775,10 @@ static void link_tics(void) {
 
 /* A datagram with each of its parts altered, and one of a player that the game has not. */
 static void links(void) {
-    static const uint8_t places[] = { 0, 1, 2, 9, 11, 10, 12, 16, 17, 18, 42, 59 };
+    static const uint8_t places[] = { 0, 1, 2, 9, 11, 10, 12, 16, 17, 18, 42, 43, 61 };
     static const uint32_t faults[] = { ZMG_BUNDLE_SUITE, ZMG_BUNDLE_KIND, ZMG_BUNDLE_GAME, ZMG_BUNDLE_GAME,
         ZMG_BUNDLE_RECEIVER, ZMG_BUNDLE_TAG, ZMG_BUNDLE_TAG, ZMG_BUNDLE_TAG, ZMG_BUNDLE_TAG, ZMG_BUNDLE_TAG,
-        ZMG_BUNDLE_TAG, ZMG_BUNDLE_TAG };
+        ZMG_BUNDLE_TAG, ZMG_BUNDLE_TAG, ZMG_BUNDLE_TAG };
     zmg_config c = config_of(0);
     zmg_received received;
     size_t n;
@@ -808,7 +807,7 @@ static void links(void) {
     IS(datagram(&key_link, 0), 0);
     IS(datagram(&key_link, 2), 0);
     n = datagram(&key_link, 1);
-    no_datagram(59, ZMG_BUNDLE_SHORT);
+    no_datagram(61, ZMG_BUNDLE_SHORT);
     no_datagram(ZMG_LINK_SIZE + 1, ZMG_BUNDLE_LONG);
     no_datagram(n + 1, ZMG_BUNDLE_TAG);
     for (unsigned k = 0; k < sizeof places; k++) {

@@ -41,7 +41,7 @@ static void give(uint8_t from, uint8_t to) {
     flight f, *place = &flights[below(FLIGHTS)];
     MUST(zmg_link_datagram(&links[from], to, f.bytes, ZMG_LINK_SIZE - 1) == 0);
     f.length = zmg_link_datagram(&links[from], to, f.bytes, sizeof f.bytes);
-    MUST(f.length >= 60 && f.length <= ZMG_LINK_SIZE);
+    MUST(f.length >= 62 && f.length <= ZMG_LINK_SIZE);
     f.to = to;
     lost += place->length > 0;
     *place = f;
@@ -199,20 +199,22 @@ static void one_is_given_up(void) {
     close_links();
 }
 
-/* What became of the report of one to the other. */
-static uint32_t reports(uint8_t from, uint8_t to) {
+/* How many bytes of a report a datagram has. */
+static uint32_t report_in(const flight *f) { return f->bytes[43] + 256u * f->bytes[44]; }
+
+/* The datagram of one to the other is heard, with the report that it has. Altered, it is not. */
+static void reports(uint8_t from, uint8_t to) {
     flight f;
-    uint32_t reason;
     zmg_received received;
-    f.length = zmg_link_report(&links[from], to, f.bytes, ZMG_REPORT_SIZE);
-    MUST(f.length >= 29 && f.length <= ZMG_REPORT_SIZE);
+    MUST(datagram(from, to, &f) > 0 && report_in(&f) > 0);
+    f.bytes[45] ^= 1;
     received = arrives(to, &f);
-    MUST(received.code == ZMG_LINK_RECEIVE_REPORTED && received.player == from);
-    reason = received.reason;
-    f.bytes[f.length - 1] ^= 1;
+    MUST(received.code == ZMG_LINK_RECEIVE_UNOPENED && received.reason == ZMG_BUNDLE_TAG);
+    MUST(zmg_link_undecided(&links[to]).known && !zmg_link_reports_gone(&links[to], from, 2));
+    f.bytes[45] ^= 1;
     received = arrives(to, &f);
-    MUST(received.code == ZMG_LINK_RECEIVE_UNREPORTED && received.reason == ZMG_BUNDLE_TAG);
-    return reason;
+    MUST(received.code == ZMG_LINK_RECEIVE_HEARD && received.player == from && received.reason == 0);
+    MUST(zmg_link_reports_gone(&links[to], from, 2));
 }
 
 /* Player 2 vanishes from a game of three; player 0 alone has its last command. The others play on, with the
@@ -225,14 +227,14 @@ static void two_play_on(void) {
     got = zmg_link_got(&links[1], 2).value;
     MUST(zmg_link_build(&links[2], 1).code == ZMG_BUILD_MADE && datagram(2, 0, &last));
     MUST(arrives(0, &last).code == ZMG_LINK_RECEIVE_HEARD && zmg_link_got(&links[0], 2).value == got + 1);
-    MUST(zmg_link_report(&links[0], 1, last.bytes, ZMG_REPORT_SIZE) == 0);
+    MUST(datagram(0, 1, &last) && report_in(&last) == 0);
     for (uint8_t me = 0; me < 2; me++) {
         MUST(zmg_link_give_up(&links[me], 2).code == ZMG_GIVE_UP_WAITING);
         MUST(zmg_link_undecided(&links[me]).known && zmg_link_undecided(&links[me]).value == 1u - me);
-        MUST(zmg_link_report(&links[me], 2, last.bytes, ZMG_REPORT_SIZE) == 0);
-        MUST(zmg_link_report(&links[me], (uint8_t)(1 - me), last.bytes, ZMG_REPORT_SIZE - 1) == 0);
+        MUST(!datagram(me, 2, &last));
     }
-    MUST(reports(0, 1) == ZMG_REPORT_DECIDED && reports(1, 0) == ZMG_REPORT_DECIDED);
+    reports(0, 1);
+    reports(1, 0);
     for (uint8_t me = 0; me < 2; me++) {
         MUST(!zmg_link_undecided(&links[me]).known && zmg_link_got(&links[me], 2).value == got + 1);
         MUST(zmg_link_end(&links[me], 2).known && zmg_link_end(&links[me], 2).value == got + 1);

@@ -248,7 +248,7 @@ static void hear_other(const flight *f) {
     uint32_t refused = zmg_link_refused(&links[f->to]);
     zmg_received r = zmg_link_receive(&links[f->to], f->bytes, f->length);
     if (f->changed) {
-        MUST((r.code == ZMG_LINK_RECEIVE_UNOPENED || r.code == ZMG_LINK_RECEIVE_UNREPORTED) && r.reason < 16);
+        MUST(r.code == ZMG_LINK_RECEIVE_UNOPENED && r.reason < 16);
         unopened[r.reason]++;
     } else {
         MUST(r.code == ZMG_LINK_RECEIVE_STRANGER && r.player == NODES - 1);

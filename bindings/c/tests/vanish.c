@@ -2,10 +2,11 @@
  * reorders datagrams. Players crash, one or two of them, also while the others decide about another; one leaves
  * and its farewell is lost; one stands still, for a shorter or a longer time than the others' patience; and the
  * line parts two from two. Each engine gives up whom it has not heard for PATIENCE turns, and whom another has
- * given up that it goes on with. Players neither of whom has given up the other must run the same rows, and of
- * their demos one must be the beginning of the other; of any two at all the moves of a player must be the same
- * wherever both have them; and who remains must play on. C99 and C++. Ends with status 0, or names the line
- * that failed. */
+ * given up that it goes on with. A datagram has a report exactly while its sender has given up somebody and
+ * once it has left, if there is room; and once no report is missing, the ends are known. Players neither of
+ * whom has given up the other must run the same rows, and of their demos one must be the beginning of the
+ * other; of any two at all the moves of a player must be the same wherever both have them; and who remains must
+ * play on. C99 and C++. Ends with status 0, or names the line that failed. */
 #include "chance.h"
 #include "due.h"
 #include "engine.h"
@@ -18,8 +19,8 @@
 /* In turns, of which each player takes one, 35 in a second: how long a player may be silent, how long a game
  * takes, and within how many turns before its end who remains must have run a tic. */
 enum { NODES = 4, PATIENCE = 175, LENGTH = 1400, LATELY = 60 };
-/* The number of the drop of a report of one who is given up. */
-enum { FROM_GIVEN_UP = 15 };
+/* Of a datagram: where the number of bytes of its report stands, and the most that it may be. */
+enum { REPORT = 43, MOST_REPORT = 397 };
 enum { MOST_ROWS = 2 * LENGTH, MOST_DEMO = 13 + MOST_ROWS * 4 * 5 + 1 };
 
 /* Of a demo: its head, and where that tells whose view it is. */
@@ -40,7 +41,7 @@ static uint32_t players, lost, slowest, cut;
 static plot what;
 static zmg_link links[NODES];
 static player all[NODES];
-static unsigned long games, plots[PLOTS], given[8], reports, decided, apart;
+static unsigned long games, plots[PLOTS], given[8], reports, crowded, decided, apart;
 
 static void tell_where(FILE *out) {
     fprintf(out, "in game %lu (plot %u, %u players) at turn %u", games, (unsigned)what, (unsigned)players,
@@ -58,17 +59,24 @@ static void carry(const flight *f) {
         post(f, 1 + below(slowest));
 }
 
+static void look_for_report(const flight *f) {
+    uint32_t size = f->bytes[REPORT] + 256u * f->bytes[REPORT + 1];
+    int is_due = all[f->from].gone || zmg_link_phase(&links[f->from]).code == ZMG_PHASE_ENDED;
+    MUST(size <= MOST_REPORT);
+    if (is_due) MUST(size > 0 || f->length + MOST_REPORT > ZMG_LINK_SIZE);
+    else MUST(size == 0);
+    reports += size > 0;
+    crowded += is_due && size == 0;
+}
+
 static void give(uint8_t from, uint8_t to) {
     flight f;
     f.from = from;
     f.to = to;
     f.length = zmg_link_datagram(&links[from], to, f.bytes, sizeof f.bytes);
     MUST((f.length == 0) == (from == to || to >= players || (all[from].gone >> to & 1)));
-    if (f.length) carry(&f);
-    f.length = zmg_link_report(&links[from], to, f.bytes, sizeof f.bytes);
-    MUST(f.length <= ZMG_REPORT_SIZE);
     if (f.length == 0) return;
-    reports++;
+    look_for_report(&f);
     carry(&f);
 }
 
@@ -134,19 +142,27 @@ static void tick(uint8_t me) {
     if (zmg_link_catch_up(&links[me]).code == ZMG_BUILD_MADE) run(me);
 }
 
+/* A report is missing, of those by which it is known where the players end who are given up. */
+static int awaits_report(uint8_t me) { return all[me].gone && zmg_link_undecided(&links[me]).known; }
+
+/* Once none is missing, it is known. */
+static void look_at_ends(uint8_t me) {
+    if (awaits_report(me)) return;
+    for (uint8_t p = 0; p < players; p++)
+        if (all[me].gone >> p & 1) MUST(zmg_link_end(&links[me], p).known);
+}
+
 static void hear(const flight *f) {
+    int awaited = awaits_report(f->to);
     zmg_received r = zmg_link_receive(&links[f->to], f->bytes, f->length);
-    MUST(r.player == f->from);
+    MUST(r.player == f->from && r.reason == 0);
     if (all[f->to].gone >> f->from & 1) {
-        MUST(r.code == ZMG_LINK_RECEIVE_GIVEN_UP || (r.code == ZMG_LINK_RECEIVE_REPORTED && r.reason == FROM_GIVEN_UP));
+        MUST(r.code == ZMG_LINK_RECEIVE_GIVEN_UP);
         return;
     }
-    MUST(r.code == ZMG_LINK_RECEIVE_HEARD || r.code == ZMG_LINK_RECEIVE_REPORTED);
-    if (r.code == ZMG_LINK_RECEIVE_REPORTED) {
-        MUST(r.reason == ZMG_REPORT_KEPT || r.reason == ZMG_REPORT_DECIDED || r.reason == ZMG_REPORT_STALE
-            || r.reason == ZMG_DROP_NOT_PLAYING);
-        decided += r.reason == ZMG_REPORT_DECIDED;
-    }
+    MUST(r.code == ZMG_LINK_RECEIVE_HEARD);
+    look_at_ends(f->to);
+    decided += awaited && !awaits_report(f->to);
     run(f->to);
 }
 
@@ -281,8 +297,8 @@ int main(int argc, char **argv) {
     unsigned long count = argc > 1 ? strtoul(argv[1], NULL, 10) : 500;
     if (argc > 2) begin_chance(argv[2]);
     while (games < count) game();
-    printf("%lu games: reports %lu, decided by one %lu, pairs that parted %lu; give-ups:", games, reports, decided,
-        apart);
+    printf("%lu games: reports %lu, without room %lu, decided by one %lu, pairs that parted %lu; give-ups:",
+        games, reports, crowded, decided, apart);
     for (unsigned k = 0; k < 8; k++) printf(" %lu", given[k]);
     printf("\n");
     if (games < 100) return 0;

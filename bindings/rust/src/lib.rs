@@ -105,7 +105,7 @@ mod surviving;
 mod values;
 
 pub use demo::{upgrade, Demo, DemoError, Reader, UpgradeError};
-pub use link::{BundleError, Line, Link, LinkDatagram, LinkNode, LinkReport, Parting, Received};
+pub use link::{BundleError, Line, Link, LinkDatagram, LinkNode, Parting, Received};
 pub use lockstep::{Datagram, Lockstep, NodeError};
 pub use node::{Node, World};
 pub use packet::{Command, Packet, PacketError, EXIT, KILL, RETRANSMIT, SETUP};
@@ -113,7 +113,7 @@ pub use session::{
     Address, Event, Me, Over, Player, Policy, Session, SessionError, Stage, Standing, State, Terms,
     Tic, Transmit, Wish,
 };
-pub use surviving::{GivenUp, Reported, SettleError};
+pub use surviving::{GivenUp, SettleError};
 pub use values::{
     Aim, Cause, Config, Dropped, Heard, Keys, Made, Move, Phase, Ran, Settings, Start, MOST_AHEAD,
     WIDEST_AHEAD,

@@ -7,7 +7,7 @@ use crate::lockstep::{opened, NodeError};
 use crate::node::World;
 use crate::packet::Command;
 use crate::raw;
-use crate::surviving::{given_up, reported, GivenUp, Reported};
+use crate::surviving::{given_up, GivenUp};
 use crate::values::{self, Config, Keys, Made, Move, Phase, Ran, Settings};
 use std::fmt;
 
@@ -29,8 +29,8 @@ use std::fmt;
 ///
 /// - Delivery. If nothing gets through, the game waits, and nothing worse happens.
 /// - One link of each player: no second one with the same number, and none that goes on from a copy of memory.
-///   All that is sealed comes from [`datagram`](Link::datagram) and [`report`](Link::report): a player who
-///   seals datagrams other than by these calls can send the others different commands.
+///   All that is sealed comes from [`datagram`](Link::datagram): a player who seals datagrams in another way
+///   can send the others different commands.
 /// - One number for each game, its players, its settings and all else that must be the same at all of them: 16
 ///   random bytes that one draws and sends to the others, or what a session makes of its terms. It need not be
 ///   secret, but each player must get the one that was drawn: whoever can hand a player an old number can
@@ -166,17 +166,6 @@ impl Link {
         values::number(unsafe { raw::zmg_link_undecided(self.0.at()) }).map(|player| player as u8)
     }
 
-    /// Returns the report to player `to`: what this link has of the others, whom it has given up, and whether
-    /// it has left. Send one to each other player at each tick while somebody is given up, also once the link
-    /// has left; [`receive`](Link::receive) takes it. Returns None if `to` is not another player's number or is
-    /// given up, and while this link has given up nobody and has not left.
-    pub fn report(&self, to: u8) -> Option<LinkReport> {
-        LinkReport::written(|out, room| {
-            // SAFETY: the call has exclusive use of the handle (`Held`), and the array is valid for its length.
-            unsafe { raw::zmg_link_report(self.0.at(), to, out, room) }
-        })
-    }
-
     /// Returns true if no other player needs anything more from this one: each has left, or is given up, or has
     /// acknowledged all commands of this one and that it has left.
     ///
@@ -228,16 +217,11 @@ given_bytes! {
     LinkDatagram 1200
 }
 
-given_bytes! {
-    /// The bytes of a link's report, at most 425.
-    LinkReport 425
-}
-
 /// Why bytes are not a datagram to this player in this game: the first of these that holds.
 #[derive(Clone, Copy, Debug, PartialEq, Eq)]
 #[non_exhaustive]
 pub enum BundleError {
-    /// There are fewer than 60 bytes.
+    /// There are fewer than 62 bytes.
     Short,
     /// There are more than 1,200 bytes.
     Long,
@@ -253,8 +237,6 @@ pub enum BundleError {
     Tag,
     /// Their content has a form that no link writes.
     Form,
-    /// Of a report: its sender is no player, or this one.
-    Sender,
     /// A code that this crate has no name for.
     Unknown(u32),
 }
@@ -272,12 +254,9 @@ pub enum Received {
     Unopened(BundleError),
     /// They were sealed in this game by this player, who is given up by [`Link::give_up`]. Nothing changed.
     GivenUp(u8),
-    /// They were the report of `player`, and this became of it.
-    #[allow(missing_docs)]
-    Reported { player: u8, reported: Reported },
-    /// They are of the kind of reports, but not another player's to this one in this game. Nothing changed but
-    /// the count of [`Link::refused`].
-    Unreported(BundleError),
+    /// They were sealed in this game by this player, who tells that it has given up this one. Nothing changed.
+    /// A link writes no such datagram; a session does.
+    Excluded(u8),
     /// A code that this crate has no name for.
     Unknown(u32),
 }
@@ -355,7 +334,6 @@ fn bundle_error(reason: u32) -> BundleError {
         6 => BundleError::Receiver,
         7 => BundleError::Tag,
         8 => BundleError::Form,
-        9 => BundleError::Sender,
         code => BundleError::Unknown(code),
     }
 }
@@ -366,11 +344,7 @@ pub(crate) fn received(raw: raw::Received) -> Received {
         1 => Received::Stranger(raw.player),
         2 => Received::Unopened(bundle_error(raw.reason)),
         3 => Received::GivenUp(raw.player),
-        4 => Received::Reported {
-            player: raw.player,
-            reported: reported(raw.reason),
-        },
-        5 => Received::Unreported(bundle_error(raw.reason)),
+        4 => Received::Excluded(raw.player),
         code => Received::Unknown(code),
     }
 }
@@ -522,11 +496,6 @@ impl<W: World> LinkNode<W> {
     /// Returns true if another player has given up the player, as [`Link::reports_gone`] does.
     pub fn reports_gone(&self, teller: u8, player: u8) -> bool {
         self.node.reports_gone(teller, player)
-    }
-
-    /// Returns the report to player `to`, as [`Link::report`] does.
-    pub fn report(&self, to: u8) -> Option<LinkReport> {
-        self.node.report(to)
     }
 
     /// Returns which player's report is missing, as [`Link::undecided`] does.

@@ -232,7 +232,6 @@ extern "C" {
     pub fn zmg_link_has_given_up(link: *mut Handle, player: u8) -> u32;
     pub fn zmg_link_reports_gone(link: *mut Handle, teller: u8, player: u8) -> u32;
     pub fn zmg_link_undecided(link: *mut Handle) -> Number;
-    pub fn zmg_link_report(link: *mut Handle, to: u8, out: *mut u8, room: usize) -> usize;
     pub fn zmg_link_may_leave(link: *mut Handle) -> u32;
     pub fn zmg_link_line(link: *mut Handle, player: u8) -> Line;
     pub fn zmg_link_refused(link: *mut Handle) -> u32;

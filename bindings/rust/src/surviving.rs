@@ -46,33 +46,6 @@ pub enum GivenUp {
     Unknown(u32),
 }
 
-/// What became of a report.
-#[derive(Clone, Copy, Debug, PartialEq, Eq)]
-#[non_exhaustive]
-pub enum Reported {
-    /// It is kept; reports are missing, if somebody is given up.
-    Kept,
-    /// It is kept, and where the commands of all who are given up end is known.
-    Decided,
-    /// It is kept, but the end of a player who is given up cannot be taken, for this reason: some report is
-    /// false, and it need not be this one.
-    Untaken(SettleError),
-    /// Its sender has given up this player. Nothing changed.
-    Excluded,
-    /// It tells of its sender's or its receiver's commands, which none does. Nothing changed.
-    Improper,
-    /// It is older than the newest of its sender. Nothing changed.
-    Stale,
-    /// Its sender is not another player of the game. Nothing changed.
-    Stranger,
-    /// The link listens or has ended. Nothing changed.
-    NotPlaying,
-    /// Its sender is given up. Nothing changed.
-    GivenUp,
-    /// A code that this crate has no name for.
-    Unknown(u32),
-}
-
 fn settle_error(reason: u32) -> SettleError {
     match reason {
         1 => SettleError::NotAPlayer,
@@ -98,20 +71,5 @@ pub(crate) fn given_up(raw: raw::GivenUp) -> GivenUp {
         4 => GivenUp::NotAPlayer,
         5 => GivenUp::NotPlaying,
         code => GivenUp::Unknown(code),
-    }
-}
-
-pub(crate) fn reported(reason: u32) -> Reported {
-    match reason {
-        0 => Reported::Kept,
-        1 => Reported::Decided,
-        2 => Reported::Excluded,
-        3 => Reported::Improper,
-        4 => Reported::Stale,
-        5 => Reported::Stranger,
-        13 => Reported::NotPlaying,
-        15 => Reported::GivenUp,
-        17..=23 => Reported::Untaken(settle_error(reason - 16)),
-        code => Reported::Unknown(code),
     }
 }

@@ -1,12 +1,10 @@
--- Why calls fail, and what became of reports, as plain numbers.
-use Rattle.std.specs.Prelude.{ℕ, ◌+◌}
+-- Why calls fail, as plain numbers.
+use Rattle.std.specs.Prelude.{ℕ}
 use Rattle.dn_setup.specs.declared.settings.SettingsFault.{SettingsFault}
 use Rattle.dn_packet.specs.declared.packet.PacketFault.{PacketFault}
 use Rattle.dn_demo.specs.declared.demo.DemoFault.{DemoFault}
 use Rattle.dn_lockstep.specs.declared.config.NodeFault.{NodeFault}
 use Rattle.dn_lockstep.specs.declared.lockstep.settling.Settled.{Settled}
-use Rattle.dn_link.specs.declared.notice.ReportDatagramFault.{ReportDatagramFault}
-use Rattle.dn_survivor.specs.declared.answers.Reported.{Reported}
 use Rattle.dn_link.specs.declared.bundle.BundleFault.{BundleFault}
 
 -- why settings are refused
@@ -43,18 +41,6 @@ bundle_code BundleFault.Receiver = 6
 bundle_code BundleFault.Tag = 7
 bundle_code BundleFault.Form = 8
 
--- why bytes are no report, as with a datagram
-abbrev pub notice_code : ReportDatagramFault → ℕ
-notice_code ReportDatagramFault.Short = 1
-notice_code ReportDatagramFault.Long = 2
-notice_code ReportDatagramFault.Suite = 3
-notice_code ReportDatagramFault.Kind = 4
-notice_code ReportDatagramFault.Game = 5
-notice_code ReportDatagramFault.Receiver = 6
-notice_code ReportDatagramFault.Tag = 7
-notice_code (ReportDatagramFault.Form fault) = 8
-notice_code ReportDatagramFault.Sender = 9
-
 -- why an end cannot be taken
 abbrev pub settled_code : Settled → ℕ
 settled_code (Settled.Taken count) = 0
@@ -65,16 +51,6 @@ settled_code Settled.Behind = 4
 settled_code Settled.Overrun = 5
 settled_code Settled.Stopper = 6
 settled_code Settled.OtherEnd = 7
-
--- what became of a report; one that is dropped is told by the number of the drop
-abbrev pub reported_code : Reported → ℕ
-reported_code Reported.Kept = 0
-reported_code Reported.Decided = 1
-reported_code Reported.Excluded = 2
-reported_code Reported.Improper = 3
-reported_code Reported.Stale = 4
-reported_code (Reported.Dropped number) = number
-reported_code (Reported.Untaken player reason) = 16 + settled_code reason
 
 -- why bytes are no demo
 abbrev pub demo_code : DemoFault → ℕ

@@ -1,5 +1,5 @@
 -- A link behind a handle, and what its calls do.
-use Rattle.std.specs.Prelude.{◌≡◌, ◌≤◌, nat_abs, ℕ, ℤ, true, false, List, pos, Option, None, Some, IfSome, is_some, if◌then◌else◌, Result, Ok, Err}
+use Rattle.std.specs.Prelude.{◌≡◌, ◌≤◌, nat_abs, ℕ, ℤ, List, pos, Option, None, Some, IfSome, is_some, if◌then◌else◌, Result, Ok, Err}
 use Rattle.std.specs.Option.{option_map}
 use Rattle.arrayvec.specs.ArrayVec.{ArrayVec}
 use Rattle.dn_setup.specs.Settings.{IsCheckedAs, Settings}
@@ -29,7 +29,6 @@ use Rattle.dn_link.specs.Linked.{IsWhole, Linked, Gives, Receives, has_given_up,
 use Rattle.dn_link.specs.Linking.{linked, new_peer, seal_of}
 use Rattle.dn_link.specs.Pace.{Paces, after_input, after_tick, lean, still_owed}
 use Rattle.dn_link.specs.Pacing.{PaceState}
-use Rattle.dn_link.specs.Notices.{HearsNotice, is_notice, notice_for}
 use Rattle.dn_link.specs.Pacing.{new_pace, pace_of}
 use Rattle.dn_link.specs.Surviving.{GivesUpPeer}
 use Rattle.zirmegat.specs.declared.answers.MadeAnswer.{MadeAnswer}
@@ -41,7 +40,7 @@ use Rattle.zirmegat.specs.Answers.{made_told}
 use Rattle.zirmegat.specs.Going.{Builds, Runs, RunsBut}
 use Rattle.zirmegat.specs.Opening.{choice_in, config_of}
 use Rattle.zirmegat.specs.Calls.{IsPut}
-use Rattle.zirmegat.specs.Codes.{bundle_code, fault_code, notice_code, reported_code, settings_code}
+use Rattle.zirmegat.specs.Codes.{bundle_code, fault_code, settings_code}
 
 -- a link, what it keeps for its pace, and what it has in common with the others of its game
 pub record Joined : Type 0 where
@@ -123,18 +122,10 @@ GivesOut to room written count n k =
     × Tells n.link.node (λ limits me m. IfSome (sent_to to limits me m).1 IsFair))
     × (given ≡ None → k.link ≡ n.link) × IsPut given room written count × (k.pace ≡ n.pace) × StaysOf n k
 
--- it takes in any bytes: as a report, if they are of that kind, and else as a datagram
+-- it takes in any bytes
 abbrev pub TakesBytes : List ℕ → Joined → Joined → Received → Type 0
 TakesBytes bytes n k answer =
-    (is_notice bytes ≡ false → Receives n.seal bytes n.link k.link answer)
-    × (is_notice bytes ≡ false → Paces n.seal bytes n.link n.pace k.pace)
-    × (is_notice bytes ≡ true → HearsNotice n.seal bytes n.link n.pace k.link k.pace answer) × StaysOf n k
-
--- it gives the report to a player, if there is one
-abbrev pub GivesReport : ℕ → List ℕ → List ℕ → ℕ → Joined → Type 0
-GivesReport to room written count n =
-    (given : Option (ArrayVec ℕ)) × (option_map (λ bytes. bytes.items) given ≡ notice_for n.seal n.link to)
-    × IsPut given room written count
+    Receives n.seal bytes n.link k.link answer × Paces n.seal bytes n.link n.pace k.pace × StaysOf n k
 
 -- a tick goes by
 abbrev pub Leans : Joined → Joined → ℤ → Type 0
@@ -153,9 +144,7 @@ abbrev pub received_told : Received → ReceivedAnswer
 received_told (Received.Heard player) = record { code = 0; reason = 0; player = player }
 received_told (Received.Stranger player) = record { code = 1; reason = 0; player = player }
 received_told (Received.GivenUp player) = record { code = 3; reason = 0; player = player }
-received_told (Received.Reported player reported) =
-    record { code = 4; reason = reported_code reported; player = player }
-received_told (Received.Unreported fault) = record { code = 5; reason = notice_code fault; player = 0 }
+received_told (Received.Excluded player) = record { code = 4; reason = 0; player = player }
 received_told (Received.Unopened fault) = unopened (bundle_code fault)
 
 -- what came of a build that was owed

@@ -1,11 +1,10 @@
-//! What a link answers that gives up a player, and what it makes of sealed reports, as plain numbers.
+//! What a link answers that gives up a player, as plain numbers.
 
-ghost use Rattle.std.specs.Prelude.{◌≡◌, ◌≤◌};
-ghost use Rattle.zirmegat.specs.{Answers.give_up_at, Answers.give_up_told, Codes.settled_code, Codes.notice_code, Codes.reported_code};
+ghost use Rattle.std.specs.Prelude.{◌≡◌};
+ghost use Rattle.zirmegat.specs.{Answers.give_up_at, Answers.give_up_told, Codes.settled_code};
 
-use dn_link::notice::ReportDatagramFault;
 use dn_lockstep::Settled;
-use dn_survivor::{GivenUp, Reported};
+use dn_survivor::GivenUp;
 
 /// What a link answers that is told to give up a player: 0 where it is given up and reports are missing, 1
 /// where the ends of all who are given up are known, 2 where the end of `player` cannot be taken, for the reason
@@ -24,8 +23,7 @@ pub struct GiveUpAnswer {
 
 /// Why an end cannot be taken.
 fn settled_code(settled: Settled) -> u32
-    ensures value { result ≡ settled_code settled }
-    ensures few { result ≤ 7 }
+    ensures { result ≡ settled_code settled }
 {
     match settled {
         Settled::Taken(_) => 0,
@@ -66,37 +64,5 @@ impl GiveUpAnswer {
             GivenUp::NotAPlayer => GiveUpAnswer::at(4),
             GivenUp::NotPlaying => GiveUpAnswer::at(5),
         }
-    }
-}
-
-/// What became of a report; one that is dropped is told by the number of the drop.
-pub(crate) fn reported_code(reported: Reported) -> u32
-    ensures { result ≡ reported_code reported }
-{
-    match reported {
-        Reported::Kept => 0,
-        Reported::Decided => 1,
-        Reported::Excluded => 2,
-        Reported::Improper => 3,
-        Reported::Stale => 4,
-        Reported::Dropped(number) => u32::from(number),
-        Reported::Untaken { reason, .. } => 16 + settled_code(reason),
-    }
-}
-
-/// Why bytes are no report, by the numbers of the faults of datagrams.
-pub(crate) fn notice_code(fault: ReportDatagramFault) -> u32
-    ensures { result ≡ notice_code fault }
-{
-    match fault {
-        ReportDatagramFault::Short => 1,
-        ReportDatagramFault::Long => 2,
-        ReportDatagramFault::Suite => 3,
-        ReportDatagramFault::Kind => 4,
-        ReportDatagramFault::Game => 5,
-        ReportDatagramFault::Receiver => 6,
-        ReportDatagramFault::Tag => 7,
-        ReportDatagramFault::Form(_) => 8,
-        ReportDatagramFault::Sender => 9,
     }
 }

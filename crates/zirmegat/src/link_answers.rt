@@ -4,23 +4,20 @@ ghost use Rattle.std.specs.Prelude.{◌≡◌};
 ghost use Rattle.zirmegat.specs.{Codes.bundle_code, Links.line_told, Links.owed_told, Links.received_told, Links.unopened};
 
 use crate::answers::MadeAnswer;
-use crate::give_up_answers::{notice_code, reported_code};
 use dn_link::{BundleFault, Figures, Received};
 use dn_lockstep::Made;
 
 /// What a link makes of bytes that came in: 0 for the datagram of a peer, 1 for one of `player` who is none, 2
 /// for bytes that are no datagram to this player in this game, for the fault `reason`, 3 for one of `player`
-/// who is given up, 4 for the report of `player`, of which `reason` tells what became, and 5 for bytes of a
-/// report's kind that are none, for the fault `reason`.
+/// who is given up, and 4 for one of `player` who tells that it has given up this player.
 #[repr(C)]
 #[derive(Clone, Copy, Debug, PartialEq, Eq)]
 pub struct ReceivedAnswer {
-    /// 0 to 5, as above.
+    /// 0 to 4, as above.
     pub code: u32,
-    /// The number of the fault, where `code` is 2 or 5, what became of a report, where it is 4; 0 where there
-    /// is no link.
+    /// The number of the fault, where `code` is 2, and else 0; 0 too where there is no link.
     pub reason: u32,
-    /// Who sent it, where `code` is neither 2 nor 5.
+    /// Who sent it, where `code` is not 2.
     pub player: u8,
 }
 
@@ -39,17 +36,16 @@ impl ReceivedAnswer {
     pub(crate) fn of(received: Received) -> ReceivedAnswer
         ensures { result ≡ received_told received }
     {
-        let (code, reason, player) = match received {
-            Received::Heard(from) => (0, 0, from),
-            Received::Stranger(from) => (1, 0, from),
+        let (code, player) = match received {
+            Received::Heard(from) => (0, from),
+            Received::Stranger(from) => (1, from),
             Received::Unopened(fault) => return ReceivedAnswer::unopened(bundle_code(fault)),
-            Received::GivenUp(from) => (3, 0, from),
-            Received::Reported { from, reported } => (4, reported_code(reported), from),
-            Received::Unreported(fault) => (5, notice_code(fault), 0),
+            Received::GivenUp(from) => (3, from),
+            Received::Excluded(from) => (4, from),
         };
         ReceivedAnswer {
             code,
-            reason,
+            reason: 0,
             player,
         }
     }

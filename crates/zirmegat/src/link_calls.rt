@@ -2,7 +2,7 @@
 
 ghost use Rattle.std.specs.Prelude.{◌≡◌, ◌<◌, ◌≤◌, ◌%◌, ◌^◌, length, None, pos};
 ghost use Rattle.dn_tic.specs.declared.input.Input.TheVariants.{Pressed, Given};
-ghost use Rattle.zirmegat.specs.{Calls.Answers, Calls.AnswersMade, Calls.AnswersRan, Calls.AnswersPut, Calls.AnswersQuit, Calls.Calls, Calls.Reads, Commands.given_in, Going.Quits, Links.link_of, Links.Moves, Links.BuildsOf, Links.CatchesUp, Links.GivesOut, Links.Leans, Links.RunsOf, Links.TakesBytes, Links.owed_told, Links.received_told, Links.unopened, Links.GivesReport, Links.GivesUpIn};
+ghost use Rattle.zirmegat.specs.{Calls.Answers, Calls.AnswersMade, Calls.AnswersRan, Calls.AnswersPut, Calls.AnswersQuit, Calls.Calls, Calls.Reads, Commands.given_in, Going.Quits, Links.link_of, Links.Moves, Links.BuildsOf, Links.CatchesUp, Links.GivesOut, Links.Leans, Links.RunsOf, Links.TakesBytes, Links.owed_told, Links.received_told, Links.unopened, Links.GivesUpIn};
 ghost use Rattle.dn_setup.specs.Settings.{bit};
 ghost use Rattle.dn_survivor.specs.{Calls.undecided_in, declared.answers.GivenUp.TheVariants.NotPlaying};
 ghost use Rattle.dn_link.specs.{Surviving.reports_gone, Linked.has_given_up, Linked.surviving_of};
@@ -103,9 +103,6 @@ pub extern "C" fn zmg_link_run(link: &mut LinkHandle, marks: &[i16; 4], row: &mu
     }, RanAnswer::of(Ran::NotPlaying))
 }
 
-/// The room that a sealed report needs at most.
-const MAX_REPORT: usize = 425;
-
 /// Gives up a player who vanished, for good: no datagram goes to it, and nothing of it is taken. The others
 /// play on once all of them have given it up and have told each other what they have of it; until then a run
 /// that lacks a command of it waits.
@@ -147,18 +144,4 @@ pub extern "C" fn zmg_link_undecided(link: &mut LinkHandle) -> Number
         },
         None => Number::of(None),
     }
-}
-
-/// Writes the report to a player, sealed, to the front of a room, and answers how many bytes it has, and 0
-/// where there is none. Where the room is below 425 bytes, it answers 0. The link stays as it is.
-#[unsafe(no_mangle)]
-pub extern "C" fn zmg_link_report(link: &mut LinkHandle, to: u8, out: &mut [u8]) -> usize
-    ensures given { 425 ≤ length out.old → Reads (link_of link.old) (link_of link.new)
-        (λ n. GivesReport to out.old out.new result n) ((result ≡ 0) × (out.new ≡ out.old)) }
-    ensures no_room { length out.old < 425 → (result ≡ 0) × (link.new ≡ link.old) × (out.new ≡ out.old) }
-{
-    if out.len() < MAX_REPORT {
-        return 0;
-    }
-    ask!(link, held => bytes::put(held.report_datagram(to), out), 0)
 }

@@ -73,21 +73,15 @@ fn codes_of_calls_have_their_names() {
     }
 }
 
-/// The number of a drop that a report alone has.
-const GIVEN_UP: &str = "GivenUp";
-
 #[test]
 fn drops_are_named_as_in_the_header() {
     let drops = codes("ZMG_DROP_");
-    assert!(drops.len() >= 15);
+    assert!(drops.len() >= 14);
     for (name, number) in &drops {
         let Heard::Dropped(dropped) = values::heard(coded(6, *number)) else {
             panic!("{name} is none");
         };
-        match dropped {
-            Dropped::Unknown(_) => assert_eq!(name, GIVEN_UP),
-            dropped => assert_eq!(format!("{dropped:?}"), *name),
-        }
+        assert_eq!(format!("{dropped:?}"), *name);
     }
     let next = drops.len() as u32 + 1;
     for number in [0, next].into_iter().chain(STRANGE) {
@@ -106,19 +100,17 @@ fn unopened_datagrams_are_named_as_in_the_header() {
         })
     };
     let faults: Vec<_> = codes("ZMG_BUNDLE_");
-    assert!(faults.len() >= 9);
+    assert!(faults.len() >= 8);
     for (name, number) in &faults {
         let Received::Unopened(fault) = of(2, *number) else {
             panic!("{name} is none");
         };
         assert_eq!(format!("{fault:?}"), *name);
-        assert_eq!(of(5, *number), Received::Unreported(fault));
     }
     let next = faults.len() as u32 + 1;
     for number in [0, next].into_iter().chain(STRANGE) {
         let fault = BundleError::Unknown(number);
         assert_eq!(of(2, number), Received::Unopened(fault));
-        assert_eq!(of(5, number), Received::Unreported(fault));
     }
 }
 

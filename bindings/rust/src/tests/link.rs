@@ -69,7 +69,7 @@ fn nodes(ahead: u8) -> (LinkNode<Sum>, LinkNode<Sum>) {
 }
 
 fn is_refused(received: Received) -> bool {
-    matches!(received, Received::Unopened(_) | Received::Unreported(_))
+    matches!(received, Received::Unopened(_))
 }
 
 /// Alters each bit of a datagram in turn, and cuts it at each place: none of them opens.
@@ -172,7 +172,7 @@ fn other_bytes_are_not_taken_in() {
         assert!(is_refused(other.receive(&altered)));
     }
     assert_eq!(
-        other.receive(&datagram[..59]),
+        other.receive(&datagram[..61]),
         Received::Unopened(BundleError::Short)
     );
     assert_eq!(
@@ -213,6 +213,8 @@ fn codes_of_links_have_their_names() {
     assert_eq!(of(0, 0), Received::Heard(3));
     assert_eq!(of(1, 0), Received::Stranger(3));
     assert_eq!(of(3, 0), Received::GivenUp(3));
+    assert_eq!(of(4, 0), Received::Excluded(3));
+    assert_eq!(of(5, 0), Received::Unknown(5));
     let reasons = [
         BundleError::Short,
         BundleError::Long,
@@ -222,13 +224,11 @@ fn codes_of_links_have_their_names() {
         BundleError::Receiver,
         BundleError::Tag,
         BundleError::Form,
-        BundleError::Sender,
-        BundleError::Unknown(10),
+        BundleError::Unknown(9),
     ];
     for (reason, unread) in (1..).zip(reasons) {
         assert_eq!(of(2, reason), Received::Unopened(unread));
     }
-    assert_eq!(of(5, 7), Received::Unreported(BundleError::Tag));
     assert_eq!(of(100, 0), Received::Unknown(100));
 }
 

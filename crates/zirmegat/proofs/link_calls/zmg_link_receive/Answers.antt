@@ -6,4 +6,4 @@ pub returns-in-Some : goal.returns-in-Some
 returns-in-Some c =
     told_lent joined_of c.args.link.now.link c.in-Some.held.now c.receive.new.self _ _ _ c.receive.result
     c.in-Some.ensures.live c.in-Some.ensures.value c.of.ensures
-    (c.receive.ensures.heard, c.receive.ensures.pace, c.receive.ensures.told, c.receive.ensures.seal)
+    (c.receive.ensures.heard, c.receive.ensures.pace, c.receive.ensures.seal)
