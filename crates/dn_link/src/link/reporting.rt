@@ -18,7 +18,7 @@ impl Link {
     ghost use Rattle.dn_survivor.specs.ReportBytes.{IsReadAs, IsReport};
     ghost use Rattle.dn_survivor.specs.declared.report.{Report.Report, ReportFault.ReportFault};
     ghost use Rattle.dn_link.specs.{Linked.TakesRead, Linked.exclusion, Linked.exclusion_for, Linked.report_beside, Linked.surviving_of, Linked.written, Linking.linked, Linking.seal_of};
-    ghost use Rattle.dn_link.specs.{Pacing.pace_of, Text.parts_bytes};
+    ghost use Rattle.dn_link.specs.{Pacing.pace_of, Text.IsBundle, Text.parts_bytes};
 
     /// The bytes of the report to a peer, if there is one, and room for it beside these parts.
     pub(super) fn report_beside(&self, to: u8, parts: &[Part]) -> ArrayVec<u8, MAX_REPORT>
@@ -73,7 +73,8 @@ impl Link {
     /// What a player is told who is given up: that it is, and no more. None to any other. It changes nothing
     /// there: the link answers `Excluded`.
     pub fn exclusion_datagram(&self, to: u8) -> Option<ArrayVec<u8, 1200>>
-        ensures { option_map (λ bytes. bytes.items) result ≡ exclusion_for (seal_of self.now) (linked self.now) to }
+        ensures sealed { option_map (λ bytes. bytes.items) result ≡ exclusion_for (seal_of self.now) (linked self.now) to }
+        ensures fits { IfSome result (λ bytes. IsBundle (exclusion (linked self.now) to)) }
     {
         if !self.is_peer(to) || !self.has_given_up(to) {
             return None;
