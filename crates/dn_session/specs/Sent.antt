@@ -1,8 +1,8 @@
 -- What a player's part sends, and where to.
-use Rattle.std.specs.Prelude.{⊤, ◌≡◌, ℕ, ◌&&◌, Bool, not, false, if◌then◌else◌, List, position, slice_index_or, slice_set, Option, Some, None, IfSome, is_some}
+use Rattle.std.specs.Prelude.{⊤, ◌≡◌, ℕ, ◌&&◌, Bool, not, false, if◌then◌else◌, List, position, slice_index_or, slice_set, Option, Some, None, IfSome, is_none, is_some}
 use Rattle.dn_lockstep.specs.{Sent.IsFair, Sent.sent_to, Steps.Tells}
 use Rattle.dn_link.specs.{Linked.Gives, Linked.Linked, Linked.exclusion, Linked.exclusion_for, Linked.has_given_up, Linked.is_peer, Linked.remains, Linking.linked, Linking.seal_of, Pacing.pace_of, Text.IsBundle}
-use Rattle.dn_session.specs.{Places.place_of, Players.four, Playing.KeepsGame, Playing.Playing, Playing.exclusion_of, declared.greeting.Address.Address, declared.part.sending.Transmit.Transmit}
+use Rattle.dn_session.specs.{Places.place_of, Players.four, Playing.KeepsGame, Playing.Playing, Playing.ended_as, Playing.exclusion_of, declared.greeting.Address.Address, declared.part.sending.Transmit.Transmit}
 
 -- bytes, and where they go to
 abbrev pub sent_of : Transmit → Address × List ℕ
@@ -12,10 +12,11 @@ sent_of transmit = (transmit.to, transmit.bytes.items)
 abbrev pub address_of : Playing → ℕ → Option Address
 address_of p player = (place_of player p.places).address
 
--- a datagram is owed to a player who remains, and it is known where that one is
+-- a datagram is owed to a player who remains, and it is known where that one is; and none by one whose game is over
 abbrev pub is_owed : Playing → ℕ → Bool
 is_owed p player =
-    slice_index_or p.owed player false && (remains (linked p.link) player && is_some (address_of p player))
+    slice_index_or p.owed player false && (is_none (ended_as p.progress)
+    && (remains (linked p.link) player && is_some (address_of p player)))
 
 -- the lowest to whom one is
 abbrev pub first_owed : Playing → Option ℕ

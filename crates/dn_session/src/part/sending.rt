@@ -32,12 +32,13 @@ impl Part {
     ghost use Rattle.dn_session.specs.Sent.{first_owed, first_owed_exclusion, is_owed, is_owed_exclusion, sent_of, Excludes, SendsNext, SendsTo};
     ghost use Rattle.dn_session.specs.Playing.{playing};
 
-    /// Whether a datagram is owed to a player.
+    /// Whether a datagram is owed to a player. One whose game is over owes none.
     fn is_owed(&self, player: u8) -> bool
         requires { player < 4 }
         ensures { result ≡ is_owed (playing self.now) player }
     {
         self.owed[player as usize]
+            && self.ending().is_none()
             && !is_gone_from(&self.link, player)
             && self.places.at(player).is_some()
     }
