@@ -278,13 +278,12 @@ typedef struct zmg_over {
     uint32_t number;
 } zmg_over;
 
-/* What has happened, each thing once. player: whose seat it is or who has gone, else 0. over: with
- * ZMG_EVENT_OVER. */
+/* What has happened, each thing once. player: whose seat it is, or who has left or is given up, else 0.
+ * over: with ZMG_EVENT_OVER. */
 typedef enum zmg_event_kind {
     ZMG_EVENT_NONE = 0,     /* nothing that was not told */
     ZMG_EVENT_SEATED = 1,   /* a joiner has the seat `player` */
-    ZMG_EVENT_UNSEATED = 2, /* it does not count on its seat any more. ZMG_EVENT_OVER follows, or it calls
-                             * again */
+    ZMG_EVENT_UNSEATED = 2, /* it may lose its seat. ZMG_EVENT_OVER follows, or it calls again */
     ZMG_EVENT_BEGAN = 3,    /* the game has begun: begin the world by the state's terms */
     ZMG_EVENT_LEFT = 4,     /* `player` has left, and all its commands are here. It may still be given up. Where
                              * all others have left, the session plays on alone until its player quits */
@@ -386,9 +385,9 @@ typedef struct zmg_seat {
 } zmg_seat;
 
 /* A player in the game. awaited: for how many milliseconds the game has waited for its command or its report
- * of who is gone, or 0. silent: for how many milliseconds nothing new of it came, by any way; of the own player
- * it means nothing. got: how many of its commands are here. end: the tic after its last one. line: of the own
- * player and before the game all 0. */
+ * of who is given up, or 0. silent: for how many milliseconds nothing new of it came, by any way; of the own
+ * player it means nothing. got: how many of its commands are here. end: the tic after its last one. line: of
+ * the own player and before the game all 0. */
 typedef enum zmg_standing {
     ZMG_STANDING_NONE = 0, /* the game has no such player, or has not begun */
     ZMG_STANDING_PLAYS = 1,
