@@ -1,17 +1,16 @@
 //! Laws: the parts of the players of one game have links of one game, whatever their sessions do.
 
 ghost use Rattle.std.specs.Prelude.{◌≡◌, ◌<◌, ℕ, ℤ, Bool, List, Option, None, Some, IfSome};
-ghost use Rattle.dn_tic.specs.declared.{command.Move.Move, input.Input.Input};
+ghost use Rattle.dn_tic.specs.{declared.command.Move.Move, declared.input.Input.Input};
 ghost use Rattle.dn_setup.specs.Settings.{Settings};
 ghost use Rattle.dn_machine.specs.{Limits.Limits, declared.answers.Ran.Ran};
-ghost use Rattle.dn_lockstep.specs.{Marking.Marking};
+ghost use Rattle.dn_lockstep.specs.Marking.{Marking};
 ghost use Rattle.dn_seal.specs.declared.seal.Seal.{Seal};
 ghost use Rattle.dn_survivor.specs.OneGame.{started_session, Session};
 ghost use Rattle.dn_link.specs.{Linked.surviving_of, Linking.linked, RemainingLinks.KeepsGiven};
-ghost use Rattle.dn_session.specs.declared.{greeting.Address.Address, side.Begun.Begun, terms.Terms.Terms};
+ghost use Rattle.dn_session.specs.{declared.greeting.Address.Address, declared.side.Begun.Begun, declared.terms.Terms.Terms, Playing.Playing, Playing.GivesUpBy, Playing.GivesWhen, Playing.HearsBytes};
+ghost use Rattle.dn_session.specs.{Playing.Polls, Playing.QuitsBy, Playing.RunsNext, Sent.SendsNext, Session.game_seal, Session.IsPartOf, Terms.IsTerms};
 ghost use Rattle.dn_session.specs.Parts.{limits_of, links_of, AreMarksOf, AreParts, GoOn, IsGenuineTo, WasSentIn};
-ghost use Rattle.dn_session.specs.Playing.{Playing, GivesUpBy, GivesWhen, HearsBytes, Polls, QuitsBy, RunsNext};
-ghost use Rattle.dn_session.specs.{Sent.SendsNext, Session.game_seal, Session.IsPartOf, Terms.IsTerms};
 
 use dn_link::{remaining_bytes_are_genuine, remaining_links_go_on, remaining_links_start};
 use dn_lockstep::windows_hold;
