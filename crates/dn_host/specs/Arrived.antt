@@ -1,10 +1,7 @@
 -- What came from each player, by what its link reports of the lines.
 use Rattle.std.specs.Prelude.{ℕ, ◌+◌, ◌&&◌, ◌^◌, ◌-◌, min, Bool, false, nat_lt, if◌then◌else◌, List, slice_index, slice_index_or, map, Option, Some, None, option_map}
-use Rattle.dn_link.specs.declared.tally.Figures.{Figures}
-use Rattle.dn_link.specs.Linked.{Linked, figures_of, is_peer}
-use Rattle.dn_link.specs.Pacing.{PaceState}
-use Rattle.dn_measure.specs.declared.arrivals.Arrivals.{Arrivals}
-use Rattle.dn_measure.specs.declared.status.PeerStatus.{PeerStatus}
+use Rattle.dn_link.specs.{declared.tally.Figures.Figures, Linked.Linked, Linked.figures_of, Linked.is_peer, Pacing.PaceState}
+use Rattle.dn_measure.specs.declared.{arrivals.Arrivals.Arrivals, status.PeerStatus.PeerStatus}
 use Rattle.dn_session.specs.Players.{four}
 
 -- what a link reports of the line of a player

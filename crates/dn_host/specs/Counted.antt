@@ -1,16 +1,10 @@
 -- What is counted of a game from its beginning on, and how it stands.
 use Rattle.std.specs.Prelude.{◌≡◌, ℕ, ◌-◌, List, [], ◌++◌, nat_lt, if◌then◌else◌, replicate, Option, None}
-use Rattle.dn_link.specs.Linked.{Linked}
-use Rattle.dn_link.specs.Pacing.{PaceState}
-use Rattle.dn_lockstep.specs.Contents.{Contents}
-use Rattle.dn_lockstep.specs.Tables.{count_of}
-use Rattle.dn_measure.specs.declared.measure.Told.{Told}
+use Rattle.dn_link.specs.{Linked.Linked, Pacing.PaceState}
+use Rattle.dn_lockstep.specs.{Contents.Contents, Tables.count_of}
+use Rattle.dn_measure.specs.{declared.measure.Told.Told, declared.status.Status.Status, Measure.IsMeasureOf, Runs.is_gap}
 use Rattle.dn_measure.specs.declared.measure.Told.TheVariants.{Built, Ran}
-use Rattle.dn_measure.specs.declared.status.Status.{Status}
-use Rattle.dn_measure.specs.Measure.{IsMeasureOf}
-use Rattle.dn_measure.specs.Runs.{is_gap}
-use Rattle.dn_host.specs.declared.counts.Counts.{Counts}
-use Rattle.dn_host.specs.Arrived.{figures_by, standings_in}
+use Rattle.dn_host.specs.{declared.counts.Counts.Counts, Arrived.figures_by, Arrived.standings_in}
 
 -- nothing was counted yet of a game that begins now
 pub record IsFresh (now : ℕ) (counts : Counts) : Type 0 where
@@ -39,14 +33,13 @@ pub record NotesMore (now : ℕ) (node : Contents) (old new : Counts) : Type 0 w
 -- the tics since they were last told, and in how long; for whom the next tic waits, if the time since the last one is
 -- a gap; and how the others stand
 abbrev pub status_at : Counts → Linked → PaceState → (waiting : Option ℕ) → (now : ℕ) → Status
-status_at counts link pace waiting now =
-    record {
-      tics = counts.ran - counts.shown;
-      micros = now - counts.since;
-      waiting = if is_gap (now - counts.moved) then waiting else None;
-      refused = pace.refused;
-      peers = standings_in (figures_by link pace) counts.late;
-    }
+status_at counts link pace waiting now = record {
+  tics = counts.ran - counts.shown;
+  micros = now - counts.since;
+  waiting = if is_gap (now - counts.moved) then waiting else None;
+  refused = pace.refused;
+  peers = standings_in (figures_by link pace) counts.late;
+}
 
 -- all tics are told now, and nothing else changes
 abbrev pub AreTold : ℕ → Counts → Counts → Type 0

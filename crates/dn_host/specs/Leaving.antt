@@ -1,15 +1,10 @@
 -- When a session's player leaves.
 use Rattle.std.specs.Prelude.{◌≡◌, ℕ, nat_le, if◌then◌else◌, Bool, true, false, Option, Some, None}
-use Rattle.dn_link.specs.Linked.{Linked}
-use Rattle.dn_link.specs.Linking.{linked}
+use Rattle.dn_link.specs.{Linked.Linked, Linking.linked}
 use Rattle.dn_measure.specs.declared.end.End.{End}
+use Rattle.dn_session.specs.{declared.part.Part.Part, Playing.is_giving, Playing.playing, Session.Meeting, Session.QuitsPart}
+use Rattle.dn_host.specs.{declared.game.Game.Game, Others.have_all_left, Others.others_end, Playing.millis}
 use Rattle.dn_measure.specs.declared.end.End.TheVariants as end
-use Rattle.dn_session.specs.declared.part.Part.{Part}
-use Rattle.dn_session.specs.Playing.{is_giving, playing}
-use Rattle.dn_session.specs.Session.{Meeting, QuitsPart}
-use Rattle.dn_host.specs.declared.game.Game.{Game}
-use Rattle.dn_host.specs.Others.{have_all_left, others_end}
-use Rattle.dn_host.specs.Playing.{millis}
 
 abbrev pub is_playing : Option Part → Bool
 is_playing None = false

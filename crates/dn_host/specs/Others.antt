@@ -2,8 +2,7 @@
 use Rattle.std.specs.Prelude.{ℕ, ◌==◌, ◌||◌, Bool, false, not, if◌then◌else◌, position, Option, Some, None, is_some}
 use Rattle.std.specs.List.{list_all}
 use Rattle.dn_link.specs.Linked.{Linked, end_known, is_peer}
-use Rattle.dn_measure.specs.declared.end.End.{End}
-use Rattle.dn_measure.specs.declared.end.End.TheVariants.{OthersLeft, FullAt, InconsistentAt}
+use Rattle.dn_measure.specs.declared.{end.End.End, end.End.TheVariants.OthersLeft, end.End.TheVariants.FullAt, end.End.TheVariants.InconsistentAt}
 use Rattle.dn_session.specs.Players.{four}
 
 -- the causes that a player gives who leaves, as their bytes: its demo was full; it found a world to be another

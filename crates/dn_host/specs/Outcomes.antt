@@ -1,30 +1,13 @@
 -- What is left of a session.
 use Rattle.std.specs.Prelude.{◌≡◌, ℕ, Bool, true, false, List, Option, Some, None, Ok, is_some, replicate, unwrap_or}
-use Rattle.dn_link.specs.declared.link.Link.{Link}
-use Rattle.dn_link.specs.Linking.{linked}
-use Rattle.dn_link.specs.Pacing.{pace_of}
-use Rattle.dn_measure.specs.declared.measure.Summary.{Summary}
-use Rattle.dn_measure.specs.declared.measure.Told.{Told}
-use Rattle.dn_measure.specs.Measure.{IsMeasureOf, IsSummaryOf}
-use Rattle.dn_session.specs.declared.ending.Over.{Over}
-use Rattle.dn_session.specs.declared.ending.Over.TheVariants as over
-use Rattle.dn_session.specs.declared.greeting.Address.{Address}
-use Rattle.dn_session.specs.declared.side.Begun.{Begun}
-use Rattle.dn_session.specs.Events.{over_in}
-use Rattle.dn_session.specs.declared.session.Session.{Session}
-use Rattle.dn_session.specs.Session.{begun_in, link_in, meeting, IsHostSession, IsJoinSession, Meeting}
-use Rattle.dn_host.specs.declared.ends.Ending.{Ending}
+use Rattle.dn_link.specs.{declared.link.Link.Link, Linking.linked, Pacing.pace_of}
+use Rattle.dn_measure.specs.{declared.measure.Summary.Summary, declared.measure.Told.Told, Measure.IsMeasureOf, Measure.IsSummaryOf}
+use Rattle.dn_session.specs.{Events.over_in, Session.begun_in, Session.link_in, Session.meeting, Session.IsHostSession, Session.IsJoinSession, Session.Meeting}
+use Rattle.dn_session.specs.declared.{ending.Over.Over, greeting.Address.Address, side.Begun.Begun, session.Session.Session}
+use Rattle.dn_host.specs.{Arrived.arrivals_by, Ends.end_of, Offers.program, Offers.terms_of, Summaries.IsSummaryBy, Turns.Scene, Turns.TakesTurns}
+use Rattle.dn_host.specs.declared.{ends.Ending.Ending, ends.Outcome.Outcome, game.Game.Game, guest.Guest.Guest, host.Hosting.Hosting, plan.Plan.Plan}
 use Rattle.dn_host.specs.declared.ends.Ending.TheVariants.{Ended, Refused, Hinted}
-use Rattle.dn_host.specs.declared.ends.Outcome.{Outcome}
-use Rattle.dn_host.specs.declared.game.Game.{Game}
-use Rattle.dn_host.specs.declared.guest.Guest.{Guest}
-use Rattle.dn_host.specs.declared.host.Hosting.{Hosting}
-use Rattle.dn_host.specs.declared.plan.Plan.{Plan}
-use Rattle.dn_host.specs.Arrived.{arrivals_by}
-use Rattle.dn_host.specs.Ends.{end_of}
-use Rattle.dn_host.specs.Offers.{program, terms_of}
-use Rattle.dn_host.specs.Summaries.{IsSummaryBy}
-use Rattle.dn_host.specs.Turns.{Scene, TakesTurns}
+use Rattle.dn_session.specs.declared.ending.Over.TheVariants as over
 
 -- the host gave no seat, or could not read the calls
 abbrev pub is_refusal : Ending → Bool

@@ -1,16 +1,8 @@
 -- What a session's player does in the game: how its game begins, and what is counted of it.
 use Rattle.std.specs.Prelude.{◌≡◌, ℕ, zero, ◌+◌, ◌*◌, ◌/◌, ◌-◌, ◌^◌, min, List, Option, Some, None, option_map}
-use Rattle.dn_link.specs.declared.tally.Figures.{Figures}
-use Rattle.dn_link.specs.declared.link.Link.{Link}
-use Rattle.dn_link.specs.Linking.{linked}
-use Rattle.dn_link.specs.Pacing.{pace_of}
-use Rattle.dn_session.specs.Playing.{playing}
-use Rattle.dn_session.specs.Session.{Meeting}
-use Rattle.dn_host.specs.declared.counts.Counts.{Counts}
-use Rattle.dn_host.specs.declared.game.Game.{Game}
-use Rattle.dn_host.specs.Arrived.{figures_by, late_in}
-use Rattle.dn_host.specs.Counted.{IsFresh, NotesMore}
-use Rattle.dn_host.specs.Walks.{begun_by}
+use Rattle.dn_link.specs.{declared.tally.Figures.Figures, declared.link.Link.Link, Linking.linked, Pacing.pace_of}
+use Rattle.dn_session.specs.Session.{link_in, Meeting}
+use Rattle.dn_host.specs.{declared.counts.Counts.Counts, declared.game.Game.Game, Arrived.figures_by, Arrived.late_in, Counted.IsFresh, Counted.NotesMore, Walks.begun_by}
 
 -- the milliseconds of a time; a session's clock has 32 bits
 abbrev pub millis : ℕ → ℕ
@@ -30,13 +22,9 @@ pub record IsBegun (link : Link) (seconds now : ℕ) (game : Game) : Type 0 wher
   pub left : game.left ≡ None
   pub end : game.end ≡ None
 
--- the link of a session, if it has one
-abbrev pub link_in : Meeting → Option Link
-link_in m = option_map (λ part. (playing part).link) m.part
-
 -- what a session's link reports of the lines, if it has one
 abbrev pub lines_in : Meeting → Option (List (Option Figures))
-lines_in m = option_map (λ link. figures_by (linked link) (pace_of link)) (link_in m)
+lines_in m = option_map (λ link. figures_by (linked link) (pace_of link)) (link_in m.part)
 
 -- what came to a session that was this and is that is counted, if it came late
 abbrev pub ComesIn : Meeting → Meeting → Game → Game → Type 0
@@ -49,4 +37,4 @@ NotesLink now None old new = new ≡ old
 NotesLink now (Some link) old new = NotesMore now (linked link).node old new
 
 abbrev pub NotesIn : ℕ → Meeting → Game → Game → Type 0
-NotesIn now m old new = NotesLink now (link_in m) old.counts new.counts × (new ≡ record old { counts = new.counts })
+NotesIn now m old new = NotesLink now (link_in m.part) old.counts new.counts × (new ≡ record old { counts = new.counts })

@@ -1,13 +1,8 @@
 -- What a summary says by itself, and of the link that was measured.
 use Rattle.std.specs.Prelude.{⊤, ◌≡◌, ◌≤◌, ◌<◌, ℕ, slice_index_or, Option, Some, None}
-use Rattle.dn_link.specs.declared.tally.Figures.{Figures}
-use Rattle.dn_link.specs.Linked.{Linked}
-use Rattle.dn_link.specs.Pacing.{PaceState}
-use Rattle.dn_measure.specs.declared.arrivals.Arrivals.{Arrivals}
-use Rattle.dn_measure.specs.declared.felt.Felt.{Felt}
+use Rattle.dn_link.specs.{declared.tally.Figures.Figures, Linked.Linked, Pacing.PaceState}
+use Rattle.dn_measure.specs.{declared.arrivals.Arrivals.Arrivals, declared.felt.Felt.Felt, declared.measure.Summary.Summary, Thresholds.longest_calm}
 use Rattle.dn_measure.specs.declared.felt.Felt.TheVariants.{Never, Within, Longer}
-use Rattle.dn_measure.specs.declared.measure.Summary.{Summary}
-use Rattle.dn_measure.specs.Thresholds.{longest_calm}
 use Rattle.dn_host.specs.Arrived.{figures_by_link}
 
 -- what came of a player in the game is at most what its line counts in all; it is told of each peer, and of nobody

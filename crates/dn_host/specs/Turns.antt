@@ -1,15 +1,10 @@
 -- What the turns of a session are: calls of the session and of its wire, and what its player does between them.
 use Rattle.std.specs.Prelude.{◌≡◌, ℕ, Bool, true, false, List, Option, Some, None, Ok}
 use Rattle.dn_link.specs.declared.link.Link.{Link}
-use Rattle.dn_session.specs.declared.greeting.Address.{Address}
-use Rattle.dn_session.specs.Reading.{is_greeting}
-use Rattle.dn_session.specs.Session.{link_in, meeting, Begins, HearsAny, Meeting, PassesTo, Sends}
-use Rattle.dn_host.specs.declared.game.Game.{Game}
-use Rattle.dn_host.specs.declared.turns.Turns.{Turns}
-use Rattle.dn_host.specs.Counted.{AreTold}
-use Rattle.dn_host.specs.Leaving.{Leaves}
-use Rattle.dn_host.specs.Playing.{millis, ComesIn, IsBegun, NotesIn}
-use Rattle.dn_host.specs.Walks.{GivesInput, RunsWalk}
+use Rattle.dn_session.specs.{declared.greeting.Address.Address, Reading.is_greeting, Session.link_in, Session.meeting, Session.Begins, Session.HearsAny, Session.Meeting, Session.PassesTo}
+use Rattle.dn_session.specs.{Session.Sends}
+use Rattle.dn_host.specs.{Counted.AreTold, Leaving.Leaves, Playing.millis, Playing.ComesIn, Playing.IsBegun, Playing.NotesIn, Walks.GivesInput, Walks.RunsWalk}
+use Rattle.dn_host.specs.declared.{game.Game.Game, turns.Turns.Turns}
 
 -- what its player does in the game at this time: it gives its input, runs a tic in its walk, leaves, and counts; one
 -- after the other, or nothing

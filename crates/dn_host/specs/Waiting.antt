@@ -1,11 +1,7 @@
 -- What the screen is told of a joiner that waits.
 use Rattle.std.specs.Prelude.{ℕ, ◌-◌, ◌&&◌, nat_le, if◌then◌else◌, Bool, true, false}
-use Rattle.dn_session.specs.declared.joiner.Joiner.{Joiner}
-use Rattle.dn_session.specs.declared.joiner.Stage.{Stage}
-use Rattle.dn_session.specs.declared.joiner.Stage.TheVariants.{Waiting}
-use Rattle.dn_session.specs.declared.side.Side.{Side}
-use Rattle.dn_session.specs.declared.side.Side.TheVariants.{Host, Joiner as Joins}
 use Rattle.dn_session.specs.Joining.{is_unanswered, joining}
+use Rattle.dn_session.specs.declared.{joiner.Joiner.Joiner, joiner.Stage.Stage, joiner.Stage.TheVariants.Waiting, side.Side.Side, side.Side.TheVariants.Host, side.Side.TheVariants.Joiner as Joins}
 use Rattle.dn_host.specs.declared.screen.Told.{Told}
 
 abbrev pub is_waiting : Stage → Bool

@@ -1,12 +1,9 @@
 -- How the walk of a player goes with its session: what the law of linked games asks of a world.
 use Rattle.std.specs.Prelude.{◌≡◌, ℕ, ℤ, Bool, true, false, List, [], ◌∷◌, Option, Some, None, is_some}
-use Rattle.dn_tic.specs.declared.command.Move.{Move}
-use Rattle.dn_tic.specs.declared.input.Input.TheVariants.{Pressed}
-use Rattle.dn_tic.specs.declared.keys.Keys.{Keys}
+use Rattle.dn_tic.specs.declared.{command.Move.Move, input.Input.TheVariants.Pressed, keys.Keys.Keys}
 use Rattle.dn_setup.specs.Settings.{Settings, start_of}
 use Rattle.dn_world.specs.Plane.{Spots, walking}
-use Rattle.dn_machine.specs.declared.answers.Ran.{Ran}
-use Rattle.dn_machine.specs.declared.answers.Ran.TheVariants.{Waiting}
+use Rattle.dn_machine.specs.declared.{answers.Ran.Ran, answers.Ran.TheVariants.Waiting}
 use Rattle.dn_lockstep.specs.Rows.{seats_of}
 use Rattle.dn_session.specs.Session.{Meeting, GivesPart, RunsPart}
 

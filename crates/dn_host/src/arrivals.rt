@@ -59,12 +59,9 @@ fn late_by(before: &Lines, after: &Lines, late: [u32; 4]) -> [u32; 4]
 pub(crate) fn late_in(before: &Option<Lines>, after: &Option<Lines>, late: [u32; 4]) -> [u32; 4]
     ensures { result ≡ late_in before.now after.now late }
 {
-    match before {
-        None => late,
-        Some(before) => match after {
-            None => late,
-            Some(after) => late_by(before, after, late),
-        },
+    match (before, after) {
+        (Some(before), Some(after)) => late_by(before, after, late),
+        _ => late,
     }
 }
 

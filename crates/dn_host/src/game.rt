@@ -50,10 +50,7 @@ fn end_of_play(now: u64, seconds: u32) -> u64
 fn lines_in(session: &Session) -> Option<Lines>
     ensures { result ≡ lines_in (meeting session.now) }
 {
-    match session.link() {
-        Some(link) => Some(lines_of(link)),
-        None => None,
-    }
+    Some(lines_of(session.link()?))
 }
 
 impl Game {

@@ -1,8 +1,7 @@
 //! Hosting a game.
 
 ghost use Rattle.std.specs.Prelude.{◌≡◌, ◌⊎◌, false, true, Err, IfErr, IfOk, is_some};
-ghost use Rattle.dn_host.specs.Offers.{terms_of, IsOffer};
-ghost use Rattle.dn_host.specs.Outcomes.{IsHosted, is_refusal};
+ghost use Rattle.dn_host.specs.{Offers.terms_of, Offers.IsOffer, Outcomes.IsHosted, Outcomes.is_refusal};
 ghost use Rattle.dn_host.specs.declared.ends.HostFault.TheVariants as fault;
 
 use crate::ends::{HostFault, Outcome};

@@ -2,7 +2,7 @@
 
 ghost use Rattle.std.specs.Prelude.{◌≡◌, ◌<◌, is_some, IfSome};
 ghost use Rattle.dn_link.specs.{Linked.end_known, Linked.is_peer, Linking.linked};
-ghost use Rattle.dn_host.specs.Others.{cause_of, have_all_left, is_gone, left_for, others_end};
+ghost use Rattle.dn_host.specs.Others.{have_all_left, is_gone, left_for, others_end};
 
 use dn_link::Link;
 use dn_measure::End;
@@ -28,18 +28,11 @@ fn has_ended(link: &Link, player: u8) -> bool
     link.lockstep().end(player).is_some()
 }
 
-/// Whether a player said that it left.
-fn has_left(link: &Link, player: u8) -> bool
-    ensures { result ≡ is_some (cause_of (linked link.now) player) }
-{
-    link.left(player).is_some()
-}
-
 /// Whether no other player has a number, or that player has left.
 fn is_gone(link: &Link, player: u8) -> bool
     ensures { result ≡ is_gone (linked link.now) player }
 {
-    !is_peer(link, player) || has_ended(link, player) || has_left(link, player)
+    !is_peer(link, player) || has_ended(link, player) || link.left(player).is_some()
 }
 
 /// Whether all other players have left.

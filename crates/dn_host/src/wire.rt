@@ -1,11 +1,9 @@
 //! What carries datagrams, and a wire over UDP.
 
 ghost use Rattle.std.specs.Prelude.{◌≤◌, ⊤, length, take, drop, if◌then◌else◌, IfSome, ◌≡◌, ℕ, List, Option, map, option_map, true, is_some};
-ghost use Rattle.std.specs.Net.Addr.{ipv4_octets};
+ghost use Rattle.std.specs.{Net.Addr.ipv4_octets, Int.to_be_bytes, Int.w16, declared.net.socket_addr.SocketAddr.SocketAddr as AnySocket};
 ghost use Rattle.dn_host.specs.Addresses.{address_at, address_of, ip_bytes, mapped, own_places};
-ghost use Rattle.std.specs.Int.{to_be_bytes, w16};
 ghost use Rattle.dn_session.specs.declared.greeting.Address.{Address as Place};
-ghost use Rattle.std.specs.declared.net.socket_addr.SocketAddr.{SocketAddr as AnySocket};
 
 use dn_session::Address;
 use std::io;

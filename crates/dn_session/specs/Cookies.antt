@@ -1,9 +1,7 @@
 -- The number of a session, the cookies of a host, and the number of its game.
-use Rattle.std.specs.Prelude.{ℕ, ◌+◌, ◌&&◌, ◌++◌, Bool, nat_le, List, take, codes}
-use Rattle.std.specs.List.{concat}
-use Rattle.std.specs.Int.{w32, to_le_bytes, from_le_bytes}
-use Rattle.std.specs.Str.{bytes_eq}
-use Rattle.dn_seal.specs.{Hmac.hmac, Hmac.tag_of}
+use Rattle.std.specs.Prelude.{ℕ, ◌+◌, ◌&&◌, ◌++◌, Bool, false, nat_le, List, take, codes, Option, Some, None}
+use Rattle.std.specs.{List.concat, Int.w32, Int.to_le_bytes, Int.from_le_bytes, Str.bytes_eq}
+use Rattle.dn_seal.specs.Hmac.{hmac, tag_of}
 use Rattle.dn_session.specs.{Terms.terms_bytes, declared.greeting.Address.Address, declared.terms.Terms.Terms}
 
 unfoldable pub number_label : List ℕ
@@ -23,6 +21,11 @@ cookie_of random address time =
 -- the time that a cookie tells
 abbrev pub time_of : List ℕ → ℕ
 time_of cookie = from_le_bytes w32 (take 4 cookie)
+
+-- there is one, and this is so of it
+abbrev pub is_one : {T : Type 0} → (T → Bool) → Option T → Bool
+is_one is None = false
+is_one is (Some x) = is x
 
 -- a sign of life is two seconds old at most
 abbrev pub fresh_for : ℕ

@@ -1,13 +1,12 @@
 -- How a game ends for a player, whom it gives up under a policy, and how it leaves.
 use Rattle.std.specs.Prelude.{ℕ, ◌-◌, ◌*◌, ◌==◌, ◌&&◌, ◌||◌, Bool, true, false, nat_le, if◌then◌else◌, Option, Some, None}
-use Rattle.std.specs.List.{list_all}
-use Rattle.std.specs.Option.{option_map, option_or}
-use Rattle.dn_machine.specs.declared.answers.Cause.TheVariants as cause
+use Rattle.std.specs.{List.list_all, Option.option_map, Option.option_or}
 use Rattle.dn_machine.specs.declared.answers.Phase.{Phase}
+use Rattle.dn_link.specs.Linked.{Linked, needs_nothing}
+use Rattle.dn_session.specs.{Cookies.is_one, Lead.due, Lead.highest, Lead.is_given_up, Lead.is_late, Lead.is_open, Lead.is_there, Lead.lead, Players.four, Players.has_gone, Players.is_abandoned}
+use Rattle.dn_session.specs.declared.{ending.Ending.Ending, ending.Progress.Progress, lead.View.View, terms.Policy.Policy}
+use Rattle.dn_machine.specs.declared.answers.Cause.TheVariants as cause
 use Rattle.dn_machine.specs.declared.answers.Phase.TheVariants as phase
-use Rattle.dn_link.specs.{Linked.Linked, Linked.needs_nothing}
-use Rattle.dn_session.specs.{Lead.due, Lead.highest, Lead.is_given_up, Lead.is_late, Lead.is_open, Lead.is_there, Lead.lead, Players.four, Players.has_gone, Players.is_abandoned}
-use Rattle.dn_session.specs.{declared.ending.Ending.Ending, declared.ending.Progress.Progress, declared.lead.View.View, declared.terms.Policy.Policy}
 use Rattle.dn_session.specs.declared.ending.Ending.TheVariants as ending
 use Rattle.dn_session.specs.declared.ending.Progress.TheVariants as progress
 use Rattle.dn_session.specs.declared.terms.Policy.TheVariants as policy
@@ -74,14 +73,9 @@ abbrev pub free_since : Bool → Option ℕ → ℕ → Option ℕ
 free_since is_unneeded (Some free) now = Some free
 free_since is_unneeded None now = if is_unneeded then Some now else None
 
--- that was at least two seconds ago
-abbrev pub has_waited : Option ℕ → ℕ → Bool
-has_waited None now = false
-has_waited (Some free) now = nat_le 2000 (now - free)
-
 -- who leaves goes on for two seconds once nobody needs it, and for ten at most
 abbrev pub waits : Bool → Ending → ℕ → Option ℕ → ℕ → Progress
 waits is_unneeded ending since free now =
-    if has_waited (free_since is_unneeded free now) now || nat_le 10000 (now - since)
+    if is_one (λ free. nat_le 2000 (now - free)) (free_since is_unneeded free now) || nat_le 10000 (now - since)
     then progress.Over ending
     else progress.Leaving ending since (free_since is_unneeded free now)

@@ -1,14 +1,12 @@
 -- The host's lobby: who gets which seat, and when the game begins.
 use Rattle.std.specs.Prelude.{◌≡◌, ◌≤◌, ◌<◌, ◌⊎◌, ℕ, ◌+◌, ◌-◌, ◌==◌, ◌||◌, Bool, not, false, nat_le, if◌then◌else◌, List, [], ◌∷◌, length, map, max, position, slice_index_or, slice_set, Option, Some, None, option_map, Result, Ok, Err}
-use Rattle.std.specs.List.{list_all, list_any}
-use Rattle.std.specs.Str.{bytes_eq}
+use Rattle.std.specs.{List.list_all, List.list_any, Str.bytes_eq}
 use Rattle.dn_seal.specs.declared.seal.Seal.{Seal}
-use Rattle.dn_session.specs.{Cookies.cookie_of, Cookies.game_of, Cookies.is_good, Cookies.session_number, Cookies.time_of, Reading.IsCallIn, Reading.IsRefusedIn, Reading.IsSeatingIn, Seats.is_of}
+use Rattle.dn_session.specs.{Cookies.cookie_of, Cookies.game_of, Cookies.is_good, Cookies.is_one, Cookies.session_number, Cookies.time_of, Reading.IsCallIn, Reading.IsRefusedIn, Reading.IsSeatingIn, Seats.is_of}
 use Rattle.dn_session.specs.{Seats.is_ready, Seats.number_in, Seats.seat_for, Seats.seat_of, Seats.shown_at, Seats.taken_again, Seats.taken_by, Terms.IsTerms, Terms.terms_fault, Text.IsHolder}
-use Rattle.dn_session.specs.{Text.greeting_bytes, Text.greeting_seal, Text.hinted_bytes, Text.refused_rest, Text.seating_rest, Text.told_number, declared.greeting.Address.Address}
-use Rattle.dn_session.specs.{declared.greeting.Call.Call, declared.greeting.GreetingFault.GreetingFault, declared.greeting.Hint.Hint, declared.greeting.Refusal.Refusal}
-use Rattle.dn_session.specs.{declared.greeting.Refused.Refused, declared.greeting.Seating.Seating, declared.host.Host.Host, declared.host.HostConfig.HostConfig, declared.seats.Seat.Seat}
-use Rattle.dn_session.specs.{declared.terms.LobbyFault.LobbyFault, declared.terms.Terms.Terms}
+use Rattle.dn_session.specs.{Text.greeting_bytes, Text.greeting_seal, Text.hinted_bytes, Text.refused_rest, Text.seating_rest, Text.told_number}
+use Rattle.dn_session.specs.declared.{greeting.Address.Address, greeting.Call.Call, greeting.GreetingFault.GreetingFault, greeting.Hint.Hint, greeting.Refusal.Refusal, greeting.Refused.Refused}
+use Rattle.dn_session.specs.declared.{greeting.Seating.Seating, host.Host.Host, host.HostConfig.HostConfig, seats.Seat.Seat, terms.LobbyFault.LobbyFault, terms.Terms.Terms}
 use Rattle.dn_session.specs.declared.greeting.GreetingFault.TheVariants as fault
 use Rattle.dn_session.specs.declared.greeting.Hint.TheVariants as hint
 use Rattle.dn_session.specs.declared.greeting.Refusal.TheVariants as refusal
@@ -29,33 +27,31 @@ pub record Lobby : Type 0 where
   pub begun : Bool
 
 abbrev pub lobby : Host → Lobby
-lobby host =
-    record {
-      seal = host.sealer.seal;
-      random = host.random;
-      number = host.number;
-      name = host.name;
-      terms = host.terms;
-      seats = host.seats;
-      filled = host.filled;
-      kicked = host.kicked;
-      begun = host.begun;
-    }
+lobby host = record {
+  seal = host.sealer.seal;
+  random = host.random;
+  number = host.number;
+  name = host.name;
+  terms = host.terms;
+  seats = host.seats;
+  filled = host.filled;
+  kicked = host.kicked;
+  begun = host.begun;
+}
 
 -- each seat of the game is free, and nobody was turned away
 abbrev pub new_lobby : HostConfig → Lobby
-new_lobby config =
-    record {
-      seal = greeting_seal config.secret;
-      random = config.random;
-      number = session_number config.random;
-      name = config.name;
-      terms = config.terms;
-      seats = map (seat_for config.terms.players) (1 ∷ 2 ∷ 3 ∷ []);
-      filled = 0;
-      kicked = None ∷ None ∷ None ∷ [];
-      begun = false;
-    }
+new_lobby config = record {
+  seal = greeting_seal config.secret;
+  random = config.random;
+  number = session_number config.random;
+  name = config.name;
+  terms = config.terms;
+  seats = map (seat_for config.terms.players) (1 ∷ 2 ∷ 3 ∷ []);
+  filled = 0;
+  kicked = None ∷ None ∷ None ∷ [];
+  begun = false;
+}
 
 -- a host is made with terms that a game may have, and else refused for the first that it may not have
 abbrev pub IsHostOf : HostConfig → Result Host LobbyFault → Type 0
@@ -99,18 +95,17 @@ game_told l = if l.begun then Some (game l) else None
 
 -- what one who has a seat is told
 abbrev pub seating_to : Address → Call → ℕ → ℕ → Lobby → Seating
-seating_to from call now n l =
-    record {
-      number = call.number;
-      count = call.count;
-      cookie = cookie_of l.random from now;
-      host = l.number;
-      name = l.name;
-      seat = n + 1;
-      begun = l.begun;
-      terms = l.terms;
-      seats = map (shown_at now) l.seats;
-    }
+seating_to from call now n l = record {
+  number = call.number;
+  count = call.count;
+  cookie = cookie_of l.random from now;
+  host = l.number;
+  name = l.name;
+  seat = n + 1;
+  begun = l.begun;
+  terms = l.terms;
+  seats = map (shown_at now) l.seats;
+}
 
 -- the bytes of that
 abbrev pub seating : Address → Call → ℕ → ℕ → Lobby → List ℕ
@@ -118,13 +113,12 @@ seating from call now n l = greeting_bytes l.seal 2 (seating_rest (seating_to fr
 
 -- and what one who has none is told
 abbrev pub refused_to : Address → Call → ℕ → Refusal → Lobby → Refused
-refused_to from call now why l =
-    record {
-      number = call.number;
-      count = call.count;
-      cookie = cookie_of l.random from now;
-      refusal = why;
-    }
+refused_to from call now why l = record {
+  number = call.number;
+  count = call.count;
+  cookie = cookie_of l.random from now;
+  refusal = why;
+}
 
 abbrev pub refused : Address → Call → ℕ → Refusal → Lobby → List ℕ
 refused from call now why l = greeting_bytes l.seal 3 (refused_rest (refused_to from call now why l))
@@ -156,28 +150,14 @@ on_player from call now (Some n) l =
     seated from call now n (taken_again from now (time_of call.cookie) (slice_index_or l.seats n seat.Absent)) l
 on_player from call now None l = on_newcomer from call now (seat_of call.seat now l.seats) l
 
-abbrev pub asks_for_other : Option ℕ → ℕ → Bool
-asks_for_other None players = false
-asks_for_other (Some asked) players = not (asked == players)
-
--- it is of this number
-abbrev pub is_number : List ℕ → Option (List ℕ) → Bool
-is_number number None = false
-is_number number (Some kicked) = bytes_eq number kicked
-
--- a seat is wanted that a game of so many does not have
-abbrev pub wants_beyond : Option ℕ → ℕ → Bool
-wants_beyond None players = false
-wants_beyond (Some wish) players = nat_le players wish
-
 -- why nobody who makes this call may play, if there is a reason: another number of players is asked for or a seat
 -- that the game does not have, the identity is another, or the session was turned away
 abbrev pub bar : Call → Lobby → Option Refusal
 bar call l =
-    if asks_for_other call.players l.terms.players || wants_beyond call.seat l.terms.players
+    if is_one (λ asked. not (asked == l.terms.players)) call.players || is_one (nat_le l.terms.players) call.seat
     then Some (refusal.Players l.terms.players) else (
     if not (bytes_eq call.identity l.terms.identity) then Some refusal.Identity else (
-    if list_any (is_number call.number) l.kicked then Some refusal.Kicked else None))
+    if list_any (is_one (bytes_eq call.number)) l.kicked then Some refusal.Kicked else None))
 
 abbrev pub unless_barred : Address → Call → ℕ → Option Refusal → Lobby → Lobby × List ℕ
 unless_barred from call now (Some why) l = (l, refused from call now why l)
@@ -238,11 +218,10 @@ IsReadReply from call now l bytes =
 -- a session that holds a seat is turned away
 abbrev pub kicked_from : Option ℕ → List ℕ → Lobby → Lobby
 kicked_from None number l = l
-kicked_from (Some n) number l =
-    record l {
-      seats = slice_set l.seats n seat.Free;
-      kicked = slice_set l.kicked n (Some number);
-    }
+kicked_from (Some n) number l = record l {
+  seats = slice_set l.seats n seat.Free;
+  kicked = slice_set l.kicked n (Some number);
+}
 
 -- but not from a game that has begun
 abbrev pub kicked : List ℕ → Lobby → Lobby

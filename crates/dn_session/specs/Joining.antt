@@ -1,6 +1,6 @@
 -- A joiner: when it calls, and what it makes of replies.
 use Rattle.std.specs.Prelude.{◌≡◌, ℕ, ◌+◌, ◌-◌, min, ◌==◌, ◌&&◌, ◌||◌, Bool, not, true, false, nat_le, nat_lt, if◌then◌else◌, List, map, slice_index_or, Option, Some, None, Result, Ok, Err, replicate}
-use Rattle.std.specs.Str.{bytes_eq}
+use Rattle.std.specs.{Option.option_or, Str.bytes_eq}
 use Rattle.dn_seal.specs.declared.seal.Seal.{Seal}
 use Rattle.dn_session.specs.{Cookies.game_of, Cookies.is_recent, Cookies.session_number, Reading.IsHintedIn, Reading.IsRefusedIn, Reading.IsSeatingIn, Text.call_rest, Text.greeting_bytes}
 use Rattle.dn_session.specs.{Text.greeting_seal, Text.join_fault, declared.greeting.Address.Address, declared.greeting.Call.Call, declared.greeting.GreetingFault.GreetingFault}
@@ -28,40 +28,38 @@ pub record Joining : Type 0 where
   pub hinted : Option (Hint × ℕ)
 
 abbrev pub joining : Joiner → Joining
-joining joiner =
-    record {
-      seal = joiner.sealer.seal;
-      number = joiner.number;
-      config = joiner.config;
-      calls = joiner.calls;
-      answered = joiner.answered;
-      cookie = joiner.cookie;
-      seating = joiner.seating;
-      stage = joiner.stage;
-      called = joiner.called;
-      heard = joiner.heard;
-      retried = joiner.retried;
-      retry_now = joiner.retry_now;
-      hinted = joiner.hinted;
-    }
+joining joiner = record {
+  seal = joiner.sealer.seal;
+  number = joiner.number;
+  config = joiner.config;
+  calls = joiner.calls;
+  answered = joiner.answered;
+  cookie = joiner.cookie;
+  seating = joiner.seating;
+  stage = joiner.stage;
+  called = joiner.called;
+  heard = joiner.heard;
+  retried = joiner.retried;
+  retry_now = joiner.retry_now;
+  hinted = joiner.hinted;
+}
 
 abbrev pub new_joining : JoinConfig → ℕ → Joining
-new_joining config now =
-    record {
-      seal = greeting_seal config.secret;
-      number = session_number config.random;
-      config = config;
-      calls = 0;
-      answered = 0;
-      cookie = replicate 16 0;
-      seating = None;
-      stage = stage.Calling;
-      called = now;
-      heard = now;
-      retried = None;
-      retry_now = false;
-      hinted = None;
-    }
+new_joining config now = record {
+  seal = greeting_seal config.secret;
+  number = session_number config.random;
+  config = config;
+  calls = 0;
+  answered = 0;
+  cookie = replicate 16 0;
+  seating = None;
+  stage = stage.Calling;
+  called = now;
+  heard = now;
+  retried = None;
+  retry_now = false;
+  hinted = None;
+}
 
 -- a joiner is made of a configuration without a fault, and else refused for the first
 abbrev pub IsJoinerOf : JoinConfig → ℕ → Result Joiner LobbyFault → Type 0
@@ -101,26 +99,24 @@ is_due now j =
 
 -- the call of that number
 abbrev pub call_of : Joining → Call
-call_of j =
-    record {
-      number = j.number;
-      count = j.calls;
-      cookie = j.cookie;
-      seat = j.config.seat;
-      players = j.config.players;
-      identity = j.config.identity;
-      name = j.config.name;
-    }
+call_of j = record {
+  number = j.number;
+  count = j.calls;
+  cookie = j.cookie;
+  seat = j.config.seat;
+  players = j.config.players;
+  identity = j.config.identity;
+  name = j.config.name;
+}
 
 -- one more call; the count stops at the largest number of 32 bits
 abbrev pub called : ℕ → Joining → Joining
-called now j =
-    record j {
-      calls = min (j.calls + 1) 4294967295;
-      called = now;
-      retried = if j.retry_now then Some now else j.retried;
-      retry_now = false;
-    }
+called now j = record j {
+  calls = min (j.calls + 1) 4294967295;
+  called = now;
+  retried = if j.retry_now then Some now else j.retried;
+  retry_now = false;
+}
 
 -- a hint after which nothing was answered for three seconds ends it
 abbrev pub given_up_by : ℕ → Option (Hint × ℕ) → Joining → Joining
@@ -226,13 +222,9 @@ on_refused r now j =
     else j
 
 -- a hint, for which nobody vouches, is noted where it is the first since the newest answer
-abbrev pub noted : Hint → ℕ → Option (Hint × ℕ) → Option (Hint × ℕ)
-noted hint now None = Some (hint, now)
-noted hint now (Some first) = Some first
-
 abbrev pub on_hinted : Hinted → ℕ → Joining → Joining
 on_hinted h now j =
-    if bytes_eq h.number j.number then record j { hinted = noted h.hint now j.hinted } else j
+    if bytes_eq h.number j.number then record j { hinted = option_or j.hinted (Some (h.hint, now)) } else j
 
 -- bytes are at most one of the three
 abbrev pub on_reply : Result Seating GreetingFault → Result Refused GreetingFault → Result Hinted GreetingFault

@@ -35,7 +35,6 @@ place_of player places = slice_index_or places.at player (record { address = Non
 
 -- a datagram of a player came from this address
 abbrev pub heard_at : ℕ → Address → ℕ → Bool → Bool → Places → Places
-heard_at player from now is_new is_recent places =
-    record {
-      at = slice_set places.at player (heard_from from now is_new is_recent (place_of player places));
-    }
+heard_at player from now is_new is_recent places = record {
+  at = slice_set places.at player (heard_from from now is_new is_recent (place_of player places));
+}

@@ -2,12 +2,12 @@
 use Rattle.std.specs.Prelude.{ℕ, ◌==◌, ◌&&◌, ◌||◌, Bool, not, true, false, nat_le, nat_lt, if◌then◌else◌, List, [], ◌∷◌, map, slice_index_or, Option, Some, None}
 use Rattle.std.specs.List.{list_any, list_all}
 use Rattle.dn_machine.specs.declared.answers.Phase.{Phase}
-use Rattle.dn_machine.specs.declared.answers.Phase.TheVariants as phase
 use Rattle.dn_lockstep.specs.{Contents.Contents, Told.got, Told.made}
 use Rattle.dn_survivor.specs.Calls.{awaits_report_of}
 use Rattle.dn_link.specs.{Linked.Linked, Linked.end_known, Linked.has_given_up, Linked.remains, Linked.surviving_of, Surviving.reports_gone}
-use Rattle.dn_session.specs.{Watch.silence, Watch.stalled, declared.lead.Seen.Seen, declared.lead.Standing.Standing, declared.lead.Standing.TheVariants.Closed, declared.lead.Standing.TheVariants.Gone}
-use Rattle.dn_session.specs.{declared.lead.Standing.TheVariants.Open, declared.lead.View.View, declared.watch.Watch.Watch}
+use Rattle.dn_session.specs.{Cookies.is_one, Watch.silence, Watch.stalled, declared.lead.Seen.Seen, declared.lead.Standing.Standing, declared.lead.View.View, declared.watch.Watch.Watch}
+use Rattle.dn_session.specs.declared.lead.Standing.TheVariants.{Closed, Gone, Open}
+use Rattle.dn_machine.specs.declared.answers.Phase.TheVariants as phase
 
 abbrev pub four : List ℕ
 four = 0 ∷ 1 ∷ 2 ∷ 3 ∷ []
@@ -54,14 +54,10 @@ lacks n player = nat_lt n.ran (made n) && nat_le (count_in n player) n.ran
 abbrev pub has_gone : Linked → Bool
 has_gone link = list_any (has_given_up link) four
 
-abbrev pub is_it : ℕ → Option ℕ → Bool
-is_it player None = false
-is_it player (Some other) = player == other
-
 -- then reports of all others are needed. They are awaited one by one, the lowest first; and where all are there, and
 -- cannot be true, a better one is
 abbrev pub owes_report : Linked → ℕ → Bool
-owes_report link player = is_it player (awaits_report_of (surviving_of link))
+owes_report link player = is_one (λ other. player == other) (awaits_report_of (surviving_of link))
 
 -- a command or a report of another is awaited, who is not given up
 abbrev pub is_awaited : Linked → ℕ → Bool
@@ -79,22 +75,20 @@ names_by link excluders player other =
 
 -- one is awaited since no tic was run and nobody went: the next command of each is that of the next tic
 abbrev pub seen_of : Linked → List Bool → Watch → ℕ → ℕ → Seen
-seen_of link excluders watch now player =
-    record {
-      standing = standing_of link player;
-      awaited = if is_awaited link player then stalled now watch else 0;
-      owes_report = owes_report link player;
-      silent = silence player now watch;
-      names = map (names_by link excluders player) four;
-    }
+seen_of link excluders watch now player = record {
+  standing = standing_of link player;
+  awaited = if is_awaited link player then stalled now watch else 0;
+  owes_report = owes_report link player;
+  silent = silence player now watch;
+  names = map (names_by link excluders player) four;
+}
 
 abbrev pub view_of : Linked → List Bool → Watch → ℕ → View
-view_of link excluders watch now =
-    record {
-      me = link.node.me;
-      players = map (seen_of link excluders watch now) four;
-      stalled = stalled now watch;
-    }
+view_of link excluders watch now = record {
+  me = link.node.me;
+  players = map (seen_of link excluders watch now) four;
+  stalled = stalled now watch;
+}
 
 -- all others are given up
 abbrev pub is_abandoned : Linked → Bool

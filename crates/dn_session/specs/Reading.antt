@@ -2,11 +2,9 @@
 use Rattle.std.specs.Prelude.{◌≡◌, ◌≢◌, ◌⊎◌, ℕ, ◌==◌, Bool, not, nat_lt, if◌then◌else◌, List, length, take, drop, slice_index, Option, Some, None, Result, Ok, Err}
 use Rattle.std.specs.Str.{bytes_eq}
 use Rattle.dn_seal.specs.{Hmac.suite_byte, Hmac.tag_of, Opening.told_body, Opening.told_tag, declared.seal.Seal.Seal}
-use Rattle.dn_session.specs.{Rests.calls, Rests.refusals, Rests.seatings, Text.IsHinted, Text.greeting_bytes, Text.hinted_bytes, Text.kind_bytes, declared.greeting.Call.Call}
-use Rattle.dn_session.specs.{declared.greeting.GreetingFault.GreetingFault, declared.greeting.GreetingFault.TheVariants.Form, declared.greeting.GreetingFault.TheVariants.Kind}
-use Rattle.dn_session.specs.{declared.greeting.GreetingFault.TheVariants.Length, declared.greeting.GreetingFault.TheVariants.Short, declared.greeting.GreetingFault.TheVariants.Suite}
-use Rattle.dn_session.specs.{declared.greeting.GreetingFault.TheVariants.Tag, declared.greeting.GreetingFault.TheVariants.Version, declared.greeting.GreetingFault.TheVariants.What}
-use Rattle.dn_session.specs.{declared.greeting.Hinted.Hinted, declared.greeting.Refused.Refused, declared.greeting.Seating.Seating}
+use Rattle.dn_session.specs.{Rests.calls, Rests.refusals, Rests.seatings, Text.IsHinted, Text.greeting_bytes, Text.hinted_bytes, Text.kind_bytes}
+use Rattle.dn_session.specs.declared.{greeting.Call.Call, greeting.GreetingFault.GreetingFault, greeting.Hinted.Hinted, greeting.Refused.Refused, greeting.Seating.Seating}
+use Rattle.dn_session.specs.declared.greeting.GreetingFault.TheVariants.{Form, Kind, Length, Short, Suite, Tag, Version, What}
 
 -- bytes have the kind and the name of greetings
 abbrev pub is_greeting : List ℕ → Bool

@@ -2,21 +2,21 @@
 use Rattle.std.specs.Prelude.{⊤, ◌≡◌, ℕ, ℤ, if◌then◌else◌, Bool, true, false, is_some, List, map, replicate, Option, Some, None, Result, Ok, Err}
 use Rattle.std.specs.Option.{option_map, option_or}
 use Rattle.dn_seal.specs.{Hmac.no_secret, Sealing.sealed_with, declared.seal.Seal.Seal}
-use Rattle.dn_seal.specs.declared.seal.Suite.TheVariants as suite
 use Rattle.dn_machine.specs.{Started.started_node, declared.answers.Ran.Ran}
-use Rattle.dn_machine.specs.declared.answers.Ran.TheVariants as ran
-use Rattle.dn_tic.specs.{declared.command.Move.Move, declared.input.Input.Input}
-use Rattle.dn_lockstep.specs.{Contents.whose, Opening.IsAdmittedWithin, Opening.keyed, Opening.limits_within, Opening.whose_within, Represents.Represents, declared.config.Config.Config}
-use Rattle.dn_lockstep.specs.declared.config.NodeFault.{NodeFault}
+use Rattle.dn_tic.specs.declared.{command.Move.Move, input.Input.Input}
+use Rattle.dn_lockstep.specs.{Contents.whose, Opening.IsAdmittedWithin, Opening.keyed, Opening.limits_within, Opening.whose_within, Represents.Represents}
+use Rattle.dn_lockstep.specs.declared.{config.Config.Config, config.NodeFault.NodeFault}
 use Rattle.dn_survivor.specs.OfOthers.{nothing_kept}
 use Rattle.dn_link.specs.{Linking.linked, Linking.new_peer, Linking.seal_of, Pacing.new_pace, Pacing.pace_of, declared.link.Link.Link}
 use Rattle.dn_session.specs.{Events.none_announced, Hosting.HearsCall, Hosting.IsHostOf, Hosting.Lobby, Hosting.game_told, Hosting.holder_of, Hosting.kicked, Hosting.lobby, Joining.HearsHost}
 use Rattle.dn_session.specs.{Joining.IsJoinerOf, Joining.Joining, Joining.game_now, Joining.is_heard, Joining.joining, Joining.on_time, Places.places_of, Playing.GivesUpBy, Playing.GivesWhen}
 use Rattle.dn_session.specs.{Playing.HearsBytes, Playing.Playing, Playing.Polls, Playing.QuitsBy, Playing.RunsNext, Playing.given_up_at, Playing.may_give, Playing.owes_nobody, Playing.playing}
-use Rattle.dn_session.specs.{Reading.is_greeting, Sent.SendsNext, Sent.sent_of, Ticks.new_ticks, Watch.new_watch, declared.event.Announced.Announced, declared.greeting.Address.Address}
-use Rattle.dn_session.specs.{declared.greeting.Seating.Seating, declared.greeting.Shown.Shown, declared.host.Host.Host, declared.host.HostConfig.HostConfig, declared.joiner.JoinConfig.JoinConfig}
-use Rattle.dn_session.specs.{declared.joiner.Joiner.Joiner, declared.part.Part.Part, declared.seats.Seat.Seat, declared.session.Session.Session, declared.side.Begun.Begun, declared.side.Side.Side}
-use Rattle.dn_session.specs.declared.terms.LobbyFault.{LobbyFault}
+use Rattle.dn_session.specs.{Reading.is_greeting, Sent.SendsNext, Sent.sent_of, Ticks.new_ticks, Watch.new_watch}
+use Rattle.dn_session.specs.declared.{event.Announced.Announced, greeting.Address.Address, greeting.Seating.Seating, greeting.Shown.Shown, host.Host.Host, host.HostConfig.HostConfig}
+use Rattle.dn_session.specs.declared.{joiner.JoinConfig.JoinConfig, joiner.Joiner.Joiner, part.Part.Part, seats.Seat.Seat, session.Session.Session, side.Begun.Begun, side.Side.Side}
+use Rattle.dn_session.specs.declared.{terms.LobbyFault.LobbyFault}
+use Rattle.dn_seal.specs.declared.seal.Suite.TheVariants as suite
+use Rattle.dn_machine.specs.declared.answers.Ran.TheVariants as ran
 use Rattle.dn_session.specs.declared.ending.Progress.TheVariants as progress
 use Rattle.dn_session.specs.declared.seats.Seat.TheVariants as seat
 use Rattle.dn_session.specs.declared.side.Side.TheVariants as side
@@ -33,25 +33,23 @@ address_shown (Some shown) = Some shown.holder.address
 
 -- what the host begins, in a game of this number
 abbrev pub begun_here : Lobby → List ℕ → Begun
-begun_here l game =
-    record {
-      game = game;
-      terms = l.terms;
-      me = 0;
-      host = None;
-      seats = map address_in l.seats;
-    }
+begun_here l game = record {
+  game = game;
+  terms = l.terms;
+  me = 0;
+  host = None;
+  seats = map address_in l.seats;
+}
 
 -- what one who joins begins, by what it was told
 abbrev pub begun_there : Joining → List ℕ → Seating → Begun
-begun_there j game s =
-    record {
-      game = game;
-      terms = s.terms;
-      me = s.seat;
-      host = Some j.config.host;
-      seats = map address_shown s.seats;
-    }
+begun_there j game s = record {
+  game = game;
+  terms = s.terms;
+  me = s.seat;
+  host = Some j.config.host;
+  seats = map address_shown s.seats;
+}
 
 abbrev pub begun_with : Joining → Option (List ℕ) → Option Seating → Option Begun
 begun_with j (Some game) (Some s) = Some (begun_there j game s)
@@ -71,14 +69,13 @@ game_seal None game = sealed_with suite.Open no_secret game
 game_seal (Some secret) game = sealed_with suite.Secret secret game
 
 abbrev pub config_of : Begun → Config
-config_of b =
-    record {
-      players = b.terms.players;
-      me = b.me;
-      extra = b.terms.extra;
-      limit = b.terms.limit;
-      settings = None;
-    }
+config_of b = record {
+  players = b.terms.players;
+  me = b.me;
+  extra = b.terms.extra;
+  limit = b.terms.limit;
+  settings = None;
+}
 
 -- a link that plays from the beginning on, and has no history
 pub record IsLinkOf (secret : Option (List ℕ)) (b : Begun) (link : Link) : Type 0 where
@@ -114,15 +111,14 @@ pub record Meeting : Type 0 where
   pub announced : Announced
 
 abbrev pub meeting : Session → Meeting
-meeting session =
-    record {
-      lobby = session.side;
-      secret = session.secret;
-      part = session.part;
-      reply = option_map sent_of session.reply;
-      call = option_map sent_of session.call;
-      announced = session.announced;
-    }
+meeting session = record {
+  lobby = session.side;
+  secret = session.secret;
+  part = session.part;
+  reply = option_map sent_of session.reply;
+  call = option_map sent_of session.call;
+  announced = session.announced;
+}
 
 abbrev pub new_meeting : Side → Option (List ℕ) → Meeting
 new_meeting side secret =
@@ -198,14 +194,12 @@ Begins now old new result = BeginsAs (begins_now old) now old new result
 
 -- time
 
--- a joiner calls, where a call is due
-abbrev pub call_to : Joining → Option (List ℕ) → Option (Address × List ℕ)
-call_to j call = option_map (λ bytes. (j.config.host, bytes)) call
-
+-- a joiner calls its host, where a call is due
 abbrev pub Calls : ℕ → Side → Side → Option (Address × List ℕ) → Type 0
 Calls now (side.Host old) new call = (new ≡ side.Host old) × (call ≡ None)
 Calls now (side.Joiner old) (side.Joiner new) call =
-    (joining new ≡ (on_time now (joining old)).0) × (call ≡ call_to (joining old) (on_time now (joining old)).1)
+    (joining new ≡ (on_time now (joining old)).0)
+    × (call ≡ reply_to (joining old).config.host (on_time now (joining old)).1)
 Calls now old new call = ⊥
 
 abbrev pub PassesTo : ℕ → Meeting → Meeting → Type 0

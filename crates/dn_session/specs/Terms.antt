@@ -1,9 +1,9 @@
 -- The terms of a game.
 use Rattle.std.specs.Prelude.{◌≡◌, ℕ, ◌^◌, ◌<◌, ◌&&◌, ◌++◌, Bool, not, true, false, nat_le, if◌then◌else◌, List, [], ◌∷◌, length, Option, Some, None}
 use Rattle.std.specs.Int.{w32, to_le_bytes}
-use Rattle.dn_setup.specs.{Settings.IsSettings, Settings.Settings}
-use Rattle.dn_session.specs.{declared.terms.LobbyFault.LobbyFault, declared.terms.Policy.Policy, declared.terms.Policy.TheVariants.End, declared.terms.Policy.TheVariants.GiveUp}
-use Rattle.dn_session.specs.{declared.terms.Policy.TheVariants.Wait, declared.terms.Terms.Terms}
+use Rattle.dn_setup.specs.Settings.{IsSettings, Settings}
+use Rattle.dn_session.specs.{declared.terms.LobbyFault.LobbyFault, declared.terms.Policy.Policy, declared.terms.Terms.Terms}
+use Rattle.dn_session.specs.declared.terms.Policy.TheVariants.{End, GiveUp, Wait}
 use Rattle.dn_session.specs.declared.terms.LobbyFault.TheVariants as fault
 
 abbrev pub bit : Bool → ℕ
@@ -33,27 +33,21 @@ is_count players = nat_le 2 players && nat_le players 4
 abbrev pub is_ahead : ℕ → Bool
 is_ahead ahead = nat_le 1 ahead && nat_le ahead 12
 
--- one to 35 tics are played a second
-abbrev pub is_rate : ℕ → Bool
-is_rate rate = nat_le 1 rate && nat_le rate 35
-
--- a demo has 1,024 to 16,777,216 bytes, as a recorder has it (`IsLimit` of `dn_demo`)
-abbrev pub is_limit : ℕ → Bool
-is_limit limit = nat_le 1024 limit && nat_le limit 16777216
-
 -- nobody is given up, and no game ends, for a silence of less than three seconds: a sign of life counts for two
 abbrev pub is_policy : Policy → Bool
 is_policy Wait = true
 is_policy (GiveUp seconds) = nat_le 3 seconds
 is_policy (End seconds) = nat_le 3 seconds
 
--- the first of the terms that no game may have. A link of terms without one can be refused for want of memory alone
+-- the first of the terms that no game may have: one to 35 tics are played a second, and a demo has 1,024 to 16,777,216
+-- bytes, as a recorder has it (`IsLimit` of `dn_demo`). A link of terms without one can be refused for want of memory
+-- alone
 abbrev pub terms_fault : Terms → Option LobbyFault
 terms_fault terms =
     if not (is_count terms.players) then Some fault.Players else (
     if not (is_ahead terms.ahead) then Some fault.Ahead else (
-    if not (is_rate terms.rate) then Some fault.Rate else (
-    if not (is_limit terms.limit) then Some fault.Limit else (
+    if not (nat_le 1 terms.rate && nat_le terms.rate 35) then Some fault.Rate else (
+    if not (nat_le 1024 terms.limit && nat_le terms.limit 16777216) then Some fault.Limit else (
     if not (is_policy terms.policy) then Some fault.Policy else None))))
 
 -- there is none, and the other fields fit

@@ -1,11 +1,10 @@
 -- The bytes of greetings.
-use Rattle.std.specs.Prelude.{◌≡◌, ℕ, ◌+◌, ◌^◌, ◌<◌, ◌++◌, ◌&&◌, Bool, not, true, nat_le, nat_lt, if◌then◌else◌, List, [], ◌∷◌, All, IfSome, length, take, drop, replicate, codes, Option, Some, None}
-use Rattle.std.specs.Int.{w32, to_le_bytes}
-use Rattle.std.specs.List.{flat_map}
+use Rattle.std.specs.Prelude.{◌≡◌, ℕ, ◌+◌, ◌^◌, ◌<◌, ◌++◌, ◌&&◌, Bool, not, true, nat_le, nat_lt, if◌then◌else◌, List, [], ◌∷◌, All, IfSome, length, take, drop, replicate, codes, Option, Some, None, unwrap_or}
+use Rattle.std.specs.{Int.w32, Int.to_le_bytes, List.flat_map}
 use Rattle.dn_seal.specs.{Hmac.no_secret, Hmac.suite_byte, Hmac.tag_of, Sealing.sealed_with, declared.seal.Seal.Seal, declared.seal.Suite.TheVariants.Open, declared.seal.Suite.TheVariants.Secret}
-use Rattle.dn_session.specs.{Terms.IsTerms, Terms.bit, Terms.is_count, Terms.terms_bytes, declared.greeting.Call.Call, declared.greeting.Hint.Hint, declared.greeting.Hinted.Hinted}
-use Rattle.dn_session.specs.{declared.greeting.Holder.Holder, declared.greeting.Refusal.Refusal, declared.greeting.Refused.Refused, declared.greeting.Seating.Seating, declared.greeting.Shown.Shown}
-use Rattle.dn_session.specs.{declared.joiner.JoinConfig.JoinConfig, declared.terms.LobbyFault.LobbyFault}
+use Rattle.dn_session.specs.Terms.{IsTerms, bit, is_count, terms_bytes}
+use Rattle.dn_session.specs.declared.{greeting.Call.Call, greeting.Hint.Hint, greeting.Hinted.Hinted, greeting.Holder.Holder, greeting.Refusal.Refusal, greeting.Refused.Refused}
+use Rattle.dn_session.specs.declared.{greeting.Seating.Seating, greeting.Shown.Shown, joiner.JoinConfig.JoinConfig, terms.LobbyFault.LobbyFault}
 use Rattle.dn_session.specs.declared.greeting.Hint.TheVariants as hint
 use Rattle.dn_session.specs.declared.greeting.Refusal.TheVariants as refusal
 use Rattle.dn_session.specs.declared.terms.LobbyFault.TheVariants as fault
@@ -37,21 +36,16 @@ body_bytes seal what rest = head_bytes seal what ++ rest
 abbrev pub greeting_bytes : Seal → ℕ → List ℕ → List ℕ
 greeting_bytes seal what rest = body_bytes seal what rest ++ tag_of seal.key (body_bytes seal what rest)
 
--- a number that is named, and 0 for none
-abbrev pub named : Option ℕ → ℕ
-named None = 0
-named (Some n) = n
-
 -- a call is as long as a seating
 unfoldable pub padding : List ℕ
 padding = replicate 483 0
 
--- of a call: the caller's number, the count of the call, the cookie that the host gave, the seat that is wanted, the
--- number of players, the identity, and the name of the player
+-- of a call: the caller's number, the count of the call, the cookie that the host gave, the seat that is wanted and
+-- the number of players, each 0 for none, the identity, and the name of the player
 abbrev pub call_rest : Call → List ℕ
 call_rest call =
     call.number ++ (to_le_bytes w32 call.count ++ (call.cookie
-    ++ (named call.seat ∷ named call.players ∷ (call.identity ++ (call.name ++ padding)))))
+    ++ (unwrap_or call.seat 0 ∷ unwrap_or call.players 0 ∷ (call.identity ++ (call.name ++ padding)))))
 
 -- the 65 bytes of a seat: whether it is held and was not heard recently (1) or was (2), who holds it, where, and
 -- what its player is called

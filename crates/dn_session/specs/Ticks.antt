@@ -40,12 +40,11 @@ parts_to_next lean ticks = ticks.rest + parts_of_tick lean
 -- the tick that was due has passed: the next is due so much later, and what is left of a millisecond is kept; and
 -- the datagrams half a tick later are due at half of that
 abbrev pub passed : ℤ → Ticks → Ticks
-passed lean ticks =
-    record ticks {
-      due = later ticks.due (parts_to_next lean ticks / (32 * rate_of ticks));
-      rest = parts_to_next lean ticks % (32 * rate_of ticks);
-      half = Some (later ticks.due (parts_to_next lean ticks / (64 * rate_of ticks)));
-    }
+passed lean ticks = record ticks {
+  due = later ticks.due (parts_to_next lean ticks / (32 * rate_of ticks));
+  rest = parts_to_next lean ticks % (32 * rate_of ticks);
+  half = Some (later ticks.due (parts_to_next lean ticks / (64 * rate_of ticks)));
+}
 
 -- the datagrams half a tick later are taken once they are due
 abbrev pub half_taken : ℕ → Ticks → Ticks

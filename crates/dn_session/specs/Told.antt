@@ -3,9 +3,9 @@
 use Rattle.std.specs.Prelude.{ℕ, ◌==◌, if◌then◌else◌, List, [], ◌∷◌, take, drop, slice_index, Option, Some, None}
 use Rattle.std.specs.Int.{w32, from_le_bytes}
 use Rattle.dn_setup.specs.Settings.{choice}
-use Rattle.dn_session.specs.{Text.told_number, declared.greeting.Call.Call, declared.greeting.Hint.Hint, declared.greeting.Hinted.Hinted, declared.greeting.Refusal.Refusal}
-use Rattle.dn_session.specs.{declared.greeting.Refused.Refused, declared.greeting.Seating.Seating, declared.greeting.Shown.Shown, declared.terms.Policy.Policy, declared.terms.Policy.TheVariants.End}
-use Rattle.dn_session.specs.{declared.terms.Policy.TheVariants.GiveUp, declared.terms.Policy.TheVariants.Wait, declared.terms.Terms.Terms}
+use Rattle.dn_session.specs.Text.{told_number}
+use Rattle.dn_session.specs.declared.{greeting.Call.Call, greeting.Hint.Hint, greeting.Hinted.Hinted, greeting.Refusal.Refusal, greeting.Refused.Refused, greeting.Seating.Seating}
+use Rattle.dn_session.specs.declared.{greeting.Shown.Shown, terms.Policy.Policy, terms.Policy.TheVariants.End, terms.Policy.TheVariants.GiveUp, terms.Policy.TheVariants.Wait, terms.Terms.Terms}
 use Rattle.dn_session.specs.declared.greeting.Hint.TheVariants as hint
 use Rattle.dn_session.specs.declared.greeting.Refusal.TheVariants as refusal
 

@@ -1,7 +1,6 @@
 -- For how long others were silent, and for how long the game stood still.
 use Rattle.std.specs.Prelude.{ℕ, ◌+◌, ◌-◌, ◌==◌, ◌||◌, Bool, not, nat_lt, if◌then◌else◌, List, map, min, replicate, slice_index_or, false}
-use Rattle.std.specs.Bool.{beq}
-use Rattle.std.specs.Cmp.Lexicographic.{pointwise}
+use Rattle.std.specs.{Bool.beq, Cmp.Lexicographic.pointwise}
 use Rattle.dn_session.specs.declared.watch.Watch.{Watch}
 
 -- the last look was more than a second ago: the machine slept, or its caller did not call
@@ -41,14 +40,13 @@ stalled now watch = now - watch.since
 
 -- what is seen is noted; while nothing goes on, the time since when is kept
 abbrev pub looked_at : ℕ → ℕ → List Bool → Bool → Watch → Watch
-looked_at now ran gone is_awaited watch =
-    record {
-      heard = (woken now watch).heard;
-      since = if goes_on ran gone is_awaited watch then now else (woken now watch).since;
-      ran = ran;
-      gone = gone;
-      looked = now;
-    }
+looked_at now ran gone is_awaited watch = record {
+  heard = (woken now watch).heard;
+  since = if goes_on ran gone is_awaited watch then now else (woken now watch).since;
+  ran = ran;
+  gone = gone;
+  looked = now;
+}
 
 -- for how long a player was silent; nobody else is
 abbrev pub silence : ℕ → ℕ → Watch → ℕ

@@ -1,9 +1,9 @@
 //! What a host makes of calls.
 
-ghost use Rattle.std.specs.Prelude.{◌≡◌, ◌<◌, ◌≤◌, ◌+◌, length, position, slice_index_or, IfSome, option_map};
-ghost use Rattle.dn_session.specs.{Hosting.asks_for_other, Hosting.hint_for, Hosting.hint_to, Hosting.is_number, Hosting.wants_beyond, Text.is_wish, Seats.is_of, Seats.seat_of, Seats.taken_again, Seats.taken_by, Cookies.time_of};
+ghost use Rattle.std.specs.Prelude.{◌≡◌, ◌<◌, ◌≤◌, ◌+◌, ◌==◌, not, nat_le, true, length, position, slice_index_or, IfSome, option_map};
+ghost use Rattle.dn_session.specs.{Hosting.hint_for, Hosting.hint_to, Text.is_wish, Seats.is_of, Seats.seat_of, Seats.taken_again, Seats.taken_by, Cookies.is_one, Cookies.time_of};
 ghost use Rattle.dn_session.specs.declared.{seats.Seat.Seat, seats.Seat.TheVariants.Absent, greeting.Refusal.Refusal};
-ghost use Rattle.std.specs.{Prelude.true, List.list_any};
+ghost use Rattle.std.specs.{List.list_any, Str.bytes_eq};
 
 use crate::cookies::{cookie_of, is_good, time_of};
 use crate::fields::sixteen_at;
@@ -20,7 +20,7 @@ type Reply = ArrayVec<u8, 581>;
 
 /// Whether a joiner was told another number of players.
 fn asks_for_other(asked: Option<u8>, players: u8) -> bool
-    ensures { result ≡ asks_for_other asked players }
+    ensures { result ≡ is_one (λ asked. not (asked == players)) asked }
 {
     match asked {
         Some(asked) => asked != players,
@@ -30,7 +30,7 @@ fn asks_for_other(asked: Option<u8>, players: u8) -> bool
 
 /// Whether a seat is wanted that a game of so many does not have.
 fn wants_beyond(wish: Option<u8>, players: u8) -> bool
-    ensures { result ≡ wants_beyond wish players }
+    ensures { result ≡ is_one (nat_le players) wish }
 {
     match wish {
         Some(wish) => wish >= players,
@@ -40,7 +40,7 @@ fn wants_beyond(wish: Option<u8>, players: u8) -> bool
 
 /// Whether the session that was turned away from a seat has this number.
 fn is_number(number: &[u8; 16], kicked: &Option<[u8; 16]>) -> bool
-    ensures { result ≡ is_number number.now kicked.now }
+    ensures { result ≡ is_one (bytes_eq number.now) kicked.now }
 {
     match kicked {
         Some(kicked) => *number == *kicked,
@@ -50,7 +50,7 @@ fn is_number(number: &[u8; 16], kicked: &Option<[u8; 16]>) -> bool
 
 /// Whether the session of this number was turned away.
 fn is_kicked(number: &[u8; 16], kicked: &[Option<[u8; 16]>; 3]) -> bool
-    ensures { result ≡ list_any (is_number number.now) kicked.now }
+    ensures { result ≡ list_any (is_one (bytes_eq number.now)) kicked.now }
 {
     let [one, two, three] = kicked;
     is_number(number, one) || is_number(number, two) || is_number(number, three)

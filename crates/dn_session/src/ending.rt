@@ -1,10 +1,9 @@
 //! How a game ends for a player, and whom it gives up under a policy.
 
-ghost use Rattle.std.specs.Prelude.{◌≡◌, ◌<◌, ◌||◌, IfSome, option_map};
+ghost use Rattle.std.specs.Prelude.{◌≡◌, ◌<◌, ◌-◌, ◌||◌, nat_le, IfSome, option_map};
 ghost use Rattle.dn_link.specs.{Linked.needs_nothing, Linking.linked};
-ghost use Rattle.dn_session.specs.Lead.{highest, is_late};
-ghost use Rattle.dn_session.specs.declared.ending.Ending.TheVariants.{Lost};
-ghost use Rattle.dn_session.specs.Ending.{ended_by, ending_of, free_since, has_waited, is_alone, is_unneeded, is_leading, has_lost, lost_under, may_give_up, own_ending, patience, waits};
+ghost use Rattle.dn_session.specs.{Cookies.is_one, Lead.highest, Lead.is_late, declared.ending.Ending.TheVariants.Lost};
+ghost use Rattle.dn_session.specs.Ending.{ended_by, ending_of, free_since, is_unneeded, is_leading, has_lost, lost_under, may_give_up, own_ending, patience, waits};
 
 use crate::greeting::{Hint, Refusal};
 use crate::lead::{View, is_given_up, is_open, is_there, late, lead};
@@ -111,22 +110,12 @@ fn own_ending(phase: Phase) -> Option<Ending>
     }
 }
 
-/// Whether it is left alone.
-fn is_alone(link: &Link) -> bool
-    ensures { result ≡ is_alone (linked link.now) }
-{
-    has_gone(link) && is_abandoned(link)
-}
-
 /// The loss of a player, if it is one.
 fn lost(player: Option<usize>) -> Option<Ending>
     requires { IfSome player (λ n. n < 4) }
     ensures { result ≡ option_map Lost player }
 {
-    match player {
-        Some(player) => Some(Ending::Lost(player as u8)),
-        None => None,
-    }
+    Some(Ending::Lost(player? as u8))
 }
 
 /// How the game of a player ends, if it does.
@@ -139,7 +128,7 @@ pub(crate) fn ending_of(policy: Policy, view: &View, link: &Link) -> Option<Endi
     if is_given_up(view) {
         return Some(Ending::GivenUp);
     }
-    if is_alone(link) {
+    if has_gone(link) && is_abandoned(link) {
         return Some(Ending::Alone);
     }
     lost(lost_under(policy, view))
@@ -199,7 +188,7 @@ fn free_since(is_unneeded: bool, free: Option<u32>, now: u32) -> Option<u32>
 
 /// Whether that was two seconds ago.
 fn has_waited(free: Option<u32>, now: u32) -> bool
-    ensures { result ≡ has_waited free now }
+    ensures { result ≡ is_one (λ free. nat_le 2000 (now - free)) free }
 {
     match free {
         Some(free) => now.saturating_sub(free) >= 2000,

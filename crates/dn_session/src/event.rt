@@ -1,6 +1,6 @@
 //! What has happened in a session, told in order.
 
-ghost use Rattle.std.specs.{Prelude.◌≡◌, Prelude.◌<◌, Prelude.Some, Prelude.slice_set};
+ghost use Rattle.std.specs.{Prelude.◌≡◌, Prelude.◌<◌, Prelude.slice_set};
 ghost use Rattle.dn_link.specs.{Linked.is_peer, Linking.linked};
 ghost use Rattle.dn_session.specs.Events.{began_event, first_news, none_announced, news_in, news_of, next_event, over_by, over_event, over_in, over_part, over_side, player_event, seat_by, seat_event, seat_in, announced_after};
 
@@ -65,10 +65,7 @@ fn over_part(part: &Option<Part>) -> Option<Over>
     ensures { result ≡ over_part part.now }
 {
     match part {
-        Some(part) => match part.ending() {
-            Some(ending) => Some(Over::Ended(ending)),
-            None => None,
-        },
+        Some(part) => Some(Over::Ended(part.ending()?)),
         None => None,
     }
 }
@@ -100,18 +97,7 @@ fn seat_in(side: &Side) -> Option<u8>
     }
 }
 
-/// That it has another seat.
-fn moved(told: u8, seat: u8) -> Option<Event>
-    ensures { result ≡ seat_event (Some told) (Some seat) }
-{
-    if told == seat {
-        None
-    } else {
-        Some(Event::Seated(seat))
-    }
-}
-
-/// That it got a seat, or lost the one that it had.
+/// That it got a seat or another, or lost the one that it had.
 fn seat_event(told: Option<u8>, seat: Option<u8>) -> Option<Event>
     ensures { result ≡ seat_event told seat }
 {
@@ -119,7 +105,8 @@ fn seat_event(told: Option<u8>, seat: Option<u8>) -> Option<Event>
         (None, None) => None,
         (Some(_), None) => Some(Event::Unseated),
         (None, Some(seat)) => Some(Event::Seated(seat)),
-        (Some(told), Some(seat)) => moved(told, seat),
+        (Some(told), Some(seat)) if told == seat => None,
+        (Some(_), Some(seat)) => Some(Event::Seated(seat)),
     }
 }
 

@@ -2,25 +2,14 @@
 
 ghost use Rattle.std.specs.Prelude.{◌≡◌, ◌≢◌, ◌≤◌, ◌+◌, length, IfSome, MatchOption};
 ghost use Rattle.std.specs.List.{flat_map};
-ghost use Rattle.dn_session.specs.Terms.{bit, policy_bytes, settings_bytes, terms_bytes, IsTerms};
-ghost use Rattle.dn_session.specs.Text.{heard_byte, named, padding, reason_bytes, shown_bytes, IsHolder};
-ghost use Rattle.dn_session.specs.Told.{told_at, told_name, told_policy, told_reason, told_shown, told_terms};
+ghost use Rattle.dn_session.specs.{Terms.bit, Terms.policy_bytes, Terms.settings_bytes, Terms.terms_bytes, Terms.IsTerms, Text.heard_byte, Text.padding, Text.reason_bytes, Text.shown_bytes};
+ghost use Rattle.dn_session.specs.{Text.IsHolder, Told.told_at, Told.told_name, Told.told_policy, Told.told_reason, Told.told_shown, Told.told_terms};
 
 use crate::greeting::{Address, Holder, Refusal, Shown};
 use crate::terms::{Policy, Terms, terms_fault};
 use arrayvec::ArrayVec;
 use dn_seal::{append, tic_at};
 use dn_setup::Settings;
-
-/// A number that is named, and 0 for none.
-pub(crate) fn named(number: Option<u8>) -> u8
-    ensures { result ≡ named number }
-{
-    match number {
-        Some(number) => number,
-        None => 0,
-    }
-}
 
 /// What makes a call as long as a seating.
 #[tactic(auto, unfolding(crate::specs::Text::padding))]

@@ -6,7 +6,7 @@ ghost use Rattle.dn_session.specs.{Text.is_count_or_none, Text.is_wish, Text.joi
 use crate::cookies::session_number;
 use crate::greeting::{Address, Hint, Refusal, Seating};
 use crate::polling::{calls_on, has_passed};
-use crate::terms::{LobbyFault, is_count};
+use crate::terms::{LobbyFault, is_within};
 use crate::writing::greeter;
 use dn_seal::Sealer;
 
@@ -62,7 +62,7 @@ pub(crate) fn is_count_or_none(players: Option<u8>) -> bool
 {
     match players {
         None => true,
-        Some(players) => is_count(players),
+        Some(players) => is_within(2, 4, u32::from(players)),
     }
 }
 
@@ -100,8 +100,7 @@ pub struct Joiner {
 }
 
 impl Joiner {
-    ghost use Rattle.dn_session.specs.Roster.{IsJoining};
-    ghost use Rattle.dn_session.specs.Joining.{is_unanswered, joining, IsJoinerOf};
+    ghost use Rattle.dn_session.specs.{Roster.IsJoining, Joining.is_unanswered, Joining.joining, Joining.IsJoinerOf};
 
     /// One who calls from this time on, or the first fault of the configuration.
     pub fn new(config: &JoinConfig, now: u32) -> Result<Joiner, LobbyFault>

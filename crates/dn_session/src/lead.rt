@@ -115,20 +115,18 @@ fn from_above(place: Option<usize>) -> Option<usize>
     ensures value { result ≡ option_map (λ n. 3 - n) place }
     ensures within { IfSome result (λ n. n < 4) }
 {
-    match place {
-        Some(n) => Some(3 - n),
-        None => None,
-    }
+    Some(3 - place?)
 }
 
-/// The highest player who was awaited for the patience, counted from 3 down.
-fn late_from_above(patience: u32, view: &View) -> Option<usize>
-    ensures value { result ≡ position (is_late patience view.now) (3 ∷ 2 ∷ 1 ∷ 0 ∷ []) }
+/// The highest player who was awaited for the patience.
+pub(crate) fn late(patience: u32, view: &View) -> Option<usize>
+    ensures value { result ≡ highest (is_late patience view.now) }
     ensures within { IfSome result (λ n. n < 4) }
 {
-    [3, 2, 1, 0]
+    let place = [3, 2, 1, 0]
         .iter()
-        .position(|player| is_late(patience, view, *player))
+        .position(|player| is_late(patience, view, *player));
+    from_above(place)
 }
 
 /// The highest player of whom nothing came for the patience, counted from 3 down.
@@ -141,27 +139,14 @@ fn mute_from_above(patience: u32, view: &View) -> Option<usize>
         .position(|player| is_mute(patience, view, *player))
 }
 
-/// The highest player who was awaited for the patience.
-pub(crate) fn late(patience: u32, view: &View) -> Option<usize>
-    ensures value { result ≡ highest (is_late patience view.now) }
-    ensures within { IfSome result (λ n. n < 4) }
-{
-    from_above(late_from_above(patience, view))
-}
-
 /// Where one that leads has awaited anybody for the patience, whom it gives up: of the silent the highest, or
 /// else of those that it awaits.
 fn late_due(patience: u32, view: &View) -> Option<usize>
     ensures value { result ≡ late_due patience view.now }
     ensures within { IfSome result (λ n. n < 4) }
 {
-    match late(patience, view) {
-        Some(late) => match from_above(mute_from_above(patience, view)) {
-            Some(mute) => Some(mute),
-            None => Some(late),
-        },
-        None => None,
-    }
+    let late = late(patience, view)?;
+    from_above(mute_from_above(patience, view)).or(Some(late))
 }
 
 /// The lowest other player whom a player names.
@@ -196,13 +181,9 @@ fn leads_due(patience: u32, view: &View) -> Option<usize>
     ensures value { result ≡ leads_due patience view.now }
     ensures within { IfSome result (λ n. n < 4) }
 {
-    match lowest_accuser(view, view.me) {
-        Some(player) => Some(player),
-        None => match lowest_left(view) {
-            Some(player) => Some(player),
-            None => late_due(patience, view),
-        },
-    }
+    lowest_accuser(view, view.me)
+        .or(lowest_left(view))
+        .or(late_due(patience, view))
 }
 
 /// Whether one that follows has lost the one that leads.

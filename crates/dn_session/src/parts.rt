@@ -1,10 +1,10 @@
 //! Laws: the parts of the players of one game have links of one game, whatever their sessions do.
 
 ghost use Rattle.std.specs.Prelude.{◌≡◌, ◌<◌, ℕ, ℤ, Bool, List, Option, None, Some, IfSome};
-ghost use Rattle.dn_tic.specs.declared.{command.Move.Move, input.Input.Input};
+ghost use Rattle.dn_tic.specs.{declared.command.Move.Move, declared.input.Input.Input};
 ghost use Rattle.dn_setup.specs.Settings.{Settings};
 ghost use Rattle.dn_machine.specs.{Limits.Limits, declared.answers.Ran.Ran};
-ghost use Rattle.dn_lockstep.specs.{Marking.Marking};
+ghost use Rattle.dn_lockstep.specs.Marking.{Marking};
 ghost use Rattle.dn_seal.specs.declared.seal.Seal.{Seal};
 ghost use Rattle.dn_survivor.specs.OneGame.{started_session, Session};
 ghost use Rattle.dn_link.specs.{Linked.surviving_of, Linking.linked, RemainingLinks.IsGenuineIn, RemainingLinks.KeepsGiven, RemainingLinks.WasSealedIn};

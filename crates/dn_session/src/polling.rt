@@ -1,8 +1,7 @@
 //! When a joiner calls.
 
 ghost use Rattle.std.specs.Prelude.{◌≡◌, ◌<◌, ◌^◌, ◌&&◌, ◌||◌, ℕ, option_map, IfSome, Ok};
-ghost use Rattle.dn_session.specs.Reading.{IsCallIn};
-ghost use Rattle.dn_session.specs.Joining.{calls_on, counts_on_host, has_come, has_passed, is_hint_over, may_retry};
+ghost use Rattle.dn_session.specs.{Reading.IsCallIn, Joining.calls_on, Joining.counts_on_host, Joining.has_come, Joining.has_passed, Joining.is_hint_over, Joining.may_retry};
 
 use crate::greeting::Call;
 use crate::joiner::{Joiner, Stage};

@@ -1,7 +1,7 @@
 //! What a joiner makes of replies.
 
 ghost use Rattle.std.specs.Prelude.{◌≡◌, ◌≤◌, IfOk, Result, false, map, true};
-ghost use Rattle.dn_session.specs.Joining.{holds, is_seated, noted, number_of, retries_for, stage_after, stage_by};
+ghost use Rattle.dn_session.specs.Joining.{number_of, retries_for, stage_after, stage_by};
 ghost use Rattle.dn_session.specs.declared.{greeting.GreetingFault.GreetingFault, greeting.Hinted.Hinted, greeting.Refused.Refused, greeting.Seating.Seating};
 
 use crate::cookies::{game_of, is_recent};
@@ -9,16 +9,6 @@ use crate::greeting::{Address, GreetingFault, Hint, Hinted, Refusal, Refused, Se
 use crate::joiner::{Joiner, Stage};
 use crate::polling::calls_on;
 use crate::reading::{open, read_hinted};
-
-/// Whether a seat is held by the session of this number.
-fn holds(number: &[u8; 16], seat: &Option<Shown>) -> bool
-    ensures { result ≡ holds number.now seat.now }
-{
-    match seat {
-        Some(shown) => shown.holder.number == *number,
-        None => false,
-    }
-}
 
 /// Where who has this seating stands.
 fn stage_by(seating: &Seating) -> Stage
@@ -38,13 +28,6 @@ fn retries_for(refusal: Refusal) -> bool
     matches!(refusal, Refusal::Cookie)
 }
 
-/// Whether it has a seat.
-fn is_seated(stage: Stage) -> bool
-    ensures { result ≡ is_seated stage }
-{
-    matches!(stage, Stage::Seated)
-}
-
 /// Where who is refused so stands.
 fn stage_after(refusal: Refusal) -> Stage
     ensures { result ≡ stage_after refusal }
@@ -53,16 +36,6 @@ fn stage_after(refusal: Refusal) -> Stage
         Refusal::Cookie => Stage::Calling,
         Refusal::Full => Stage::Waiting,
         refusal => Stage::Refused(refusal),
-    }
-}
-
-/// The hint that is noted.
-fn noted(hint: Hint, now: u32, first: Option<(Hint, u32)>) -> Option<(Hint, u32)>
-    ensures { result ≡ noted hint now first }
-{
-    match first {
-        None => Some((hint, now)),
-        Some(first) => Some(first),
     }
 }
 
@@ -109,7 +82,10 @@ impl Joiner {
         requires { (1 ≤ seating.now.seat) × (seating.now.seat ≤ 3) }
         ensures { result ≡ is_own seating.now (joining self.now) }
     {
-        holds(&self.number, &seating.seats[usize::from(seating.seat - 1)])
+        match &seating.seats[usize::from(seating.seat - 1)] {
+            Some(shown) => shown.holder.number == self.number,
+            None => false,
+        }
     }
 
     /// What it makes of a seating.
@@ -130,7 +106,7 @@ impl Joiner {
     fn is_sure(&self, now: u32) -> bool
         ensures { result ≡ is_sure now (joining self.now) }
     {
-        is_seated(self.stage) && is_recent(now, self.heard)
+        matches!(self.stage, Stage::Seated) && is_recent(now, self.heard)
     }
 
     /// What it makes of a refusal.
@@ -149,7 +125,7 @@ impl Joiner {
         ensures { joining self.new ≡ on_hinted hinted.now now (joining self.old) }
     {
         if hinted.number == self.number {
-            self.hinted = noted(hinted.hint, now, self.hinted);
+            self.hinted = self.hinted.or(Some((hinted.hint, now)));
         }
     }
 

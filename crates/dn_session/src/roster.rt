@@ -1,9 +1,8 @@
 //! Laws: which session plays which place of which game.
 
 ghost use Rattle.std.specs.Prelude.{◌≡◌, Some};
-ghost use Rattle.dn_session.specs.declared.side.{Begun.Begun, Side.Side};
+ghost use Rattle.dn_session.specs.{declared.side.Begun.Begun, declared.side.Side.Side, Session.begun_in};
 ghost use Rattle.dn_session.specs.Roster.{key_of, number_of_game, own_number, place_in, session_at, text_of_game, IsSide, Place};
-ghost use Rattle.dn_session.specs.Session.{begun_in};
 
 /// A game that has begun for a session is the one that the session's place is in, and gives that place to the
 /// session.

@@ -116,10 +116,7 @@ fn any_seat(now: u32, seats: &[Seat; 3]) -> Option<usize>
     ensures value { result ≡ seat_of Option.None now seats.now }
     ensures within { IfSome result (λ n. n < 3) }
 {
-    match free_in(seats) {
-        Some(n) => Some(n),
-        None => silent_in(now, seats),
-    }
+    free_in(seats).or(silent_in(now, seats))
 }
 
 /// The seat that a newcomer gets.
@@ -165,30 +162,15 @@ fn is_here(from: &Address, held: &Held) -> bool
 fn held_again(from: &Address, now: u32, time: u32, held: &Held) -> Held
     ensures { result ≡ held_again from.now now time held.now }
 {
-    let heard = held.heard.max(time);
+    let mut again = *held;
+    again.heard = held.heard.max(time);
     if is_here(from, held) {
-        return Held {
-            holder: held.holder,
-            heard,
-            heard_here: held.heard_here.max(time),
-        };
+        again.heard_here = held.heard_here.max(time);
+    } else if !is_recent(now, held.heard_here) {
+        again.holder.address = *from;
+        again.heard_here = time;
     }
-    if is_recent(now, held.heard_here) {
-        return Held {
-            holder: held.holder,
-            heard,
-            heard_here: held.heard_here,
-        };
-    }
-    Held {
-        holder: Holder {
-            number: held.holder.number,
-            address: *from,
-            name: held.holder.name,
-        },
-        heard,
-        heard_here: time,
-    }
+    again
 }
 
 /// The seat of one who calls again.

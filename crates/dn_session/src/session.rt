@@ -3,7 +3,6 @@
 ghost use Rattle.std.specs.{Prelude.◌≡◌, Prelude.IfOk, Option.option_map, Option.option_or};
 ghost use Rattle.dn_session.specs.{Sent.sent_of, Session.IsMadeAs};
 
-mod part_calls;
 mod playing;
 mod reading;
 
@@ -17,7 +16,6 @@ use crate::side::{Begun, Side, game_seal};
 use crate::terms::LobbyFault;
 use dn_link::Link;
 use dn_lockstep::NodeFault;
-use part_calls::{part_hears, poll_part, transmit_part};
 use std::alloc::Global;
 
 /// The part of a player in a game that begins now.
@@ -32,10 +30,8 @@ fn part_of(
     let terms = begun.terms;
     let seal = game_seal(secret, begun.game);
     let places = begun.places(now);
-    match Link::new(alloc, begun.config(), terms.settings, terms.ahead, seal) {
-        Ok(link) => Ok(Part::new(link, terms.rate, terms.policy, places, now)),
-        Err(fault) => Err(fault),
-    }
+    let link = Link::new(alloc, begun.config(), terms.settings, terms.ahead, seal)?;
+    Ok(Part::new(link, terms.rate, terms.policy, places, now))
 }
 
 /// What is new is to be sent in place of what was, if there is any.
@@ -62,8 +58,7 @@ pub struct Session {
 }
 
 impl Session {
-    ghost use Rattle.dn_session.specs.Roster.{IsSide};
-    ghost use Rattle.dn_session.specs.Session.{meeting, new_meeting, Begins, HearsAny, IsHostSession, IsJoinSession, PassesTo, Sends};
+    ghost use Rattle.dn_session.specs.{Roster.IsSide, Session.meeting, Session.new_meeting, Session.Begins, Session.HearsAny, Session.IsHostSession, Session.IsJoinSession, Session.PassesTo, Session.Sends};
 
     /// The session of a host, or the first fault of its terms.
     pub fn host(config: &HostConfig) -> Result<Session, LobbyFault>
@@ -106,8 +101,8 @@ impl Session {
         if is_greeting(bytes) {
             let reply = self.side.hear(from, bytes, now);
             keep(&mut self.reply, reply);
-        } else {
-            part_hears(&mut self.part, from, bytes, now);
+        } else if let Some(part) = &mut self.part {
+            part.hear(from, bytes, now);
         }
     }
 
@@ -137,7 +132,9 @@ impl Session {
     {
         let call = self.side.poll(now);
         keep(&mut self.call, call);
-        poll_part(&mut self.part, now);
+        if let Some(part) = &mut self.part {
+            part.poll(now);
+        }
     }
 
     /// What is to be sent next. Call it until there is nothing, after each other call.
@@ -150,6 +147,9 @@ impl Session {
         if self.call.is_some() {
             return self.call.take();
         }
-        transmit_part(&mut self.part)
+        match &mut self.part {
+            Some(part) => part.transmit(),
+            None => None,
+        }
     }
 }

@@ -3,11 +3,11 @@
 ghost use Rattle.std.specs.{Prelude.◌≡◌, Prelude.ℕ, Prelude.List, Prelude.Option, Prelude.map, Option.option_map};
 ghost use Rattle.dn_session.specs.declared.side.Side.TheVariants as side;
 ghost use Rattle.dn_session.specs.{Hosting.holder_of, Hosting.lobby, Hosting.HearsCall, Hosting.IsLobby, Joining.joining, Joining.on_time, Roster.IsJoining, Roster.IsSide, Sent.sent_of};
-ghost use Rattle.dn_session.specs.Session.{address_in, address_shown, begun_here, begun_in, begun_with, call_to, config_of, game_seal, kicked_as, reply_to};
+ghost use Rattle.dn_session.specs.Session.{address_in, address_shown, begun_here, begun_in, begun_with, config_of, game_seal, kicked_as, reply_to};
 
 use crate::greeting::{Address, Shown};
 use crate::host::Host;
-use crate::joiner::{Joiner, Stage};
+use crate::joiner::Joiner;
 use crate::part::{Transmit, widened};
 use crate::places::Places;
 use crate::seats::Seat;
@@ -114,16 +114,13 @@ impl Begun {
 fn told_here(host: &Host, game: Option<[u8; 16]>) -> Option<Begun>
     ensures { result ≡ option_map (begun_here (lobby host.now)) game }
 {
-    match game {
-        Some(game) => Some(Begun {
-            game,
-            terms: *host.terms(),
-            me: 0,
-            host: None,
-            seats: addresses_in(host.seats()),
-        }),
-        None => None,
-    }
+    Some(Begun {
+        game: game?,
+        terms: *host.terms(),
+        me: 0,
+        host: None,
+        seats: addresses_in(host.seats()),
+    })
 }
 
 /// The game of a host, once it has begun.
@@ -158,16 +155,13 @@ fn begun_there(joiner: &Joiner) -> Option<Begun>
 }
 
 /// Bytes that go to an address, if there are any.
-fn addressed(to: &Address, bytes: &Option<ArrayVec<u8, 581>>) -> Option<Transmit>
-    ensures { option_map sent_of result ≡ reply_to to.now (option_map (λ bytes. bytes.items) bytes.now) }
+fn addressed(to: &Address, bytes: Option<ArrayVec<u8, 581>>) -> Option<Transmit>
+    ensures { option_map sent_of result ≡ reply_to to.now (option_map (λ bytes. bytes.items) bytes) }
 {
-    match bytes {
-        Some(bytes) => Some(Transmit {
-            to: *to,
-            bytes: widened(bytes),
-        }),
-        None => None,
-    }
+    Some(Transmit {
+        to: *to,
+        bytes: widened(&bytes?),
+    })
 }
 
 /// A host takes bytes that came from an address, and returns what is sent back.
@@ -177,18 +171,19 @@ fn host_hears(host: &mut Host, from: &Address, bytes: &[u8], now: u32) -> Option
     ensures fits { IsLobby (lobby host.old) → IsLobby (lobby host.new) }
 {
     let reply = host.hear(from, bytes, now);
-    addressed(from, &reply)
+    addressed(from, reply)
 }
 
 /// One who joins calls, if a call is due.
 fn joiner_polls(joiner: &mut Joiner, now: u32) -> Option<Transmit>
     ensures joiner { joining joiner.new ≡ (on_time now (joining joiner.old)).0 }
-    ensures call { option_map sent_of result ≡ call_to (joining joiner.old) (on_time now (joining joiner.old)).1 }
+    ensures call { option_map sent_of result
+        ≡ reply_to (joining joiner.old).config.host (on_time now (joining joiner.old)).1 }
     ensures fits { IsJoining (joining joiner.old) → IsJoining (joining joiner.new) }
 {
     let to = joiner.config.host;
     let call = joiner.poll(now);
-    addressed(&to, &call)
+    addressed(&to, call)
 }
 
 /// A host turns away who holds this seat.
@@ -203,8 +198,7 @@ fn host_kicks(host: &mut Host, seat: u8)
 
 impl Side {
     ghost use Rattle.std.specs.Prelude.{◌<◌, ◌^◌};
-    ghost use Rattle.dn_session.specs.{Events.acts_in, Joining.has_come};
-    ghost use Rattle.dn_session.specs.Session.{Calls, HearsGreeting, KicksFrom};
+    ghost use Rattle.dn_session.specs.{Events.acts_in, Joining.has_come, Session.Calls, Session.HearsGreeting, Session.KicksFrom};
 
     /// The game, once it has begun.
     pub(crate) fn begun(&self) -> Option<Begun>

@@ -4,8 +4,8 @@ ghost use Rattle.std.specs.Prelude.{◌≡◌, ◌≢◌, ◌+◌, length, All, 
 ghost use Rattle.dn_session.specs.{Rests.calls, Rests.refusals, Rests.seatings, Sorts.Sort, Text.is_joiners_seat, Text.IsHolder, Told.told_seating};
 
 use crate::fields::{
-    bit, name_in, named, padding, reason_bytes, reason_in, seats_bytes, shown_in, sixteen_at,
-    terms_bytes, terms_in,
+    bit, name_in, padding, reason_bytes, reason_in, seats_bytes, shown_in, sixteen_at, terms_bytes,
+    terms_in,
 };
 use crate::greeting::{Call, Refused, Seating};
 use crate::joiner::{is_count_or_none, is_wish};
@@ -45,7 +45,10 @@ impl Greeting for Call {
         append(&mut bytes, &self.number);
         append(&mut bytes, &self.count.to_le_bytes());
         append(&mut bytes, &self.cookie);
-        append(&mut bytes, &[named(self.seat), named(self.players)]);
+        append(
+            &mut bytes,
+            &[self.seat.unwrap_or(0), self.players.unwrap_or(0)],
+        );
         append(&mut bytes, &self.identity);
         append(&mut bytes, &self.name);
         append(&mut bytes, &padding());

@@ -1,8 +1,8 @@
 //! What must be the same at all players of a game, and why a game may not have it.
 
-ghost use Rattle.std.specs.Prelude.{◌≡◌};
+ghost use Rattle.std.specs.Prelude.{◌≡◌, ◌&&◌, nat_le};
 ghost use Rattle.dn_setup.specs.Settings.{IsSettings};
-ghost use Rattle.dn_session.specs.Terms.{is_ahead, is_count, is_limit, is_policy, is_rate, terms_fault};
+ghost use Rattle.dn_session.specs.Terms.{is_policy, terms_fault};
 
 use dn_setup::Settings;
 use thiserror::Error;
@@ -65,32 +65,11 @@ pub enum LobbyFault {
     Seat,
 }
 
-/// Whether a game may have so many players.
-pub(crate) fn is_count(players: u8) -> bool
-    ensures { result ≡ is_count players }
+/// Whether a number is in a range.
+pub(crate) fn is_within(least: u32, most: u32, number: u32) -> bool
+    ensures { result ≡ (nat_le least number && nat_le number most) }
 {
-    2 <= players && players <= 4
-}
-
-/// Whether a player may make so many commands ahead.
-fn is_ahead(ahead: u8) -> bool
-    ensures { result ≡ is_ahead ahead }
-{
-    1 <= ahead && ahead <= 12
-}
-
-/// Whether so many tics may be played a second.
-fn is_rate(rate: u8) -> bool
-    ensures { result ≡ is_rate rate }
-{
-    1 <= rate && rate <= 35
-}
-
-/// Whether a demo may have so many bytes.
-fn is_limit(limit: u32) -> bool
-    ensures { result ≡ is_limit limit }
-{
-    1024 <= limit && limit <= 16_777_216
+    least <= number && number <= most
 }
 
 /// Whether a game may have this policy.
@@ -114,16 +93,16 @@ pub(crate) fn settings_fit(settings: &Settings)
 pub(crate) fn terms_fault(terms: &Terms) -> Option<LobbyFault>
     ensures { result ≡ terms_fault terms.now }
 {
-    if !is_count(terms.players) {
+    if !is_within(2, 4, u32::from(terms.players)) {
         return Some(LobbyFault::Players);
     }
-    if !is_ahead(terms.ahead) {
+    if !is_within(1, 12, u32::from(terms.ahead)) {
         return Some(LobbyFault::Ahead);
     }
-    if !is_rate(terms.rate) {
+    if !is_within(1, 35, u32::from(terms.rate)) {
         return Some(LobbyFault::Rate);
     }
-    if !is_limit(terms.limit) {
+    if !is_within(1024, 16_777_216, terms.limit) {
         return Some(LobbyFault::Limit);
     }
     if !is_policy(terms.policy) {

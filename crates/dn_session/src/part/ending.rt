@@ -16,8 +16,7 @@ fn leave(link: &mut Link)
 }
 
 impl Part {
-    ghost use Rattle.dn_session.specs.Ending.{may_give_up};
-    ghost use Rattle.dn_session.specs.Playing.{given_up_at, is_giving, playing, view, EndsNow, GivesUpBy, GivesUpNow, QuitsBy};
+    ghost use Rattle.dn_session.specs.{Ending.may_give_up, Playing.given_up_at, Playing.is_giving, Playing.playing, Playing.view, Playing.EndsNow, Playing.GivesUpBy, Playing.GivesUpNow, Playing.QuitsBy};
 
     /// The game ends for it.
     pub(super) fn end(&mut self, ending: Ending, now: u32)

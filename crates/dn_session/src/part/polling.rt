@@ -12,10 +12,7 @@ fn number_of(player: Option<usize>) -> Option<u8>
     requires { IfSome player (λ n. n < 4) }
     ensures { result ≡ player }
 {
-    match player {
-        Some(player) => Some(player as u8),
-        None => None,
-    }
+    Some(player? as u8)
 }
 
 impl Part {

@@ -1,23 +1,24 @@
 //! What the player of a session does.
 
 use super::Session;
-use super::part_calls::{give_part, give_up_in, quit_part, run_part};
 use dn_machine::Ran;
 use dn_tic::{Input, Move};
 
 impl Session {
     ghost use Rattle.std.specs.Prelude.{◌≡◌, ℕ, ℤ};
-    ghost use Rattle.dn_machine.specs.declared.answers.Ran.TheVariants as ran;
     ghost use Rattle.dn_lockstep.specs.Steps.{told_by};
-    ghost use Rattle.dn_session.specs.Roster.{IsSide};
-    ghost use Rattle.dn_session.specs.Session.{can_give, meeting, GivesPart, GivesUpPart, Kicks, QuitsPart, RunsPart};
+    ghost use Rattle.dn_session.specs.{Roster.IsSide, Session.can_give, Session.meeting, Session.GivesPart, Session.GivesUpPart, Session.Kicks, Session.QuitsPart, Session.RunsPart};
+    ghost use Rattle.dn_machine.specs.declared.answers.Ran.TheVariants as ran;
 
     /// Its player gives the input of the tick that is due: whether one was. Else nothing changes.
     pub fn give(&mut self, input: Input, now: u32) -> bool
         ensures { GivesPart now input (meeting self.old).part (meeting self.new).part result
             × (meeting self.new ≡ record (meeting self.old) { part = (meeting self.new).part }) }
     {
-        give_part(&mut self.part, input, now)
+        match &mut self.part {
+            Some(part) => part.give(input, now),
+            None => false,
+        }
     }
 
     /// Whether a tick is due, for which its player is to give an input.
@@ -39,7 +40,10 @@ impl Session {
         ensures off { (player : ℕ) (was should : ℤ) → result ≡ ran.Inconsistent player was should
             → row.new ≡ row.old }
     {
-        run_part(&mut self.part, marks, row)
+        match &mut self.part {
+            Some(part) => part.run(marks, row),
+            None => Ran::NotPlaying,
+        }
     }
 
     /// Its player leaves the game, if it plays. Poll it and send on until it is over. In the lobby it does
@@ -48,7 +52,9 @@ impl Session {
         ensures { QuitsPart now (meeting self.old).part (meeting self.new).part
             × (meeting self.new ≡ record (meeting self.old) { part = (meeting self.new).part }) }
     {
-        quit_part(&mut self.part, now);
+        if let Some(part) = &mut self.part {
+            part.quit(now);
+        }
     }
 
     /// Its player gives up another, once the game has stood still for three seconds: any other, if it leads,
@@ -57,7 +63,10 @@ impl Session {
         ensures { GivesUpPart player now (meeting self.old).part (meeting self.new).part result
             × (meeting self.new ≡ record (meeting self.old) { part = (meeting self.new).part }) }
     {
-        give_up_in(&mut self.part, player, now)
+        match &mut self.part {
+            Some(part) => part.give_up(player, now),
+            None => false,
+        }
     }
 
     /// Turns away who holds this seat, 1 to 3, if it is the host and the game has not begun.

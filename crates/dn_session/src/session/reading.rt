@@ -1,7 +1,6 @@
 //! What a session says of itself.
 
 use super::Session;
-use super::part_calls::part_due;
 use crate::ending::Over;
 use crate::event::{Event, over_in};
 use crate::part::Part;
@@ -49,10 +48,7 @@ impl Session {
     pub fn into_link(self) -> Option<Link>
         ensures { result ≡ link_in (meeting self).part }
     {
-        match self.part {
-            Some(part) => Some(part.into_link()),
-            None => None,
-        }
+        Some(self.part?.into_link())
     }
 
     /// How it is over, once it is.
@@ -81,6 +77,9 @@ impl Session {
         ensures { (now : ℕ) → now < 2 ^ 32 → has_come now result
             ≡ (acts_in now (meeting self.now).lobby || wants_in now (meeting self.now).part) }
     {
-        earlier(self.side.due(), part_due(&self.part))
+        match &self.part {
+            Some(part) => earlier(self.side.due(), part.due()),
+            None => self.side.due(),
+        }
     }
 }
