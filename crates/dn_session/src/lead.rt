@@ -118,15 +118,22 @@ fn from_above(place: Option<usize>) -> Option<usize>
     Some(3 - place?)
 }
 
+/// The highest player who was awaited for the patience, counted from 3 down.
+fn late_from_above(patience: u32, view: &View) -> Option<usize>
+    ensures value { result ≡ position (is_late patience view.now) (3 ∷ 2 ∷ 1 ∷ 0 ∷ []) }
+    ensures within { IfSome result (λ n. n < 4) }
+{
+    [3, 2, 1, 0]
+        .iter()
+        .position(|player| is_late(patience, view, *player))
+}
+
 /// The highest player who was awaited for the patience.
 pub(crate) fn late(patience: u32, view: &View) -> Option<usize>
     ensures value { result ≡ highest (is_late patience view.now) }
     ensures within { IfSome result (λ n. n < 4) }
 {
-    let place = [3, 2, 1, 0]
-        .iter()
-        .position(|player| is_late(patience, view, *player));
-    from_above(place)
+    from_above(late_from_above(patience, view))
 }
 
 /// The highest player of whom nothing came for the patience, counted from 3 down.
