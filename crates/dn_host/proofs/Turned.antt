@@ -1,6 +1,8 @@
 -- Turns of a session, one after another.
-use Rattle.std.proofs.Common.{◌≡◌, ℕ, List, Option, Some, None, Result, Ok, Err, refl, sym, subst}
-use Rattle.std.specs.Prelude.{IfOk}
+use Rattle.std.proofs.Common.{◌≡◌, ℕ, List, Option, Some, None, Result, Ok, Err, inl, inr, refl, sym, subst, ◌∙◌}
+use Rattle.std.specs.Prelude.{◌⊎◌, IfErr, IfOk}
+use Rattle.dn_host.specs.declared.ends.HostFault.{HostFault}
+use Rattle.dn_host.specs.declared.ends.HostFault.TheVariants as fault
 use Rattle.dn_session.specs.declared.greeting.Address.{Address}
 use Rattle.dn_session.specs.declared.session.Session.{Session}
 use Rattle.dn_session.specs.Session.{meeting, Meeting}
@@ -11,6 +13,16 @@ use Rattle.dn_host.specs.declared.turns.Turns.{Turns}
 use Rattle.dn_host.specs.Outcomes.{IsPlayed}
 use Rattle.dn_host.specs.Turns.{scene_of, ActsIn, Goes}
 use Rattle.dn_host.specs.Turns as turns
+
+-- a fault of turns is none of the terms
+no_terms : (f : HostFault) → (f ≡ fault.Memory) ⊎ (f ≡ fault.Clock) → f ≡ fault.Terms → ⊥
+no_terms f (inl memory) same = let wrong : fault.Memory ≡ fault.Terms = sym memory ∙ same in cc
+no_terms f (inr clock) same = let wrong : fault.Clock ≡ fault.Terms = sym clock ∙ same in cc
+
+pub refused : (Offers : Type 0) (r : Result Outcome HostFault)
+    → IfErr r (λ f. (f ≡ fault.Memory) ⊎ (f ≡ fault.Clock)) → IfErr r (λ f. f ≡ fault.Terms → Offers)
+refused Offers (Ok o) is = tt
+refused Offers (Err f) is = λ same. absurd (no_terms f is same)
 
 -- what holds of a result holds of more
 pub mapped : {A E : Type 0} (P Q : A → Type 0) → ((a : A) → P a → Q a) → (r : Result A E) → IfOk r P → IfOk r Q

@@ -1,7 +1,7 @@
--- What a host offers.
-use Rattle.std.specs.Prelude.{◌≡◌, ℕ, List, codes, replicate, None}
-use Rattle.dn_session.specs.{declared.terms.Policy.TheVariants.End, declared.terms.Terms.Terms, Terms.terms_fault}
-use Rattle.dn_host.specs.declared.host.Hosting.{Hosting}
+-- What a host offers, and a joiner asks for.
+use Rattle.std.specs.Prelude.{◌≡◌, ℕ, List, [], codes, replicate, None}
+use Rattle.dn_session.specs.{declared.joiner.JoinConfig.JoinConfig, declared.terms.Policy.TheVariants.End, declared.terms.Terms.Terms, Terms.terms_fault, Text.join_fault}
+use Rattle.dn_host.specs.{declared.guest.Guest.Guest, declared.host.Hosting.Hosting, declared.plan.Plan.Plan}
 
 -- the identity of every program of this kind
 abbrev pub program : List ℕ
@@ -24,3 +24,19 @@ terms_of hosting = record {
 -- it is a game
 abbrev pub IsOffer : Hosting → Type 0
 IsOffer hosting = terms_fault (terms_of hosting) ≡ None
+
+-- what a joiner's session is made of, with these random bytes
+abbrev pub joining : Plan → Guest → List ℕ → JoinConfig
+joining plan guest random = record {
+  secret = plan.secret;
+  random = random;
+  host = guest.host;
+  seat = guest.seat;
+  players = guest.players;
+  identity = program;
+  name = replicate 16 0;
+}
+
+-- it may be asked for: such a seat, and so many players
+abbrev pub IsAsked : Plan → Guest → Type 0
+IsAsked plan guest = join_fault (joining plan guest []) ≡ None

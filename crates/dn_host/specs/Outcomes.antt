@@ -4,7 +4,7 @@ use Rattle.dn_link.specs.{declared.link.Link.Link, Linking.linked, Pacing.pace_o
 use Rattle.dn_measure.specs.{declared.measure.Summary.Summary, declared.measure.Told.Told, Measure.IsMeasureOf, Measure.IsSummaryOf}
 use Rattle.dn_session.specs.{Events.over_in, Session.begun_in, Session.link_in, Session.meeting, Session.IsHostSession, Session.IsJoinSession, Session.Meeting}
 use Rattle.dn_session.specs.declared.{ending.Over.Over, greeting.Address.Address, side.Begun.Begun, session.Session.Session}
-use Rattle.dn_host.specs.{Arrived.arrivals_by, Ends.end_of, Offers.program, Offers.terms_of, Summaries.IsSummaryBy, Turns.Scene, Turns.TakesTurns}
+use Rattle.dn_host.specs.{Arrived.arrivals_by, Ends.end_of, Offers.joining, Offers.terms_of, Summaries.IsSummaryBy, Turns.Scene, Turns.TakesTurns}
 use Rattle.dn_host.specs.declared.{ends.Ending.Ending, ends.Outcome.Outcome, game.Game.Game, guest.Guest.Guest, host.Hosting.Hosting, plan.Plan.Plan}
 use Rattle.dn_host.specs.declared.ends.Ending.TheVariants.{Ended, Refused, Hinted}
 use Rattle.dn_session.specs.declared.ending.Over.TheVariants as over
@@ -65,16 +65,7 @@ IsHosted polls sends plan hosting before after o =
 abbrev pub IsJoined : {W : Type 0} → (W → Option (Address × List ℕ) → W → Type 0)
     → (W → Address → List ℕ → W → Type 0) → Plan → Guest → W → W → Outcome → Type 0
 IsJoined polls sends plan guest before after o =
-    (random : List ℕ) × (session : Session) × IsJoinSession (record {
-      secret = plan.secret;
-      random = random;
-      host = guest.host;
-      seat = guest.seat;
-      players = guest.players;
-      identity = program;
-      name = replicate 16 0;
-    })
-    0 (Ok session)
+    (random : List ℕ) × (session : Session) × IsJoinSession (joining plan guest random) 0 (Ok session)
     × IsPlayed polls sends plan.seconds (record { session = meeting session; game = None; wire = before }) after o
 
 -- there is a link where a seat was given

@@ -1,7 +1,8 @@
 //! Joining a game.
 
-ghost use Rattle.std.specs.Prelude.{IfOk};
-ghost use Rattle.dn_host.specs.Outcomes.{HasLink, IsJoined};
+ghost use Rattle.std.specs.Prelude.{◌≡◌, ◌⊎◌, Err, IfErr, IfOk};
+ghost use Rattle.dn_host.specs.{Offers.IsAsked, Outcomes.HasLink, Outcomes.IsJoined};
+ghost use Rattle.dn_host.specs.declared.ends.HostFault.TheVariants as fault;
 
 use crate::ends::{HostFault, Outcome};
 use crate::host::PROGRAM;
@@ -26,7 +27,8 @@ pub struct Guest {
     pub players: Option<u8>,
 }
 
-/// Joins a game: calls the host until it has a seat and all are there, plays, and leaves.
+/// Joins a game: calls the host until it has a seat and all are there, plays, and leaves. Where nobody can have what
+/// it asks for, it does nothing.
 pub fn join_game<R: Clock + RandomSource, W: Wire, S: Screen>(
     rt: &R,
     alloc: Global,
@@ -37,6 +39,9 @@ pub fn join_game<R: Clock + RandomSource, W: Wire, S: Screen>(
 ) -> Result<Outcome, HostFault>
     ensures played { IfOk result (IsJoined W.polls W.sends plan.now guest.now wire.old wire.new) }
     ensures linked { IfOk result HasLink }
+    ensures terms { IfErr result (λ f. f ≡ fault.Terms → ¬ IsAsked plan.now guest.now) }
+    ensures no_game { ¬ IsAsked plan.now guest.now → ((result ≡ Err fault.Terms) ⊎ (result ≡ Err fault.Random))
+        × (wire.new ≡ wire.old) × (screen.new ≡ screen.old) }
 {
     let config = JoinConfig {
         secret: plan.secret,

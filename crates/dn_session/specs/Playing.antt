@@ -1,8 +1,8 @@
 -- A player's part in its game: what each call makes of it.
 use Rattle.std.specs.Prelude.{◌≡◌, ◌⊎◌, ℕ, ℤ, ◌&&◌, ◌||◌, ◌+◌, Bool, not, true, false, nat_le, nat_lt, if◌then◌else◌, List, [], ◌∷◌, map, position, slice_index_or, slice_set, replicate, Option, Some, None, is_some}
 use Rattle.dn_tic.specs.{declared.command.Move.Move, declared.input.Input.Input}
-use Rattle.dn_machine.specs.{Running.on_quit, Sending.on_build, declared.answers.Made.Made, declared.answers.Ran.Ran}
-use Rattle.dn_lockstep.specs.Steps.{Steps}
+use Rattle.dn_machine.specs.{Running.on_quit, Running.row_held, Sending.on_build, declared.answers.Made.Made, declared.answers.Ran.Ran}
+use Rattle.dn_lockstep.specs.Steps.{Steps, Tells}
 use Rattle.dn_survivor.specs.declared.answers.GivenUp.{GivenUp}
 use Rattle.dn_link.specs.{Linked.Receives, Linked.has_given_up, Linked.remains, Linking.linked, Linking.seal_of, Pace.Paces, Pace.after_input, Pace.after_tick}
 use Rattle.dn_link.specs.{Pace.lean, Pace.still_owed, Pace.wants_second, Pacing.pace_of, Surviving.GivesUpPeer, Surviving.RunsBut, declared.link.Link.Link, declared.received.Received.Received}
@@ -197,6 +197,10 @@ RunsTic marks old new ran row =
     KeepsGame old new × RunsBut marks (linked old) (linked new) (λ answer told. (ran ≡ answer) × (row ≡ told))
     × ((linked new).others ≡ (linked old).others) × ((linked new).peers ≡ (linked old).peers)
     × (pace_of new ≡ pace_of old)
+
+-- the row of the next tic, where its demo is full: the tic is not run
+abbrev pub WritesRow : List (Option Move) → Playing → Type 0
+WritesRow row p = Tells (linked p.link).node (λ limits me m. row ≡ row_held limits m)
 
 -- the next tic is run with the marks of the world, and then the command is built that is owed
 abbrev pub RunsNext : List ℤ → Playing → Playing → Ran → Option (List (Option Move)) → Type 0

@@ -10,7 +10,7 @@ use Rattle.dn_survivor.specs.OfOthers.{nothing_kept}
 use Rattle.dn_link.specs.{Linking.linked, Linking.new_peer, Linking.seal_of, Pacing.new_pace, Pacing.pace_of, declared.link.Link.Link}
 use Rattle.dn_session.specs.{Events.none_announced, Hosting.HearsCall, Hosting.IsHostOf, Hosting.Lobby, Hosting.game_told, Hosting.holder_of, Hosting.kicked, Hosting.lobby, Joining.HearsHost}
 use Rattle.dn_session.specs.{Joining.IsJoinerOf, Joining.Joining, Joining.game_now, Joining.is_heard, Joining.joining, Joining.on_time, Places.places_of, Playing.GivesUpBy, Playing.GivesWhen}
-use Rattle.dn_session.specs.{Playing.HearsBytes, Playing.Playing, Playing.Polls, Playing.QuitsBy, Playing.RunsNext, Playing.given_up_at, Playing.may_give, Playing.owes_nobody, Playing.playing}
+use Rattle.dn_session.specs.{Playing.HearsBytes, Playing.Playing, Playing.Polls, Playing.QuitsBy, Playing.RunsNext, Playing.WritesRow, Playing.given_up_at, Playing.may_give, Playing.owes_nobody, Playing.playing}
 use Rattle.dn_session.specs.{Reading.is_greeting, Sent.SendsNext, Sent.sent_of, Ticks.new_ticks, Watch.new_watch}
 use Rattle.dn_session.specs.declared.{event.Announced.Announced, greeting.Address.Address, greeting.Seating.Seating, greeting.Shown.Shown, host.Host.Host, host.HostConfig.HostConfig}
 use Rattle.dn_session.specs.declared.{joiner.JoinConfig.JoinConfig, joiner.Joiner.Joiner, part.Part.Part, seats.Seat.Seat, session.Session.Session, side.Begun.Begun, side.Side.Side}
@@ -237,6 +237,11 @@ abbrev pub RunsPart : List ℤ → Option Part → Option Part → Ran → Optio
 RunsPart marks None new answer row = (new ≡ None) × (answer ≡ ran.NotPlaying) × (row ≡ None)
 RunsPart marks (Some old) None answer row = ⊥
 RunsPart marks (Some old) (Some new) answer row = RunsNext marks (playing old) (playing new) answer row
+
+-- a part that was to run has the row of the next tic
+abbrev pub HasRow : List (Option Move) → Option Part → Type 0
+HasRow row None = ⊤
+HasRow row (Some part) = WritesRow row (playing part)
 
 abbrev pub can_give : ℕ → Option Part → Bool
 can_give now None = false

@@ -25,7 +25,7 @@ impl Part {
     ghost use Rattle.std.specs.Prelude.{ℕ, ℤ};
     ghost use Rattle.dn_machine.specs.declared.answers.Ran.TheVariants as ran;
     ghost use Rattle.dn_lockstep.specs.Steps.{told_by};
-    ghost use Rattle.dn_session.specs.Playing.{playing, RunsNext};
+    ghost use Rattle.dn_session.specs.Playing.{playing, RunsNext, WritesRow};
 
     /// Runs the next tic, if it can be run, with the marks of the world; and builds the command that was owed,
     /// if there is room for it now. Call it again while it runs.
@@ -35,6 +35,7 @@ impl Part {
         ensures idle { result ≡ ran.NotPlaying → row.new ≡ row.old }
         ensures off { (player : ℕ) (was should : ℤ) → result ≡ ran.Inconsistent player was should
             → row.new ≡ row.old }
+        ensures full { result ≡ ran.DemoFull → WritesRow row.new (playing self.old) }
     {
         let ran = self.link.run_into(marks, row);
         self.owed = owed_by(self.link.catch_up(), self.owed);

@@ -7,7 +7,7 @@ use dn_tic::{Input, Move};
 impl Session {
     ghost use Rattle.std.specs.Prelude.{◌≡◌, ℕ, ℤ};
     ghost use Rattle.dn_lockstep.specs.Steps.{told_by};
-    ghost use Rattle.dn_session.specs.{Roster.IsSide, Session.can_give, Session.meeting, Session.GivesPart, Session.GivesUpPart, Session.Kicks, Session.QuitsPart, Session.RunsPart};
+    ghost use Rattle.dn_session.specs.{Roster.IsSide, Session.can_give, Session.meeting, Session.GivesPart, Session.GivesUpPart, Session.Kicks, Session.QuitsPart, Session.RunsPart, Session.HasRow};
     ghost use Rattle.dn_machine.specs.declared.answers.Ran.TheVariants as ran;
 
     /// Its player gives the input of the tick that is due: whether one was. Else nothing changes.
@@ -39,6 +39,7 @@ impl Session {
         ensures idle { result ≡ ran.NotPlaying → row.new ≡ row.old }
         ensures off { (player : ℕ) (was should : ℤ) → result ≡ ran.Inconsistent player was should
             → row.new ≡ row.old }
+        ensures full { result ≡ ran.DemoFull → HasRow row.new (meeting self.old).part }
     {
         match &mut self.part {
             Some(part) => part.run(marks, row),

@@ -6,7 +6,7 @@ use Rattle.dn_host.specs.declared.game.Game.{Game}
 use Rattle.dn_host.specs.declared.plan.Plan.{Plan}
 use Rattle.dn_host.specs.Outcomes.{IsJoined, IsPlayed}
 use Rattle.dn_host.specs.Turns.{scene_of}
-use Rattle.dn_host.proofs.Turned.{mapped, played_of}
+use Rattle.dn_host.proofs.Turned.{mapped, played_of, refused}
 use Rattle.dn_host.proofs.guest.join_game.Goals as goal
 
 pub returns-clause-played : goal.returns-clause-played
@@ -22,3 +22,6 @@ returns-clause-played g c =
       played_of polls sends c.new.result c.in_ok-session.session c.args.plan.now c.args.wire.now c.run.new.wire o
           c.new.ensures.session c.new.ensures.plan c.new.ensures.game played,
     )) c.run.result c.run.ensures.played
+
+pub returns-clause-terms : goal.returns-clause-terms
+returns-clause-terms g c = refused _ c.run.result c.run.ensures.fault

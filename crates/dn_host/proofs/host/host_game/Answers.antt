@@ -1,18 +1,16 @@
-use Rattle.std.proofs.Common.{◌≡◌, ℕ, List, inl, inr, Err, Bool, true, false, Option, Some, Result, Ok, ap, refl, sym, subst, ◌∙◌}
-use Rattle.std.specs.Prelude.{◌⊎◌, IfErr, is_some, replicate}
+use Rattle.std.proofs.Common.{◌≡◌, ℕ, List, Bool, true, false, Option, Ok, ap, refl, subst, ◌∙◌}
+use Rattle.std.specs.Prelude.{is_some, replicate}
 use Rattle.dn_session.specs.declared.greeting.Address.{Address}
 use Rattle.dn_session.specs.declared.session.Session.{Session}
 use Rattle.dn_session.specs.declared.terms.Terms.{Terms}
 use Rattle.dn_session.specs.declared.terms.LobbyFault.{LobbyFault}
 use Rattle.dn_session.specs.Session.{meeting, IsHostSession, Meeting}
-use Rattle.dn_host.specs.declared.ends.HostFault.{HostFault}
-use Rattle.dn_host.specs.declared.ends.HostFault.TheVariants as fault
 use Rattle.dn_host.specs.declared.ends.Outcome.{Outcome}
 use Rattle.dn_host.specs.declared.turns.Turns.{Turns}
 use Rattle.dn_host.specs.Outcomes.{is_refusal, IsHosted, IsPlayed}
 use Rattle.dn_host.specs.Turns.{scene_of}
 use Rattle.dn_host.proofs.Hosts.{host_is_seated, is_host, seated_has_link, turns_host}
-use Rattle.dn_host.proofs.Turned.{mapped, played_of}
+use Rattle.dn_host.proofs.Turned.{mapped, played_of, refused}
 use Rattle.dn_host.proofs.host.host_game.Goals as goal
 
 pub returns-clause-played : goal.returns-clause-played
@@ -46,15 +44,6 @@ module _ {W : Type 0} (polls : W → Option (Address × List ℕ) → W → Type
         let end = played.1 in
         ap is_some played.4.link
         ∙ seated_has_link end.session.part end.game end.session.lobby o.ending played.4.ending seated
-
-no_terms : (f : HostFault) → (f ≡ fault.Memory) ⊎ (f ≡ fault.Clock) → f ≡ fault.Terms → ⊥
-no_terms f (inl memory) same = let wrong : fault.Memory ≡ fault.Terms = sym memory ∙ same in cc
-no_terms f (inr clock) same = let wrong : fault.Clock ≡ fault.Terms = sym clock ∙ same in cc
-
-refused : (Offers : Type 0) (r : Result Outcome HostFault)
-    → IfErr r (λ f. (f ≡ fault.Memory) ⊎ (f ≡ fault.Clock)) → IfErr r (λ f. f ≡ fault.Terms → Offers)
-refused Offers (Ok o) is = tt
-refused Offers (Err f) is = λ same. absurd (no_terms f is same)
 
 pub returns-clause-seated : goal.returns-clause-seated
 returns-clause-seated g c =
