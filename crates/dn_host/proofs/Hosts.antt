@@ -1,7 +1,9 @@
 -- A host's session stays a host's, which is never refused; and who had a seat has a link.
-use Rattle.std.proofs.Common.{◌≡◌, ℕ, Bool, true, false, List, Option, Some, None, Result, Ok, Err, refl, sym, ap, ◌∙◌, subst}
+use Rattle.std.proofs.Common.{◌≡◌, ℕ, zero, suc, Bool, true, false, List, Option, Some, None, Result, Ok, Err, inl, inr, refl, sym, ap, ◌∙◌, subst}
 use Rattle.std.specs.Option.{option_map, option_or}
-use Rattle.std.specs.Prelude.{is_some}
+use Rattle.std.specs.Prelude.{◌&&◌, ◌==◌, is_some}
+use Rattle.dn_link.specs.Hearing.{ByTest}
+use Rattle.dn_session.specs.{Reading.is_greeting, Session.HearsAny}
 use Rattle.std.proofs.lemmas.Bool.{false≢true}
 use Rattle.std.proofs.lemmas.Option.{none-some}
 use Rattle.dn_measure.specs.declared.end.End.{End}
@@ -24,7 +26,8 @@ use Rattle.dn_host.specs.declared.ends.Ending.TheVariants.{Ended, Refused, Hinte
 use Rattle.dn_host.specs.declared.game.Game.{Game}
 use Rattle.dn_host.specs.Leaving.{LeavesFor, LeavesIf, LeavesWhen}
 use Rattle.dn_host.specs.Outcomes.{ended_with, is_refusal}
-use Rattle.dn_host.specs.Turns.{Acts, Goes, IsTurn, Scene, TakesTurns}
+use Rattle.dn_host.specs.Turns.{left_after, Acts, ActsIn, HearsUpTo, IfGame, IsTurn, Scene, SendsUpTo, TakesOne, TakesTurns}
+use Rattle.dn_host.specs.Playing.{millis, ComesIn}
 use Rattle.dn_host.specs.Turns as turns
 use Rattle.dn_host.specs.Walks.{GivesInput}
 
@@ -95,20 +98,42 @@ acts_host now a k b l (turns.leaves c m d n leaves) host = leaves_host c.left no
 acts_host now a k b l (turns.notes c d m notes) host = host
 acts_host now a k b l (turns.tells c d m tells same) host = host
 
-goes_host : {W : Type 0} {polls : W → Option (Address × List ℕ) → W → Type 0}
-    {sends : W → Address → List ℕ → W → Type 0} (now : ℕ) (a b : Scene W) → Goes polls sends now a b
-    → hosts a.session → hosts b.session
-goes_host now a b (turns.stays c) host = host
-goes_host now a b (turns.after c d e one other) host =
-    goes_host now d e other (goes_host now c d one host)
-goes_host now a b (turns.hears c d from bytes polled heard comes) host =
-    hears_host _ from bytes _ c.session d.session heard host
-goes_host now a b (turns.drops c wire from bytes polled greets) host = host
-goes_host now a b (turns.finds c wire polled) host = host
-goes_host now a b (turns.carries c m wire to bytes given sent) host = sends_host _ c.session m _ given host
-goes_host now a b (turns.owes c m none) host = sends_host _ c.session m _ none host
-goes_host now a b (turns.passes c m passed) host = subst hosts (sym passed.3) (calls_host _ _ _ _ passed.1 host)
-goes_host now a b (turns.plays c old new m is acts) host = acts_host now old c.session new m acts host
+acts_in_host : (now : ℕ) (old : Option Game) (k : Meeting) (new : Option Game) (m : Meeting)
+    → ActsIn now old k new m → hosts k → hosts m
+acts_in_host now None k new m (gone, same) host = subst hosts (sym same) host
+acts_in_host now (Some old) k None m acts host = absurd acts
+acts_in_host now (Some old) k (Some new) m acts host = acts_host now old k new m acts host
+
+sends_up_host : {W : Type 0} (sends : W → Address → List ℕ → W → Type 0) (n : ℕ) (k : Meeting) (v : W)
+    (m : Meeting) (w : W) → SendsUpTo sends n k v m w → hosts k → hosts m
+unfolding SendsUpTo
+sends_up_host sends zero k v m w (same, still) host = subst hosts (sym same) host
+sends_up_host sends (suc n) k v m w (inl (none, still)) host = sends_host _ k m _ none host
+sends_up_host sends (suc n) k v m w (inr (l, x, to, bytes, given, sent, rest)) host =
+    sends_up_host sends n l x m w rest (sends_host _ k l _ given host)
+
+takes_host : {W : Type 0} (sends : W → Address → List ℕ → W → Type 0) (now left : ℕ) (from : Address) (bytes : List ℕ)
+    (a b : Scene W) → TakesOne sends now left from bytes a b → hosts a.session → hosts b.session
+takes_host {W = W} sends now left from bytes a b takes host = go (is_greeting bytes && left == 0) takes
+  where
+    go : (test : Bool) → ByTest test (b ≡ a)
+        ((m : Meeting) × HearsAny from bytes (millis now) a.session m × IfGame (ComesIn a.session m) a.game b.game
+        × SendsUpTo sends 10 m a.wire b.session b.wire) → hosts b.session
+    go true same = subst (λ (s : Scene W). hosts s.session) (sym same) host
+    go false (m, heard, comes, sent) =
+        sends_up_host sends 10 m a.wire b.session b.wire sent (hears_host _ from bytes _ a.session m heard host)
+
+hears_up_host : {W : Type 0} (polls : W → Option (Address × List ℕ) → W → Type 0)
+    (sends : W → Address → List ℕ → W → Type 0) (now n left : ℕ) (a b : Scene W) (busy : Bool)
+    → HearsUpTo polls sends now n left a b busy → hosts a.session → hosts b.session
+unfolding HearsUpTo
+hears_up_host {W = W} polls sends now zero left a b busy (same, more) host =
+    subst (λ (s : Scene W). hosts s.session) (sym same) host
+hears_up_host {W = W} polls sends now (suc n) left a b busy (inl (polled, same, idle)) host =
+    subst (λ (s : Scene W). hosts s.session) (sym same) host
+hears_up_host polls sends now (suc n) left a b busy (inr (wire, from, bytes, c, polled, takes, rest)) host =
+    hears_up_host polls sends now n (left_after left bytes) c b busy rest
+    (takes_host sends now left from bytes (record a { wire = wire }) c takes host)
 
 begins_host : (begun : Option Begun) (now : ℕ) (old new : Meeting) (result : Result Bool NodeFault)
     → BeginsAs begun now old new result → hosts old → hosts new
@@ -116,18 +141,22 @@ begins_host None now old new result (is, same) host = same_lobby old new _ same 
 begins_host (Some begun) now old new (Ok began) (part, made, is, same) host = same_lobby old new _ same host
 begins_host (Some begun) now old new (Err fault) (made, same) host = same_lobby old new _ same host
 
-turn_host : {W : Type 0} {polls : W → Option (Address × List ℕ) → W → Type 0}
-    {sends : W → Address → List ℕ → W → Type 0} (seconds now : ℕ) (a d : Scene W)
-    → IsTurn polls sends seconds now a d → hosts a.session → hosts d.session
-turn_host seconds now a d (b, c, one, (starts, still), other) host =
-    goes_host now c d other (begins_host _ _ b.session c.session _ starts.1 (goes_host now a b one host))
+turn_host : {W : Type 0} (polls : W → Option (Address × List ℕ) → W → Type 0)
+    (sends : W → Address → List ℕ → W → Type 0) (seconds now : ℕ) (a d : Scene W) (busy : Bool)
+    → IsTurn polls sends seconds now a d busy → hosts a.session → hosts d.session
+turn_host polls sends seconds now a d busy (b, heard, k, passed, l, g, starts, m, h, acts, o, sent, told) host =
+    let hears = hears_up_host polls sends now 64 2 a b busy heard host in
+    let passes = subst hosts (sym passed.3) (calls_host _ _ _ _ passed.1 hears) in
+    let begun = begins_host _ _ k l _ starts.1 passes in
+    let acted = acts_in_host now g l h m acts begun in
+    acts_in_host now h o d.game d.session told (sends_up_host sends 10 m b.wire o d.wire sent acted)
 
 pub turns_host : {W : Type 0} {polls : W → Option (Address × List ℕ) → W → Type 0}
     {sends : W → Address → List ℕ → W → Type 0} (seconds : ℕ) (a b : Scene W)
     → TakesTurns polls sends seconds a b → hosts a.session → hosts b.session
-turns_host seconds a b (turns.none c) host = host
-turns_host seconds a b (turns.more c d e now before turn) host =
-    turn_host seconds now d e turn (turns_host seconds c d before host)
+turns_host {polls} {sends} seconds a b (turns.none c) host = host
+turns_host {polls} {sends} seconds a b (turns.more c d e now busy before turn) host =
+    turn_host polls sends seconds now d e busy turn (turns_host seconds c d before host)
 
 -- how a session ends
 

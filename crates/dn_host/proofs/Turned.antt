@@ -1,17 +1,17 @@
 -- Turns of a session, one after another.
-use Rattle.std.proofs.Common.{◌≡◌, ℕ, List, Option, Some, None, Result, Ok, Err, inl, inr, refl, sym, subst, ◌∙◌}
+use Rattle.std.proofs.Common.{◌≡◌, ◌<◌, ◌≤◌, ◌+◌, ◌-◌, ℕ, suc, Bool, true, false, List, Option, Some, None, Result, Ok, Err, inl, inr, refl, sym, subst, arith, ◌∙◌}
 use Rattle.std.specs.Prelude.{◌⊎◌, IfErr, IfOk}
 use Rattle.dn_host.specs.declared.ends.HostFault.{HostFault}
 use Rattle.dn_host.specs.declared.ends.HostFault.TheVariants as fault
 use Rattle.dn_session.specs.declared.greeting.Address.{Address}
 use Rattle.dn_session.specs.declared.session.Session.{Session}
-use Rattle.dn_session.specs.Session.{meeting, Meeting}
+use Rattle.dn_session.specs.Session.{meeting, Meeting, Sends}
 use Rattle.dn_host.specs.declared.ends.Outcome.{Outcome}
 use Rattle.dn_host.specs.declared.game.Game.{Game}
 use Rattle.dn_host.specs.declared.plan.Plan.{Plan}
 use Rattle.dn_host.specs.declared.turns.Turns.{Turns}
 use Rattle.dn_host.specs.Outcomes.{IsPlayed}
-use Rattle.dn_host.specs.Turns.{scene_of, ActsIn, Goes}
+use Rattle.dn_host.specs.Turns.{left_after, scene_of, ActsIn, HearsUpTo, Scene, SendsUpTo, TakesOne}
 use Rattle.dn_host.specs.Turns as turns
 
 -- a fault of turns is none of the terms
@@ -34,19 +34,78 @@ pub rests_in : (now : ℕ) (game : Option Game) (m : Meeting) → ActsIn now gam
 rests_in now None m = (refl, refl)
 rests_in now (Some game) m = turns.rests game m
 
--- what its player does is what the session does
-pub goes_on : {W : Type 0} (polls : W → Option (Address × List ℕ) → W → Type 0)
-    (sends : W → Address → List ℕ → W → Type 0) (now : ℕ) (old : Option Game) (k : Meeting) (new : Option Game)
-    (l : Meeting) (wire : W) → ActsIn now old k new l
-    → Goes polls sends now (record { session = k; game = old; wire = wire })
-    (record { session = l; game = new; wire = wire })
-goes_on {W = W} polls sends now None k new l wire (gone, same) =
-    subst (λ (g : Option Game). Goes polls sends now (record { session = k; game = None; wire = wire })
-    (record { session = l; game = g; wire = wire })) (sym gone)
-    (subst (λ (m : Meeting). Goes polls sends now (record { session = k; game = None; wire = wire })
-    (record { session = m; game = None; wire = wire })) (sym same) (turns.stays _))
-goes_on polls sends now (Some old) k None l wire acts = absurd acts
-goes_on polls sends now (Some old) k (Some new) l wire acts = turns.plays _ old new l refl acts
+-- Datagrams that are sent, and taken: so many of the most are done.
+
+one_more : (most done : ℕ) → done < most → most - done ≡ suc (most - (done + 1))
+one_more most done below = omega (arith, below)
+
+no_more : (most done : ℕ) → most ≤ done → most - done ≡ 0
+no_more most done reached = omega (arith, reached)
+
+module _ {W : Type 0} (sends : W → Address → List ℕ → W → Type 0) (most done : ℕ) where
+  done_sending : (k : Meeting) (v : W) → SendsUpTo sends 0 k v k v
+  unfolding SendsUpTo
+  done_sending k v = (refl, refl)
+
+  one_sent : (n : ℕ) (k l m : Meeting) (v x w : W) (to : Address) (bytes : List ℕ) → Sends k l (Some (to, bytes))
+      → sends v to bytes x → SendsUpTo sends n l x m w → SendsUpTo sends (suc n) k v m w
+  unfolding SendsUpTo
+  one_sent n k l m v x w to bytes given sent rest = inr (l, x, to, bytes, given, sent, rest)
+
+  none_sent : (n : ℕ) (k m : Meeting) (v w : W) → Sends k m None → w ≡ v → SendsUpTo sends (suc n) k v m w
+  unfolding SendsUpTo
+  none_sent n k m v w none still = inl (none, still)
+
+  pub sends_done : (k : Meeting) (v : W) → most ≤ done → SendsUpTo sends (most - done) k v k v
+  sends_done k v reached =
+      subst (λ (n : ℕ). SendsUpTo sends n k v k v) (sym (no_more most done reached)) (done_sending k v)
+
+  pub sends_none : (k m : Meeting) (v w : W) → done < most → Sends k m None → w ≡ v
+      → SendsUpTo sends (most - done) k v m w
+  sends_none k m v w below none still = subst (λ (n : ℕ). SendsUpTo sends n k v m w)
+      (sym (one_more most done below)) (none_sent (most - (done + 1)) k m v w none still)
+
+  pub sends_more : (k l m : Meeting) (v x w : W) (to : Address) (bytes : List ℕ) → done < most
+      → Sends k l (Some (to, bytes)) → sends v to bytes x → SendsUpTo sends (most - (done + 1)) l x m w
+      → SendsUpTo sends (most - done) k v m w
+  sends_more k l m v x w to bytes below given sent rest = subst (λ (n : ℕ). SendsUpTo sends n k v m w)
+      (sym (one_more most done below)) (one_sent (most - (done + 1)) k l m v x w to bytes given sent rest)
+
+  module _ (polls : W → Option (Address × List ℕ) → W → Type 0) (now left : ℕ) where
+    done_hearing : (a : Scene W) → HearsUpTo polls sends now 0 left a a true
+    unfolding HearsUpTo
+    done_hearing a = (refl, refl)
+
+    none_heard : (n : ℕ) (a b : Scene W) → polls a.wire None b.wire → b ≡ record a { wire = b.wire }
+        → HearsUpTo polls sends now (suc n) left a b false
+    unfolding HearsUpTo
+    none_heard n a b polled same = inl (polled, same, refl)
+
+    one_heard : (n : ℕ) (a c b : Scene W) (busy : Bool) (wire : W) (from : Address) (bytes : List ℕ)
+        → polls a.wire (Some (from, bytes)) wire → TakesOne sends now left from bytes (record a { wire = wire }) c
+        → HearsUpTo polls sends now n (left_after left bytes) c b busy
+        → HearsUpTo polls sends now (suc n) left a b busy
+    unfolding HearsUpTo
+    one_heard n a c b busy wire from bytes polled takes rest = inr (wire, from, bytes, c, polled, takes, rest)
+
+    pub hears_done : (a : Scene W) → most ≤ done → HearsUpTo polls sends now (most - done) left a a true
+    hears_done a reached = subst (λ (n : ℕ). HearsUpTo polls sends now n left a a true)
+        (sym (no_more most done reached)) (done_hearing a)
+
+    pub hears_none : (a b : Scene W) → done < most → polls a.wire None b.wire → b ≡ record a { wire = b.wire }
+        → HearsUpTo polls sends now (most - done) left a b false
+    hears_none a b below polled same = subst (λ (n : ℕ). HearsUpTo polls sends now n left a b false)
+        (sym (one_more most done below)) (none_heard (most - (done + 1)) a b polled same)
+
+    pub hears_more : (then : ℕ) (a c b : Scene W) (busy : Bool) (wire : W) (from : Address) (bytes : List ℕ)
+        → done < most → polls a.wire (Some (from, bytes)) wire
+        → TakesOne sends now left from bytes (record a { wire = wire }) c → then ≡ left_after left bytes
+        → HearsUpTo polls sends now (most - (done + 1)) then c b busy
+        → HearsUpTo polls sends now (most - done) left a b busy
+    hears_more then a c b busy wire from bytes below polled takes same rest =
+        subst (λ (n : ℕ). HearsUpTo polls sends now n left a b busy) (sym (one_more most done below))
+        (one_heard (most - (done + 1)) a c b busy wire from bytes polled takes
+        (subst (λ (t : ℕ). HearsUpTo polls sends now (most - (done + 1)) t c b busy) same rest))
 
 -- turns that begin with a session and a plan are those of that session
 pub played_of : {W : Type 0} (polls : W → Option (Address × List ℕ) → W → Type 0)

@@ -1,6 +1,6 @@
 -- What the turns of a session are: calls of the session and of its wire, and what its player does between them.
-use Rattle.std.specs.Prelude.{◌≡◌, ℕ, Bool, true, false, List, Option, Some, None, Ok}
-use Rattle.dn_link.specs.declared.link.Link.{Link}
+use Rattle.std.specs.Prelude.{◌≡◌, ◌⊎◌, ◌&&◌, ◌==◌, ◌-◌, ℕ, zero, suc, Bool, true, false, if◌then◌else◌, List, Option, Some, None, Ok}
+use Rattle.dn_link.specs.{Hearing.ByTest, declared.link.Link.Link}
 use Rattle.dn_session.specs.{declared.greeting.Address.Address, Reading.is_greeting, Session.link_in, Session.meeting, Session.Begins, Session.HearsAny, Session.Meeting, Session.PassesTo}
 use Rattle.dn_session.specs.{Session.Sends}
 use Rattle.dn_host.specs.{Counted.AreTold, Leaving.Leaves, Playing.millis, Playing.ComesIn, Playing.IsBegun, Playing.NotesIn, Walks.GivesInput, Walks.RunsWalk}
@@ -34,27 +34,41 @@ IfGame Does None new = new ≡ None
 IfGame Does (Some old) None = ⊥
 IfGame Does (Some old) (Some new) = Does old new
 
--- what a session, its player and its wire do at this time: a datagram that the wire gives is the session's, and is
--- counted if it came late, or is dropped, if it is a greeting; what the session sends goes where it says; time passes
--- for it; and its player acts. One after the other, or nothing
-pub data Goes {W : Type 0} (polls : W → Option (Address × List ℕ) → W → Type 0)
-    (sends : W → Address → List ℕ → W → Type 0) (now : ℕ) : Scene W → Scene W → Type 0 where
-  stays : (a : Scene W) → Goes polls sends now a a
-  after : (a b c : Scene W) → Goes polls sends now a b → Goes polls sends now b c → Goes polls sends now a c
-  hears : (a b : Scene W) (from : Address) (bytes : List ℕ) → polls a.wire (Some (from, bytes)) b.wire
-      → HearsAny from bytes (millis now) a.session b.session → IfGame (ComesIn a.session b.session) a.game b.game
-      → Goes polls sends now a b
-  drops : (a : Scene W) (wire : W) (from : Address) (bytes : List ℕ) → polls a.wire (Some (from, bytes)) wire
-      → is_greeting bytes ≡ true → Goes polls sends now a (record a { wire = wire })
-  finds : (a : Scene W) (wire : W) → polls a.wire None wire → Goes polls sends now a (record a { wire = wire })
-  carries : (a : Scene W) (m : Meeting) (wire : W) (to : Address) (bytes : List ℕ)
-      → Sends a.session m (Some (to, bytes)) → sends a.wire to bytes wire
-      → Goes polls sends now a (record a { session = m; wire = wire })
-  owes : (a : Scene W) (m : Meeting) → Sends a.session m None → Goes polls sends now a (record a { session = m })
-  passes : (a : Scene W) (m : Meeting) → PassesTo (millis now) a.session m
-      → Goes polls sends now a (record a { session = m })
-  plays : (a : Scene W) (old new : Game) (m : Meeting) → a.game ≡ Some old → Acts now old a.session new m
-      → Goes polls sends now a (record a { session = m; game = Some new })
+-- what a session owes goes where it says, up to so many datagrams: until it owes nothing more, or so many went
+unfoldable pub SendsUpTo : {W : Type 0} → (W → Address → List ℕ → W → Type 0) → ℕ → Meeting → W → Meeting → W → Type 0
+SendsUpTo sends zero k v m w = (m ≡ k) × (w ≡ v)
+SendsUpTo {W = W} sends (suc n) k v m w = (Sends k m None × (w ≡ v))
+    ⊎ ((l : Meeting) × (x : W) × (to : Address) × (bytes : List ℕ) × Sends k l (Some (to, bytes))
+    × sends v to bytes x × SendsUpTo sends n l x m w)
+
+-- how many more greetings are taken in this turn, after these bytes
+abbrev pub left_after : ℕ → List ℕ → ℕ
+left_after left bytes = if is_greeting bytes then left - 1 else left
+
+-- a datagram that the wire gave is dropped, if it is a greeting and no more of them are taken; else it is the
+-- session's, and is counted if it came late; and what the session owes then is sent
+abbrev pub TakesOne : {W : Type 0} → (W → Address → List ℕ → W → Type 0) → (now left : ℕ) → Address → List ℕ
+    → Scene W → Scene W → Type 0
+TakesOne sends now left from bytes a b = ByTest (is_greeting bytes && left == 0) (b ≡ a)
+    ((m : Meeting) × HearsAny from bytes (millis now) a.session m × IfGame (ComesIn a.session m) a.game b.game
+    × SendsUpTo sends 10 m a.wire b.session b.wire)
+
+-- the datagrams that the wire gives are taken, one after another, up to so many: until it gives none, or so many came;
+-- then there may be more
+unfoldable pub HearsUpTo : {W : Type 0} → (W → Option (Address × List ℕ) → W → Type 0)
+    → (W → Address → List ℕ → W → Type 0) → (now n left : ℕ) → Scene W → Scene W → Bool → Type 0
+HearsUpTo polls sends now zero left a b busy = (b ≡ a) × (busy ≡ true)
+HearsUpTo {W = W} polls sends now (suc n) left a b busy =
+    (polls a.wire None b.wire × (b ≡ record a { wire = b.wire }) × (busy ≡ false))
+    ⊎ ((wire : W) × (from : Address) × (bytes : List ℕ) × (c : Scene W) × polls a.wire (Some (from, bytes)) wire
+    × TakesOne sends now left from bytes (record a { wire = wire }) c
+    × HearsUpTo polls sends now n (left_after left bytes) c b busy)
+
+-- its player acts, if the game has begun
+abbrev pub ActsIn : ℕ → Option Game → Meeting → Option Game → Meeting → Type 0
+ActsIn now None k new m = (new ≡ None) × (m ≡ k)
+ActsIn now (Some old) k None m = ⊥
+ActsIn now (Some old) k (Some new) m = Acts now old k new m
 
 -- its player's part in the game begins, if the game has, and with it the player's walk, for so many seconds
 abbrev pub StartsAs : Bool → (seconds now : ℕ) → Option Link → Option Game → Option Game → Type 0
@@ -65,26 +79,24 @@ abbrev pub Starts : (seconds now : ℕ) → Meeting → Option Game → Meeting 
 Starts seconds now from old to new =
     (began : Bool) × Begins (millis now) from to (Ok began) × StartsAs began seconds now (link_in to.part) old new
 
--- a turn: what has come is heard; the game begins, if it does; and the session goes on
+-- a turn: what has come is heard, two greetings of 64 datagrams at most; time passes for the session; the game begins,
+-- if it does; its player acts; what the session owes is sent; and its player is told how the game stands, if it is
 abbrev pub IsTurn : {W : Type 0} → (W → Option (Address × List ℕ) → W → Type 0)
-    → (W → Address → List ℕ → W → Type 0) → (seconds now : ℕ) → Scene W → Scene W → Type 0
-IsTurn {W = W} polls sends seconds now a d =
-    (b : Scene W) × (c : Scene W) × Goes polls sends now a b
-    × (Starts seconds now b.session b.game c.session c.game × (c.wire ≡ b.wire)) × Goes polls sends now c d
+    → (W → Address → List ℕ → W → Type 0) → (seconds now : ℕ) → Scene W → Scene W → Bool → Type 0
+IsTurn {W = W} polls sends seconds now a z busy =
+    (b : Scene W) × HearsUpTo polls sends now 64 2 a b busy
+    × (k : Meeting) × PassesTo (millis now) b.session k
+    × (l : Meeting) × (g : Option Game) × Starts seconds now k b.game l g
+    × (m : Meeting) × (h : Option Game) × ActsIn now g l h m
+    × (o : Meeting) × SendsUpTo sends 10 m b.wire o z.wire × ActsIn now h o z.game z.session
 
 -- turns, one after another
 pub data TakesTurns {W : Type 0} (polls : W → Option (Address × List ℕ) → W → Type 0)
     (sends : W → Address → List ℕ → W → Type 0) (seconds : ℕ) : Scene W → Scene W → Type 0 where
   none : (a : Scene W) → TakesTurns polls sends seconds a a
-  more : (a b c : Scene W) (now : ℕ) → TakesTurns polls sends seconds a b → IsTurn polls sends seconds now b c
-      → TakesTurns polls sends seconds a c
+  more : (a b c : Scene W) (now : ℕ) (busy : Bool) → TakesTurns polls sends seconds a b
+      → IsTurn polls sends seconds now b c busy → TakesTurns polls sends seconds a c
 
 -- the turns' session and game, with a wire
 abbrev pub scene_of : {W : Type 0} → Turns → W → Scene W
 scene_of turns wire = record { session = meeting turns.session; game = turns.game; wire = wire }
-
--- its player acts, if the game has begun
-abbrev pub ActsIn : ℕ → Option Game → Meeting → Option Game → Meeting → Type 0
-ActsIn now None k new m = (new ≡ None) × (m ≡ k)
-ActsIn now (Some old) k None m = ⊥
-ActsIn now (Some old) k (Some new) m = Acts now old k new m

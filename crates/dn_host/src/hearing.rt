@@ -1,8 +1,9 @@
 //! Taking the datagrams that are there, and sending what is owed.
 
-ghost use Rattle.std.specs.Prelude.{◌≡◌, ◌-◌, ◌&&◌, ℕ, Option, Some, not, nat_le, if◌then◌else◌};
-ghost use Rattle.dn_session.specs.{Reading.is_greeting, Session.meeting, Session.HearsAny};
-ghost use Rattle.dn_host.specs.{Playing.millis, Playing.ComesIn, Turns.Goes, Turns.IfGame, declared.game.Game.Game};
+ghost use Rattle.std.specs.Prelude.{◌≡◌, ◌-◌, ◌==◌, ◌&&◌, ℕ, List, None, Some, false, true, not, if◌then◌else◌};
+ghost use Rattle.dn_session.specs.{Reading.is_greeting, Session.meeting, Session.HearsAny, Session.Sends};
+ghost use Rattle.dn_session.specs.declared.greeting.Address.{Address as Place};
+ghost use Rattle.dn_host.specs.{Playing.millis, Playing.ComesIn, Turns.HearsUpTo, Turns.IfGame, Turns.SendsUpTo, Turns.TakesOne, Turns.left_after};
 
 use crate::clock::millis;
 use crate::game::Game;
@@ -20,22 +21,22 @@ const OWED: u32 = 10;
 
 /// Whether bytes are taken, if so many greetings still are.
 fn is_taken(left: &mut u32, bytes: &[u8]) -> bool
-    ensures taken { result ≡ not (is_greeting bytes.now && nat_le left.old 0) }
-    ensures left { left.new ≡ (if is_greeting bytes.now then left.old - 1 else left.old) }
+    ensures taken { result ≡ not (is_greeting bytes.now && left.old == 0) }
+    ensures left { left.new ≡ left_after left.old bytes.now }
 {
     if !is_greeting(bytes) {
         return true;
     }
-    let is_taken = *left > 0;
+    let is_taken = *left != 0;
     *left = left.saturating_sub(1);
     is_taken
 }
 
 /// Sends what a session owes next: whether it owed anything.
 fn send_next<W: Wire>(session: &mut Session, wire: &mut W) -> bool
-    ensures { (now : ℕ) (game : Option Game) → Goes W.polls W.sends now
-        (record { session = meeting session.old; game = game; wire = wire.old })
-        (record { session = meeting session.new; game = game; wire = wire.new }) }
+    ensures sends { result ≡ true → (to : Place) × (bytes : List ℕ)
+        × Sends (meeting session.old) (meeting session.new) (Some (to, bytes)) × W.sends wire.old to bytes wire.new }
+    ensures none { result ≡ false → Sends (meeting session.old) (meeting session.new) None × (wire.new ≡ wire.old) }
 {
     match session.transmit() {
         Some(out) => {
@@ -48,11 +49,9 @@ fn send_next<W: Wire>(session: &mut Session, wire: &mut W) -> bool
 
 /// Sends what a session owes.
 pub(crate) fn send_all<W: Wire>(session: &mut Session, wire: &mut W)
-    ensures { (now : ℕ) (game : Option Game) → Goes W.polls W.sends now
-        (record { session = meeting session.old; game = game; wire = wire.old })
-        (record { session = meeting session.new; game = game; wire = wire.new }) }
+    ensures { SendsUpTo W.sends 10 (meeting session.old) wire.old (meeting session.new) wire.new }
 {
-    for _ in 0..OWED {
+    for sent in 0..OWED {
         if !send_next(session, wire) {
             return;
         }
@@ -81,9 +80,10 @@ fn take<W: Wire>(
     bytes: &[u8],
     now: u64,
 )
-    ensures { (before : W) → W.polls before (Some (from.now, bytes.now)) wire.old → Goes W.polls W.sends now
-        (record { session = meeting session.old; game = game.old; wire = before })
+    ensures takes { TakesOne W.sends now left.old from.now bytes.now
+        (record { session = meeting session.old; game = game.old; wire = wire.old })
         (record { session = meeting session.new; game = game.new; wire = wire.new }) }
+    ensures left { left.new ≡ left_after left.old bytes.now }
 {
     if is_taken(left, bytes) {
         hear(session, game, from, bytes, now);
@@ -99,8 +99,12 @@ fn hear_next<W: Wire>(
     left: &mut u32,
     now: u64,
 ) -> bool
-    ensures { Goes W.polls W.sends now (record { session = meeting session.old; game = game.old; wire = wire.old })
-        (record { session = meeting session.new; game = game.new; wire = wire.new }) }
+    ensures took { result ≡ true → (mid : W) × (from : Place) × (bytes : List ℕ) × W.polls wire.old (Some (from, bytes)) mid
+        × TakesOne W.sends now left.old from bytes (record { session = meeting session.old; game = game.old; wire = mid })
+        (record { session = meeting session.new; game = game.new; wire = wire.new })
+        × (left.new ≡ left_after left.old bytes) }
+    ensures none { result ≡ false → W.polls wire.old None wire.new × (session.new ≡ session.old)
+        × (game.new ≡ game.old) }
 {
     let mut room = [0; MOST];
     match wire.poll(&mut room) {
@@ -119,11 +123,12 @@ pub(crate) fn hear_all<W: Wire>(
     wire: &mut W,
     now: u64,
 ) -> bool
-    ensures { Goes W.polls W.sends now (record { session = meeting session.old; game = game.old; wire = wire.old })
-        (record { session = meeting session.new; game = game.new; wire = wire.new }) }
+    ensures { HearsUpTo W.polls W.sends now 64 2
+        (record { session = meeting session.old; game = game.old; wire = wire.old })
+        (record { session = meeting session.new; game = game.new; wire = wire.new }) result }
 {
     let mut left = GREETINGS;
-    for _ in 0..POLLS {
+    for heard in 0..POLLS {
         if !hear_next(session, game, wire, &mut left, now) {
             return false;
         }

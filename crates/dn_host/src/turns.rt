@@ -127,7 +127,7 @@ impl Turns {
         now: u64,
     ) -> Result<bool, HostFault>
         ensures turn { IfOk result (λ busy. IsTurn W.polls W.sends self.old.plan.seconds now (scene_of self.old wire.old)
-            (scene_of self.new wire.new)) }
+            (scene_of self.new wire.new) busy) }
         ensures plan { self.new.plan ≡ self.old.plan }
         ensures fault { IfErr result (λ f. f ≡ fault.Memory) }
     {

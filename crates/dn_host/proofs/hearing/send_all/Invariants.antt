@@ -1,9 +1,10 @@
-use Rattle.std.specs.Prelude.{ℕ, Option}
-use Rattle.dn_session.specs.Session.{meeting}
-use Rattle.dn_host.specs.{declared.game.Game.Game, Turns.Goes}
+use Rattle.std.specs.Prelude.{◌-◌}
+use Rattle.dn_session.specs.Session.{meeting, Meeting}
+use Rattle.dn_host.specs.Turns.{SendsUpTo}
 use Rattle.dn_host.proofs.hearing.send_all.Given as goal
 
-abbrev pub invariant-loop : goal.invariant-loop
-invariant-loop g l = (now : ℕ) (game : Option Game) → Goes g.W.Wire.polls g.W.Wire.sends now
-    (record { session = meeting l.fn.session; game = game; wire = l.fn.wire })
-    (record { session = meeting l.session; game = game; wire = l.wire })
+-- what may still be sent, behind what was, is all of it
+abbrev pub invariant-loop-sent : goal.invariant-loop-sent
+invariant-loop-sent g l = (m : Meeting) (w : g.row.W.Denot)
+    → SendsUpTo g.W.Wire.sends (10 - l.sent) (meeting l.session) l.wire m w
+    → SendsUpTo g.W.Wire.sends 10 (meeting l.fn.session) l.fn.wire m w

@@ -1,18 +1,33 @@
-use Rattle.std.proofs.Common.{◌≡◌, Bool, true, false, refl}
-use Rattle.std.specs.Prelude.{◌&&◌, not}
-use Rattle.dn_host.specs.Turns as turns
+use Rattle.std.proofs.Common.{◌≡◌, Bool, true, false, refl, sym, subst}
+use Rattle.std.specs.Prelude.{◌&&◌, ◌==◌, not}
+use Rattle.std.proofs.lemmas.Bool.{not-true}
+use Rattle.dn_link.specs.Hearing.{ByTest}
+use Rattle.dn_session.specs.Reading.{is_greeting}
+use Rattle.dn_session.specs.Session.{meeting}
 use Rattle.dn_host.proofs.hearing.take.Goals as goal
 
--- what is not taken is a greeting
-a_greeting : (greeting none taken : Bool) → taken ≡ not (greeting && none) → taken ≡ false → greeting ≡ true
-a_greeting true none taken is dropped = refl
-a_greeting false none taken is dropped = absurd (cc)
+-- what is not taken is one too many
+too_many : (test taken : Bool) → taken ≡ not test → taken ≡ false → test ≡ true
+too_many true taken is dropped = refl
+too_many false taken is dropped = absurd (cc)
 
-pub returns-then-is_taken : goal.returns-then-is_taken
-returns-then-is_taken g c = λ before polled.
-    turns.after _ _ _ (turns.hears _ _ _ _ polled c.hear.ensures.hears c.hear.ensures.comes)
-    (c.send_all.ensures c.args.now _)
+taken_is : (test taken : Bool) → taken ≡ not test → taken ≡ true → test ≡ false
+taken_is false taken is kept = refl
+taken_is true taken is kept = absurd (cc)
 
-pub returns-else-is_taken : goal.returns-else-is_taken
-returns-else-is_taken g c = λ before polled.
-    turns.drops _ _ _ _ polled (a_greeting _ _ _ c.is_taken.ensures.taken c.if-is_taken.false)
+kept : (Drops Takes : Type 0) (test : Bool) → test ≡ false → Takes → ByTest test Drops Takes
+kept Drops Takes test is takes = subst (λ (t : Bool). ByTest t Drops Takes) (sym is) takes
+
+dropped : (Drops Takes : Type 0) (test : Bool) → test ≡ true → Drops → ByTest test Drops Takes
+dropped Drops Takes test is drops = subst (λ (t : Bool). ByTest t Drops Takes) (sym is) drops
+
+pub returns-then-is_taken-clause-takes : goal.returns-then-is_taken-clause-takes
+returns-then-is_taken-clause-takes g c =
+    let test : Bool = is_greeting c.args.bytes.now && c.args.left.now == 0 in
+    kept _ _ test (taken_is test _ c.is_taken.ensures.taken c.if-is_taken.true)
+    (meeting c.hear.new.session, c.hear.ensures.hears, c.hear.ensures.comes, c.send_all.ensures)
+
+pub returns-else-is_taken-clause-takes : goal.returns-else-is_taken-clause-takes
+returns-else-is_taken-clause-takes g c =
+    let test : Bool = is_greeting c.args.bytes.now && c.args.left.now == 0 in
+    dropped _ _ test (too_many test _ c.is_taken.ensures.taken c.if-is_taken.false) refl

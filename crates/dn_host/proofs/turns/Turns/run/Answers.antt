@@ -14,11 +14,11 @@ returns-in-Some-clause-played g c =
     let time = c.saturating_sub-time.result in
     let from = scene_of c.loop.self c.loop.wire in
     let to = scene_of c.turn.new.self c.turn.new.wire in
-    let turn = subst (λ (p : Plan). IsTurn polls sends p.seconds time from to) c.loop.invariant.1
+    let turn = subst (λ (p : Plan). IsTurn polls sends p.seconds time from to c.in_ok-is_busy.is_busy) c.loop.invariant.1
     c.in_ok-is_busy.ensures.turn in (
       time,
       to,
-      turns.more _ _ _ time c.loop.invariant.0 turn,
+      turns.more _ _ _ time _ c.loop.invariant.0 turn,
       refl,
       c.outcome.ensures (sym c.ending.ensures ∙ c.in-Some.is),
     )
@@ -30,6 +30,6 @@ loop-preserved g c =
     let time = c.saturating_sub-time.result in
     let from = scene_of c.loop.self c.loop.wire in
     let to = scene_of c.turn.new.self c.turn.new.wire in
-    let turn = subst (λ (p : Plan). IsTurn polls sends p.seconds time from to) c.loop.invariant.1
+    let turn = subst (λ (p : Plan). IsTurn polls sends p.seconds time from to c.in_ok-is_busy.is_busy) c.loop.invariant.1
     c.in_ok-is_busy.ensures.turn in
-    (turns.more _ _ _ time c.loop.invariant.0 turn, c.turn.ensures.plan ∙ c.loop.invariant.1)
+    (turns.more _ _ _ time _ c.loop.invariant.0 turn, c.turn.ensures.plan ∙ c.loop.invariant.1)
