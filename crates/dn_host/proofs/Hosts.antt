@@ -26,7 +26,7 @@ use Rattle.dn_host.specs.declared.ends.Ending.TheVariants.{Ended, Refused, Hinte
 use Rattle.dn_host.specs.declared.game.Game.{Game}
 use Rattle.dn_host.specs.Leaving.{LeavesFor, LeavesIf, LeavesWhen}
 use Rattle.dn_host.specs.Outcomes.{ended_with, is_refusal}
-use Rattle.dn_host.specs.Turns.{left_after, Acts, ActsIn, HearsUpTo, IfGame, IsTurn, Scene, SendsUpTo, TakesOne, TakesTurns}
+use Rattle.dn_host.specs.Turns.{left_after, Gives, HearsUpTo, IfGame, IsTurn, Plays, PlaysIn, Repeats, Runs, Scene, SendsUpTo, TakesOne, TakesTurns}
 use Rattle.dn_host.specs.Playing.{millis, ComesIn}
 use Rattle.dn_host.specs.Turns as turns
 use Rattle.dn_host.specs.Walks.{GivesInput}
@@ -88,21 +88,26 @@ leaves_host : (left : Option ℕ) (now : ℕ) (a : Game) (k : Meeting) (b : Game
 leaves_host (Some since) now a k b l (still, same) host = same_lobby k l _ same host
 leaves_host None now a k b l leaves host = leaves_if_host _ now a k b l leaves host
 
-acts_host : (now : ℕ) (a : Game) (k : Meeting) (b : Game) (l : Meeting) → Acts now a k b l → hosts k → hosts l
-acts_host now a k b l (turns.rests g m) host = host
-acts_host now a k b l (turns.follows c m d n e o one other) host =
-    acts_host now d n e o other (acts_host now c m d n one host)
-acts_host now a k b l (turns.gives c m d n given gives same) host = gives_host _ given m n gives host
-acts_host now a k b l (turns.runs c m d n ran runs same) host = same_lobby m n _ runs.3 host
-acts_host now a k b l (turns.leaves c m d n leaves) host = leaves_host c.left now c m d n leaves host
-acts_host now a k b l (turns.notes c d m notes) host = host
-acts_host now a k b l (turns.tells c d m tells same) host = host
+repeats_host : (Does : Game → Meeting → Bool → Game → Meeting → Type 0)
+    → ((a : Game) (k : Meeting) (done : Bool) (b : Game) (l : Meeting) → Does a k done b l → hosts k → hosts l)
+    → (n : ℕ) (a : Game) (k : Meeting) (b : Game) (l : Meeting) → Repeats Does n a k b l → hosts k → hosts l
+unfolding Repeats
+repeats_host Does keeps zero a k b l (still, same) host = subst hosts (sym same) host
+repeats_host Does keeps (suc n) a k b l (inl does) host = keeps a k false b l does host
+repeats_host Does keeps (suc n) a k b l (inr (c, m, does, rest)) host =
+    repeats_host Does keeps n c m b l rest (keeps a k true c m does host)
 
-acts_in_host : (now : ℕ) (old : Option Game) (k : Meeting) (new : Option Game) (m : Meeting)
-    → ActsIn now old k new m → hosts k → hosts m
-acts_in_host now None k new m (gone, same) host = subst hosts (sym same) host
-acts_in_host now (Some old) k None m acts host = absurd acts
-acts_in_host now (Some old) k (Some new) m acts host = acts_host now old k new m acts host
+plays_host : (now : ℕ) (a : Game) (k : Meeting) (b : Game) (l : Meeting) → Plays now a k b l → hosts k → hosts l
+plays_host now a k b l (c, m, gives, d, n, runs, leaves) host =
+    leaves_host d.left now d n b l leaves
+    (repeats_host (Runs now) (λ e p done f q does. same_lobby p q _ does.1.3) 32 c m d n runs
+    (repeats_host (Gives now) (λ e p done f q does. gives_host _ done p q does.1) 32 a k c m gives host))
+
+plays_in_host : (now : ℕ) (old : Option Game) (k : Meeting) (new : Option Game) (m : Meeting)
+    → PlaysIn now old k new m → hosts k → hosts m
+plays_in_host now None k new m (gone, same) host = subst hosts (sym same) host
+plays_in_host now (Some old) k None m plays host = absurd plays
+plays_in_host now (Some old) k (Some new) m plays host = plays_host now old k new m plays host
 
 sends_up_host : {W : Type 0} (sends : W → Address → List ℕ → W → Type 0) (n : ℕ) (k : Meeting) (v : W)
     (m : Meeting) (w : W) → SendsUpTo sends n k v m w → hosts k → hosts m
@@ -144,12 +149,11 @@ begins_host (Some begun) now old new (Err fault) (made, same) host = same_lobby 
 turn_host : {W : Type 0} (polls : W → Option (Address × List ℕ) → W → Type 0)
     (sends : W → Address → List ℕ → W → Type 0) (seconds now : ℕ) (a d : Scene W) (busy : Bool)
     → IsTurn polls sends seconds now a d busy → hosts a.session → hosts d.session
-turn_host polls sends seconds now a d busy (b, heard, k, passed, l, g, starts, m, h, acts, o, sent, told) host =
+turn_host polls sends seconds now a d busy (b, heard, k, passed, l, g, starts, m, h, plays, sent, told) host =
     let hears = hears_up_host polls sends now 64 2 a b busy heard host in
     let passes = subst hosts (sym passed.3) (calls_host _ _ _ _ passed.1 hears) in
     let begun = begins_host _ _ k l _ starts.1 passes in
-    let acted = acts_in_host now g l h m acts begun in
-    acts_in_host now h o d.game d.session told (sends_up_host sends 10 m b.wire o d.wire sent acted)
+    sends_up_host sends 10 m b.wire d.session d.wire sent (plays_in_host now g l h m plays begun)
 
 pub turns_host : {W : Type 0} {polls : W → Option (Address × List ℕ) → W → Type 0}
     {sends : W → Address → List ℕ → W → Type 0} (seconds : ℕ) (a b : Scene W)

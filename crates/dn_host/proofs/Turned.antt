@@ -11,8 +11,7 @@ use Rattle.dn_host.specs.declared.game.Game.{Game}
 use Rattle.dn_host.specs.declared.plan.Plan.{Plan}
 use Rattle.dn_host.specs.declared.turns.Turns.{Turns}
 use Rattle.dn_host.specs.Outcomes.{IsPlayed}
-use Rattle.dn_host.specs.Turns.{left_after, scene_of, ActsIn, HearsUpTo, Scene, SendsUpTo, TakesOne}
-use Rattle.dn_host.specs.Turns as turns
+use Rattle.dn_host.specs.Turns.{left_after, scene_of, HearsUpTo, IfGame, MayBeTold, Repeats, Scene, SendsUpTo, TakesOne}
 
 -- a fault of turns is none of the terms
 no_terms : (f : HostFault) → (f ≡ fault.Memory) ⊎ (f ≡ fault.Clock) → f ≡ fault.Terms → ⊥
@@ -29,18 +28,45 @@ pub mapped : {A E : Type 0} (P Q : A → Type 0) → ((a : A) → P a → Q a) �
 mapped P Q f (Ok a) p = f a p
 mapped P Q f (Err e) p = tt
 
--- its player does nothing
-pub rests_in : (now : ℕ) (game : Option Game) (m : Meeting) → ActsIn now game m game m
-rests_in now None m = (refl, refl)
-rests_in now (Some game) m = turns.rests game m
+-- its player is told nothing
+pub nothing_told : (now : ℕ) (game : Option Game) → IfGame (MayBeTold now) game game
+nothing_told now None = refl
+nothing_told now (Some game) = inl refl
 
--- Datagrams that are sent, and taken: so many of the most are done.
+-- What is done again and again: so many of the most are done.
 
 one_more : (most done : ℕ) → done < most → most - done ≡ suc (most - (done + 1))
 one_more most done below = omega (arith, below)
 
 no_more : (most done : ℕ) → most ≤ done → most - done ≡ 0
 no_more most done reached = omega (arith, reached)
+
+module _ (Does : Game → Meeting → Bool → Game → Meeting → Type 0) (most done : ℕ) where
+  done_all : (a : Game) (k : Meeting) → Repeats Does 0 a k a k
+  unfolding Repeats
+  done_all a k = (refl, refl)
+
+  done_no_more : (n : ℕ) (a b : Game) (k l : Meeting) → Does a k false b l → Repeats Does (suc n) a k b l
+  unfolding Repeats
+  done_no_more n a b k l does = inl does
+
+  done_one : (n : ℕ) (a c b : Game) (k m l : Meeting) → Does a k true c m → Repeats Does n c m b l
+      → Repeats Does (suc n) a k b l
+  unfolding Repeats
+  done_one n a c b k m l does rest = inr (c, m, does, rest)
+
+  pub all_done : (a : Game) (k : Meeting) → most ≤ done → Repeats Does (most - done) a k a k
+  all_done a k reached =
+      subst (λ (n : ℕ). Repeats Does n a k a k) (sym (no_more most done reached)) (done_all a k)
+
+  pub not_done : (a b : Game) (k l : Meeting) → done < most → Does a k false b l → Repeats Does (most - done) a k b l
+  not_done a b k l below does = subst (λ (n : ℕ). Repeats Does n a k b l) (sym (one_more most done below))
+      (done_no_more (most - (done + 1)) a b k l does)
+
+  pub done_again : (a c b : Game) (k m l : Meeting) → done < most → Does a k true c m
+      → Repeats Does (most - (done + 1)) c m b l → Repeats Does (most - done) a k b l
+  done_again a c b k m l below does rest = subst (λ (n : ℕ). Repeats Does n a k b l)
+      (sym (one_more most done below)) (done_one (most - (done + 1)) a c b k m l does rest)
 
 module _ {W : Type 0} (sends : W → Address → List ℕ → W → Type 0) (most done : ℕ) where
   done_sending : (k : Meeting) (v : W) → SendsUpTo sends 0 k v k v

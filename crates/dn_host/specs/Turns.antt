@@ -1,26 +1,36 @@
 -- What the turns of a session are: calls of the session and of its wire, and what its player does between them.
 use Rattle.std.specs.Prelude.{◌≡◌, ◌⊎◌, ◌&&◌, ◌==◌, ◌-◌, ℕ, zero, suc, Bool, true, false, if◌then◌else◌, List, Option, Some, None, Ok}
 use Rattle.dn_link.specs.{Hearing.ByTest, declared.link.Link.Link}
-use Rattle.dn_session.specs.{declared.greeting.Address.Address, Reading.is_greeting, Session.link_in, Session.meeting, Session.Begins, Session.HearsAny, Session.Meeting, Session.PassesTo}
+use Rattle.dn_session.specs.{declared.greeting.Address.Address, Reading.is_greeting, Session.can_give, Session.link_in, Session.meeting, Session.Begins, Session.HearsAny, Session.Meeting, Session.PassesTo}
 use Rattle.dn_session.specs.{Session.Sends}
 use Rattle.dn_host.specs.{Counted.AreTold, Leaving.Leaves, Playing.millis, Playing.ComesIn, Playing.IsBegun, Playing.NotesIn, Walks.GivesInput, Walks.RunsWalk}
 use Rattle.dn_host.specs.declared.{game.Game.Game, turns.Turns.Turns}
 
--- what its player does in the game at this time: it gives its input, runs a tic in its walk, leaves, and counts; one
--- after the other, or nothing
-pub data Acts (now : ℕ) : Game → Meeting → Game → Meeting → Type 0 where
-  rests : (g : Game) (m : Meeting) → Acts now g m g m
-  follows : (a : Game) (k : Meeting) (b : Game) (l : Meeting) (c : Game) (m : Meeting) → Acts now a k b l
-      → Acts now b l c m → Acts now a k c m
-  gives : (a : Game) (k : Meeting) (b : Game) (l : Meeting) (given : Bool) → GivesInput (millis now) given k l
-      → b ≡ record a { keys = b.keys } → Acts now a k b l
-  runs : (a : Game) (k : Meeting) (b : Game) (l : Meeting) (ran : Bool)
-      → RunsWalk a.walk k l b.walk ran b.waiting → b ≡ record a { walk = b.walk; waiting = b.waiting }
-      → Acts now a k b l
-  leaves : (a : Game) (k : Meeting) (b : Game) (l : Meeting) → Leaves now a k b l → Acts now a k b l
-  notes : (a b : Game) (m : Meeting) → NotesIn now m a b → Acts now a m b m
-  tells : (a b : Game) (m : Meeting) → AreTold now a.counts b.counts → b ≡ record a { counts = b.counts }
-      → Acts now a m b m
+-- keys are given, if a tick is due, and what came of it is counted
+abbrev pub Gives : ℕ → Game → Meeting → (given : Bool) → Game → Meeting → Type 0
+Gives now a k given b l = (c : Game) × GivesInput (millis now) given k l × (given ≡ can_give (millis now) k.part)
+    × (c ≡ record a { keys = c.keys }) × NotesIn now l c b
+
+-- the next tic is run with the marks of the walk, if it can be run, and is counted
+abbrev pub Runs : ℕ → Game → Meeting → (has_run : Bool) → Game → Meeting → Type 0
+Runs now a k has_run b l = (c : Game) × RunsWalk a.walk k l c.walk has_run c.waiting
+    × (c ≡ record a { walk = c.walk; waiting = c.waiting }) × NotesIn now l c b
+
+-- something is tried again and again, until it was not done, or was done so many times
+unfoldable pub Repeats : (Game → Meeting → (done : Bool) → Game → Meeting → Type 0) → ℕ → Game → Meeting → Game → Meeting
+    → Type 0
+Repeats Does zero a k b l = (b ≡ a) × (l ≡ k)
+Repeats Does (suc n) a k b l =
+    Does a k false b l ⊎ ((c : Game) × (m : Meeting) × Does a k true c m × Repeats Does n c m b l)
+
+-- its player gives the keys that are due, runs the tics that can be run, and leaves if it is time
+abbrev pub Plays : ℕ → Game → Meeting → Game → Meeting → Type 0
+Plays now a k b l = (c : Game) × (m : Meeting) × Repeats (Gives now) 32 a k c m
+    × (d : Game) × (n : Meeting) × Repeats (Runs now) 32 c m d n × Leaves now d n b l
+
+-- its player may be told how the game stands
+abbrev pub MayBeTold : ℕ → Game → Game → Type 0
+MayBeTold now a b = (b ≡ a) ⊎ (AreTold now a.counts b.counts × (b ≡ record a { counts = b.counts }))
 
 -- a session, what its player does in the game once that has begun, and its wire
 pub record Scene (W : Type 0) : Type 0 where
@@ -64,11 +74,11 @@ HearsUpTo {W = W} polls sends now (suc n) left a b busy =
     × TakesOne sends now left from bytes (record a { wire = wire }) c
     × HearsUpTo polls sends now n (left_after left bytes) c b busy)
 
--- its player acts, if the game has begun
-abbrev pub ActsIn : ℕ → Option Game → Meeting → Option Game → Meeting → Type 0
-ActsIn now None k new m = (new ≡ None) × (m ≡ k)
-ActsIn now (Some old) k None m = ⊥
-ActsIn now (Some old) k (Some new) m = Acts now old k new m
+-- its player plays, if the game has begun
+abbrev pub PlaysIn : ℕ → Option Game → Meeting → Option Game → Meeting → Type 0
+PlaysIn now None k new m = (new ≡ None) × (m ≡ k)
+PlaysIn now (Some old) k None m = ⊥
+PlaysIn now (Some old) k (Some new) m = Plays now old k new m
 
 -- its player's part in the game begins, if the game has, and with it the player's walk, for so many seconds
 abbrev pub StartsAs : Bool → (seconds now : ℕ) → Option Link → Option Game → Option Game → Type 0
@@ -80,15 +90,15 @@ Starts seconds now from old to new =
     (began : Bool) × Begins (millis now) from to (Ok began) × StartsAs began seconds now (link_in to.part) old new
 
 -- a turn: what has come is heard, two greetings of 64 datagrams at most; time passes for the session; the game begins,
--- if it does; its player acts; what the session owes is sent; and its player is told how the game stands, if it is
+-- if it does; its player plays; what the session owes is sent; and its player may be told how the game stands
 abbrev pub IsTurn : {W : Type 0} → (W → Option (Address × List ℕ) → W → Type 0)
     → (W → Address → List ℕ → W → Type 0) → (seconds now : ℕ) → Scene W → Scene W → Bool → Type 0
 IsTurn {W = W} polls sends seconds now a z busy =
     (b : Scene W) × HearsUpTo polls sends now 64 2 a b busy
     × (k : Meeting) × PassesTo (millis now) b.session k
     × (l : Meeting) × (g : Option Game) × Starts seconds now k b.game l g
-    × (m : Meeting) × (h : Option Game) × ActsIn now g l h m
-    × (o : Meeting) × SendsUpTo sends 10 m b.wire o z.wire × ActsIn now h o z.game z.session
+    × (m : Meeting) × (h : Option Game) × PlaysIn now g l h m
+    × SendsUpTo sends 10 m b.wire z.session z.wire × IfGame (MayBeTold now) h z.game
 
 -- turns, one after another
 pub data TakesTurns {W : Type 0} (polls : W → Option (Address × List ℕ) → W → Type 0)

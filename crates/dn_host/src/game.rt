@@ -54,7 +54,7 @@ fn lines_in(session: &Session) -> Option<Lines>
 }
 
 impl Game {
-    ghost use Rattle.dn_host.specs.{Counted.AreTold, Counted.status_at, Turns.Acts};
+    ghost use Rattle.dn_host.specs.{Counted.AreTold, Counted.status_at, Turns.Gives, Turns.Plays, Turns.Repeats, Turns.Runs};
     ghost use Rattle.dn_link.specs.{Linking.linked, Pacing.pace_of};
 
     /// The game of this link begins now: with keys that are drawn from a seed, and for so many seconds.
@@ -123,7 +123,7 @@ impl Game {
 
     /// Gives the next keys, if a tick is due, and counts what came of it. Whether one was.
     fn give_next(&mut self, session: &mut Session, now: u64) -> bool
-        ensures { Acts now self.old (meeting session.old) self.new (meeting session.new) }
+        ensures { Gives now self.old (meeting session.old) result self.new (meeting session.new) }
     {
         let was_due = self.give(session, millis(now));
         self.note(session, now);
@@ -132,7 +132,7 @@ impl Game {
 
     /// Runs the next tic, if it can be run, and counts it. Whether it was run.
     fn run_next(&mut self, session: &mut Session, now: u64) -> bool
-        ensures { Acts now self.old (meeting session.old) self.new (meeting session.new) }
+        ensures { Runs now self.old (meeting session.old) result self.new (meeting session.new) }
     {
         let has_run = self.run(session);
         self.note(session, now);
@@ -141,9 +141,9 @@ impl Game {
 
     /// Gives the inputs that are due.
     fn give_all(&mut self, session: &mut Session, now: u64)
-        ensures { Acts now self.old (meeting session.old) self.new (meeting session.new) }
+        ensures { Repeats (Gives now) 32 self.old (meeting session.old) self.new (meeting session.new) }
     {
-        for _ in 0..MOST {
+        for given in 0..MOST {
             if !self.give_next(session, now) {
                 return;
             }
@@ -152,9 +152,9 @@ impl Game {
 
     /// Runs all tics that can be run.
     fn run_all(&mut self, session: &mut Session, now: u64)
-        ensures { Acts now self.old (meeting session.old) self.new (meeting session.new) }
+        ensures { Repeats (Runs now) 32 self.old (meeting session.old) self.new (meeting session.new) }
     {
-        for _ in 0..MOST {
+        for ran in 0..MOST {
             if !self.run_next(session, now) {
                 return;
             }
@@ -163,7 +163,7 @@ impl Game {
 
     /// Plays on, and leaves if it is time.
     pub(crate) fn play(&mut self, session: &mut Session, now: u64)
-        ensures { Acts now self.old (meeting session.old) self.new (meeting session.new) }
+        ensures { Plays now self.old (meeting session.old) self.new (meeting session.new) }
     {
         self.give_all(session, now);
         self.run_all(session, now);

@@ -3,7 +3,7 @@
 ghost use Rattle.std.specs.Prelude.{◌≡◌, ◌⊎◌, IfErr, IfOk, Some, None};
 ghost use Rattle.dn_host.specs.declared.ends.HostFault.TheVariants as fault;
 ghost use Rattle.dn_session.specs.Session.{begun_in, link_in, meeting};
-ghost use Rattle.dn_host.specs.{Outcomes.ended_at, Turns.Acts};
+ghost use Rattle.dn_host.specs.{Outcomes.ended_at, Turns.MayBeTold};
 
 use crate::clock::{millis, nap, now};
 use crate::ends::{Ending, HostFault, Outcome};
@@ -33,7 +33,7 @@ pub(crate) struct Turns {
 
 /// Tells the screen how a game stands, whose session has a link.
 fn show_game<S: Screen>(game: &mut Game, session: &Session, screen: &mut S, now: u64)
-    ensures { Acts now game.old (meeting session.now) game.new (meeting session.now) }
+    ensures { MayBeTold now game.old game.new }
 {
     if let Some(link) = session.link() {
         screen.show(&game.status(link, now));
@@ -41,7 +41,7 @@ fn show_game<S: Screen>(game: &mut Game, session: &Session, screen: &mut S, now:
 }
 
 impl Turns {
-    ghost use Rattle.dn_host.specs.{Outcomes.IsLeftOf, Outcomes.IsPlayed, Outcomes.SumsUp, Turns.ActsIn, Turns.IsTurn, Turns.Starts, Turns.TakesTurns, Turns.scene_of};
+    ghost use Rattle.dn_host.specs.{Outcomes.IsLeftOf, Outcomes.IsPlayed, Outcomes.SumsUp, Turns.IfGame, Turns.IsTurn, Turns.PlaysIn, Turns.Starts, Turns.TakesTurns, Turns.scene_of};
 
     /// Of a session that begins now.
     pub(crate) fn new(session: Session, plan: &Plan) -> Turns
@@ -76,7 +76,7 @@ impl Turns {
 
     /// Plays on, if its game has begun.
     fn play(&mut self, now: u64)
-        ensures plays { ActsIn now self.old.game (meeting self.old.session) self.new.game (meeting self.new.session) }
+        ensures plays { PlaysIn now self.old.game (meeting self.old.session) self.new.game (meeting self.new.session) }
         ensures rest { self.new ≡ record self.old { session = self.new.session; game = self.new.game } }
     {
         if let Some(game) = &mut self.game {
@@ -86,7 +86,7 @@ impl Turns {
 
     /// Tells the screen how the game stands, if it has begun.
     fn show<S: Screen>(&mut self, screen: &mut S, now: u64)
-        ensures shows { ActsIn now self.old.game (meeting self.old.session) self.new.game (meeting self.new.session) }
+        ensures shows { IfGame (MayBeTold now) self.old.game self.new.game }
         ensures rest { self.new ≡ record self.old { game = self.new.game } }
     {
         if let Some(game) = &mut self.game {
@@ -96,7 +96,8 @@ impl Turns {
 
     /// Tells the screen how it waits, and each second how the game stands.
     fn tell<S: Screen>(&mut self, screen: &mut S, now: u64)
-        ensures shows { ActsIn now self.old.game (meeting self.old.session) self.new.game (meeting self.new.session) }
+        ensures shows { IfGame (MayBeTold now) self.old.game self.new.game }
+        ensures session { self.new.session ≡ self.old.session }
         ensures plan { self.new.plan ≡ self.old.plan }
     {
         self.told.tell(self.session.lobby(), screen, millis(now));

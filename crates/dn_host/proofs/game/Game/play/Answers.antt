@@ -1,7 +1,13 @@
-use Rattle.dn_host.specs.Turns as turns
+use Rattle.dn_session.specs.Session.{meeting}
 use Rattle.dn_host.proofs.game.Game.play.Goals as goal
 
 pub returns : goal.returns
-returns c =
-    turns.follows _ _ _ _ _ _ c.give_all.ensures
-    (turns.follows _ _ _ _ _ _ c.run_all.ensures (turns.leaves _ _ _ _ c.leave.ensures))
+returns c = (
+  c.give_all.new.self,
+  meeting c.give_all.new.session,
+  c.give_all.ensures,
+  c.run_all.new.self,
+  meeting c.run_all.new.session,
+  c.run_all.ensures,
+  c.leave.ensures,
+)

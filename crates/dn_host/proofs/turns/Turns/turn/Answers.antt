@@ -1,5 +1,7 @@
-use Rattle.std.proofs.Common.{ℕ, subst}
+use Rattle.std.proofs.Common.{ℕ, sym, subst}
+use Rattle.dn_session.specs.declared.session.Session.{Session}
 use Rattle.dn_session.specs.Session.{meeting, PassesTo}
+use Rattle.dn_host.specs.Turns.{SendsUpTo}
 use Rattle.dn_host.proofs.turns.Turns.turn.Goals as goal
 
 pub returns-clause-turn : goal.returns-clause-turn
@@ -18,7 +20,7 @@ returns-clause-turn g c =
       meeting c.play.new.self.session,
       c.play.new.self.game,
       c.play.ensures.plays,
-      meeting c.send_all.new.session,
-      c.send_all.ensures,
+      subst (λ (s : Session). SendsUpTo g.W.Wire.sends 10 (meeting c.play.new.self.session) heard.wire (meeting s)
+          c.send_all.new.wire) (sym c.tell.ensures.session) c.send_all.ensures,
       c.tell.ensures.shows,
     )
