@@ -22,7 +22,6 @@ use Rattle.dn_lockstep.specs.declared.config.NodeFault.{NodeFault}
 use Rattle.dn_session.specs.declared.side.Begun.{Begun}
 use Rattle.dn_session.specs.Session.{link_in, BeginsAs, Calls, HearsGreeting, HearsWhen, Meeting, SendsCall, SendsReply}
 use Rattle.dn_host.specs.declared.ends.Ending.{Ending}
-use Rattle.dn_host.specs.declared.ends.Ending.TheVariants.{Ended, Refused, Hinted}
 use Rattle.dn_host.specs.declared.game.Game.{Game}
 use Rattle.dn_host.specs.Leaving.{LeavesFor, LeavesIf, LeavesWhen}
 use Rattle.dn_host.specs.Outcomes.{ended_with, is_refusal}

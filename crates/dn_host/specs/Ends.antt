@@ -4,7 +4,7 @@ use Rattle.dn_measure.specs.declared.end.End.TheVariants as end
 use Rattle.dn_session.specs.declared.ending.Ending.{Ending}
 use Rattle.dn_session.specs.declared.ending.Ending.TheVariants as ending
 
--- nobody is given up in a game of a host of this program: there the last two do not occur
+-- where all players run this program nobody is given up, and the last two do not occur
 abbrev pub end_of : Ending → End
 end_of ending.Left = end.Left
 end_of ending.Full = end.Full

@@ -67,7 +67,7 @@ pub struct Outcome {
     pub summary: Option<Summary>,
 }
 
-/// How the game of a session ended. Nobody is given up in a game of these terms.
+/// How the game of a session ended. Where all players run this program nobody is given up.
 pub(crate) fn end_of(ending: GameEnding) -> End
     ensures { result ≡ end_of ending }
 {

@@ -1,9 +1,3 @@
-use Rattle.std.proofs.Common.{Option, refl, subst}
-use Rattle.dn_session.specs.declared.session.Session.{Session}
-use Rattle.dn_session.specs.Session.{meeting}
-use Rattle.dn_host.specs.declared.ends.Outcome.{Outcome}
-use Rattle.dn_host.specs.declared.game.Game.{Game}
-use Rattle.dn_host.specs.declared.plan.Plan.{Plan}
 use Rattle.dn_host.specs.Outcomes.{IsJoined, IsPlayed}
 use Rattle.dn_host.specs.Turns.{scene_of}
 use Rattle.dn_host.proofs.Turned.{mapped, played_of, refused}

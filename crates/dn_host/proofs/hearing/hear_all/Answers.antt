@@ -1,4 +1,4 @@
-use Rattle.std.proofs.Common.{◌≡◌, ◌<◌, ◌≤◌, Bool, true, false, rules}
+use Rattle.std.proofs.Common.{◌≡◌, ◌<◌, ◌≤◌, true, false, rules}
 use Rattle.dn_session.specs.Session.{meeting}
 use Rattle.dn_host.specs.Turns.{Scene}
 use Rattle.dn_host.proofs.Turned.{hears_done, hears_more, hears_none}

@@ -1,6 +1,5 @@
 use Rattle.std.proofs.Common.{◌≡◌, Bool, true, false, refl, sym, subst}
 use Rattle.std.specs.Prelude.{◌&&◌, ◌==◌, not}
-use Rattle.std.proofs.lemmas.Bool.{not-true}
 use Rattle.dn_link.specs.Hearing.{ByTest}
 use Rattle.dn_session.specs.Reading.{is_greeting}
 use Rattle.dn_session.specs.Session.{meeting}

@@ -1,9 +1,8 @@
-use Rattle.std.proofs.Common.{◌≡◌, ℕ, List, Bool, true, false, Option, Ok, ap, refl, subst, ◌∙◌}
+use Rattle.std.proofs.Common.{◌≡◌, ℕ, List, true, false, Option, Ok, ap, subst, ◌∙◌}
 use Rattle.std.specs.Prelude.{is_some, replicate}
 use Rattle.dn_session.specs.declared.greeting.Address.{Address}
 use Rattle.dn_session.specs.declared.session.Session.{Session}
 use Rattle.dn_session.specs.declared.terms.Terms.{Terms}
-use Rattle.dn_session.specs.declared.terms.LobbyFault.{LobbyFault}
 use Rattle.dn_session.specs.Session.{meeting, IsHostSession, Meeting}
 use Rattle.dn_host.specs.declared.ends.Outcome.{Outcome}
 use Rattle.dn_host.specs.declared.turns.Turns.{Turns}

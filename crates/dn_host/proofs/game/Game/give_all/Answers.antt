@@ -1,4 +1,4 @@
-use Rattle.std.proofs.Common.{◌≡◌, ◌<◌, ◌≤◌, Bool, true, false, subst, rules}
+use Rattle.std.proofs.Common.{◌<◌, ◌≤◌, Bool, subst, rules}
 use Rattle.dn_session.specs.Session.{meeting}
 use Rattle.dn_host.specs.Turns.{Gives}
 use Rattle.dn_host.proofs.Turned.{all_done, done_again, not_done}

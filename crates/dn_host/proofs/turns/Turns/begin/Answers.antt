@@ -2,7 +2,7 @@ use Rattle.std.proofs.Common.{ℕ, Bool, true, Option, Some, Result, Ok, refl, a
 use Rattle.std.specs.Option.{option_map}
 use Rattle.dn_link.specs.declared.link.Link.{Link}
 use Rattle.dn_lockstep.specs.declared.config.NodeFault.{NodeFault}
-use Rattle.dn_session.specs.Session.{link_in, meeting, Begins}
+use Rattle.dn_session.specs.Session.{meeting, Begins}
 use Rattle.dn_host.specs.Playing.{millis}
 use Rattle.dn_host.specs.Turns.{StartsAs}
 use Rattle.dn_host.proofs.turns.Turns.begin.Goals as goal
