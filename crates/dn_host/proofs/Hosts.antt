@@ -1,34 +1,22 @@
 -- A host's session stays a host's, which is never refused; and who had a seat has a link.
 use Rattle.std.proofs.Common.{◌≡◌, ℕ, zero, suc, Bool, true, false, List, Option, Some, None, Result, Ok, Err, inl, inr, refl, sym, ap, ◌∙◌, subst}
-use Rattle.std.specs.Option.{option_map, option_or}
+use Rattle.std.proofs.{lemmas.Bool.false≢true, lemmas.Option.none-some}
 use Rattle.std.specs.Prelude.{◌&&◌, ◌==◌, is_some}
+use Rattle.std.specs.Option.{option_map, option_or}
 use Rattle.dn_link.specs.Hearing.{ByTest}
-use Rattle.dn_session.specs.{Reading.is_greeting, Session.HearsAny}
-use Rattle.std.proofs.lemmas.Bool.{false≢true}
-use Rattle.std.proofs.lemmas.Option.{none-some}
+use Rattle.dn_session.specs.Session.{HearsAny, link_in, BeginsAs, Calls, HearsGreeting, HearsWhen, Meeting, SendsCall, SendsReply}
+use Rattle.dn_session.specs.{Reading.is_greeting, declared.greeting.Address.Address, declared.joiner.Stage.Stage, declared.part.Part.Part, declared.side.Side.Side}
+use Rattle.dn_session.specs.{Events.over_by, Events.over_in, Joining.joining, Playing.ended_as, Playing.playing, declared.side.Begun.Begun}
 use Rattle.dn_measure.specs.declared.end.End.{End}
 use Rattle.dn_session.specs.declared.ending.Ending.{Ending as GameEnding}
-use Rattle.dn_session.specs.declared.greeting.Address.{Address}
-use Rattle.dn_session.specs.declared.joiner.Stage.{Stage}
 use Rattle.dn_session.specs.declared.joiner.Stage.TheVariants as stage
-use Rattle.dn_session.specs.declared.part.Part.{Part}
-use Rattle.dn_session.specs.declared.side.Side.{Side}
 use Rattle.dn_session.specs.declared.side.Side.TheVariants as side
 use Rattle.dn_session.specs.declared.ending.Over.TheVariants as over
-use Rattle.dn_session.specs.Events.{over_by, over_in}
-use Rattle.dn_session.specs.Joining.{joining}
-use Rattle.dn_session.specs.Playing.{ended_as, playing}
 use Rattle.dn_lockstep.specs.declared.config.NodeFault.{NodeFault}
-use Rattle.dn_session.specs.declared.side.Begun.{Begun}
-use Rattle.dn_session.specs.Session.{link_in, BeginsAs, Calls, HearsGreeting, HearsWhen, Meeting, SendsCall, SendsReply}
-use Rattle.dn_host.specs.declared.ends.Ending.{Ending}
-use Rattle.dn_host.specs.declared.game.Game.{Game}
-use Rattle.dn_host.specs.Leaving.{LeavesFor, LeavesIf, LeavesWhen}
-use Rattle.dn_host.specs.Outcomes.{ended_with, is_refusal}
 use Rattle.dn_host.specs.Turns.{left_after, Gives, HearsUpTo, IfGame, IsTurn, Plays, PlaysIn, Repeats, Runs, Scene, SendsUpTo, TakesOne, TakesTurns}
-use Rattle.dn_host.specs.Playing.{millis, ComesIn}
+use Rattle.dn_host.specs.{declared.ends.Ending.Ending, declared.game.Game.Game, Leaving.LeavesFor, Leaving.LeavesIf, Leaving.LeavesWhen, Outcomes.ended_with}
+use Rattle.dn_host.specs.{Outcomes.is_refusal, Playing.millis, Playing.ComesIn, Walks.GivesInput}
 use Rattle.dn_host.specs.Turns as turns
-use Rattle.dn_host.specs.Walks.{GivesInput}
 
 abbrev pub is_host : Side → Bool
 is_host (side.Host host) = true

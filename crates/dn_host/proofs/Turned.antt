@@ -1,17 +1,11 @@
 -- Turns of a session, one after another.
 use Rattle.std.proofs.Common.{◌≡◌, ◌<◌, ◌≤◌, ◌+◌, ◌-◌, ℕ, suc, Bool, true, false, List, Option, Some, None, Result, Ok, Err, inl, inr, refl, sym, subst, arith, ◌∙◌}
 use Rattle.std.specs.Prelude.{◌⊎◌, IfErr, IfOk}
-use Rattle.dn_host.specs.declared.ends.HostFault.{HostFault}
-use Rattle.dn_host.specs.declared.ends.HostFault.TheVariants as fault
-use Rattle.dn_session.specs.declared.greeting.Address.{Address}
-use Rattle.dn_session.specs.declared.session.Session.{Session}
-use Rattle.dn_session.specs.Session.{meeting, Meeting, Sends}
-use Rattle.dn_host.specs.declared.ends.Outcome.{Outcome}
-use Rattle.dn_host.specs.declared.game.Game.{Game}
-use Rattle.dn_host.specs.declared.plan.Plan.{Plan}
-use Rattle.dn_host.specs.declared.turns.Turns.{Turns}
-use Rattle.dn_host.specs.Outcomes.{IsPlayed}
 use Rattle.dn_host.specs.Turns.{left_after, scene_of, HearsUpTo, IfGame, MayBeTold, Repeats, Scene, SendsUpTo, TakesOne}
+use Rattle.dn_host.specs.{declared.ends.HostFault.HostFault, declared.ends.Outcome.Outcome, declared.game.Game.Game, declared.plan.Plan.Plan, declared.turns.Turns.Turns}
+use Rattle.dn_host.specs.Outcomes.{IsPlayed}
+use Rattle.dn_host.specs.declared.ends.HostFault.TheVariants as fault
+use Rattle.dn_session.specs.{declared.greeting.Address.Address, declared.session.Session.Session, Session.meeting, Session.Meeting, Session.Sends}
 
 -- a fault of turns is none of the terms
 no_terms : (f : HostFault) → (f ≡ fault.Memory) ⊎ (f ≡ fault.Clock) → f ≡ fault.Terms → ⊥

@@ -1,25 +1,20 @@
 -- A datagram brings all that its sender made by then.
 use Rattle.std.proofs.Common.{◌≡◌, ℕ, List, [], ◌∷◌, ◌++◌, map, append-nil, refl, ap, ◌∙◌, All, ◌≢◌, ◌<◌, ◌≤◌, ◌+◌, Bool, true, false, length, take, sym, arith, Option, Some, None, inl, inr}
-use Rattle.std.specs.List.{flat_map}
-use Rattle.std.proofs.lemmas.Grind.{flat_map-append}
-use Rattle.std.proofs.lemmas.List.Elements.{All-head, All-tail}
+use Rattle.std.proofs.{lemmas.Grind.flat_map-append, lemmas.List.Elements.All-head, lemmas.List.Elements.All-tail, lemmas.Bool.cases_lt, lemmas.Bool.lt-ltb}
+use Rattle.std.proofs.{lemmas.Bool.ne_eqb, lemmas.Bool.true≢false, lemmas.List.length-map, Math.Seq.take-append_seam}
 use Rattle.std.specs.Prelude.{if◌then◌else◌}
-use Rattle.std.proofs.lemmas.Bool.{cases_lt, lt-ltb, ne_eqb, true≢false}
-use Rattle.std.proofs.lemmas.List.{length-map}
-use Rattle.std.proofs.Math.Seq.{take-append_seam}
+use Rattle.std.specs.List.{flat_map}
 use Rattle.dn_seal.specs.{declared.opened.Opened.Opened, declared.seal.Seal.Seal}
+use Rattle.dn_link.specs.CaughtUp.{next_to, AreCaughtUp, Brings, HasGrown, IsInStep, last_end}
 use Rattle.dn_link.specs.{declared.bundle.Part.Part, declared.bundle.Part.TheVariants.Whole, declared.bundle.Part.TheVariants.Run, declared.bundle.Part.TheVariants.Relay}
-use Rattle.dn_link.specs.{Linked.Gives, Linked.Linked, Pacing.PaceState, Packets.own_in, Packets.own_of, Packets.packets_of, Packing.IsNeeded, Relays.Handed, Relays.handed_part, declared.bundle.Bundle.Bundle}
-use Rattle.dn_link.specs.{declared.bundle.Carried.Carried, Counting.has_ended, Hearing.carried_of, Kept.going, Kept.taken_by, Kept.takes_packet, LinkedGame.AreLinked, CaughtUp.next_to, Packets.opened_from}
-use Rattle.dn_link.specs.{Text.parts_bytes, CaughtUp.AreCaughtUp, CaughtUp.Brings, CaughtUp.HasGrown, CaughtUp.IsInStep, CaughtUp.last_end}
+use Rattle.dn_link.specs.{Linked.Gives, Linked.Linked, Pacing.PaceState, Packets.own_in, Packets.own_of, Packets.packets_of, Packets.opened_from, Packing.IsNeeded}
+use Rattle.dn_link.specs.{Relays.Handed, Relays.handed_part, declared.bundle.Bundle.Bundle, declared.bundle.Carried.Carried, Counting.has_ended, Hearing.carried_of}
+use Rattle.dn_link.specs.{Kept.going, Kept.taken_by, Kept.takes_packet, LinkedGame.AreLinked, Text.parts_bytes}
 use Rattle.dn_setup.specs.Settings.{Settings}
-use Rattle.dn_machine.specs.{declared.answers.Phase.TheVariants.Playing, declared.peer.Peer.Peer, Flight.Play, Limits.Limits, Node.put, Sending.after_sent, Sending.commands_flight, Sending.on_send, Sending.request_to}
+use Rattle.dn_machine.specs.{declared.answers.Phase.TheVariants.Playing, declared.peer.Peer.Peer, Flight.Play, Limits.Limits, Node.put, Sending.after_sent}
+use Rattle.dn_machine.specs.Sending.{commands_flight, on_send, request_to}
 use Rattle.dn_machine.proofs.Put.{put_off}
-use Rattle.dn_lockstep.specs.Marking.{Marking}
-use Rattle.dn_lockstep.specs.Represents.{Represents}
-use Rattle.dn_lockstep.specs.Sent.{sent_to}
-use Rattle.dn_lockstep.specs.OneGame.{Session}
-use Rattle.dn_lockstep.specs.Told.{got, made}
+use Rattle.dn_lockstep.specs.{Marking.Marking, Represents.Represents, Sent.sent_to, OneGame.Session, Told.got, Told.made}
 use Rattle.dn_lockstep.proofs.Shown.{made_is}
 use Rattle.dn_link.proofs.{Catching.not_yet, Makers.chain_goes, Makers.later_goes, Following.gone_or_idle, Sending.Follows, Sending.follows}
 use Rattle.dn_machine.specs.Node as machine

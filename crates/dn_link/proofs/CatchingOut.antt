@@ -1,30 +1,24 @@
 -- The links of a game stay caught up where one gives a datagram, which is in step.
 use Rattle.std.proofs.Common.{◌≡◌, ◌≢◌, ◌<◌, ◌≤◌, ◌+◌, ◌-◌, ◌%◌, ◌^◌, ℕ, Bool, true, false, List, [], ◌∷◌, ◌++◌, length, map, take, refl, ap, sym, ◌∙◌, subst, arith, Option, Some, None, All, inl, inr}
+use Rattle.std.proofs.{lemmas.Bool.cases_eq, lemmas.Bool.cond_both, lemmas.Bool.true≢false, lemmas.List.Elements.All-take, lemmas.Option.none-some}
+use Rattle.std.proofs.lemmas.Option.{same_Some}
 use Rattle.std.specs.Prelude.{◌==◌, ◌&&◌, ◌||◌, if◌then◌else◌, is_some, min, nat_lt, unwrap_or}
 use Rattle.std.specs.Option.{option_map}
-use Rattle.std.proofs.lemmas.Bool.{cases_eq, cond_both, true≢false}
-use Rattle.std.proofs.lemmas.List.Elements.{All-take}
-use Rattle.std.proofs.lemmas.Option.{none-some, same_Some}
 use Rattle.dn_tic.specs.{declared.command.TicCmd.TicCmd, declared.command.Move.Move}
 use Rattle.dn_setup.specs.Settings.{Settings}
 use Rattle.dn_machine.specs.{declared.peer.Peer.Peer, Flight.Flight, Limits.Limits, Node.put, Sending.lag, Sending.after_sent, Sending.set_up_flight}
 use Rattle.dn_machine.proofs.{Calls.send_cases, Put.put_at, Put.put_off}
-use Rattle.dn_lockstep.specs.Agreed.{AreAgreed}
-use Rattle.dn_lockstep.specs.Contents.{Contents, end_in}
-use Rattle.dn_lockstep.specs.Marking.{Marking}
-use Rattle.dn_lockstep.specs.Represents.{Represents}
-use Rattle.dn_lockstep.specs.Sent.{sent_to}
-use Rattle.dn_lockstep.specs.OneGame.{Session}
-use Rattle.dn_lockstep.specs.Told.{got, made}
+use Rattle.dn_lockstep.specs.{Agreed.AreAgreed, Contents.Contents, Contents.end_in, Marking.Marking, Represents.Represents, Sent.sent_to, OneGame.Session, Told.got}
+use Rattle.dn_lockstep.specs.Told.{made}
 use Rattle.dn_lockstep.proofs.Shown.{made_is, has}
 use Rattle.dn_seal.specs.declared.seal.Seal.{Seal}
-use Rattle.dn_link.specs.{declared.bundle.Carried.Carried, Counting.has_ended, Hearing.SendsCarried, Hearing.carried_of, Hearing.ByTest}
-use Rattle.dn_link.specs.{Kept.IsKeptRising, Kept.Unacknowledged, Kept.going, Kept.is_news, Kept.kept_after, Kept.taken_by, Linked.Gives, Linked.Linked, Linked.PeerState}
-use Rattle.dn_link.specs.{LinkedGame.AreLinked, CaughtUp.GoesOn, CaughtUp.IsInTime, CaughtUp.StillGoesOn, CaughtUp.next_to, Pacing.PaceState, Packets.opened_from, Packets.own_in, CaughtUp.AreCaughtUp, CaughtUp.HasNoGap}
-use Rattle.dn_link.specs.{CaughtUp.IsCaughtUp, CaughtUp.IsInStep, CaughtUp.IsKeptChain, CaughtUp.StayCaughtUp, CaughtUp.WasInStep}
-use Rattle.dn_link.proofs.{Catching.relinked, Bringing.gives_own, Following.covers, Following.kept_rises, Leaving.unended, Linking.taken_given, Sending.Sends, Sending.sends, Makers.IsQuiet, Makers.first_goes}
-use Rattle.dn_link.proofs.{Makers.going_asks, Makers.going_goes, Makers.keeps_chain, Makers.later_goes}
-use Rattle.dn_link.proofs.Reporting.{told_plain}
+use Rattle.dn_link.specs.Kept.{IsKeptRising, Unacknowledged, going, is_news, kept_after, taken_by}
+use Rattle.dn_link.specs.CaughtUp.{GoesOn, IsInTime, StillGoesOn, next_to, AreCaughtUp, HasNoGap, IsCaughtUp, IsInStep, IsKeptChain, StayCaughtUp, WasInStep}
+use Rattle.dn_link.specs.{declared.bundle.Carried.Carried, Counting.has_ended, Hearing.SendsCarried, Hearing.carried_of, Hearing.ByTest, Linked.Gives, Linked.Linked}
+use Rattle.dn_link.specs.{Linked.PeerState, LinkedGame.AreLinked, Pacing.PaceState, Packets.opened_from, Packets.own_in}
+use Rattle.dn_link.proofs.Makers.{IsQuiet, first_goes, going_asks, going_goes, keeps_chain, later_goes}
+use Rattle.dn_link.proofs.{Catching.relinked, Bringing.gives_own, Following.covers, Following.kept_rises, Leaving.unended, Linking.taken_given, Sending.Sends}
+use Rattle.dn_link.proofs.{Sending.sends, Reporting.told_plain}
 use Rattle.dn_machine.specs.Node as machine
 use Rattle.dn_link.specs.Kept as keep
 use Rattle.dn_link.proofs.Linking as base

@@ -1,20 +1,17 @@
 -- Parts are read back, and what is read is what stands there.
 use Rattle.std.proofs.Common.{◌≡◌, ◌<◌, ◌≤◌, ◌+◌, ◌^◌, ℕ, List, ◌∷◌, ◌++◌, length, take, drop, refl, ap, sym, ◌∙◌, subst, arith, Option, Some, None, ◌≢◌, ◌*◌, ◌/◌, ◌%◌, ◌-◌, zero, suc, [], append_assoc, All, inl, inr}
-use Rattle.std.specs.Prelude.{slice_index}
-use Rattle.std.specs.Int.{w32, to_le_bytes, from_le_bytes}
 use Rattle.std.proofs.lemmas.Bool.{lt-ltb, le-ltb, cases_eq, cases_lt, eq-eqb, ne_eqb}
 use Rattle.std.proofs.lemmas.List.{take-append-drop, length-take-le, length-append, length-drop, drop-drop}
-use Rattle.std.proofs.lemmas.Nat.{from_le_bytes-to_le_bytes_4}
-use Rattle.std.proofs.lemmas.Option.{same_Some, none-some}
-use Rattle.std.proofs.Math.Seq.{take-append_seam, drop-append_seam}
-use Rattle.std.specs.Option.{option_map}
-use Rattle.std.specs.List.{flat_map}
+use Rattle.std.proofs.{lemmas.Nat.from_le_bytes-to_le_bytes_4, lemmas.Option.same_Some, lemmas.Option.none-some, Math.Seq.take-append_seam, Math.Seq.drop-append_seam}
 use Rattle.std.proofs.lemmas.List.Elements.{All-nil, All-cons, All-head, All-tail}
+use Rattle.std.specs.Prelude.{slice_index}
+use Rattle.std.specs.{Int.w32, Int.to_le_bytes, Int.from_le_bytes, Option.option_map, List.flat_map}
 use Rattle.dn_seal.specs.{Opening.ask_in, Envelope.ask_bytes}
 use Rattle.dn_seal.proofs.Openings.{four_bytes, ask_is, asked-small}
-use Rattle.dn_link.specs.{declared.bundle.Carried.Carried, Text.carried_bytes, Text.IsCarried, Told.number_at, Told.told_whole, declared.bundle.Part.Part, declared.bundle.Part.TheVariants.Whole}
-use Rattle.dn_link.specs.{declared.bundle.Part.TheVariants.Run, declared.bundle.Part.TheVariants.Relay, Text.part_bytes, Text.IsPart, Text.IsRelay, Text.IsRun, Told.told_run, Told.told_relay, Told.told_part}
-use Rattle.dn_link.specs.{Told.told_all}
+use Rattle.dn_link.specs.Text.{carried_bytes, IsCarried, part_bytes, IsPart, IsRelay, IsRun}
+use Rattle.dn_link.specs.Told.{number_at, told_whole, told_run, told_relay, told_part, told_all}
+use Rattle.dn_link.specs.{declared.bundle.Carried.Carried, declared.bundle.Part.Part, declared.bundle.Part.TheVariants.Whole, declared.bundle.Part.TheVariants.Run}
+use Rattle.dn_link.specs.declared.bundle.Part.TheVariants.{Relay}
 use Rattle.dn_link.proofs.Parts.{Fit, small, fit_drop}
 use Rattle.dn_link.specs.declared.bundle.Run as run
 use Rattle.dn_link.specs.declared.bundle.Relay as relay

@@ -2,9 +2,7 @@
 use Rattle.std.proofs.Common.{arith, ◌≡◌, Bool, true, false, List, [], ◌∷◌, sym, subst, All, ℕ, ap, ◌∙◌, Some}
 use Rattle.std.proofs.lemmas.List.Elements.{All-head, All-tail}
 use Rattle.std.specs.Prelude.{slice_get}
-use Rattle.dn_lockstep.specs.Contents.{Contents}
-use Rattle.dn_lockstep.specs.Marking.{Marking}
-use Rattle.dn_lockstep.specs.OneGame.{AreOneGame, Session, with_lockstep}
+use Rattle.dn_lockstep.specs.{Contents.Contents, Marking.Marking, OneGame.AreOneGame, OneGame.Session, OneGame.with_lockstep}
 use Rattle.dn_seal.specs.declared.opened.Opened.{Opened}
 use Rattle.dn_open.specs.{Arrivals.HearsOpened, Arrivals.SparesSealed, declared.hearing.Arrived.Arrived, Sealed.opened_of}
 use Rattle.dn_link.specs.{Hearing.ByTest, Hearing.HearsUntil, Hearing.HearsAll, Hearing.is_start, LinkedGame.WasGiven}

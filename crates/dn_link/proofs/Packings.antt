@@ -1,20 +1,16 @@
 -- Packets are written as parts, one after the other, and as no more than they need.
 use Rattle.std.proofs.Common.{◌≡◌, ◌<◌, ◌≤◌, ◌+◌, ◌^◌, ℕ, List, [], ◌∷◌, ◌++◌, length, refl, ap, sym, ◌∙◌, subst, arith, All, append-nil, ◌*◌, inl, inr, ◌/◌, ◌%◌, zero, suc, map, take, drop, append_assoc}
-use Rattle.std.specs.Int.{w32, to_le_bytes}
-use Rattle.std.specs.List.{flat_map}
-use Rattle.std.proofs.lemmas.Grind.{flat_map-append}
 use Rattle.std.proofs.lemmas.List.{length-append, length-drop, map-append, take-append-le, drop-append-le}
-use Rattle.std.proofs.lemmas.List.Elements.{All-nil, All-cons, All-append}
-use Rattle.std.proofs.lemmas.Bool.{cases_lt}
-use Rattle.std.proofs.Math.Seq.{take-append_seam}
-use Rattle.std.proofs.lemmas.{Bool.lt-ltb, Bool.le-ltb}
+use Rattle.std.proofs.{lemmas.Grind.flat_map-append, lemmas.List.Elements.All-nil, lemmas.List.Elements.All-cons, lemmas.List.Elements.All-append, lemmas.Bool.cases_lt}
+use Rattle.std.proofs.{lemmas.Bool.lt-ltb, lemmas.Bool.le-ltb, Math.Seq.take-append_seam}
+use Rattle.std.specs.{Int.w32, Int.to_le_bytes, List.flat_map}
 use Rattle.arrayvec.specs.ArrayVec.{ArrayVec}
 use Rattle.dn_seal.specs.declared.opened.Opened.{Opened}
-use Rattle.dn_link.specs.{declared.bundle.Part.Part, declared.bundle.Part.TheVariants.Run, declared.packing.Packing.Packing, Text.IsPart, Text.part_bytes, Text.parts_bytes, Packing.runs, Packing.runs_last}
-use Rattle.dn_link.specs.{declared.bundle.Carried.Carried, Packets.opened_from, Packets.packets_of, Packets.short_packet, Packets.short_packets, Packing.ArePacked, declared.bundle.Part.TheVariants.Whole}
-use Rattle.dn_link.specs.{declared.bundle.Part.TheVariants.Relay, Packing.AreEnded, Packing.IsEnded, Packing.IsNeeded}
+use Rattle.dn_link.specs.Packing.{runs, runs_last, ArePacked, AreEnded, IsEnded, IsNeeded, MayFollow, IsPacking, IsOpen, part_of, packed, IsTight}
+use Rattle.dn_link.specs.{declared.bundle.Part.Part, declared.bundle.Part.TheVariants.Run, declared.bundle.Part.TheVariants.Whole, declared.bundle.Part.TheVariants.Relay}
+use Rattle.dn_link.specs.{declared.packing.Packing.Packing, Text.IsPart, Text.part_bytes, Text.parts_bytes, declared.bundle.Carried.Carried, Packets.opened_from}
+use Rattle.dn_link.specs.Packets.{packets_of, short_packet, short_packets}
 use Rattle.dn_link.specs.declared.bundle.Run as run
-use Rattle.dn_link.specs.Packing.{MayFollow, IsPacking, IsOpen, part_of, packed, IsTight}
 
 -- Packets are written as no more parts than they need.
 

@@ -1,18 +1,17 @@
 -- The links of one game stay those of one game.
 use Rattle.std.proofs.Common.{arith, ℕ, Bool, true, false, List, ◌≡◌, ap, ◌∙◌, ◌≢◌, ◌<◌, ◌≤◌, zero, suc, [], ◌∷◌, ◌++◌, length, map, refl, sym, subst, Option, Some, None, All}
-use Rattle.std.specs.Prelude.{if◌then◌else◌, nat_le, slice_get, slice_index}
-use Rattle.std.specs.List.{flat_map}
-use Rattle.std.specs.Option.{option_map}
 use Rattle.std.proofs.lemmas.List.Elements.{All-nil, All-cons, All-head, All-tail, All-append, All-take, All-map}
 use Rattle.std.proofs.lemmas.Option.{none-some, same_Some}
+use Rattle.std.specs.Prelude.{if◌then◌else◌, nat_le, slice_get, slice_index}
+use Rattle.std.specs.{List.flat_map, Option.option_map}
 use Rattle.dn_machine.specs.{Flight.Flight, Node.put, Limits.Limits}
 use Rattle.dn_remain.proofs.Vanished.Put.{at_put, at_both}
-use Rattle.dn_link.specs.{declared.bundle.Bundle.Bundle, Counting.reached, Linked.Linked, Linked.PeerState, Linked.met, Linked.with_reached, Linked.IsWhole}
-use Rattle.dn_link.specs.{declared.bundle.Part.Part, declared.bundle.Carried.Carried, LinkedGame.WasGiven, Hearing.carried_of, Kept.Unacknowledged, Kept.going, Kept.is_news, Kept.kept_after, Kept.without, Kept.end_of}
-use Rattle.dn_link.specs.{Counting.has_ended, Counting.has_of, LinkedGame.AreLinked, LinkedGame.IsLater, Packets.opened_from, Packets.packets_of, Packing.ArePacked}
-use Rattle.dn_lockstep.specs.Contents.{Contents}
-use Rattle.dn_lockstep.specs.Marking.{Marking}
-use Rattle.dn_lockstep.specs.OneGame.{AreOneGame, Session, given_on}
+use Rattle.dn_link.specs.Linked.{Linked, PeerState, met, with_reached, IsWhole}
+use Rattle.dn_link.specs.Kept.{Unacknowledged, going, is_news, kept_after, without, end_of}
+use Rattle.dn_link.specs.{declared.bundle.Bundle.Bundle, Counting.reached, Counting.has_ended, Counting.has_of, declared.bundle.Part.Part}
+use Rattle.dn_link.specs.{declared.bundle.Carried.Carried, LinkedGame.WasGiven, LinkedGame.AreLinked, LinkedGame.IsLater, Hearing.carried_of, Packets.opened_from}
+use Rattle.dn_link.specs.{Packets.packets_of, Packing.ArePacked}
+use Rattle.dn_lockstep.specs.{Contents.Contents, Marking.Marking, OneGame.AreOneGame, OneGame.Session, OneGame.given_on}
 use Rattle.dn_survivor.specs.{OfOthers.has, OfOthers.nothing_kept, declared.others.Others.Others}
 use Rattle.dn_setup.specs.Settings.{Settings}
 use Rattle.dn_lockstep.proofs.OneGame.{GoesBetween}

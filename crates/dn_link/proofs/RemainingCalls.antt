@@ -1,28 +1,20 @@
 -- The links of one game in which players may be given up stay so.
 use Rattle.std.proofs.Common.{◌≡◌, ◌<◌, ℕ, ℤ, pos, Bool, true, false, List, get_or, refl, ap, sym, ◌∙◌, subst, Option, Some, inl, inr, None, [], ◌∷◌}
-use Rattle.std.specs.Prelude.{slice_get}
 use Rattle.std.proofs.lemmas.Bool.{cases_eq}
+use Rattle.std.specs.Prelude.{slice_get}
 use Rattle.dn_tic.specs.{declared.command.Move.Move, declared.input.Input.Input}
 use Rattle.dn_setup.specs.Settings.{Settings}
-use Rattle.dn_machine.specs.declared.answers.Made.{Made}
-use Rattle.dn_machine.specs.declared.answers.Ran.{Ran}
-use Rattle.dn_machine.specs.Sending.{on_build}
-use Rattle.dn_machine.specs.Flight.{Flight}
-use Rattle.dn_machine.specs.Limits.{Limits}
-use Rattle.dn_machine.specs.Node.{put}
-use Rattle.dn_machine.specs.Running.{is_over, on_quit, on_run_but}
+use Rattle.dn_machine.specs.{declared.answers.Made.Made, declared.answers.Ran.Ran, Sending.on_build, Flight.Flight, Limits.Limits, Node.put, Running.is_over}
+use Rattle.dn_machine.specs.Running.{on_quit, on_run_but}
 use Rattle.dn_machine.proofs.Put.{put_at, put_off}
-use Rattle.dn_lockstep.specs.Contents.{end_in}
-use Rattle.dn_lockstep.specs.Marking.{Marking}
-use Rattle.dn_lockstep.specs.OneGame.{world_told}
-use Rattle.dn_lockstep.specs.Steps.{RunsBy, Steps}
-use Rattle.dn_survivor.specs.{declared.report.Report.Report, Calls.GivesUp, Calls.HearsReport, OneGame.AreRemaining, Surviving.Surviving, Surviving.has_given_up, Telling.report_for}
-use Rattle.dn_survivor.specs.{declared.answers.GivenUp.GivenUp, declared.answers.Reported.Reported, OneGame.Given, OneGame.Session, OneGame.after_build, OneGame.after_report, OneGame.after_run}
-use Rattle.dn_survivor.specs.{OneGame.with_survivor, declared.others.Others.Others, Calls.GivesUpUnless, Calls.HearsReportUnless, Calls.refused_give_up, Calls.refused_report}
+use Rattle.dn_lockstep.specs.{Contents.end_in, Marking.Marking, OneGame.world_told, Steps.RunsBy, Steps.Steps}
+use Rattle.dn_survivor.specs.Calls.{GivesUp, HearsReport, GivesUpUnless, HearsReportUnless, refused_give_up, refused_report}
+use Rattle.dn_survivor.specs.OneGame.{AreRemaining, Given, Session, after_build, after_report, after_run, with_survivor, reports_on}
+use Rattle.dn_survivor.specs.{declared.report.Report.Report, Surviving.Surviving, Surviving.has_given_up, Telling.report_for, declared.answers.GivenUp.GivenUp}
+use Rattle.dn_survivor.specs.{declared.answers.Reported.Reported, declared.others.Others.Others}
 use Rattle.dn_survivor.proofs.OneGame as one_game
 use Rattle.dn_link.specs.{Linked.Linked, Linked.PeerState, Linked.surviving_of, RemainingLinks.AreRemainingLinks, RemainingLinks.KeepsGiven, Surviving.GivesUpPeer}
-use Rattle.dn_link.proofs.{Relinking.AreKept, Relinking.AreGiven, Relinking.all_later, Relinking.all_put, Relinking.found_on}
-use Rattle.dn_survivor.specs.OneGame.{reports_on}
+use Rattle.dn_link.proofs.Relinking.{AreKept, AreGiven, all_later, all_put, found_on}
 
 -- Whose a survivor is stays.
 

@@ -1,25 +1,23 @@
 -- A bundle is read back, and what is read is what stands there, one part after the other. So bytes are read
 -- as one thing.
-use Rattle.std.proofs.Common.{◌≡◌, ◌<◌, ◌≤◌, ◌+◌, ◌^◌, ℕ, List, [], ◌∷◌, ◌++◌, length, take, drop, refl, ap, sym, ◌∙◌, subst, arith, append_assoc, Option, Some, None, All, inl, inr, w8, ℤ, to_z, of_z, zero}
-use Rattle.std.proofs.Common.{suc, get_or, append-nil, ◌≢◌, ◌-◌, Result, Ok, Err}
-use Rattle.std.specs.Prelude.{slice_index, FitsSigned}
-use Rattle.std.specs.Option.{option_map}
+use Rattle.std.proofs.Common.{◌≡◌, ◌<◌, ◌≤◌, ◌+◌, ◌^◌, ℕ, List, [], ◌∷◌, ◌++◌, length, take, drop, refl, ap, sym, ◌∙◌, subst, arith, append_assoc, Option, Some, None, All, inl, inr, w8, ℤ, to_z, of_z, zero, suc, get_or, append-nil, ◌≢◌, ◌-◌, Result, Ok, Err}
+use Rattle.std.proofs.lemmas.List.{take-append-drop, length-drop, drop-drop, length-append, length-take-le, length-take, take-take, get_or-take, get_or_past}
+use Rattle.std.proofs.{lemmas.Bool.cases_lt, lemmas.Bool.lt-ltb, lemmas.Bool.le-ltb, lemmas.Int.to_z-of_z, lemmas.Int.of_z-to_z, lemmas.Nat.from_le_bytes-to_le_bytes_2}
+use Rattle.std.proofs.{lemmas.Nat.from_le_bytes-to_le_bytes_4, lemmas.Nat.le_bytes_2, lemmas.Option.same_Some, lemmas.Option.none-some, Math.Seq.drop-append_seam}
+use Rattle.std.proofs.Math.Seq.{take-append_seam}
+use Rattle.std.specs.Prelude.{slice_index, FitsSigned, nat_lt, false}
 use Rattle.std.specs.Int.{w16, w32, cast_signed, cast_unsigned, from_le_bytes, to_le_bytes}
-use Rattle.std.specs.Prelude.{nat_lt, false}
-use Rattle.std.proofs.lemmas.{Bool.cases_lt, Bool.lt-ltb, Bool.le-ltb, Int.to_z-of_z, Int.of_z-to_z, List.take-append-drop, List.length-drop, List.drop-drop, Nat.from_le_bytes-to_le_bytes_2, Nat.from_le_bytes-to_le_bytes_4, Nat.le_bytes_2, Option.same_Some}
-use Rattle.std.proofs.lemmas.{Option.none-some, List.length-append, List.length-take-le, List.length-take, List.take-take, List.get_or-take, List.get_or_past}
-use Rattle.std.proofs.Math.Seq.{drop-append_seam, take-append_seam}
-use Rattle.dn_seal.specs.declared.seal.Seal.{Seal}
-use Rattle.dn_seal.specs.Hmac.{suite_byte, tag_of}
-use Rattle.dn_seal.proofs.{Openings.four_bytes}
+use Rattle.std.specs.Option.{option_map}
 use Rattle.dn_seal.specs.Opening.{Sealing, told_game, IsOfKind, IsOfGame, IsFor, IsTagged, told_body, told_tag}
-use Rattle.dn_seal.proofs.Envelopes.{length-tag, eight}
-use Rattle.dn_link.specs.{declared.bundle.Bundle.Bundle, declared.bundle.Part.Part, Text.counts_bytes, Text.parts_bytes, Text.report_field, Text.bundle_bytes, Text.IsBundle}
-use Rattle.dn_link.specs.{Text.IsPart, Text.part_bytes, declared.bundle.BundleFault.BundleFault, Reading.IsDatagramOf, Reading.IsBundledAs, Reading.bundles}
+use Rattle.dn_seal.specs.{declared.seal.Seal.Seal, Hmac.suite_byte, Hmac.tag_of}
+use Rattle.dn_seal.proofs.{Openings.four_bytes, Envelopes.length-tag, Envelopes.eight}
+use Rattle.dn_link.specs.Text.{counts_bytes, parts_bytes, report_field, bundle_bytes, IsBundle, IsPart, part_bytes}
 use Rattle.dn_link.specs.Told.{number_at, report_size, told_counts, told_parts, bundle_with, told_bundle, told_part, told_all}
+use Rattle.dn_link.specs.declared.bundle.BundleFault.TheVariants.{Short, Long, Game, Receiver, Tag, Form}
+use Rattle.dn_link.specs.{declared.bundle.Bundle.Bundle, declared.bundle.Part.Part, declared.bundle.BundleFault.BundleFault, Reading.IsDatagramOf, Reading.IsBundledAs}
+use Rattle.dn_link.specs.Reading.{bundles}
 use Rattle.dn_link.proofs.Parts.{Fit, fit_drop, small, counts_back, length-counts, counts_is}
 use Rattle.dn_link.proofs.Items.{all_back, all_is, opened}
-use Rattle.dn_link.specs.declared.bundle.BundleFault.TheVariants.{Short, Long, Game, Receiver, Tag, Form}
 
 -- Parts are read one after the other.
 

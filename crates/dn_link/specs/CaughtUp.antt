@@ -1,25 +1,13 @@
 -- That a peer is to be sent commands from where those end that are kept for it, and that the links of a
 -- game are caught up.
 use Rattle.std.specs.Prelude.{◌≡◌, ◌≢◌, ◌<◌, ◌≤◌, ℕ, ◌+◌, ◌-◌, true, false, All, List, [], ◌∷◌, Option, None, Some, ◌⊎◌, IfSome}
-use Rattle.dn_seal.specs.declared.opened.Opened.{Opened}
-use Rattle.dn_seal.specs.declared.seal.Seal.{Seal}
-use Rattle.dn_machine.specs.Limits.{Limits}
-use Rattle.dn_machine.specs.Node.{put}
-use Rattle.dn_machine.specs.Sending.{lag}
+use Rattle.dn_seal.specs.{declared.opened.Opened.Opened, declared.seal.Seal.Seal}
+use Rattle.dn_machine.specs.{Limits.Limits, Node.put, Sending.lag}
 use Rattle.dn_machine.specs.Node as machine
-use Rattle.dn_lockstep.specs.Told.{got, made}
-use Rattle.dn_lockstep.specs.Contents.{Contents}
-use Rattle.dn_lockstep.specs.Represents.{Represents}
+use Rattle.dn_lockstep.specs.{Told.got, Told.made, Contents.Contents, Represents.Represents}
 use Rattle.dn_open.specs.Sealed.{sealing_of}
-use Rattle.dn_link.specs.declared.bundle.Bundle.{Bundle}
-use Rattle.dn_link.specs.declared.bundle.Carried.{Carried}
-use Rattle.dn_link.specs.Counting.{has_ended}
-use Rattle.dn_link.specs.Ends.{excludes}
-use Rattle.dn_link.specs.Kept.{IsKeptRising, Unacknowledged, end_of}
-use Rattle.dn_link.specs.Linked.{Linked}
-use Rattle.dn_link.specs.Packets.{own_in, packets_in}
-use Rattle.dn_link.specs.Reading.{IsDatagramOf}
-use Rattle.dn_link.specs.Text.{IsBundle, sealed_bytes}
+use Rattle.dn_link.specs.{declared.bundle.Bundle.Bundle, declared.bundle.Carried.Carried, Counting.has_ended, Ends.excludes, Kept.IsKeptRising, Kept.Unacknowledged}
+use Rattle.dn_link.specs.{Kept.end_of, Linked.Linked, Packets.own_in, Packets.packets_in, Reading.IsDatagramOf, Text.IsBundle, Text.sealed_bytes}
 
 -- That a peer is to be sent commands from where those end that are kept for it, or from earlier on.
 

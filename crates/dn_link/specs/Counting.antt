@@ -1,9 +1,7 @@
 -- How far a lockstep is.
 use Rattle.std.specs.Prelude.{ℕ, ◌+◌, ◌-◌, ◌&&◌, nat_lt, if◌then◌else◌, Bool, List, [], ◌∷◌, Option, Some, None}
 use Rattle.dn_machine.specs.Node.{is_ended}
-use Rattle.dn_lockstep.specs.Contents.{Contents, end_in}
-use Rattle.dn_lockstep.specs.Tables.{count_of}
-use Rattle.dn_lockstep.specs.Told.{made}
+use Rattle.dn_lockstep.specs.{Contents.Contents, Contents.end_in, Tables.count_of, Told.made}
 use Rattle.dn_link.specs.declared.bundle.Counts.{Counts}
 
 -- one more for an end that is known

@@ -1,9 +1,7 @@
 -- What a datagram tells of its sender's end.
 use Rattle.std.specs.Prelude.{ℕ, ◌==◌, ◌&&◌, if◌then◌else◌, Bool, nat_lt, Option, Some, slice_index}
-use Rattle.dn_machine.specs.declared.answers.Cause.{Cause}
-use Rattle.dn_machine.specs.declared.answers.Cause.TheVariants.{Quit, Full, Inconsistent}
-use Rattle.dn_machine.specs.declared.answers.Phase.{Phase}
-use Rattle.dn_machine.specs.declared.answers.Phase.TheVariants.{Ended}
+use Rattle.dn_machine.specs.{declared.answers.Cause.Cause, declared.answers.Cause.TheVariants.Quit, declared.answers.Cause.TheVariants.Full}
+use Rattle.dn_machine.specs.{declared.answers.Cause.TheVariants.Inconsistent, declared.answers.Phase.Phase, declared.answers.Phase.TheVariants.Ended}
 use Rattle.dn_link.specs.declared.bundle.Bundle.{Bundle}
 
 -- causes as bytes

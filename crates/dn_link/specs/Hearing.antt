@@ -2,14 +2,9 @@
 use Rattle.std.specs.Prelude.{◌≡◌, Bool, true, false, List, [], ◌∷◌, ℕ, Option}
 use Rattle.std.specs.Option.{option_map}
 use Rattle.dn_seal.specs.declared.opened.Opened.{Opened}
-use Rattle.dn_machine.specs.declared.answers.Heard.TheVariants.{Started}
-use Rattle.dn_machine.specs.Flight.{Flight}
-use Rattle.dn_lockstep.specs.Contents.{Contents}
-use Rattle.dn_lockstep.specs.Sent.{sent_to, bytes_of}
-use Rattle.dn_lockstep.specs.Steps.{Steps}
-use Rattle.dn_open.specs.Arrivals.{HearsOpened, SparesSealed}
-use Rattle.dn_open.specs.declared.hearing.Arrived.{Arrived}
-use Rattle.dn_open.specs.declared.hearing.Arrived.TheVariants.{Heard}
+use Rattle.dn_machine.specs.{declared.answers.Heard.TheVariants.Started, Flight.Flight}
+use Rattle.dn_lockstep.specs.{Contents.Contents, Sent.sent_to, Sent.bytes_of, Steps.Steps}
+use Rattle.dn_open.specs.{Arrivals.HearsOpened, Arrivals.SparesSealed, declared.hearing.Arrived.Arrived, declared.hearing.Arrived.TheVariants.Heard}
 use Rattle.dn_link.specs.declared.bundle.Carried.{Carried}
 
 -- the game starts with it

@@ -1,10 +1,8 @@
 -- What is known of the line from a peer, and of the leads.
 use Rattle.std.specs.Prelude.{ℕ, ◌+◌, ◌-◌, ◌/◌, ◌==◌, ◌-ℤ◌, if◌then◌else◌, nat_lt, min, max, ℤ, pos, negsuc, Option, None, Some}
 use Rattle.std.specs.Int.{int_max, int_min}
-use Rattle.dn_lockstep.specs.Contents.{Contents}
-use Rattle.dn_lockstep.specs.Told.{got, made}
-use Rattle.dn_link.specs.declared.bundle.Bundle.{Bundle}
-use Rattle.dn_link.specs.Tally.{TallyState, tallied}
+use Rattle.dn_lockstep.specs.{Contents.Contents, Told.got, Told.made}
+use Rattle.dn_link.specs.{declared.bundle.Bundle.Bundle, Tally.TallyState, Tally.tallied}
 
 -- the number of the newest datagram that came; how many numbers before it are missing in its block of
 -- sixty-four, and how many in the block before; what it reported: how many its sender misses, and by how many

@@ -1,40 +1,20 @@
 -- What a link keeps, what its calls do, and what is known of the line to a peer.
-use Rattle.std.specs.Prelude.{◌≡◌, ℕ, ◌+◌, ◌-◌, ◌%◌, ◌^◌, ◌==◌, ◌≤◌, ◌&&◌, ◌||◌, if◌then◌else◌, nat_lt, min, max, length, Bool, not, List, [], ◌∷◌, slice_index, ◌++◌, ◌≢◌, map, All, Option, is_none, is_some, pos, IfSome}
-use Rattle.std.specs.Prelude.{None, Some, false, Result, Ok, Err}
+use Rattle.std.specs.Prelude.{◌≡◌, ℕ, ◌+◌, ◌-◌, ◌%◌, ◌^◌, ◌==◌, ◌≤◌, ◌&&◌, ◌||◌, if◌then◌else◌, nat_lt, min, max, length, Bool, not, List, [], ◌∷◌, slice_index, ◌++◌, ◌≢◌, map, All, Option, is_none, is_some, pos, IfSome, None, Some, false, Result, Ok, Err}
 use Rattle.dn_seal.specs.declared.seal.Seal.{Seal}
 use Rattle.dn_machine.specs.Node.{put}
-use Rattle.dn_lockstep.specs.Contents.{Contents, end_in}
-use Rattle.dn_lockstep.specs.Told.{made}
-use Rattle.dn_survivor.specs.OfOthers.{has}
-use Rattle.dn_survivor.specs.declared.others.Others.{Others}
-use Rattle.dn_survivor.specs.Surviving.{Surviving}
-use Rattle.dn_survivor.specs.Telling.{MayRelay, report_for}
-use Rattle.dn_survivor.specs.Calls.{HearsReport}
-use Rattle.dn_survivor.specs.ReportBytes.{IsReadAs, IsReport, report_bytes}
-use Rattle.dn_survivor.specs.declared.answers.Reported.{Reported}
-use Rattle.dn_survivor.specs.declared.answers.Reported.TheVariants.{Kept}
-use Rattle.dn_survivor.specs.declared.report.Report.{Report}
-use Rattle.dn_survivor.specs.declared.report.ReportFault.{ReportFault}
+use Rattle.dn_lockstep.specs.{Contents.Contents, Contents.end_in, Told.made}
+use Rattle.dn_survivor.specs.{OfOthers.has, declared.others.Others.Others, Surviving.Surviving, Telling.MayRelay, Telling.report_for, Calls.HearsReport}
+use Rattle.dn_survivor.specs.{ReportBytes.IsReadAs, ReportBytes.IsReport, ReportBytes.report_bytes, declared.answers.Reported.Reported}
+use Rattle.dn_survivor.specs.{declared.answers.Reported.TheVariants.Kept, declared.report.Report.Report, declared.report.ReportFault.ReportFault}
 use Rattle.dn_open.specs.Sealed.{sealing_of}
-use Rattle.dn_link.specs.declared.bundle.Bundle.{Bundle}
-use Rattle.dn_link.specs.declared.bundle.BundleFault.{BundleFault}
-use Rattle.dn_link.specs.declared.bundle.Carried.{Carried}
-use Rattle.dn_link.specs.declared.received.Received.{Received}
 use Rattle.dn_link.specs.declared.received.Received.TheVariants.{Unopened, Stranger, GivenUp, Excluded, Heard}
-use Rattle.dn_link.specs.Reading.{IsBundledAs}
-use Rattle.dn_link.specs.Counting.{counts_of, held_of, reached}
-use Rattle.dn_link.specs.Hearing.{SendsCarried, ByTest, HearsAll}
 use Rattle.dn_link.specs.Kept.{Unacknowledged, acknowledged, going, kept_after, taken_by}
-use Rattle.dn_link.specs.Line.{missing, LineState}
-use Rattle.dn_link.specs.Pacing.{PaceState}
-use Rattle.dn_link.specs.Packets.{heard_in, takes_relay}
-use Rattle.dn_link.specs.Packing.{ArePacked}
-use Rattle.dn_link.specs.Relays.{AreHandedOn, AreLacked, Handed, handed_part}
-use Rattle.dn_link.specs.declared.bundle.Part.{Part}
+use Rattle.dn_link.specs.{declared.bundle.Bundle.Bundle, declared.bundle.BundleFault.BundleFault, declared.bundle.Carried.Carried, declared.received.Received.Received}
+use Rattle.dn_link.specs.{Reading.IsBundledAs, Counting.counts_of, Counting.held_of, Counting.reached, Hearing.SendsCarried, Hearing.ByTest, Hearing.HearsAll}
+use Rattle.dn_link.specs.{Line.missing, Line.LineState, Pacing.PaceState, Packets.heard_in, Packets.takes_relay, Packing.ArePacked, Relays.AreHandedOn, Relays.AreLacked}
+use Rattle.dn_link.specs.{Relays.Handed, Relays.handed_part, declared.bundle.Part.Part, Ends.excludes, Ends.left_by, Ends.told_cause, Text.IsBundle, Text.parts_bytes}
+use Rattle.dn_link.specs.{Text.sealed_bytes, declared.tally.Figures.Figures}
 use Rattle.dn_link.specs.declared.bundle.Relay as relay
-use Rattle.dn_link.specs.Ends.{excludes, left_by, told_cause}
-use Rattle.dn_link.specs.Text.{IsBundle, parts_bytes, sealed_bytes}
-use Rattle.dn_link.specs.declared.tally.Figures.{Figures}
 
 -- what it keeps of a peer: the packets that the peer has not acknowledged, the most that the peer's datagrams
 -- told that it has of each of four players, why it has left, if it has told its end, and the number of the next

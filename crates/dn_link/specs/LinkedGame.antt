@@ -1,23 +1,12 @@
 -- The links of one game, and what their datagrams carry.
 use Rattle.std.specs.Prelude.{◌≡◌, ◌≢◌, ◌<◌, ◌≤◌, ℕ, true, All, Some, slice_get, slice_index, false, List, []}
 use Rattle.dn_setup.specs.Settings.{Settings}
-use Rattle.dn_seal.specs.declared.opened.Opened.{Opened}
-use Rattle.dn_seal.specs.declared.seal.Seal.{Seal}
-use Rattle.dn_machine.specs.Flight.{Flight}
-use Rattle.dn_machine.specs.Limits.{Limits}
-use Rattle.dn_machine.specs.Node.{put}
-use Rattle.dn_lockstep.specs.Marking.{Marking}
-use Rattle.dn_lockstep.specs.OneGame.{AreOneGame}
-use Rattle.dn_lockstep.specs.OneGame.{Session}
-use Rattle.dn_lockstep.specs.Contents.{Contents}
+use Rattle.dn_seal.specs.{declared.opened.Opened.Opened, declared.seal.Seal.Seal}
+use Rattle.dn_machine.specs.{Flight.Flight, Limits.Limits, Node.put}
+use Rattle.dn_lockstep.specs.{Marking.Marking, OneGame.AreOneGame, OneGame.Session, Contents.Contents}
 use Rattle.dn_open.specs.Sealed.{opened_of, sealing_of}
-use Rattle.dn_link.specs.Counting.{has_ended, has_of}
-use Rattle.dn_link.specs.Linked.{IsWhole, Linked}
-use Rattle.dn_link.specs.Packets.{opened_from, packets_in}
-use Rattle.dn_link.specs.declared.bundle.Bundle.{Bundle}
-use Rattle.dn_link.specs.Ends.{tells_end}
-use Rattle.dn_link.specs.Reading.{IsDatagramOf}
-use Rattle.dn_link.specs.Text.{IsBundle, sealed_bytes}
+use Rattle.dn_link.specs.{Counting.has_ended, Counting.has_of, Linked.IsWhole, Linked.Linked, Packets.opened_from, Packets.packets_in, declared.bundle.Bundle.Bundle}
+use Rattle.dn_link.specs.{Ends.tells_end, Reading.IsDatagramOf, Text.IsBundle, Text.sealed_bytes}
 
 -- What a datagram carries, beside the packets of a game.
 

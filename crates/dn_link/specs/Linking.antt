@@ -1,13 +1,8 @@
 -- What a link is, with what is kept for a peer.
 use Rattle.std.specs.Prelude.{ℕ, List, [], ◌∷◌, None}
-use Rattle.dn_seal.specs.declared.seal.Seal.{Seal}
-use Rattle.dn_seal.specs.Sealing.{sealing}
+use Rattle.dn_seal.specs.{declared.seal.Seal.Seal, Sealing.sealing}
 use Rattle.dn_survivor.specs.Surviving.{surviving}
-use Rattle.dn_link.specs.declared.link.Link.{Link}
-use Rattle.dn_link.specs.declared.peer.Peer.{Peer}
-use Rattle.dn_link.specs.Linked.{Linked, PeerState}
-use Rattle.dn_link.specs.Places.{by_place}
-use Rattle.dn_link.specs.declared.kept.Kept.{Kept}
+use Rattle.dn_link.specs.{declared.link.Link.Link, declared.peer.Peer.Peer, Linked.Linked, Linked.PeerState, Places.by_place, declared.kept.Kept.Kept}
 use Rattle.dn_link.specs.Kept.{Unacknowledged}
 
 -- what is kept for a peer

@@ -1,15 +1,8 @@
 -- What a link keeps for its pace.
 use Rattle.std.specs.Prelude.{ℕ, List, None, pos, Option}
 use Rattle.dn_tic.specs.declared.input.Input.{Input}
-use Rattle.dn_link.specs.declared.line.Line.{Line}
-use Rattle.dn_link.specs.declared.link.Link.{Link}
-use Rattle.dn_link.specs.declared.pace.Pace.{Pace}
-use Rattle.dn_link.specs.Line.{LineState, new_line}
-use Rattle.dn_link.specs.Places.{by_place}
-use Rattle.dn_link.specs.Leaning.{LeaningState, StretchingState}
-use Rattle.dn_link.specs.declared.leaning.Leaning.{Leaning}
-use Rattle.dn_link.specs.declared.tally.Tally.{Tally}
-use Rattle.dn_link.specs.declared.stretching.Stretching.{Stretching}
+use Rattle.dn_link.specs.{declared.line.Line.Line, declared.link.Link.Link, declared.pace.Pace.Pace, Line.LineState, Line.new_line, Places.by_place, Leaning.LeaningState}
+use Rattle.dn_link.specs.{Leaning.StretchingState, declared.leaning.Leaning.Leaning, declared.tally.Tally.Tally, declared.stretching.Stretching.Stretching}
 use Rattle.dn_link.specs.Tally.{TallyState}
 
 -- the line from each player, the input of which a command is owed, how the ticks lean and stretch, and how many

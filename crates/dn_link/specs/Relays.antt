@@ -1,17 +1,10 @@
 -- The commands of third players that a player hands on, and which these are.
 use Rattle.std.specs.Prelude.{◌≡◌, ◌≢◌, ◌<◌, ◌≤◌, ℕ, ◌+◌, ◌^◌, negsuc, List, [], ◌∷◌, length, slice_index, Some, ◌-◌, ◌/◌, ◌&&◌, ◌||◌, if◌then◌else◌, nat_lt, nat_le, min, max, Bool, slice_get, Option, None}
 use Rattle.std.specs.List.{flat_map}
-use Rattle.dn_tic.specs.Command.{IsCommand, command_bytes}
-use Rattle.dn_tic.specs.declared.command.TicCmd.{TicCmd}
-use Rattle.dn_machine.specs.Flight.{Flight}
-use Rattle.dn_machine.specs.Relaying.{packet_of_one}
-use Rattle.dn_lockstep.specs.Contents.{Contents}
-use Rattle.dn_lockstep.specs.Told.{command_told}
-use Rattle.dn_link.specs.declared.bundle.Part.{Part}
-use Rattle.dn_link.specs.declared.bundle.Part.TheVariants.{Relay}
-use Rattle.dn_link.specs.declared.bundle.Run.{Run}
-use Rattle.dn_link.specs.declared.lag.Had.{Had}
-use Rattle.dn_link.specs.declared.lag.Lag.{Lag}
+use Rattle.dn_tic.specs.{Command.IsCommand, Command.command_bytes, declared.command.TicCmd.TicCmd}
+use Rattle.dn_machine.specs.{Flight.Flight, Relaying.packet_of_one}
+use Rattle.dn_lockstep.specs.{Contents.Contents, Told.command_told}
+use Rattle.dn_link.specs.{declared.bundle.Part.Part, declared.bundle.Part.TheVariants.Relay, declared.bundle.Run.Run, declared.lag.Had.Had, declared.lag.Lag.Lag}
 use Rattle.dn_link.specs.Places.{by_place}
 
 -- whose commands, from which tic on, and these

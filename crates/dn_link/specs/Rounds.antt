@@ -1,25 +1,12 @@
 -- Rounds of the links of a game that all play.
 use Rattle.std.specs.Prelude.{◌≡◌, ◌≢◌, ◌<◌, ◌≤◌, ℕ, suc, ◌+◌, ℤ, List, Option, length}
-use Rattle.dn_tic.specs.declared.command.Move.{Move}
-use Rattle.dn_tic.specs.declared.input.Input.{Input}
+use Rattle.dn_tic.specs.{declared.command.Move.Move, declared.input.Input.Input}
 use Rattle.dn_setup.specs.Settings.{Settings}
-use Rattle.dn_machine.specs.declared.answers.Made.{Made}
-use Rattle.dn_machine.specs.declared.answers.Phase.TheVariants.{Playing}
-use Rattle.dn_machine.specs.declared.answers.Ran.{Ran}
-use Rattle.dn_machine.specs.Limits.{Limits}
-use Rattle.dn_machine.specs.Running.{on_run}
-use Rattle.dn_lockstep.specs.Told.{Builds}
-use Rattle.dn_lockstep.specs.Marking.{Marking}
-use Rattle.dn_lockstep.specs.Steps.{RunsBy}
-use Rattle.dn_lockstep.specs.OneGame.{Session}
-use Rattle.dn_lockstep.specs.Told.{made}
+use Rattle.dn_machine.specs.{declared.answers.Made.Made, declared.answers.Phase.TheVariants.Playing, declared.answers.Ran.Ran, Limits.Limits, Running.on_run}
+use Rattle.dn_lockstep.specs.{Told.Builds, Told.made, Marking.Marking, Steps.RunsBy, OneGame.Session}
 use Rattle.dn_seal.specs.declared.seal.Seal.{Seal}
-use Rattle.dn_link.specs.declared.received.Received.{Received}
-use Rattle.dn_link.specs.LinkedGame.{IsGenuineDatagram, AreLinked}
-use Rattle.dn_link.specs.CaughtUp.{AreCaughtUp, HasGrown, IsInStepTo, next_to}
-use Rattle.dn_link.specs.Linked.{Gives, Linked, Receives}
-use Rattle.dn_link.specs.Pacing.{PaceState}
-use Rattle.dn_link.specs.Text.{parts_bytes}
+use Rattle.dn_link.specs.{declared.received.Received.Received, LinkedGame.IsGenuineDatagram, LinkedGame.AreLinked, CaughtUp.AreCaughtUp, CaughtUp.HasGrown}
+use Rattle.dn_link.specs.{CaughtUp.IsInStepTo, CaughtUp.next_to, Linked.Gives, Linked.Linked, Linked.Receives, Pacing.PaceState, Text.parts_bytes}
 
 -- the links of a game from one moment to another, in which all players play. From each moment to the next they
 -- grow, as they do by any calls on them (`links_stay_caught_up`)

@@ -1,21 +1,13 @@
 -- What becomes of a link that gives up a player: of its peers, of its runs, and of what it hands on.
 use Rattle.std.specs.Prelude.{◌≡◌, ℕ, ◌&&◌, Bool, true, false, not, Option, Some, None, ℤ, List, ◌≢◌, ◌≤◌, ◌||◌, ◌++◌, [], All, length, map, slice_index}
 use Rattle.dn_tic.specs.declared.command.Move.{Move}
-use Rattle.dn_machine.specs.declared.answers.Ran.{Ran}
-use Rattle.dn_machine.specs.Running.{on_run_but}
+use Rattle.dn_machine.specs.{declared.answers.Ran.Ran, Running.on_run_but}
 use Rattle.dn_lockstep.specs.Steps.{RunsBy}
-use Rattle.dn_survivor.specs.declared.report.Report.{Report}
-use Rattle.dn_survivor.specs.OfOthers.{has, newest_of}
-use Rattle.dn_survivor.specs.Calls.{GivesUp}
-use Rattle.dn_survivor.specs.Surviving.{Surviving}
-use Rattle.dn_survivor.specs.declared.answers.GivenUp.{GivenUp}
+use Rattle.dn_survivor.specs.{declared.report.Report.Report, OfOthers.has, OfOthers.newest_of, Calls.GivesUp, Surviving.Surviving, declared.answers.GivenUp.GivenUp}
 use Rattle.dn_survivor.specs.Telling.{MayRelay}
-use Rattle.dn_link.specs.Linked.{Linked, has_given_up, surviving_of}
-use Rattle.dn_link.specs.declared.bundle.Part.{Part}
-use Rattle.dn_link.specs.declared.bundle.Part.TheVariants.{Relay}
-use Rattle.dn_link.specs.declared.bundle.Relay as relay
 use Rattle.dn_link.specs.Relays.{AreHandedOn, AreLacked, Handed, IsHandedOn, handed_part}
-use Rattle.dn_link.specs.Text.{IsRun}
+use Rattle.dn_link.specs.{Linked.Linked, Linked.has_given_up, Linked.surviving_of, declared.bundle.Part.Part, declared.bundle.Part.TheVariants.Relay, Text.IsRun}
+use Rattle.dn_link.specs.declared.bundle.Relay as relay
 
 -- a run of a link, in which no mark is compared of players who are given up
 abbrev pub RunsBut : List ℤ → Linked → Linked → (Ran → Option (List (Option Move)) → Type 0) → Type 0

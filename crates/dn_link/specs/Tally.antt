@@ -1,6 +1,5 @@
 -- What came over a line, in numbers for the screen.
-use Rattle.std.specs.Prelude.{ℕ, ◌+◌, ◌-◌, ◌*◌, ◌/◌, ◌%◌, ◌^◌, ◌==◌, if◌then◌else◌, nat_lt, nat_le, min, Bool, Option, None, Some}
-use Rattle.std.specs.Prelude.{bit_and, bit_or}
+use Rattle.std.specs.Prelude.{ℕ, ◌+◌, ◌-◌, ◌*◌, ◌/◌, ◌%◌, ◌^◌, ◌==◌, if◌then◌else◌, nat_lt, nat_le, min, Bool, Option, None, Some, bit_and, bit_or}
 
 -- how many datagrams came; how many numbers before the newest did not; how many came twice, or too late to
 -- tell; and which of the last sixty-four numbers came, the newest in the lowest bit

@@ -1,18 +1,12 @@
 -- The datagram of a bundle.
 use Rattle.std.specs.Prelude.{ℕ, ◌+◌, ◌<◌, ◌≡◌, ◌≤◌, ◌^◌, ◌*◌, ◌/◌, List, [], ◌∷◌, ◌++◌, length, All, IfSome, FitsSigned}
-use Rattle.std.specs.List.{flat_map}
 use Rattle.std.specs.Int.{w8, w16, w32, cast_unsigned, to_le_bytes}
-use Rattle.dn_seal.specs.declared.seal.Seal.{Seal}
-use Rattle.dn_seal.specs.Envelope.{ask_bytes}
-use Rattle.dn_seal.specs.Hmac.{tag_of}
-use Rattle.dn_seal.specs.Sealing.{front_bytes}
-use Rattle.dn_link.specs.declared.bundle.Carried.{Carried}
-use Rattle.dn_link.specs.declared.bundle.Counts.{Counts}
-use Rattle.dn_link.specs.declared.bundle.Part.{Part}
-use Rattle.dn_link.specs.declared.bundle.Part.TheVariants.{Whole, Run, Relay}
+use Rattle.std.specs.List.{flat_map}
+use Rattle.dn_seal.specs.{declared.seal.Seal.Seal, Envelope.ask_bytes, Hmac.tag_of, Sealing.front_bytes}
+use Rattle.dn_link.specs.{declared.bundle.Carried.Carried, declared.bundle.Counts.Counts, declared.bundle.Part.Part, declared.bundle.Part.TheVariants.Whole}
+use Rattle.dn_link.specs.{declared.bundle.Part.TheVariants.Run, declared.bundle.Part.TheVariants.Relay, declared.bundle.Bundle.Bundle}
 use Rattle.dn_link.specs.declared.bundle.Relay as relay
 use Rattle.dn_link.specs.declared.bundle.Run as run
-use Rattle.dn_link.specs.declared.bundle.Bundle.{Bundle}
 
 -- how many commands the sender made, how many tics it ran, and what it has of each of four players
 abbrev pub counts_bytes : Counts → List ℕ

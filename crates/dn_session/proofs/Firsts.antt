@@ -1,10 +1,8 @@
 -- The first of four players of which something is so.
 use Rattle.std.proofs.Common.{◌≡◌, ◌<◌, ℕ, suc, zero, List, [], ◌∷◌, length, get_or, refl, subst, arith, Option, Some, None, inl, inr, Bool, true, false}
+use Rattle.std.proofs.{lemmas.Bool.cases_lt, lemmas.Bool.le-ltb, lemmas.Bool.lt-ltb, lemmas.List.Sums.passes_at_first, lemmas.Option.none-some, lemmas.Option.same_Some}
 use Rattle.std.specs.Prelude.{position}
 use Rattle.std.specs.List.{position_or_len}
-use Rattle.std.proofs.lemmas.Bool.{cases_lt, le-ltb, lt-ltb}
-use Rattle.std.proofs.lemmas.List.Sums.{passes_at_first}
-use Rattle.std.proofs.lemmas.Option.{none-some, same_Some}
 use Rattle.dn_session.specs.Players.{four}
 
 its_place : (n : ℕ) → n < 4 → get_or four n 0 ≡ n

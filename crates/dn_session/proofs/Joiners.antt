@@ -1,12 +1,11 @@
 -- What a joiner is told of a seat can be read, and is its own.
 use Rattle.std.proofs.Common.{◌≡◌, ℕ, List, subst, sym, refl, Option, Some, None, Result, Ok, Err, Bool, true, false, inl, inr}
-use Rattle.std.specs.Prelude.{◌&&◌, if◌then◌else◌, not}
 use Rattle.std.proofs.lemmas.Bool.{and_parts, cases_Bool}
-use Rattle.dn_session.specs.{Joining.HearsHost, Joining.Joining, Joining.calling_again, Joining.calls_if_due, Joining.calls_on, Joining.given_up_by, Joining.has_passed, Joining.is_answer}
-use Rattle.dn_session.specs.{Joining.is_due, Joining.is_own, Joining.is_sure, Joining.is_unanswered, Joining.on_hinted, Joining.on_refused, Joining.on_reply, Joining.on_seating, Joining.on_time}
-use Rattle.dn_session.specs.{Reading.IsSeatingIn, Roster.IsJoining, Text.IsSeating, declared.greeting.GreetingFault.GreetingFault, declared.greeting.Hint.Hint, declared.greeting.Hinted.Hinted}
-use Rattle.dn_session.specs.{declared.greeting.Refused.Refused, declared.greeting.Seating.Seating}
+use Rattle.std.specs.Prelude.{◌&&◌, if◌then◌else◌, not}
 use Rattle.std.specs.Str.{bytes_eq}
+use Rattle.dn_session.specs.Joining.{HearsHost, Joining, calling_again, calls_if_due, calls_on, given_up_by, has_passed, is_answer, is_due, is_own, is_sure, is_unanswered, on_hinted, on_refused, on_reply, on_seating, on_time}
+use Rattle.dn_session.specs.{Reading.IsSeatingIn, Roster.IsJoining, Text.IsSeating, declared.greeting.GreetingFault.GreetingFault, declared.greeting.Hint.Hint}
+use Rattle.dn_session.specs.{declared.greeting.Hinted.Hinted, declared.greeting.Refused.Refused, declared.greeting.Seating.Seating}
 
 by_test : (test : Bool) (one two : Joining) → (test ≡ true → IsJoining one) → IsJoining two
     → IsJoining (if test then one else two)

@@ -1,22 +1,18 @@
 -- What a call can make of a lobby: four cases, and what follows from them.
 use Rattle.std.proofs.Common.{◌≡◌, ◌≤◌, ◌<◌, ◌+◌, ◌-◌, ℕ, zero, suc, List, [], ◌∷◌, ◌++◌, length, take, get_or, set, refl, ap, sym, subst, ◌∙◌, arith, Option, Some, None, inl, inr, Bool, true, false}
-use Rattle.std.specs.Prelude.{All, IfSome, map, position, slice_index_or, if◌then◌else◌, ◌||◌, nat_lt, nat_le}
-use Rattle.std.specs.Int.{w32, to_le_bytes}
-use Rattle.std.specs.List.{position_or_len}
 use Rattle.std.proofs.lemmas.Bool.{and_from, and_parts, both_ways, cases_Bool, cases_eq, cases_lt, le-leb, le-ltb, leb-true, lt-ltb}
 use Rattle.std.proofs.lemmas.List.{get_or-set_other, get_or-set_same, length-append, length-map, length-set, length-take, length-take-le}
-use Rattle.std.proofs.Math.ListN.{get_or-eq_default}
-use Rattle.std.proofs.lemmas.List.Elements.{All-cons, All-nil}
-use Rattle.std.proofs.lemmas.List.Sums.{fails_before_first, passes_at_first}
-use Rattle.std.proofs.lemmas.Option.{none-some, same_Some}
+use Rattle.std.proofs.{Math.ListN.get_or-eq_default, lemmas.List.Elements.All-cons, lemmas.List.Elements.All-nil, lemmas.List.Sums.fails_before_first}
+use Rattle.std.proofs.{lemmas.List.Sums.passes_at_first, lemmas.Option.none-some, lemmas.Option.same_Some}
+use Rattle.std.specs.Prelude.{All, IfSome, map, position, slice_index_or, if◌then◌else◌, ◌||◌, nat_lt, nat_le}
+use Rattle.std.specs.{Int.w32, Int.to_le_bytes, List.position_or_len}
 use Rattle.dn_seal.specs.Hmac.{hmac}
 use Rattle.dn_seal.proofs.Envelopes.{length-tag}
-use Rattle.dn_session.specs.{Cookies.cookie_of, Cookies.is_good, Cookies.is_recent, Cookies.time_of, Hosting.IsLobby, Hosting.IsReadReply, Hosting.IsSeat, Hosting.Lobby, Hosting.bar}
-use Rattle.dn_session.specs.{Hosting.filled_by, Hosting.in_game, Hosting.in_lobby, Hosting.kicked, Hosting.kicked_from, Hosting.on_newcomer, Hosting.on_opened, Hosting.on_player, Hosting.refused}
-use Rattle.dn_session.specs.{Hosting.seated, Hosting.seating, Hosting.seating_to, Hosting.unless_barred, Hosting.with_seat, Seats.first_of, Seats.held_again, Seats.is_free, Seats.is_here, Seats.is_of}
-use Rattle.dn_session.specs.{Seats.is_silent, Seats.seat_for, Seats.seat_of, Seats.shown_at, Seats.taken_again, Seats.taken_by, Text.IsCall, Text.IsHolder, Text.IsSeating, Text.is_wish}
-use Rattle.dn_session.specs.{declared.greeting.Address.Address, declared.greeting.Call.Call, declared.greeting.Refusal.Refusal, declared.greeting.Shown.Shown, declared.seats.Held.Held}
-use Rattle.dn_session.specs.declared.seats.Seat.{Seat}
+use Rattle.dn_session.specs.Hosting.{IsLobby, IsReadReply, IsSeat, Lobby, bar, filled_by, in_game, in_lobby, kicked, kicked_from, on_newcomer, on_opened, on_player, refused, seated, seating, seating_to, unless_barred, with_seat}
+use Rattle.dn_session.specs.Seats.{first_of, held_again, is_free, is_here, is_of, is_silent, seat_for, seat_of, shown_at, taken_again, taken_by}
+use Rattle.dn_session.specs.{Cookies.cookie_of, Cookies.is_good, Cookies.is_recent, Cookies.time_of, Text.IsCall, Text.IsHolder, Text.IsSeating, Text.is_wish}
+use Rattle.dn_session.specs.{declared.greeting.Address.Address, declared.greeting.Call.Call, declared.greeting.Refusal.Refusal, declared.greeting.Shown.Shown}
+use Rattle.dn_session.specs.{declared.seats.Held.Held, declared.seats.Seat.Seat}
 use Rattle.dn_session.specs.declared.greeting.Refusal.TheVariants as refusal
 use Rattle.dn_session.specs.declared.seats.Seat.TheVariants as seat
 

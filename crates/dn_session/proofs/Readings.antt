@@ -1,20 +1,15 @@
 -- Bytes are read as one greeting of a sort, and what a reader returns is that one.
 use Rattle.std.proofs.Common.{◌≡◌, ◌≢◌, ◌≤◌, ◌+◌, ◌-◌, ℕ, List, [], ◌∷◌, ◌++◌, length, take, drop, refl, ap, sym, subst, ◌∙◌, arith, Option, Some, None, Result, Ok, Err, inl, inr, Bool, true, false}
-use Rattle.std.specs.Prelude.{MatchOption, slice_index, ◌==◌, not, nat_lt, if◌then◌else◌}
-use Rattle.std.specs.Option.{ok_or}
-use Rattle.std.specs.Str.{bytes_eq}
 use Rattle.std.proofs.lemmas.Bool.{cases_lt, eq-eqb, eqb-true, le-ltb, leb-true, lt-ltb, ltb-false}
-use Rattle.std.proofs.lemmas.List.{take-append-drop, take-take, drop-take, length-append}
-use Rattle.std.proofs.lemmas.Option.{same_Some, none-some}
-use Rattle.std.proofs.lemmas.Slice.Eq.{bytes_eq-Decides}
-use Rattle.std.proofs.Math.Seq.{take-append_seam, drop-append_seam}
+use Rattle.std.proofs.{lemmas.List.take-append-drop, lemmas.List.take-take, lemmas.List.drop-take, lemmas.List.length-append, lemmas.Option.same_Some}
+use Rattle.std.proofs.{lemmas.Option.none-some, lemmas.Slice.Eq.bytes_eq-Decides, Math.Seq.take-append_seam, Math.Seq.drop-append_seam}
+use Rattle.std.specs.Prelude.{MatchOption, slice_index, ◌==◌, not, nat_lt, if◌then◌else◌}
+use Rattle.std.specs.{Option.ok_or, Str.bytes_eq}
 use Rattle.dn_seal.specs.{Hmac.suite_byte, Hmac.tag_of, Opening.told_body, Opening.told_tag, declared.seal.Seal.Seal}
 use Rattle.dn_seal.proofs.Envelopes.{length-tag}
-use Rattle.dn_session.specs.{Hosting.hint_for, Reading.IsCallIn, Reading.IsReadAs, Reading.first_fault, Sorts.Sort, Text.body_bytes, Text.greeting_bytes, Text.head_bytes, Text.kind_bytes}
-use Rattle.dn_session.specs.{declared.greeting.GreetingFault.GreetingFault, declared.greeting.GreetingFault.TheVariants.Form, declared.greeting.GreetingFault.TheVariants.Kind}
-use Rattle.dn_session.specs.{declared.greeting.GreetingFault.TheVariants.Length, declared.greeting.GreetingFault.TheVariants.Short, declared.greeting.GreetingFault.TheVariants.Suite}
-use Rattle.dn_session.specs.{declared.greeting.GreetingFault.TheVariants.Tag, declared.greeting.GreetingFault.TheVariants.Version, declared.greeting.GreetingFault.TheVariants.What}
-use Rattle.dn_session.specs.declared.greeting.Hint.{Hint}
+use Rattle.dn_session.specs.declared.greeting.GreetingFault.TheVariants.{Form, Kind, Length, Short, Suite, Tag, Version, What}
+use Rattle.dn_session.specs.{Hosting.hint_for, Reading.IsCallIn, Reading.IsReadAs, Reading.first_fault, Sorts.Sort, Text.body_bytes, Text.greeting_bytes, Text.head_bytes}
+use Rattle.dn_session.specs.{Text.kind_bytes, declared.greeting.GreetingFault.GreetingFault, declared.greeting.Hint.Hint}
 
 -- what bytes without a fault have
 pub record Passes (seal : Seal) (what size : ℕ) (bytes : List ℕ) : Type 0 where

@@ -1,8 +1,7 @@
 -- What a part of a game sends.
 use Rattle.std.proofs.Common.{◌≡◌, ℕ, Option, Some, None, Bool, true, false, sym}
+use Rattle.std.proofs.{lemmas.Bool.and_parts, lemmas.Option.none-some, lemmas.Option.same_Some}
 use Rattle.std.specs.Prelude.{if◌then◌else◌, is_none, is_some, slice_index_or}
-use Rattle.std.proofs.lemmas.Bool.{and_parts}
-use Rattle.std.proofs.lemmas.Option.{none-some, same_Some}
 use Rattle.dn_link.specs.{Linked.remains, Linking.linked}
 use Rattle.dn_session.specs.{Playing.Playing, Playing.ended_as, Sent.address_of, Sent.first_owed, Sent.is_owed}
 use Rattle.dn_session.proofs.Firsts.{first_passes}

@@ -1,5 +1,4 @@
-use Rattle.dn_host.specs.Outcomes.{IsJoined, IsPlayed}
-use Rattle.dn_host.specs.Turns.{scene_of}
+use Rattle.dn_host.specs.{Outcomes.IsJoined, Outcomes.IsPlayed, Turns.scene_of}
 use Rattle.dn_host.proofs.Turned.{mapped, played_of, refused}
 use Rattle.dn_host.proofs.guest.join_game.Goals as goal
 

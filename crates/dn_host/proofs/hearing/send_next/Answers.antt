@@ -1,8 +1,6 @@
 use Rattle.std.proofs.Common.{refl, subst}
 use Rattle.std.specs.Prelude.{List, ℕ, Option, option_map}
-use Rattle.dn_session.specs.declared.part.sending.Transmit.{Transmit}
-use Rattle.dn_session.specs.Sent.{sent_of}
-use Rattle.dn_session.specs.Session.{meeting, Sends}
+use Rattle.dn_session.specs.{declared.part.sending.Transmit.Transmit, Sent.sent_of, Session.meeting, Session.Sends}
 use Rattle.dn_host.proofs.hearing.send_next.Goals as goal
 
 pub returns-in-Some-clause-sends : goal.returns-in-Some-clause-sends

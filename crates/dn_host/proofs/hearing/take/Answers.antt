@@ -1,8 +1,7 @@
 use Rattle.std.proofs.Common.{◌≡◌, Bool, true, false, refl, sym, subst}
 use Rattle.std.specs.Prelude.{◌&&◌, ◌==◌, not}
 use Rattle.dn_link.specs.Hearing.{ByTest}
-use Rattle.dn_session.specs.Reading.{is_greeting}
-use Rattle.dn_session.specs.Session.{meeting}
+use Rattle.dn_session.specs.{Reading.is_greeting, Session.meeting}
 use Rattle.dn_host.proofs.hearing.take.Goals as goal
 
 -- what is not taken is one too many

@@ -1,15 +1,9 @@
 use Rattle.std.proofs.Common.{◌≡◌, ℕ, List, true, false, Option, Ok, ap, subst, ◌∙◌}
 use Rattle.std.specs.Prelude.{is_some, replicate}
-use Rattle.dn_session.specs.declared.greeting.Address.{Address}
-use Rattle.dn_session.specs.declared.session.Session.{Session}
-use Rattle.dn_session.specs.declared.terms.Terms.{Terms}
-use Rattle.dn_session.specs.Session.{meeting, IsHostSession, Meeting}
-use Rattle.dn_host.specs.declared.ends.Outcome.{Outcome}
-use Rattle.dn_host.specs.declared.turns.Turns.{Turns}
-use Rattle.dn_host.specs.Outcomes.{is_refusal, IsHosted, IsPlayed}
-use Rattle.dn_host.specs.Turns.{scene_of}
-use Rattle.dn_host.proofs.Hosts.{host_is_seated, is_host, seated_has_link, turns_host}
-use Rattle.dn_host.proofs.Turned.{mapped, played_of, refused}
+use Rattle.dn_session.specs.{declared.greeting.Address.Address, declared.session.Session.Session, declared.terms.Terms.Terms, Session.meeting, Session.IsHostSession}
+use Rattle.dn_session.specs.Session.{Meeting}
+use Rattle.dn_host.specs.{declared.ends.Outcome.Outcome, declared.turns.Turns.Turns, Outcomes.is_refusal, Outcomes.IsHosted, Outcomes.IsPlayed, Turns.scene_of}
+use Rattle.dn_host.proofs.{Hosts.host_is_seated, Hosts.is_host, Hosts.seated_has_link, Hosts.turns_host, Turned.mapped, Turned.played_of, Turned.refused}
 use Rattle.dn_host.proofs.host.host_game.Goals as goal
 
 pub returns-clause-played : goal.returns-clause-played

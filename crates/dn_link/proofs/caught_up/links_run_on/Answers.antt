@@ -1,34 +1,24 @@
 -- How many tics are run in rounds, over plain numbers.
 use Rattle.std.proofs.Common.{◌≡◌, ◌<◌, ◌≤◌, ◌+◌, ◌-◌, ◌*◌, ℕ, zero, suc, subst, arith, inl, inr, ℤ, ◌≢◌, ◌++◌, [], ◌∷◌, Bool, true, false, List, length, refl, ap, sym, ◌∙◌, Option, Some, None}
-use Rattle.std.specs.Prelude.{min, if◌then◌else◌, ◌==◌, nat_le, not, unwrap_or}
 use Rattle.std.proofs.lemmas.Bool.{cases_lt, and_parts, and_right, cases_eq, cond_both, leb-true}
-use Rattle.std.proofs.Math.Nat.{mul-zero, mul-suc}
+use Rattle.std.proofs.{Math.Nat.mul-zero, Math.Nat.mul-suc, lemmas.List.length-append, lemmas.Option.none-some, lemmas.Option.same_Some}
+use Rattle.std.specs.Prelude.{min, if◌then◌else◌, ◌==◌, nat_le, not, unwrap_or}
 use Rattle.std.specs.Option.{option_or}
-use Rattle.std.proofs.lemmas.List.{length-append}
-use Rattle.std.proofs.lemmas.Option.{none-some, same_Some}
 use Rattle.dn_tic.specs.{declared.command.TicCmd.TicCmd, declared.input.Input.Input}
 use Rattle.dn_setup.specs.Settings.{Settings}
-use Rattle.dn_machine.specs.declared.answers.Phase.{Phase}
-use Rattle.dn_machine.specs.declared.answers.Phase.TheVariants.{Playing}
-use Rattle.dn_machine.specs.declared.answers.Ran.{Ran}
-use Rattle.dn_machine.specs.Sending.{on_build}
-use Rattle.dn_machine.specs.Limits.{Limits}
+use Rattle.dn_machine.specs.Running.{first_off_but, is_absent, is_awaited, nobody, on_run, on_run_but_in, on_run_playing, full_at, row_held}
+use Rattle.dn_machine.specs.{declared.answers.Phase.Phase, declared.answers.Phase.TheVariants.Playing, declared.answers.Ran.Ran, Sending.on_build, Limits.Limits}
 use Rattle.dn_machine.specs.Node.{is_ended, lowest, put}
-use Rattle.dn_machine.specs.{Running.first_off_but, Running.is_absent, Running.is_awaited, Running.nobody, Running.on_run, Running.on_run_but_in, Running.on_run_playing, Running.full_at, Running.row_held}
 use Rattle.dn_machine.proofs.{Calls.build_cases, Put.put_at, Put.put_off}
-use Rattle.dn_lockstep.specs.Agreed.{AreAgreed}
-use Rattle.dn_lockstep.specs.Contents.{Contents, end_in}
-use Rattle.dn_lockstep.specs.Marking.{Marking}
-use Rattle.dn_lockstep.specs.Represents.{Represents}
-use Rattle.dn_lockstep.specs.Steps.{marks_in}
-use Rattle.dn_lockstep.specs.OneGame.{Session}
-use Rattle.dn_lockstep.specs.Told.{got, made}
+use Rattle.dn_lockstep.specs.{Agreed.AreAgreed, Contents.Contents, Contents.end_in, Marking.Marking, Represents.Represents, Steps.marks_in, OneGame.Session, Told.got}
+use Rattle.dn_lockstep.specs.Told.{made}
 use Rattle.dn_lockstep.proofs.Shown.{has}
 use Rattle.dn_seal.specs.declared.seal.Seal.{Seal}
 use Rattle.dn_open.specs.Sealed.{sealing_of}
-use Rattle.dn_link.specs.{declared.bundle.Bundle.Bundle, declared.received.Received.Received, LinkedGame.IsGenuineDatagram, Counting.has_ended}
-use Rattle.dn_link.specs.{Linked.Linked, Linked.Receives, LinkedGame.AreLinked, Packets.own_in, Reading.IsDatagramOf, CaughtUp.AreCaughtUp, CaughtUp.Brings, CaughtUp.HasGrown}
-use Rattle.dn_link.specs.{CaughtUp.IsInStepTo, CaughtUp.last_end, Rounds.AreRounds, Rounds.Arrives, Rounds.AreFairLines, Rounds.MakesAt, Rounds.Stretch, Rounds.WaitsAt}
+use Rattle.dn_link.specs.CaughtUp.{AreCaughtUp, Brings, HasGrown, IsInStepTo, last_end}
+use Rattle.dn_link.specs.Rounds.{AreRounds, Arrives, AreFairLines, MakesAt, Stretch, WaitsAt}
+use Rattle.dn_link.specs.{declared.bundle.Bundle.Bundle, declared.received.Received.Received, LinkedGame.IsGenuineDatagram, LinkedGame.AreLinked, Counting.has_ended}
+use Rattle.dn_link.specs.{Linked.Linked, Linked.Receives, Packets.own_in, Reading.IsDatagramOf}
 use Rattle.dn_link.proofs.{Bringing.brings, Bringing.brings_on, Leaving.unended}
 use Rattle.dn_machine.specs.Node as machine
 use Rattle.dn_link.proofs.Linking as base

@@ -1,29 +1,27 @@
 -- Packets with the same exact numbers and bytes: where a lockstep sends one, they are those of every node that
 -- it represents.
 use Rattle.std.proofs.Common.{◌≡◌, ℕ, Bool, true, false, List, length, refl, ap, sym, ◌∙◌, Option, Some, None, ◌<◌, [], ◌∷◌, append-nil, arith, subst, inl, inr, ◌-◌}
+use Rattle.std.proofs.{lemmas.Bool.cond_both, lemmas.Bool.and_parts, lemmas.Bool.not-true, lemmas.Option.none-some, lemmas.Option.same_Some}
 use Rattle.std.specs.Prelude.{IfSome, if◌then◌else◌, nat_lt}
 use Rattle.std.specs.Option.{option_map}
-use Rattle.std.proofs.lemmas.Bool.{cond_both, and_parts, not-true}
-use Rattle.std.proofs.lemmas.Option.{none-some, same_Some}
 use Rattle.dn_setup.specs.Settings.{Settings}
 use Rattle.dn_packet.specs.declared.packet.Packet.{Packet}
 use Rattle.dn_packet.proofs.Texts.{same_packet}
-use Rattle.dn_machine.specs.{Flight.Play, Flight.Exit, Flight.Flight, Flight.packet_of, Limits.Limits, Sending.commands_flight, Sending.last_sent, Sending.set_up_flight, Node.put}
+use Rattle.dn_machine.specs.{Flight.Play, Flight.Exit, Flight.Flight, Flight.packet_of, Limits.Limits, Sending.commands_flight, Sending.last_sent, Sending.set_up_flight}
+use Rattle.dn_machine.specs.Node.{put}
 use Rattle.dn_machine.proofs.{Calls.send_cases, Put.put_at}
-use Rattle.dn_lockstep.specs.declared.lockstep.aiming.Aim.{Aim}
-use Rattle.dn_lockstep.specs.Sent.{IsFair, aim_of, bytes_of, sent_to}
-use Rattle.dn_lockstep.specs.Marking.{Marking}
-use Rattle.dn_lockstep.specs.Represents.{Represents}
-use Rattle.dn_lockstep.specs.Steps.{Steps, Tells}
-use Rattle.dn_lockstep.specs.OneGame.{given_on}
-use Rattle.dn_lockstep.specs.Told.{command_told}
-use Rattle.dn_link.specs.{declared.bundle.Carried.Carried, Hearing.carried_of, Relays.Handed, Relays.flights_of, Hearing.SendsCarried, Pacing.PaceState}
-use Rattle.dn_link.specs.{RemainingLinks.AreRemainingLinks, RemainingLinks.KeepsGiven, RemainingLinks.WasSealedIn, RemainingLinks.WasTold, RemainingLinks.after_datagram, Linked.Gives, Linked.Linked, Linked.is_peer, Linked.remains, Linked.report_beside, Linked.surviving_of}
-use Rattle.dn_link.specs.Text.{parts_bytes}
+use Rattle.dn_lockstep.specs.{declared.lockstep.aiming.Aim.Aim, Sent.IsFair, Sent.aim_of, Sent.bytes_of, Sent.sent_to, Marking.Marking, Represents.Represents}
+use Rattle.dn_lockstep.specs.{Steps.Steps, Steps.Tells, OneGame.given_on, Told.command_told}
+use Rattle.dn_link.specs.RemainingLinks.{AreRemainingLinks, KeepsGiven, WasSealedIn, WasTold, after_datagram}
+use Rattle.dn_link.specs.Linked.{Gives, Linked, is_peer, remains, report_beside, surviving_of}
+use Rattle.dn_link.specs.{declared.bundle.Carried.Carried, Hearing.carried_of, Hearing.SendsCarried, Relays.Handed, Relays.flights_of, Pacing.PaceState, Text.parts_bytes}
 use Rattle.dn_lockstep.proofs.OneGame.{GoesBetween}
-use Rattle.dn_survivor.specs.{OneGame.AreRemaining, OneGame.Session, OneGame.after_packet, OneGame.after_relays, OneGame.after_report, OneGame.reports_on, Telling.MayRelay, Telling.report_for, declared.others.Others.Others, declared.report.Report.Report, Surviving.Surviving, Surviving.has_given_up}
-use Rattle.dn_link.proofs.{Handing.gives_all, Linking.goes_given, Linking.stays_kept, Relinking.found_later, Relinking.found_on, RemainingCalls.built, RemainingCalls.gives_up}
-use Rattle.dn_link.proofs.{RemainingCalls.quits, RemainingCalls.reports_stay, RemainingCalls.runs, RemainingCalls.same_link, RemainingCalls.told, RemainingReceives.received, Reporting.fits_or_not, Reporting.told_last, Reporting.written_is}
+use Rattle.dn_survivor.specs.OneGame.{AreRemaining, Session, after_packet, after_relays, after_report, reports_on}
+use Rattle.dn_survivor.specs.{Telling.MayRelay, Telling.report_for, declared.others.Others.Others, declared.report.Report.Report, Surviving.Surviving}
+use Rattle.dn_survivor.specs.Surviving.{has_given_up}
+use Rattle.dn_link.proofs.RemainingCalls.{built, gives_up, quits, reports_stay, runs, same_link, told}
+use Rattle.dn_link.proofs.{Handing.gives_all, Linking.goes_given, Linking.stays_kept, Relinking.found_later, Relinking.found_on, RemainingReceives.received}
+use Rattle.dn_link.proofs.Reporting.{fits_or_not, told_last, written_is}
 use Rattle.dn_seal.specs.declared.seal.Seal.{Seal}
 use Rattle.dn_machine.specs.Node as machine
 use Rattle.dn_survivor.proofs.OneGame as one_game

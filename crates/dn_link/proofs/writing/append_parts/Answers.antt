@@ -1,5 +1,4 @@
-use Rattle.std.proofs.Common.{◌≡◌, ◌∷◌, rules, arith}
-use Rattle.std.proofs.lemmas.List.{length-append}
+use Rattle.std.proofs.{Common.◌≡◌, Common.◌∷◌, Common.rules, Common.arith, lemmas.List.length-append}
 use Rattle.dn_link.specs.Text.{parts_bytes}
 use Rattle.dn_link.proofs.Items.{part_fits, one_more, still_fit}
 use Rattle.dn_link.proofs.writing.append_parts.Goals as goal

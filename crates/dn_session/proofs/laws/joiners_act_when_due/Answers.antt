@@ -1,9 +1,8 @@
 use Rattle.std.proofs.Common.{◌≡◌, ℕ, List, refl, ap, sym, subst, ◌∙◌, Option, Some, None, inl, inr, Bool, true, false}
+use Rattle.std.proofs.{lemmas.Bool.and_parts, lemmas.Bool.both_ways, lemmas.Bool.cases_Bool, lemmas.Bool.or_cases, lemmas.Option.none-some}
 use Rattle.std.specs.Prelude.{◌&&◌, ◌||◌}
-use Rattle.std.proofs.lemmas.Bool.{and_parts, both_ways, cases_Bool, or_cases}
-use Rattle.std.proofs.lemmas.Option.{none-some}
-use Rattle.dn_session.specs.{Joining.Joining, Joining.calling_again, Joining.calls_if_due, Joining.calls_on, Joining.counts_on_host, Joining.given_up_by, Joining.has_passed, Joining.is_due}
-use Rattle.dn_session.specs.{Joining.is_hint_over, declared.greeting.Hint.Hint, declared.joiner.Stage.Stage}
+use Rattle.dn_session.specs.Joining.{Joining, calling_again, calls_if_due, calls_on, counts_on_host, given_up_by, has_passed, is_due, is_hint_over}
+use Rattle.dn_session.specs.{declared.greeting.Hint.Hint, declared.joiner.Stage.Stage}
 use Rattle.dn_session.specs.declared.joiner.Stage.TheVariants as stage
 use Rattle.dn_session.proofs.laws.joiners_act_when_due.Goals as goal
 

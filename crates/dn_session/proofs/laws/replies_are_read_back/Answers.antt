@@ -1,8 +1,7 @@
 use Rattle.std.proofs.Common.{◌≡◌, ◌≤◌, ℕ, List, length, drop, refl, ap, sym, subst, ◌∙◌, arith, Some, Ok, Err, Result, length-drop}
-use Rattle.std.proofs.lemmas.List.{length-take-le}
-use Rattle.std.proofs.lemmas.Option.{same_Some}
-use Rattle.dn_session.specs.{Hosting.IsLobby, Hosting.IsReadReply, Hosting.Lobby, Hosting.on_call, Hosting.on_opened, Reading.IsCallIn, Rests.calls, declared.greeting.Address.Address}
-use Rattle.dn_session.specs.{declared.greeting.Call.Call, declared.greeting.GreetingFault.GreetingFault}
+use Rattle.std.proofs.{lemmas.List.length-take-le, lemmas.Option.same_Some}
+use Rattle.dn_session.specs.Hosting.{IsLobby, IsReadReply, Lobby, on_call, on_opened}
+use Rattle.dn_session.specs.{Reading.IsCallIn, Rests.calls, declared.greeting.Address.Address, declared.greeting.Call.Call, declared.greeting.GreetingFault.GreetingFault}
 use Rattle.dn_session.proofs.{Lobbies.good_call, Readings.hint_is_long, Readings.only}
 use Rattle.dn_session.proofs.laws.replies_are_read_back.Goals as goal
 

@@ -1,11 +1,8 @@
 use Rattle.std.proofs.Common.{◌≡◌, ◌++◌, ◌-◌, ℕ, List, replicate, refl, ap, ◌∙◌, subst, append_assoc}
-use Rattle.std.specs.Prelude.{nat_lt, if◌then◌else◌}
 use Rattle.std.proofs.Math.Logic.{∥∥₁_map}
-use Rattle.dn_lockstep.specs.Contents.{contents}
-use Rattle.dn_lockstep.specs.Tables.{count_of}
-use Rattle.dn_measure.specs.Measure.{IsMeasureOf}
-use Rattle.dn_measure.specs.declared.measure.Told.{Told}
-use Rattle.dn_measure.specs.declared.measure.Told.TheVariants.{Built, Ran}
+use Rattle.std.specs.Prelude.{nat_lt, if◌then◌else◌}
+use Rattle.dn_lockstep.specs.{Contents.contents, Tables.count_of}
+use Rattle.dn_measure.specs.{Measure.IsMeasureOf, declared.measure.Told.Told, declared.measure.Told.TheVariants.Built, declared.measure.Told.TheVariants.Ran}
 use Rattle.dn_host.proofs.counts.Counts.note.Goals as goal
 
 pub invariant_of-self : goal.invariant_of-self

@@ -1,19 +1,14 @@
 -- What follows of a summary, whatever was told.
 use Rattle.std.proofs.Common.{◌≡◌, ◌≤◌, ◌<◌, ℕ, zero, suc, ◌+◌, max, Bool, true, false, cond, List, [], ◌∷◌, ◌++◌, length, fold, Option, Some, None, inl, inr, refl, sym, ap, ◌∙◌, subst, arith, length-append}
-use Rattle.std.specs.Prelude.{slice_index_or, sum}
-use Rattle.std.proofs.Props.{props}
-use Rattle.std.proofs.lemmas.Bool.{cases_lt, lt-ltb, le-ltb}
-use Rattle.std.proofs.lemmas.List.Recursion.{is_count_by}
-use Rattle.std.proofs.lemmas.List.Sums.{count_by-le-length}
+use Rattle.std.proofs.{Props.props, lemmas.Bool.cases_lt, lemmas.Bool.lt-ltb, lemmas.Bool.le-ltb, lemmas.List.Recursion.is_count_by, lemmas.List.Sums.count_by-le-length}
 use Rattle.std.proofs.Math.Logic.{∥∥₁_elim}
+use Rattle.std.specs.Prelude.{slice_index_or, sum}
 use mathlib.Core.HLevel.{⊥_prop, ×_prop}
-use Rattle.dn_link.specs.declared.tally.Figures.{Figures}
-use Rattle.dn_link.specs.Linked.{Linked}
-use Rattle.dn_link.specs.Pacing.{PaceState, pace_of}
-use Rattle.dn_link.specs.Linking.{linked}
-use Rattle.dn_measure.specs.{declared.arrivals.Arrivals.Arrivals, declared.felt.Felt.Felt, declared.felt.Felt.TheVariants.Never, declared.felt.Felt.TheVariants.Within, declared.felt.Felt.TheVariants.Longer, Histogram.IsFelt}
-use Rattle.dn_measure.specs.{Histogram.AreCountsOf, Histogram.IsPercentile, Measure.IsSummaryOf, Measure.samples_of, Measure.waits_of, Told.runs_of, declared.measure.Summary.Summary, declared.measure.Told.Told}
-use Rattle.dn_measure.specs.{Runs.as_count, Runs.gaps_in, Runs.is_gap, Runs.longest_of, Runs.times_between, Runs.times_in}
+use Rattle.dn_link.specs.{declared.tally.Figures.Figures, Linked.Linked, Pacing.PaceState, Pacing.pace_of, Linking.linked}
+use Rattle.dn_measure.specs.Runs.{as_count, gaps_in, is_gap, longest_of, times_between, times_in}
+use Rattle.dn_measure.specs.{declared.arrivals.Arrivals.Arrivals, declared.felt.Felt.Felt, declared.felt.Felt.TheVariants.Never, declared.felt.Felt.TheVariants.Within}
+use Rattle.dn_measure.specs.{declared.felt.Felt.TheVariants.Longer, Histogram.IsFelt, Histogram.AreCountsOf, Histogram.IsPercentile, Measure.IsSummaryOf}
+use Rattle.dn_measure.specs.{Measure.samples_of, Measure.waits_of, Told.runs_of, declared.measure.Summary.Summary, declared.measure.Told.Told}
 use Rattle.dn_host.specs.{Arrived.arrivals_by, Arrived.arrivals_in, Arrived.figures_by_link, Summaries.IsNoLater, Summaries.IsWithin}
 use Rattle.dn_host.proofs.counts.Counts.summary.Goals as goal
 

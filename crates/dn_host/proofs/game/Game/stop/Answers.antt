@@ -1,11 +1,8 @@
 use Rattle.std.proofs.Common.{◌≡◌, ℕ, Option, Some, None, option_map, refl, sym, ap, ◌∙◌, subst}
-use Rattle.dn_link.specs.declared.link.Link.{Link}
-use Rattle.dn_link.specs.Linking.{linked}
+use Rattle.dn_link.specs.{declared.link.Link.Link, Linking.linked}
 use Rattle.dn_measure.specs.declared.end.End.{End}
-use Rattle.dn_session.specs.declared.part.Part.{Part}
-use Rattle.dn_session.specs.Session.{link_in, meeting, QuitsPart}
-use Rattle.dn_host.specs.declared.game.Game.{Game}
-use Rattle.dn_host.specs.Leaving.{end_by, end_in, LeavesFor}
+use Rattle.dn_session.specs.{declared.part.Part.Part, Session.link_in, Session.meeting, Session.QuitsPart}
+use Rattle.dn_host.specs.{declared.game.Game.Game, Leaving.end_by, Leaving.end_in, Leaving.LeavesFor}
 use Rattle.dn_host.proofs.game.Game.stop.Goals as goal
 
 -- by what is lent

@@ -3,8 +3,7 @@ use Rattle.std.specs.Option.{option_map}
 use Rattle.dn_link.specs.declared.link.Link.{Link}
 use Rattle.dn_lockstep.specs.declared.config.NodeFault.{NodeFault}
 use Rattle.dn_session.specs.Session.{meeting, Begins}
-use Rattle.dn_host.specs.Playing.{millis}
-use Rattle.dn_host.specs.Turns.{StartsAs}
+use Rattle.dn_host.specs.{Playing.millis, Turns.StartsAs}
 use Rattle.dn_host.proofs.turns.Turns.begin.Goals as goal
 
 pub returns-in-Some-clause-starts : goal.returns-in-Some-clause-starts

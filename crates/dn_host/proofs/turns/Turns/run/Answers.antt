@@ -1,6 +1,5 @@
 use Rattle.std.proofs.Common.{refl, sym, subst, ◌∙◌}
-use Rattle.dn_host.specs.declared.plan.Plan.{Plan}
-use Rattle.dn_host.specs.Turns.{scene_of, IsTurn, TakesTurns}
+use Rattle.dn_host.specs.{declared.plan.Plan.Plan, Turns.scene_of, Turns.IsTurn, Turns.TakesTurns}
 use Rattle.dn_host.specs.Turns as turns
 use Rattle.dn_host.proofs.turns.Turns.run.Goals as goal
 

@@ -1,10 +1,8 @@
 use Rattle.std.proofs.Common.{ℕ, Option, Some, ap, sym, subst, ◌∙◌}
 use Rattle.std.specs.Option.{option_map}
 use Rattle.dn_link.specs.declared.link.Link.{Link}
-use Rattle.dn_session.specs.declared.side.Begun.{Begun}
-use Rattle.dn_session.specs.Session.{link_in}
-use Rattle.dn_host.specs.declared.game.Game.{Game}
-use Rattle.dn_host.specs.Outcomes.{IsMeasured, SumsUp}
+use Rattle.dn_session.specs.{declared.side.Begun.Begun, Session.link_in}
+use Rattle.dn_host.specs.{declared.game.Game.Game, Outcomes.IsMeasured, Outcomes.SumsUp}
 use Rattle.dn_host.proofs.turns.Turns.summary.Goals as goal
 
 pub returns : goal.returns

@@ -1,6 +1,5 @@
 use Rattle.std.proofs.Common.{ℕ, sym, subst}
-use Rattle.dn_session.specs.declared.session.Session.{Session}
-use Rattle.dn_session.specs.Session.{meeting, PassesTo}
+use Rattle.dn_session.specs.{declared.session.Session.Session, Session.meeting, Session.PassesTo}
 use Rattle.dn_host.specs.Turns.{SendsUpTo}
 use Rattle.dn_host.proofs.turns.Turns.turn.Goals as goal
 

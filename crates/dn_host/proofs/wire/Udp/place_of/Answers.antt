@@ -1,8 +1,6 @@
 use Rattle.std.proofs.Common.{◌≡◌, ◌++◌, ℕ, Bool, true, false, List, length, take, drop, replicate, ap, sym, refl, rules, ◌∙◌}
 use Rattle.std.specs.Prelude.{if◌then◌else◌}
-use Rattle.std.specs.Cmp.Lexicographic.{other_text}
-use Rattle.std.specs.Int.{to_be_bytes, w16}
-use Rattle.std.specs.Net.Socket.{socket_ip, socket_port}
+use Rattle.std.specs.{Cmp.Lexicographic.other_text, Int.to_be_bytes, Int.w16, Net.Socket.socket_ip, Net.Socket.socket_port}
 use Rattle.dn_session.specs.declared.greeting.Address.{Address}
 use Rattle.dn_host.specs.Addresses.{ip_bytes, mapped}
 use Rattle.dn_host.proofs.Sockets.{joined}

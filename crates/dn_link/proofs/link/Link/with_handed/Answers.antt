@@ -1,6 +1,5 @@
-use Rattle.std.proofs.Common.{rules, ◌<◌}
+use Rattle.std.proofs.{Common.rules, Common.◌<◌, lemmas.Bool.and_parts, lemmas.Bool.not-true, lemmas.Bool.eq-eqb, lemmas.Bool.both_ways}
 use Rattle.std.specs.Prelude.{nat_lt, not, ◌==◌}
-use Rattle.std.proofs.lemmas.Bool.{and_parts, not-true, eq-eqb, both_ways}
 use Rattle.dn_link.specs.Linking.{linked}
 use Rattle.dn_link.proofs.Handing.{at_most_two, joins, may_relay, none_behind, nothing_behind}
 use Rattle.dn_link.proofs.link.Link.with_handed.Goals as goal

@@ -1,6 +1,5 @@
 use Rattle.std.proofs.Common.{◌≡◌, ◌++◌, ◌∷◌, [], List, ℕ, ap, ◌∙◌, append_assoc}
-use Rattle.std.specs.List.{flat_map}
-use Rattle.std.specs.Int.{w32, to_le_bytes}
+use Rattle.std.specs.{List.flat_map, Int.w32, Int.to_le_bytes}
 use Rattle.dn_session.specs.{Terms.bit, Terms.terms_bytes, Text.shown_bytes}
 use Rattle.dn_session.proofs.sorts.SeatingGreeting.rest.Goals as goal
 
