@@ -204,6 +204,20 @@ abbrev pub exclusion_for : Seal → Linked → ℕ → Option (List ℕ)
 exclusion_for seal link to =
     if is_peer link.node to && has_given_up link to then Some (sealed_bytes seal (exclusion link to)) else None
 
+-- what goes to where a peer may be, before it is known to be there: how far the node is, and no packets
+abbrev pub probe : PaceState → Linked → ℕ → Bundle
+probe pace link to =
+    record (exclusion link to) {
+      number = (link.peers to).number;
+      lead = (pace.lines to).own_lead;
+      holes = missing (pace.lines to);
+      cause = told_cause link.node.phase;
+    }
+
+-- sealed; of one who remains
+abbrev pub probe_for : Seal → PaceState → Linked → ℕ → Option (List ℕ)
+probe_for seal pace link to = if remains link to then Some (sealed_bytes seal (probe pace link to)) else None
+
 -- the tic after a player's last command, where a node knows it
 abbrev pub end_known : Contents → ℕ → Option ℕ
 end_known node player = if nat_lt player node.players then end_in node player else None

@@ -49,6 +49,13 @@ impl Peer {
         }
     }
 
+    /// The number of the next datagram to it.
+    pub(crate) fn number(&self) -> u32
+        ensures { result ≡ (state_of self.now).number }
+    {
+        self.number
+    }
+
     /// The number of the datagram that goes to it now.
     fn next_number(&mut self) -> u32
         ensures number { result ≡ (state_of self.old).number }

@@ -1,10 +1,10 @@
 //! What a link tells of those who are given up: reports, beside the parts of its datagrams; and to one who is
-//! given up that it is.
+//! given up that it is. And datagrams without packets.
 
 use super::Link;
 use crate::bundle::{Bundle, Part};
 use crate::counting::counts_of;
-use crate::ends::EXCLUDES;
+use crate::ends::{EXCLUDES, told_cause};
 use crate::relaying::parts_len;
 use crate::writing::seal_bundle;
 use arrayvec::ArrayVec;
@@ -14,10 +14,10 @@ use dn_survivor::report::{MAX_REPORT, decode};
 const ROOM: usize = 1139;
 
 impl Link {
-    ghost use Rattle.std.specs.{Prelude.◌≡◌, Prelude.◌+◌, Prelude.◌≤◌, Prelude.IfSome, Prelude.Result, Prelude.length, Option.option_map};
+    ghost use Rattle.std.specs.{Prelude.◌≡◌, Prelude.◌+◌, Prelude.◌<◌, Prelude.◌≤◌, Prelude.IfSome, Prelude.Result, Prelude.length, Option.option_map};
     ghost use Rattle.dn_survivor.specs.ReportBytes.{IsReadAs, IsReport};
     ghost use Rattle.dn_survivor.specs.declared.report.{Report.Report, ReportFault.ReportFault};
-    ghost use Rattle.dn_link.specs.{Linked.TakesRead, Linked.exclusion, Linked.exclusion_for, Linked.report_beside, Linked.surviving_of, Linked.written, Linking.linked, Linking.seal_of};
+    ghost use Rattle.dn_link.specs.{Linked.TakesRead, Linked.exclusion, Linked.exclusion_for, Linked.probe, Linked.probe_for, Linked.report_beside, Linked.surviving_of, Linked.written, Linking.linked, Linking.seal_of};
     ghost use Rattle.dn_link.specs.{Pacing.pace_of, Text.IsBundle, Text.parts_bytes};
 
     /// The bytes of the report to a peer, if there is one, and room for it beside these parts.
@@ -80,5 +80,36 @@ impl Link {
             return None;
         }
         Some(seal_bundle(&self.sealer, &self.exclusion(to)))
+    }
+
+    /// The bundle that tells a peer how far this player is, and no more.
+    fn empty(&self, to: u8) -> Bundle
+        requires few { to < 4 }
+        ensures is { result ≡ probe (pace_of self.now) (linked self.now) to }
+        ensures from { result.from ≡ (linked self.now).node.me }
+        ensures cause { result.cause ≤ 4 }
+    {
+        let line = self.pace.line(to);
+        Bundle {
+            number: self.peer(to).number(),
+            lead: line.own_lead,
+            holes: line.missing(),
+            cause: told_cause(self.lockstep().phase()),
+            ..self.exclusion(to)
+        }
+    }
+
+    /// What goes to where a peer may be, before it is known to be there: how far this player is, and no packets.
+    /// It has 62 bytes, and making it changes nothing. None to a number that is no peer's, nor to one who is given
+    /// up.
+    pub fn probe(&self, to: u8) -> Option<ArrayVec<u8, 1200>>
+        ensures sealed { option_map (λ bytes. bytes.items) result
+            ≡ probe_for (seal_of self.now) (pace_of self.now) (linked self.now) to }
+        ensures fits { IfSome result (λ bytes. IsBundle (probe (pace_of self.now) (linked self.now) to)) }
+    {
+        if !self.is_peer(to) || self.has_given_up(to) {
+            return None;
+        }
+        Some(seal_bundle(&self.sealer, &self.empty(to)))
     }
 }
