@@ -2,6 +2,7 @@ pub mod Changes
 pub mod Firsts
 pub mod Hints
 pub mod Joiners
+pub mod Passing
 pub mod Lobbies
 pub mod Numbers
 pub mod Going

@@ -11,8 +11,9 @@ pub mod Joining
 pub mod Lead
 pub mod Ticks
 pub mod Watch
-pub mod Places
 pub mod Players
+pub mod Places
+pub mod Passing
 pub mod Ending
 pub mod Coming
 pub mod Playing

@@ -1,5 +1,6 @@
 -- A player's part in its game: what each call makes of it.
 use Rattle.std.specs.Prelude.{◌≡◌, ◌⊎◌, ℕ, ℤ, ◌&&◌, ◌||◌, ◌+◌, Bool, not, true, false, nat_le, nat_lt, if◌then◌else◌, List, [], ◌∷◌, map, position, slice_index_or, slice_set, replicate, Option, Some, None, is_some}
+use Rattle.std.specs.Option.{option_map, option_or}
 use Rattle.dn_tic.specs.{declared.command.Move.Move, declared.input.Input.Input}
 use Rattle.dn_machine.specs.{Running.on_quit, Running.row_held, Sending.on_build, declared.answers.Made.Made, declared.answers.Ran.Ran}
 use Rattle.dn_lockstep.specs.Steps.{Steps, Tells}
@@ -8,7 +9,7 @@ use Rattle.dn_link.specs.{Linked.Receives, Linked.has_given_up, Linked.remains, 
 use Rattle.dn_link.specs.{Pace.lean, Pace.still_owed, Pace.wants_second, Pacing.pace_of, Surviving.GivesUpPeer, Surviving.RunsBut, declared.link.Link.Link, declared.received.Received.Received}
 use Rattle.dn_link.specs.declared.received.Received.TheVariants as received
 use Rattle.dn_session.specs.{Coming.counts_in, Coming.has_more, Coming.heard_of, Coming.is_late_in, Coming.is_new_in, Coming.is_news_of, Coming.line_of, Coming.lines_in, Ending.ended_by}
-use Rattle.dn_session.specs.{Ending.ending_of, Ending.is_unneeded, Ending.may_give_up, Ending.patience, Ending.waits, Joining.has_come, Lead.due, Places.heard_at, Places.place_of, Players.four}
+use Rattle.dn_session.specs.{Ending.ending_of, Ending.is_unneeded, Ending.may_give_up, Ending.patience, Ending.waits, Joining.has_come, Lead.due, Passing.passed_on, Passing.sent_of, Places.heard_at, Places.place_of, Players.four}
 use Rattle.dn_session.specs.{Players.is_any_awaited, Players.view_of, Ticks.half_taken, Ticks.is_due, Ticks.passed, Ticks.resumed, Watch.looked_at, declared.ending.Ending.Ending}
 use Rattle.dn_session.specs.{declared.ending.Progress.Progress, declared.greeting.Address.Address, declared.lead.View.View, declared.part.Exclusion.Exclusion}
 use Rattle.dn_session.specs.{declared.part.Part.Part, declared.part.hearing.Known.Known, declared.places.Places.Places, declared.terms.Policy.Policy, declared.ticks.Ticks.Ticks}
@@ -17,8 +18,8 @@ use Rattle.dn_session.specs.declared.ending.Ending.TheVariants as ending
 use Rattle.dn_session.specs.declared.ending.Progress.TheVariants as progress
 
 -- its link; when ticks are due; for how long others were silent; where they are; who has told that it has given up
--- this player; whom it is to tell so; to whom a datagram is owed; how far it is; and what becomes of a player who
--- vanishes
+-- this player; whom it is to tell so; to whom a datagram is owed; whose turn it is to pass one on; what is to be passed
+-- on; how far it is; and what becomes of a player who vanishes
 pub record Playing : Type 0 where
   pub link : Link
   pub ticks : Ticks
@@ -27,6 +28,8 @@ pub record Playing : Type 0 where
   pub excluders : List Bool
   pub exclusions : List Exclusion
   pub owed : List Bool
+  pub turn : ℕ
+  pub passing : Option (Address × List ℕ)
   pub progress : Progress
   pub policy : Policy
 
@@ -40,6 +43,8 @@ playing part =
       excluders = part.excluders;
       exclusions = part.exclusions;
       owed = part.owed;
+      turn = part.turn;
+      passing = option_map sent_of part.passing;
       progress = part.progress;
       policy = part.policy;
     }
@@ -113,21 +118,23 @@ exclusions_by (received.GivenUp player) from now all =
     slice_set all player (told_at from now (exclusion_of all player))
 exclusions_by received from now all = all
 
--- what is noted of it, by what was known before it and after it
-abbrev pub noted : Received → Address → ℕ → (before after : Known) → Playing → Playing
-noted received from now before after p =
+-- what is noted of it, by what was known before it and after it. What is to be passed on takes the place of what was
+-- not sent yet
+abbrev pub noted : Received → Address → List ℕ → ℕ → (before after : Known) → Playing → Playing
+noted received from bytes now before after p =
     record p {
       watch = watch_after received before after now p.watch;
       places = place_after (heard_of received) from now before after p.places;
       excluders = excluders_by received p.excluders;
       exclusions = exclusions_by received from now p.exclusions;
+      passing = option_or (passed_on received from bytes (linked p.link) p.places) p.passing;
     }
 
 -- bytes come from an address at a time
 abbrev pub HearsBytes : Address → List ℕ → ℕ → Playing → Playing → Type 0
 HearsBytes from bytes now old new =
     (received : Received) × Takes bytes old.link new.link received
-    × (new ≡ noted received from now (known_by old.link) (known_by new.link) (record old { link = new.link }))
+    × (new ≡ noted received from bytes now (known_by old.link) (known_by new.link) (record old { link = new.link }))
 
 -- Ticks.
 
@@ -144,11 +151,15 @@ Leans old new by =
     KeepsGame old new × (linked new ≡ linked old) × (pace_of new ≡ after_tick (linked old) (pace_of old))
     × (by ≡ lean (linked old) (pace_of old))
 
+-- the next player's turn
+abbrev pub turn_after : ℕ → ℕ
+turn_after turn = if nat_lt turn 3 then turn + 1 else 0
+
 -- the tick that is due goes by: all are owed a datagram
 abbrev pub PassesTick : Playing → Playing → Type 0
 PassesTick old new =
     (by : ℤ) × Leans old.link new.link by
-    × (new ≡ record old { link = new.link; ticks = passed by old.ticks; owed = owes_all })
+    × (new ≡ record old { link = new.link; ticks = passed by old.ticks; owed = owes_all; turn = turn_after old.turn })
 
 -- the input of a tick is built, and what was owed before is dropped
 abbrev pub Builds : Input → Link → Link → Type 0

@@ -1,22 +1,39 @@
 -- What a player's part sends, and where to.
-use Rattle.std.specs.Prelude.{⊤, ◌≡◌, ℕ, ◌&&◌, Bool, not, false, if◌then◌else◌, List, position, slice_index_or, slice_set, Option, Some, None, IfSome, is_none, is_some}
+use Rattle.std.specs.Prelude.{◌≡◌, ℕ, ◌+◌, ◌==◌, ◌&&◌, ◌||◌, Bool, not, true, false, nat_lt, if◌then◌else◌, List, position, slice_index_or, slice_set, Option, Some, None, IfSome, is_none, is_some}
 use Rattle.dn_lockstep.specs.{Sent.IsFair, Sent.sent_to, Steps.Tells}
-use Rattle.dn_link.specs.{Linked.Gives, Linked.Linked, Linked.exclusion, Linked.exclusion_for, Linked.has_given_up, Linked.is_peer, Linked.remains, Linking.linked, Linking.seal_of, Pacing.pace_of, Text.IsBundle}
-use Rattle.dn_session.specs.{Places.place_of, Players.four, Playing.KeepsGame, Playing.Playing, Playing.ended_as, Playing.exclusion_of, declared.greeting.Address.Address, declared.part.sending.Transmit.Transmit}
+use Rattle.dn_link.specs.{Linked.Gives, Linked.Linked, Linked.exclusion, Linked.exclusion_for, Linked.has_given_up, Linked.is_peer, Linked.probe, Linked.probe_for, Linked.remains, Linking.linked, Linking.seal_of, Pacing.pace_of, Text.IsBundle}
+use Rattle.dn_session.specs.{Places.place_of, Places.probed_at, Players.four, Playing.KeepsGame, Playing.Playing, Playing.ended_as, Playing.exclusion_of, Playing.is_told_since}
+use Rattle.dn_session.specs.{Watch.silence, declared.greeting.Address.Address, declared.places.Place.Place}
 
--- bytes, and where they go to
-abbrev pub sent_of : Transmit → Address × List ℕ
-sent_of transmit = (transmit.to, transmit.bytes.items)
+-- by the last look, a player was heard where it is in the second before
+abbrev pub is_near : Playing → ℕ → Bool
+is_near p player =
+    (place_of player p.places).is_confirmed && nat_lt p.watch.looked ((place_of player p.places).heard + 1000)
 
--- where a player is, as far as it is known
-abbrev pub address_of : Playing → ℕ → Option Address
-address_of p player = (place_of player p.places).address
+-- another who remains, and is near, can pass a datagram on to a player
+abbrev pub can_pass : Playing → (other player : ℕ) → Bool
+can_pass p other player = not (other == player) && (remains (linked p.link) other && is_near p other)
 
--- a datagram is owed to a player who remains, and it is known where that one is; and none by one whose game is over
+-- who gets the datagram to a player: that one; or while it is not near, another one at each of its turns
+abbrev pub way_to : Playing → ℕ → ℕ
+way_to p player = if not (is_near p player) && can_pass p p.turn player then p.turn else player
+
+-- where that is, as far as it is known
+abbrev pub place_to : Playing → ℕ → Place
+place_to p player = place_of (way_to p player) p.places
+
+-- to a place from which nothing came yet goes a probe a second, until its player has been silent for ten
+abbrev pub is_probed : Playing → ℕ → Bool
+is_probed p player =
+    not (is_told_since p.watch.looked (place_of player p.places).probed)
+    && nat_lt (silence player p.watch.looked p.watch) 10000
+
+-- a datagram is owed to a player who remains, and it is known where it goes; and none by one whose game is over
 abbrev pub is_owed : Playing → ℕ → Bool
 is_owed p player =
     slice_index_or p.owed player false && (is_none (ended_as p.progress)
-    && (remains (linked p.link) player && is_some (address_of p player)))
+    && (remains (linked p.link) player
+    && (is_some (place_to p player).address && ((place_to p player).is_confirmed || is_probed p player))))
 
 -- the lowest to whom one is
 abbrev pub first_owed : Playing → Option ℕ
@@ -27,14 +44,26 @@ abbrev pub IsFairTo : ℕ → Linked → Type 0
 IsFairTo player link =
     Tells link.node (λ limits me m. IfSome (sent_to player limits me m).1 IsFair)
 
--- a datagram to a player is made
-abbrev pub SendsTo : ℕ → Playing → Playing → Option (Address × List ℕ) → Type 0
-SendsTo player old new sent =
-    (address : Address) × (bytes : List ℕ) × (address_of old player ≡ Some address) × (sent ≡ Some (address, bytes))
-    × IsFairTo player (linked old.link)
+-- a datagram to a player is made, or a probe
+abbrev pub SendsWhen : Bool → ℕ → Playing → Playing → Option (Address × List ℕ) → Type 0
+SendsWhen true player old new sent =
+    (address : Address) × (bytes : List ℕ) × ((place_to old player).address ≡ Some address)
+    × (sent ≡ Some (address, bytes)) × IsFairTo player (linked old.link)
     × Gives (seal_of old.link) (pace_of old.link) player (linked old.link) (linked new.link) bytes
     × KeepsGame old.link new.link × (pace_of new.link ≡ pace_of old.link)
     × (new ≡ record old { link = new.link; owed = slice_set old.owed player false })
+SendsWhen false player old new sent =
+    (address : Address) × (bytes : List ℕ) × ((place_to old player).address ≡ Some address)
+    × (sent ≡ Some (address, bytes))
+    × (probe_for (seal_of old.link) (pace_of old.link) (linked old.link) player ≡ Some bytes)
+    × IsBundle (probe (pace_of old.link) (linked old.link) player)
+    × (new ≡ record old {
+      owed = slice_set old.owed player false;
+      places = probed_at player old.watch.looked old.places;
+    })
+
+abbrev pub SendsTo : ℕ → Playing → Playing → Option (Address × List ℕ) → Type 0
+SendsTo player old new sent = SendsWhen (place_to old player).is_confirmed player old new sent
 
 -- one is to be told that it is given up
 abbrev pub is_owed_exclusion : Playing → ℕ → Bool
@@ -61,6 +90,11 @@ abbrev pub SendsFirst : Option ℕ → Playing → Playing → Option (Address �
 SendsFirst None old new sent = Excludes (first_owed_exclusion old) old new sent
 SendsFirst (Some player) old new sent = SendsTo player old new sent
 
+-- and what is passed on goes before them
+abbrev pub SendsOn : Option (Address × List ℕ) → Playing → Playing → Option (Address × List ℕ) → Type 0
+SendsOn None old new sent = SendsFirst (first_owed old) old new sent
+SendsOn (Some passing) old new sent = (sent ≡ Some passing) × (new ≡ record old { passing = None })
+
 -- what is sent next, if anything is
 abbrev pub SendsNext : Playing → Playing → Option (Address × List ℕ) → Type 0
-SendsNext old new sent = SendsFirst (first_owed old) old new sent
+SendsNext old new sent = SendsOn old.passing old new sent

@@ -10,6 +10,7 @@ mod hearing;
 mod polling;
 mod running;
 mod sending;
+mod ways;
 
 use crate::ending::{Ending, Progress};
 use crate::greeting::Address;
@@ -20,7 +21,7 @@ use crate::ticks::Ticks;
 use crate::watch::Watch;
 use dn_link::Link;
 pub use sending::Transmit;
-pub(crate) use sending::widened;
+pub(crate) use sending::{copied, widened};
 
 /// Whom a link has given up.
 fn gone_from(link: &Link) -> [bool; 4]
@@ -48,7 +49,7 @@ const NO_EXCLUSION: Exclusion = Exclusion {
 };
 
 /// A player's part in its game: its link, when its ticks are due, where the others are, whom it waits for, to whom
-/// a datagram is owed, and how far it is.
+/// a datagram is owed, what it passes on between others, and how far it is.
 #[derive(Drop)]
 pub struct Part {
     link: Link,
@@ -58,6 +59,8 @@ pub struct Part {
     excluders: [bool; 4],
     exclusions: [Exclusion; 4],
     owed: [bool; 4],
+    turn: u8,
+    passing: Option<Transmit>,
     progress: Progress,
     policy: Policy,
 }
@@ -79,6 +82,8 @@ impl Part {
           excluders = replicate 4 false;
           exclusions = replicate 4 (record { to = None; told = None });
           owed = owes_nobody;
+          turn = 0;
+          passing = None;
           progress = progress.Playing;
           policy = policy;
         } }
@@ -91,6 +96,8 @@ impl Part {
             excluders: [false; 4],
             exclusions: [NO_EXCLUSION; 4],
             owed: [false; 4],
+            turn: 0,
+            passing: None,
             progress: Progress::Playing,
             policy,
         }

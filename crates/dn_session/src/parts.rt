@@ -1,6 +1,6 @@
 //! Laws: the parts of the players of one game have links of one game, whatever their sessions do.
 
-ghost use Rattle.std.specs.Prelude.{◌≡◌, ◌<◌, ℕ, ℤ, Bool, List, Option, None, Some, IfSome};
+ghost use Rattle.std.specs.Prelude.{◌≡◌, ◌<◌, ◌⊎◌, ℕ, ℤ, Bool, List, Option, None, Some, IfSome};
 ghost use Rattle.dn_tic.specs.{declared.command.Move.Move, declared.input.Input.Input};
 ghost use Rattle.dn_setup.specs.Settings.{Settings};
 ghost use Rattle.dn_machine.specs.{Limits.Limits, declared.answers.Ran.Ran};
@@ -32,7 +32,7 @@ pub fn sessions_play()
 
 /// And so they stay after each call on one of their sessions, as long as what it opens was sealed in this game
 /// before. At a run the caller hands in the marks of a world that moved on by the rows that it was told. Whom a
-/// session gives up, and when, is not asked.
+/// session gives up, and when, is not asked. What is sent came so and is passed on, or was sealed in the game.
 pub fn sessions_play_on()
     ensures hears { (marking : Marking) (limits : Limits) (settings : Settings) (seal : Seal) (session : Session)
         (parts : ℕ → Playing) (p now : ℕ) (from : Address) (bytes : List ℕ) (new : Playing)
@@ -65,7 +65,8 @@ pub fn sessions_play_on()
         → AreParts marking limits settings seal session parts → p < limits.players
         → SendsNext (parts p) new sent
         → (on : GoOn marking limits settings seal session parts p new None)
-        × IfSome sent (λ (s : Address × List ℕ). WasSealedIn seal on.later s.1) }
+        × ((sent ≡ (parts p).passing)
+        ⊎ IfSome sent (λ (s : Address × List ℕ). WasSealedIn seal on.later s.1)) }
 {
     remaining_links_go_on();
     remaining_bytes_are_genuine();

@@ -1,7 +1,7 @@
 //! Where the players are.
 
-ghost use Rattle.std.specs.Prelude.{◌≡◌};
-ghost use Rattle.dn_session.specs.Places.{heard_at, heard_from, is_at, is_left, place_of, places_of};
+ghost use Rattle.std.specs.Prelude.{◌≡◌, ◌==◌, ◌&&◌, not};
+ghost use Rattle.dn_session.specs.Places.{heard_at, heard_from, is_anothers, is_at, is_left, new_place, place_of, places_of, probed_at};
 
 use crate::cookies::FRESH_FOR;
 use crate::greeting::Address;
@@ -13,11 +13,27 @@ pub struct Place {
     pub address: Option<Address>,
     /// When one of its last datagrams came from there, in milliseconds of the listener's own clock.
     pub heard: u32,
+    /// Whether one did, or an answer did in the lobby.
+    pub is_confirmed: bool,
+    /// When a probe was sent there, if one was.
+    pub probed: Option<u32>,
 }
 
 impl Place {
+    /// A place of which nothing was heard in the game yet.
+    const fn new(address: Option<Address>, now: u32, is_confirmed: bool) -> Place
+        ensures { result ≡ new_place is_confirmed now address }
+    {
+        Place {
+            address,
+            heard: now,
+            is_confirmed,
+            probed: None,
+        }
+    }
+
     /// Whether the player is known to be at this address.
-    fn is_at(&self, from: &Address) -> bool
+    pub(crate) fn is_at(&self, from: &Address) -> bool
         ensures { result ≡ is_at from.now self.now }
     {
         match self.address {
@@ -43,10 +59,12 @@ impl Place {
         if self.is_at(from) {
             if is_recent {
                 self.heard = now;
+                self.is_confirmed = true;
             }
         } else if is_new && self.is_left(now) {
             self.address = Some(*from);
             self.heard = now;
+            self.is_confirmed = true;
         }
     }
 }
@@ -59,50 +77,66 @@ pub struct Places {
 }
 
 impl Places {
-    /// Where the host is, and those in the seats 1 to 3, as was heard now.
+    /// Where the host is, if it is another, and those in the seats 1 to 3, as was heard now.
     pub fn of(host: Option<Address>, seats: [Option<Address>; 3], now: u32) -> Places
         ensures { result ≡ places_of host seats now }
     {
+        let has_all = host.is_none();
         let [one, two, three] = seats;
         Places {
             at: [
-                Place {
-                    address: host,
-                    heard: now,
-                },
-                Place {
-                    address: one,
-                    heard: now,
-                },
-                Place {
-                    address: two,
-                    heard: now,
-                },
-                Place {
-                    address: three,
-                    heard: now,
-                },
+                Place::new(host, now, true),
+                Place::new(one, now, has_all),
+                Place::new(two, now, has_all),
+                Place::new(three, now, has_all),
             ],
         }
     }
 
-    /// Where a player is, if that is known.
-    pub fn at(&self, player: u8) -> Option<Address>
-        ensures { result ≡ (place_of player self.now).address }
+    /// Where a player is, as far as it is known.
+    pub fn place(&self, player: u8) -> Place
+        ensures { result ≡ place_of player self.now }
     {
         if player < 4 {
-            self.at[usize::from(player)].address
+            self.at[usize::from(player)]
         } else {
-            None
+            Place::new(None, 0, false)
         }
+    }
+
+    /// Whether this one, another than the player, is known to be at this address.
+    fn has_other(&self, player: u8, from: &Address, other: u8) -> bool
+        ensures { result ≡ (not (other == player) && is_at from.now (place_of other self.now)) }
+    {
+        other != player && self.place(other).is_at(from)
+    }
+
+    /// Whether another player than this one is known to be at this address.
+    fn is_anothers(&self, player: u8, from: &Address) -> bool
+        ensures { result ≡ is_anothers player from.now self.now }
+    {
+        self.has_other(player, from, 0)
+            || self.has_other(player, from, 1)
+            || self.has_other(player, from, 2)
+            || self.has_other(player, from, 3)
     }
 
     /// A datagram of a player came from this address. It may be a new one, and one of the last that it sent.
     pub fn hear(&mut self, player: u8, from: &Address, now: u32, is_new: bool, is_recent: bool)
         ensures { self.new ≡ heard_at player from.now now is_new is_recent self.old }
     {
+        let is_new = is_new && !self.is_anothers(player, from);
         if player < 4 {
             self.at[usize::from(player)].hear(from, now, is_new, is_recent);
+        }
+    }
+
+    /// A probe was sent to where a player may be.
+    pub fn note_probe(&mut self, player: u8, now: u32)
+        ensures { self.new ≡ probed_at player now self.old }
+    {
+        if player < 4 {
+            self.at[usize::from(player)].probed = Some(now);
         }
     }
 }

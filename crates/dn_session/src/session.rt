@@ -1,7 +1,7 @@
 //! A session of one player: its lobby, and then its part in the game.
 
 ghost use Rattle.std.specs.{Prelude.◌≡◌, Prelude.IfOk, Option.option_map, Option.option_or};
-ghost use Rattle.dn_session.specs.{Sent.sent_of, Session.IsMadeAs};
+ghost use Rattle.dn_session.specs.{Passing.sent_of, Session.IsMadeAs};
 
 mod playing;
 mod reading;

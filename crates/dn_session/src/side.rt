@@ -2,7 +2,7 @@
 
 ghost use Rattle.std.specs.{Prelude.◌≡◌, Prelude.ℕ, Prelude.List, Prelude.Option, Prelude.map, Option.option_map};
 ghost use Rattle.dn_session.specs.declared.side.Side.TheVariants as side;
-ghost use Rattle.dn_session.specs.{Hosting.holder_of, Hosting.lobby, Hosting.HearsCall, Hosting.IsLobby, Joining.joining, Joining.on_time, Roster.IsJoining, Roster.IsSide, Sent.sent_of};
+ghost use Rattle.dn_session.specs.{Hosting.holder_of, Hosting.lobby, Hosting.HearsCall, Hosting.IsLobby, Joining.joining, Joining.on_time, Roster.IsJoining, Roster.IsSide, Passing.sent_of};
 ghost use Rattle.dn_session.specs.Session.{address_in, address_shown, begun_here, begun_in, begun_with, config_of, game_seal, kicked_as, reply_to};
 
 use crate::greeting::{Address, Shown};

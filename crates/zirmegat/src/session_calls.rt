@@ -1,7 +1,7 @@
 //! The calls that move a session on.
 
 ghost use Rattle.std.specs.Prelude.{◌≡◌, ◌<◌, ◌≤◌, ⊤, length, option_map};
-ghost use Rattle.dn_session.specs.Sent.{sent_of};
+ghost use Rattle.dn_session.specs.Passing.{sent_of};
 ghost use Rattle.dn_session.specs.Session.{can_give, GivesPart, GivesUpPart, HearsAny, Kicks, QuitsPart};
 ghost use Rattle.dn_setup.specs.Settings.{bit};
 ghost use Rattle.dn_tic.specs.declared.input.Input.TheVariants.{Given};

@@ -1,7 +1,7 @@
 //! Ticks: the commands that its player gives.
 
 ghost use Rattle.std.specs.Prelude.{◌≡◌};
-ghost use Rattle.dn_session.specs.Playing.{is_giving, Builds};
+ghost use Rattle.dn_session.specs.Playing.{is_giving, turn_after, Builds};
 
 use super::Part;
 use crate::ending::Progress;
@@ -29,6 +29,13 @@ fn build(link: &mut Link, input: Input)
     }
 }
 
+/// The next player's turn.
+fn turn_after(turn: u8) -> u8
+    ensures { result ≡ turn_after turn }
+{
+    if turn < 3 { turn + 1 } else { 0 }
+}
+
 impl Part {
     ghost use Rattle.std.specs.Prelude.{true};
     ghost use Rattle.dn_session.specs.Playing.{playing, may_give, GivesWhen, PassesTick};
@@ -40,6 +47,7 @@ impl Part {
         let lean = self.link.lean();
         self.ticks.pass(lean);
         self.owed = [true; 4];
+        self.turn = turn_after(self.turn);
     }
 
     /// Whether its player is to give a command now.

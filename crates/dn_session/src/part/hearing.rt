@@ -1,14 +1,17 @@
 //! What comes in.
 
-ghost use Rattle.std.specs.Prelude.{◌≡◌};
+ghost use Rattle.std.specs.{Prelude.◌≡◌, Prelude.◌≤◌, Prelude.length, Option.option_map, Option.option_or};
+ghost use Rattle.dn_link.specs.Linking.{linked};
+ghost use Rattle.dn_link.specs.declared.bundle.BundleFault.TheVariants as fault;
+ghost use Rattle.dn_link.specs.declared.received.Received.TheVariants as answer;
 ghost use Rattle.dn_lockstep.specs.Contents.{contents};
 ghost use Rattle.dn_session.specs.{Coming.counts_in, Coming.has_more, Playing.is_alive, Playing.is_told_since, Playing.known_by, Playing.told_at};
 
-use super::{Exclusion, Part};
+use super::{Exclusion, Part, Transmit, copied};
 use crate::coming::{Lines, heard_of, is_late_in, is_new_in, is_news_of, line_of, lines_of};
 use crate::greeting::Address;
-use crate::players::count_in;
-use dn_link::{Link, Received};
+use crate::players::{count_in, is_gone_from};
+use dn_link::{BundleFault, Link, Received};
 use dn_lockstep::Lockstep;
 
 /// How many commands of each player are here.
@@ -58,8 +61,8 @@ fn is_alive(received: &Received, before: &Known, after: &Known, player: u8) -> b
         || has_more(&before.counts, &after.counts, player)
 }
 
-/// Whether somebody was told in the last second that it is given up.
-fn is_told_since(now: u32, told: Option<u32>) -> bool
+/// Whether something was told in the last second, if it was.
+pub(super) fn is_told_since(now: u32, told: Option<u32>) -> bool
     ensures { result ≡ is_told_since now told }
 {
     match told {
@@ -82,6 +85,7 @@ fn told_at(from: &Address, now: u32, exclusion: &Exclusion) -> Exclusion
 }
 
 impl Part {
+    ghost use Rattle.dn_session.specs.Passing.{next_hop, passed_on, sent_of};
     ghost use Rattle.dn_session.specs.Playing.{excluders_by, exclusions_by, hears_if, noted, place_after, playing, watch_after, HearsBytes};
 
     /// Notes that a player was heard, if it was.
@@ -157,17 +161,64 @@ impl Part {
         }
     }
 
+    /// Where a datagram from one player to another goes on to that came from here.
+    fn next_hop(&self, here: &Address, from: u8, to: u8) -> Option<Address>
+        ensures { result ≡ next_hop (linked (playing self.now).link) (playing self.now).places here.now from to }
+    {
+        let sender = self.places.place(from);
+        let receiver = self.places.place(to);
+        if is_gone_from(&self.link, from) || !sender.is_at(here) {
+            return None;
+        }
+        if is_gone_from(&self.link, to) || !receiver.is_confirmed {
+            return None;
+        }
+        receiver.address
+    }
+
+    /// What goes on as it came, if it is a datagram to another player.
+    fn passed_on(&self, received: &Received, here: &Address, bytes: &[u8]) -> Option<Transmit>
+        requires fits { received.now ≡ answer.Unopened fault.Receiver
+            → (12 ≤ length bytes.now) × (length bytes.now ≤ 1200) }
+        ensures { option_map sent_of result ≡ passed_on received.now here.now bytes.now
+            (linked (playing self.now).link) (playing self.now).places }
+    {
+        if !matches!(received, Received::Unopened(BundleFault::Receiver)) {
+            return None;
+        }
+        Some(Transmit {
+            to: self.next_hop(here, bytes[10], bytes[11])?,
+            bytes: copied(bytes),
+        })
+    }
+
+    /// Notes what is to be passed on.
+    fn note_passing(&mut self, passing: Option<Transmit>)
+        ensures { playing self.new ≡ record (playing self.old) {
+          passing = option_or (option_map sent_of passing) (playing self.old).passing;
+        } }
+    {
+        if passing.is_some() {
+            self.passing = passing;
+        }
+    }
+
     /// Notes all that is to be noted of what was received.
     fn note_all(
         &mut self,
         received: &Received,
         from: &Address,
+        bytes: &[u8],
         now: u32,
         before: &Known,
         after: &Known,
     )
-        ensures { playing self.new ≡ noted received.now from.now now before.now after.now (playing self.old) }
+        requires fits { received.now ≡ answer.Unopened fault.Receiver
+            → (12 ≤ length bytes.now) × (length bytes.now ≤ 1200) }
+        ensures { playing self.new ≡ noted received.now from.now bytes.now now before.now after.now (playing self.old) }
     {
+        let passing = self.passed_on(received, from, bytes);
+        self.note_passing(passing);
         self.note_alive(received, now, before, after);
         self.note_place(heard_of(received), from, now, before, after);
         self.note_excluder(received);
@@ -181,6 +232,6 @@ impl Part {
         let before = known_by(&self.link);
         let received = self.link.receive(bytes);
         let after = known_by(&self.link);
-        self.note_all(&received, from, now, &before, &after);
+        self.note_all(&received, from, bytes, now, &before, &after);
     }
 }

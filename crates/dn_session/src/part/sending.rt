@@ -1,6 +1,6 @@
 //! What goes out.
 
-ghost use Rattle.std.specs.Prelude.{◌≡◌, ◌<◌, ◌≤◌, IfSome};
+ghost use Rattle.std.specs.Prelude.{◌≡◌, ◌<◌, ◌≤◌, ◌&&◌, ◌||◌, IfSome, is_some, length};
 
 use super::Part;
 use crate::greeting::Address;
@@ -17,20 +17,38 @@ pub struct Transmit {
     pub bytes: ArrayVec<u8, 1200>,
 }
 
+/// Bytes, in room for any.
+pub(crate) fn copied(bytes: &[u8]) -> ArrayVec<u8, 1200>
+    requires { length bytes.now ≤ 1200 }
+    ensures { result.items ≡ bytes.now }
+{
+    let mut wide = ArrayVec::new();
+    append(&mut wide, bytes);
+    wide
+}
+
 /// The same bytes, in room for any.
 pub(crate) fn widened<const ROOM: usize>(bytes: &ArrayVec<u8, ROOM>) -> ArrayVec<u8, 1200>
     requires { ROOM ≤ 1200 }
     ensures { result.items ≡ bytes.now.items }
 {
-    let mut wide = ArrayVec::new();
-    append(&mut wide, bytes.as_slice());
-    wide
+    copied(bytes.as_slice())
 }
 
 impl Part {
-    ghost use Rattle.std.specs.Prelude.{option_map, true, Some};
-    ghost use Rattle.dn_session.specs.Sent.{first_owed, first_owed_exclusion, is_owed, is_owed_exclusion, sent_of, Excludes, SendsNext, SendsTo};
+    ghost use Rattle.std.specs.Prelude.{option_map, true, false, Some};
+    ghost use Rattle.dn_session.specs.Passing.{sent_of};
+    ghost use Rattle.dn_session.specs.Sent.{first_owed, first_owed_exclusion, is_owed, is_owed_exclusion, is_probed, place_to, Excludes, SendsFirst, SendsNext, SendsTo, SendsWhen};
     ghost use Rattle.dn_session.specs.Playing.{playing};
+
+    /// Whether it is known where a datagram to a player goes, and one may go there now.
+    fn is_open(&self, player: u8) -> bool
+        ensures { result ≡ (is_some (place_to (playing self.now) player).address
+            && ((place_to (playing self.now) player).is_confirmed || is_probed (playing self.now) player)) }
+    {
+        let place = self.place_to(player);
+        place.address.is_some() && (place.is_confirmed || self.is_probed(player))
+    }
 
     /// Whether a datagram is owed to a player. One whose game is over owes none.
     fn is_owed(&self, player: u8) -> bool
@@ -40,7 +58,7 @@ impl Part {
         self.owed[player as usize]
             && self.ending().is_none()
             && !is_gone_from(&self.link, player)
-            && self.places.at(player).is_some()
+            && self.is_open(player)
     }
 
     /// The lowest player to whom a datagram is owed.
@@ -52,15 +70,41 @@ impl Part {
     }
 
     /// The datagram that is owed to a player.
+    fn send_whole(&mut self, player: u8) -> Option<Transmit>
+        requires few { player < 4 }
+        requires owed { is_owed (playing self.old) player ≡ true }
+        ensures { SendsWhen true player (playing self.old) (playing self.new) (option_map sent_of result) }
+    {
+        let to = self.place_to(player).address?;
+        self.owed[player as usize] = false;
+        let bytes = self.link.datagram(player)?;
+        Some(Transmit { to, bytes })
+    }
+
+    /// The probe that is sent in its place.
+    fn send_probe(&mut self, player: u8) -> Option<Transmit>
+        requires few { player < 4 }
+        requires owed { is_owed (playing self.old) player ≡ true }
+        ensures { SendsWhen false player (playing self.old) (playing self.new) (option_map sent_of result) }
+    {
+        let to = self.place_to(player).address?;
+        self.owed[player as usize] = false;
+        self.places.note_probe(player, self.watch.looked);
+        let bytes = self.link.probe(player)?;
+        Some(Transmit { to, bytes })
+    }
+
+    /// One or the other.
     fn send(&mut self, player: u8) -> Option<Transmit>
         requires few { player < 4 }
         requires owed { is_owed (playing self.old) player ≡ true }
         ensures { SendsTo player (playing self.old) (playing self.new) (option_map sent_of result) }
     {
-        self.owed[player as usize] = false;
-        let to = self.places.at(player)?;
-        let bytes = self.link.datagram(player)?;
-        Some(Transmit { to, bytes })
+        if self.place_to(player).is_confirmed {
+            self.send_whole(player)
+        } else {
+            self.send_probe(player)
+        }
     }
 
     /// Whether a player is to be told that it is given up.
@@ -105,13 +149,24 @@ impl Part {
         }
     }
 
-    /// What is to be sent next, if anything is.
-    pub(crate) fn transmit(&mut self) -> Option<Transmit>
-        ensures { SendsNext (playing self.old) (playing self.new) (option_map sent_of result) }
+    /// What is owed, if anything is.
+    fn send_first(&mut self) -> Option<Transmit>
+        ensures { SendsFirst (first_owed (playing self.old)) (playing self.old) (playing self.new)
+            (option_map sent_of result) }
     {
         match self.first_owed() {
             Some(player) => self.send(player as u8),
             None => self.exclude(),
         }
+    }
+
+    /// What is to be sent next, if anything is.
+    pub(crate) fn transmit(&mut self) -> Option<Transmit>
+        ensures { SendsNext (playing self.old) (playing self.new) (option_map sent_of result) }
+    {
+        if self.passing.is_some() {
+            return self.passing.take();
+        }
+        self.send_first()
     }
 }

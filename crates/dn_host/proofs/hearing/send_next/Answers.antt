@@ -1,6 +1,6 @@
 use Rattle.std.proofs.Common.{refl, subst}
 use Rattle.std.specs.Prelude.{List, ℕ, Option, option_map}
-use Rattle.dn_session.specs.{declared.part.sending.Transmit.Transmit, Sent.sent_of, Session.meeting, Session.Sends}
+use Rattle.dn_session.specs.{declared.part.sending.Transmit.Transmit, Passing.sent_of, Session.meeting, Session.Sends}
 use Rattle.dn_host.proofs.hearing.send_next.Goals as goal
 
 pub returns-in-Some-clause-sends : goal.returns-in-Some-clause-sends

@@ -1,7 +1,7 @@
 use Rattle.std.proofs.Common.{sym}
 use Rattle.dn_session.specs.{Playing.playing, Sent.is_owed}
 use Rattle.dn_session.proofs.Firsts.{first_passes}
-use Rattle.dn_session.proofs.part.Part.transmit.Goals as goal
+use Rattle.dn_session.proofs.part.Part.send_first.Goals as goal
 
 pub send-requires-clause-owed : goal.send-requires-clause-owed
 send-requires-clause-owed c =
