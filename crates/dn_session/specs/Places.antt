@@ -1,5 +1,5 @@
 -- Where the players are.
-use Rattle.std.specs.Prelude.{ℕ, ◌+◌, ◌==◌, ◌&&◌, Bool, not, true, false, nat_le, if◌then◌else◌, List, ◌∷◌, map, slice_index_or, slice_set, Option, Some, None, is_none}
+use Rattle.std.specs.Prelude.{ℕ, ◌+◌, ◌==◌, ◌&&◌, Bool, not, true, false, nat_le, nat_lt, if◌then◌else◌, List, ◌∷◌, map, slice_index_or, slice_set, Option, Some, None, is_none}
 use Rattle.std.specs.{List.list_any, Str.bytes_eq}
 use Rattle.dn_session.specs.{Cookies.fresh_for, Players.four, declared.greeting.Address.Address, declared.places.Place.Place, declared.places.Places.Places}
 
@@ -29,7 +29,7 @@ heard_from from now is_new is_recent place =
 -- the address may have been confirmed in the lobby
 abbrev pub new_place : Bool → ℕ → Option Address → Place
 new_place is_confirmed now address =
-    record { address = address; heard = now; is_confirmed = is_confirmed; probed = None }
+    record { address = address; heard = now; is_confirmed = is_confirmed; probed = None; passed = None }
 
 -- the host has number 0, and those in the seats theirs. In the lobby a joiner has heard its host, and the host, which
 -- calls no host, all
@@ -46,11 +46,28 @@ abbrev pub is_anothers : ℕ → Address → Places → Bool
 is_anothers player from places =
     list_any (λ other. not (other == player) && is_at from (place_of other places)) four
 
--- a datagram of a player came from this address. What another passes on does not move it there
+-- something was done less than so many milliseconds ago, if it was
+abbrev pub is_since : ℕ → ℕ → Option ℕ → Bool
+is_since time now None = false
+is_since time now (Some done) = nat_lt now (done + time)
+
+-- a new datagram that another passed on says that its sender may not hear this player. That is noted, but not within
+-- two seconds again: it holds for one, so two who hear each other again do not keep each other at it
+abbrev pub passed_by : ℕ → Bool → Place → Place
+passed_by now is_new place =
+    if is_new && not (is_since 2000 now place.passed) then record place { passed = Some now } else place
+
+-- the player was heard where it is in the second before, and no other passed a datagram of it on
+abbrev pub is_near_at : ℕ → Place → Bool
+is_near_at now place =
+    place.is_confirmed && (is_since 1000 now (Some place.heard) && not (is_since 1000 now place.passed))
+
+-- a datagram of a player came from this address
 abbrev pub heard_at : ℕ → Address → ℕ → Bool → Bool → Places → Places
 heard_at player from now is_new is_recent places = record {
   at = slice_set places.at player
-      (heard_from from now (is_new && not (is_anothers player from places)) is_recent (place_of player places));
+      (if is_anothers player from places then passed_by now is_new (place_of player places)
+      else heard_from from now is_new is_recent (place_of player places));
 }
 
 -- a probe was sent to where a player may be

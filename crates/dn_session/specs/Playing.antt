@@ -9,7 +9,7 @@ use Rattle.dn_link.specs.{Linked.Receives, Linked.has_given_up, Linked.remains, 
 use Rattle.dn_link.specs.{Pace.lean, Pace.still_owed, Pace.wants_second, Pacing.pace_of, Surviving.GivesUpPeer, Surviving.RunsBut, declared.link.Link.Link, declared.received.Received.Received}
 use Rattle.dn_link.specs.declared.received.Received.TheVariants as received
 use Rattle.dn_session.specs.{Coming.counts_in, Coming.has_more, Coming.heard_of, Coming.is_late_in, Coming.is_new_in, Coming.is_news_of, Coming.line_of, Coming.lines_in, Ending.ended_by}
-use Rattle.dn_session.specs.{Ending.ending_of, Ending.is_unneeded, Ending.may_give_up, Ending.patience, Ending.waits, Joining.has_come, Lead.due, Passing.passed_on, Passing.sent_of, Places.heard_at, Places.place_of, Players.four}
+use Rattle.dn_session.specs.{Ending.ending_of, Ending.is_unneeded, Ending.may_give_up, Ending.patience, Ending.waits, Joining.has_come, Lead.due, Passing.passed_on, Passing.sent_of, Places.heard_at, Places.is_since, Places.place_of, Players.four}
 use Rattle.dn_session.specs.{Players.is_any_awaited, Players.view_of, Ticks.half_taken, Ticks.is_due, Ticks.passed, Ticks.resumed, Watch.looked_at, declared.ending.Ending.Ending}
 use Rattle.dn_session.specs.{declared.ending.Progress.Progress, declared.greeting.Address.Address, declared.lead.View.View, declared.part.Exclusion.Exclusion}
 use Rattle.dn_session.specs.{declared.part.Part.Part, declared.part.hearing.Known.Known, declared.places.Places.Places, declared.terms.Policy.Policy, declared.ticks.Ticks.Ticks}
@@ -103,12 +103,8 @@ excluders_by (received.Excluded from) excluders = slice_set excluders from true
 excluders_by received excluders = excluders
 
 -- one who is given up is told so, where its datagram came from, once a second at most
-abbrev pub is_told_since : ℕ → Option ℕ → Bool
-is_told_since now None = false
-is_told_since now (Some told) = nat_lt now (told + 1000)
-
 abbrev pub told_at : Address → ℕ → Exclusion → Exclusion
-told_at from now e = if is_told_since now e.told then e else record { to = Some from; told = Some now }
+told_at from now e = if is_since 1000 now e.told then e else record { to = Some from; told = Some now }
 
 abbrev pub exclusion_of : List Exclusion → ℕ → Exclusion
 exclusion_of all player = slice_index_or all player (record { to = None; told = None })

@@ -2,13 +2,12 @@
 use Rattle.std.specs.Prelude.{◌≡◌, ℕ, ◌+◌, ◌==◌, ◌&&◌, ◌||◌, Bool, not, true, false, nat_lt, if◌then◌else◌, List, position, slice_index_or, slice_set, Option, Some, None, IfSome, is_none, is_some}
 use Rattle.dn_lockstep.specs.{Sent.IsFair, Sent.sent_to, Steps.Tells}
 use Rattle.dn_link.specs.{Linked.Gives, Linked.Linked, Linked.exclusion, Linked.exclusion_for, Linked.has_given_up, Linked.is_peer, Linked.probe, Linked.probe_for, Linked.remains, Linking.linked, Linking.seal_of, Pacing.pace_of, Text.IsBundle}
-use Rattle.dn_session.specs.{Places.place_of, Places.probed_at, Players.four, Playing.KeepsGame, Playing.Playing, Playing.ended_as, Playing.exclusion_of, Playing.is_told_since}
+use Rattle.dn_session.specs.{Places.is_near_at, Places.is_since, Places.place_of, Places.probed_at, Players.four, Playing.KeepsGame, Playing.Playing, Playing.ended_as, Playing.exclusion_of}
 use Rattle.dn_session.specs.{Watch.silence, declared.greeting.Address.Address, declared.places.Place.Place}
 
--- by the last look, a player was heard where it is in the second before
+-- by the last look, a player is near
 abbrev pub is_near : Playing → ℕ → Bool
-is_near p player =
-    (place_of player p.places).is_confirmed && nat_lt p.watch.looked ((place_of player p.places).heard + 1000)
+is_near p player = is_near_at p.watch.looked (place_of player p.places)
 
 -- another who remains, and is near, can pass a datagram on to a player
 abbrev pub can_pass : Playing → (other player : ℕ) → Bool
@@ -25,7 +24,7 @@ place_to p player = place_of (way_to p player) p.places
 -- to a place from which nothing came yet goes a probe a second, until its player has been silent for ten
 abbrev pub is_probed : Playing → ℕ → Bool
 is_probed p player =
-    not (is_told_since p.watch.looked (place_of player p.places).probed)
+    not (is_since 1000 p.watch.looked (place_of player p.places).probed)
     && nat_lt (silence player p.watch.looked p.watch) 10000
 
 -- a datagram is owed to a player who remains, and it is known where it goes; and none by one whose game is over

@@ -1,10 +1,13 @@
 //! Where the players are.
 
 ghost use Rattle.std.specs.Prelude.{◌≡◌, ◌==◌, ◌&&◌, not};
-ghost use Rattle.dn_session.specs.Places.{heard_at, heard_from, is_anothers, is_at, is_left, new_place, place_of, places_of, probed_at};
+ghost use Rattle.dn_session.specs.Places.{heard_at, heard_from, is_anothers, is_at, is_left, is_near_at, is_since, new_place, passed_by, place_of, places_of, probed_at};
 
 use crate::cookies::FRESH_FOR;
 use crate::greeting::Address;
+
+/// For how many milliseconds a player that was not heard directly, or may not hear this one, is not near.
+pub(crate) const AWAY: u32 = 1000;
 
 /// Where a player is.
 #[derive(Clone, Copy, Debug, PartialEq, Eq)]
@@ -17,6 +20,18 @@ pub struct Place {
     pub is_confirmed: bool,
     /// When a probe was sent there, if one was.
     pub probed: Option<u32>,
+    /// When another passed a datagram of the player on, if one did.
+    pub passed: Option<u32>,
+}
+
+/// Whether something was done less than so many milliseconds ago, if it was.
+pub(crate) fn is_since(time: u32, now: u32, done: Option<u32>) -> bool
+    ensures { result ≡ is_since time now done }
+{
+    match done {
+        Some(done) => u64::from(now) < u64::from(done) + u64::from(time),
+        None => false,
+    }
 }
 
 impl Place {
@@ -29,6 +44,7 @@ impl Place {
             heard: now,
             is_confirmed,
             probed: None,
+            passed: None,
         }
     }
 
@@ -66,6 +82,24 @@ impl Place {
             self.heard = now;
             self.is_confirmed = true;
         }
+    }
+
+    /// Another passed on a datagram of the player, which may be a new one.
+    fn pass(&mut self, now: u32, is_new: bool)
+        ensures { self.new ≡ passed_by now is_new self.old }
+    {
+        if is_new && !is_since(2 * AWAY, now, self.passed) {
+            self.passed = Some(now);
+        }
+    }
+
+    /// Whether the player was heard there in the second before, and no other passed a datagram of it on.
+    pub(crate) fn is_near(&self, looked: u32) -> bool
+        ensures { result ≡ is_near_at looked self.now }
+    {
+        self.is_confirmed
+            && is_since(AWAY, looked, Some(self.heard))
+            && !is_since(AWAY, looked, self.passed)
     }
 }
 
@@ -125,9 +159,15 @@ impl Places {
     pub fn hear(&mut self, player: u8, from: &Address, now: u32, is_new: bool, is_recent: bool)
         ensures { self.new ≡ heard_at player from.now now is_new is_recent self.old }
     {
-        let is_new = is_new && !self.is_anothers(player, from);
-        if player < 4 {
-            self.at[usize::from(player)].hear(from, now, is_new, is_recent);
+        if player >= 4 {
+            return;
+        }
+        let is_passed = self.is_anothers(player, from);
+        let place = &mut self.at[usize::from(player)];
+        if is_passed {
+            place.pass(now, is_new);
+        } else {
+            place.hear(from, now, is_new, is_recent);
         }
     }
 

@@ -5,11 +5,12 @@ ghost use Rattle.dn_link.specs.Linking.{linked};
 ghost use Rattle.dn_link.specs.declared.bundle.BundleFault.TheVariants as fault;
 ghost use Rattle.dn_link.specs.declared.received.Received.TheVariants as answer;
 ghost use Rattle.dn_lockstep.specs.Contents.{contents};
-ghost use Rattle.dn_session.specs.{Coming.counts_in, Coming.has_more, Playing.is_alive, Playing.is_told_since, Playing.known_by, Playing.told_at};
+ghost use Rattle.dn_session.specs.{Coming.counts_in, Coming.has_more, Playing.is_alive, Playing.known_by, Playing.told_at};
 
 use super::{Exclusion, Part, Transmit, copied};
 use crate::coming::{Lines, heard_of, is_late_in, is_new_in, is_news_of, line_of, lines_of};
 use crate::greeting::Address;
+use crate::places::is_since;
 use crate::players::{count_in, is_gone_from};
 use dn_link::{BundleFault, Link, Received};
 use dn_lockstep::Lockstep;
@@ -61,21 +62,11 @@ fn is_alive(received: &Received, before: &Known, after: &Known, player: u8) -> b
         || has_more(&before.counts, &after.counts, player)
 }
 
-/// Whether something was told in the last second, if it was.
-pub(super) fn is_told_since(now: u32, told: Option<u32>) -> bool
-    ensures { result ≡ is_told_since now told }
-{
-    match told {
-        Some(told) => u64::from(now) < u64::from(told) + 1000,
-        None => false,
-    }
-}
-
 /// Where one who is given up is to be told so whose datagram came from here.
 fn told_at(from: &Address, now: u32, exclusion: &Exclusion) -> Exclusion
     ensures { result ≡ told_at from.now now exclusion.now }
 {
-    if is_told_since(now, exclusion.told) {
+    if is_since(1000, now, exclusion.told) {
         return *exclusion;
     }
     Exclusion {

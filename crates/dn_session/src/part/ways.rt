@@ -4,20 +4,18 @@ ghost use Rattle.std.specs.Prelude.{◌≡◌};
 ghost use Rattle.dn_session.specs.{Playing.playing, Sent.can_pass, Sent.is_near, Sent.is_probed, Sent.place_to, Sent.way_to};
 
 use super::Part;
-use super::hearing::is_told_since;
-use crate::places::Place;
+use crate::places::{Place, is_since};
 use crate::players::is_gone_from;
 
 /// For how many milliseconds a player that gives no sign of life is probed.
 const PROBED_FOR: u32 = 10_000;
 
 impl Part {
-    /// Whether a player was heard where it is in the second before the last look.
+    /// Whether a player is near, by the last look.
     fn is_near(&self, player: u8) -> bool
         ensures { result ≡ is_near (playing self.now) player }
     {
-        let place = self.places.place(player);
-        place.is_confirmed && u64::from(self.watch.looked) < u64::from(place.heard) + 1000
+        self.places.place(player).is_near(self.watch.looked)
     }
 
     /// Whether another can pass a datagram on to a player.
@@ -50,7 +48,7 @@ impl Part {
         ensures { result ≡ is_probed (playing self.now) player }
     {
         let looked = self.watch.looked;
-        !is_told_since(looked, self.places.place(player).probed)
+        !is_since(1000, looked, self.places.place(player).probed)
             && self.watch.silence(player, looked) < PROBED_FOR
     }
 }
