@@ -11,7 +11,10 @@ use Rattle.dn_machine.specs.Flight.{Kind, SetUp, Play, Exit, Flight, packet_of, 
 use Rattle.dn_machine.specs.{declared.answers.Heard.Heard, declared.answers.Phase.TheVariants.Playing, declared.peer.Peer.Peer, Game.Game, Hearing.on_packet}
 use Rattle.dn_machine.specs.{Limits.Limits, Node.is_ended, Worlds.Rules}
 use Rattle.dn_machine.specs.Node as machine
-use Rattle.dn_machine.proofs.{Asking, Invariant, Promises, Invariant.IsKept, Invariant.history_of, Put.put_at, Put.put_off}
+use Rattle.dn_machine.proofs.Asking
+use Rattle.dn_machine.proofs.Invariant
+use Rattle.dn_machine.proofs.Promises
+use Rattle.dn_machine.proofs.{Invariant.IsKept, Invariant.history_of, Put.put_at, Put.put_off}
 use Rattle.dn_lockstep.specs.{Contents.Contents, Marking.Marking, Sent.IsFair, OneGame.AreOneGame, OneGame.beside, OneGame.Session, OneGame.with_lockstep}
 use Rattle.dn_lockstep.specs.{Represents.Represents, Told.got}
 use Rattle.dn_lockstep.proofs.{OneGame.hear_quiet, Receiving.told_by, Receiving.told_is, Receiving.near_received, Shown.has}
