@@ -1,17 +1,17 @@
 -- What a link gives to a peer, within one game.
-use Rattle.std.proofs.Common.{◌≡◌, ◌<◌, ◌≤◌, ◌≢◌, ◌+◌, ◌%◌, ◌^◌, ℕ, Bool, true, false, List, refl, ap, sym, ◌∙◌, arith, Option, Some}
+use Rattle.std.proofs.Common.{◌≡◌, ◌<◌, ◌≤◌, ◌≢◌, ◌+◌, ◌%◌, ◌^◌, ℕ, true, List, refl, ap, sym, ◌∙◌, arith, Option, Some}
 use Rattle.std.proofs.lemmas.Bool.{cond_both}
-use Rattle.std.specs.Prelude.{◌&&◌, ◌||◌, IfSome, is_some, nat_lt, slice_index}
+use Rattle.std.specs.Prelude.{IfSome, nat_lt, slice_index}
 use Rattle.std.specs.Option.{option_map}
 use Rattle.dn_setup.specs.Settings.{Settings}
 use Rattle.dn_machine.specs.{Flight.Flight, Limits.Limits, Node.put}
 use Rattle.dn_machine.proofs.Put.{put_at}
-use Rattle.dn_lockstep.specs.OneGame.{AreOneGame, Session, with_lockstep, after_packet, after_relays, given_on}
+use Rattle.dn_lockstep.specs.OneGame.{AreOneGame, Session, after_packet, after_relays, given_on}
 use Rattle.dn_lockstep.specs.{Contents.Contents, Marking.Marking, Represents.Represents, Sent.sent_to, Sent.IsFair, Steps.Tells, Told.command_told}
 use Rattle.dn_lockstep.proofs.OneGame.{GoesBetween, sent_between, gave, relays}
 use Rattle.dn_seal.specs.declared.seal.Seal.{Seal}
 use Rattle.dn_link.specs.{declared.bundle.Bundle.Bundle, declared.bundle.Carried.Carried, declared.bundle.Counts.Counts, Counting.counts_of, Counting.has_ended}
-use Rattle.dn_link.specs.{Counting.has_of, Ends.tells_end, LinkedGame.WasBundled, LinkedGame.AreLinked, LinkedGame.IsLater, Hearing.ByTest, Hearing.SendsCarried}
+use Rattle.dn_link.specs.{Counting.has_of, Ends.tells_end, LinkedGame.WasBundled, LinkedGame.AreLinked, LinkedGame.IsLater}
 use Rattle.dn_link.specs.{Hearing.carried_of, Kept.kept_after, Kept.taken_by, Linked.Linked, Linked.Gives, Linked.PeerState, Pacing.PaceState, Relays.AreHandedOn}
 use Rattle.dn_link.specs.Relays.{Handed, flights_of}
 use Rattle.dn_link.proofs.Growing.{HasAsMuch, grows, Holds, holds_same, send_holds}

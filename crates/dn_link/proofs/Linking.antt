@@ -1,15 +1,15 @@
 -- A link of one game, and what calls leave that keep what it knows of its peers.
-use Rattle.std.proofs.Common.{◌≡◌, ℕ, Bool, true, false, refl, ap, sym, ◌∙◌, inl, inr, ◌≤◌, List, arith, ◌<◌, subst, [], ◌∷◌, Some, All, ◌++◌, Option, None}
+use Rattle.std.proofs.Common.{◌≡◌, ℕ, true, refl, ap, sym, ◌∙◌, ◌≤◌, List, arith, ◌<◌, subst, [], ◌∷◌, Some, All, ◌++◌, Option, None}
 use Rattle.std.proofs.lemmas.List.Elements.{All-nil, All-cons, All-head, All-tail, All-append}
-use Rattle.std.proofs.{lemmas.Bool.cases_eq, lemmas.Option.same_Some, lemmas.Option.none-some, lemmas.Grind.flat_map-append}
-use Rattle.std.specs.Prelude.{if◌then◌else◌, max, slice_index, slice_get, map}
+use Rattle.std.proofs.{lemmas.Option.same_Some, lemmas.Option.none-some, lemmas.Grind.flat_map-append}
+use Rattle.std.specs.Prelude.{max, slice_index, slice_get, map}
 use Rattle.std.specs.{List.flat_map, Option.option_map}
 use Rattle.dn_setup.specs.Settings.{Settings}
 use Rattle.dn_seal.specs.{declared.opened.Opened.Opened, declared.seal.Seal.Seal}
 use Rattle.dn_machine.specs.{Node.put, Flight.Flight, Limits.Limits}
 use Rattle.dn_machine.proofs.Put.{put_at, put_off}
 use Rattle.dn_machine.specs.Node as machine
-use Rattle.dn_lockstep.proofs.OneGame.{gave, GoesBetween}
+use Rattle.dn_lockstep.proofs.OneGame.{GoesBetween}
 use Rattle.dn_lockstep.specs.{Contents.Contents, Marking.Marking, OneGame.AreOneGame, OneGame.given_on, OneGame.Session, OneGame.with_lockstep, Represents.Represents}
 use Rattle.dn_lockstep.specs.Steps.{Simulates}
 use Rattle.dn_open.specs.Sealed.{sealing_of}

@@ -1,5 +1,5 @@
 -- What a link keeps, what its calls do, and what is known of the line to a peer.
-use Rattle.std.specs.Prelude.{◌≡◌, ℕ, ◌+◌, ◌-◌, ◌%◌, ◌^◌, ◌==◌, ◌≤◌, ◌&&◌, ◌||◌, if◌then◌else◌, nat_lt, min, max, length, Bool, not, List, [], ◌∷◌, slice_index, ◌++◌, ◌≢◌, map, All, Option, is_none, is_some, pos, IfSome, None, Some, false, Result, Ok, Err}
+use Rattle.std.specs.Prelude.{◌≡◌, ℕ, ◌+◌, ◌-◌, ◌%◌, ◌^◌, ◌==◌, ◌≤◌, ◌&&◌, ◌||◌, if◌then◌else◌, nat_lt, min, max, length, Bool, not, List, [], ◌∷◌, slice_index, ◌++◌, ◌≢◌, map, All, Option, is_some, pos, IfSome, None, Some, false, Result, Ok, Err}
 use Rattle.dn_seal.specs.declared.seal.Seal.{Seal}
 use Rattle.dn_machine.specs.Node.{put}
 use Rattle.dn_lockstep.specs.{Contents.Contents, Contents.end_in, Told.made}
@@ -11,7 +11,7 @@ use Rattle.dn_link.specs.declared.received.Received.TheVariants.{Unopened, Stran
 use Rattle.dn_link.specs.Kept.{Unacknowledged, acknowledged, going, kept_after, taken_by}
 use Rattle.dn_link.specs.{declared.bundle.Bundle.Bundle, declared.bundle.BundleFault.BundleFault, declared.bundle.Carried.Carried, declared.received.Received.Received}
 use Rattle.dn_link.specs.{Reading.IsBundledAs, Counting.counts_of, Counting.held_of, Counting.reached, Hearing.SendsCarried, Hearing.ByTest, Hearing.HearsAll}
-use Rattle.dn_link.specs.{Line.missing, Line.LineState, Pacing.PaceState, Packets.heard_in, Packets.takes_relay, Packing.ArePacked, Relays.AreHandedOn, Relays.AreLacked}
+use Rattle.dn_link.specs.{Line.missing, declared.line.Line.Line, Pacing.PaceState, Packets.heard_in, Packets.takes_relay, Packing.ArePacked, Relays.AreHandedOn, Relays.AreLacked}
 use Rattle.dn_link.specs.{Relays.Handed, Relays.handed_part, declared.bundle.Part.Part, Ends.excludes, Ends.left_by, Ends.told_cause, Text.IsBundle, Text.parts_bytes}
 use Rattle.dn_link.specs.{Text.sealed_bytes, declared.tally.Figures.Figures}
 use Rattle.dn_link.specs.declared.bundle.Relay as relay
@@ -141,8 +141,7 @@ with_reached node peers player =
 -- what a datagram tells of the peer is taken in, and its packets. What is heard then acknowledges, for whoever
 -- made it
 pub record TakesPackets (bundle : Bundle) (old new : Linked) : Type 0 where
-  pub started : Bool
-  pub heard : HearsAll (heard_in (takes old) bundle) old.node new.node started
+  pub heard : HearsAll (heard_in (takes old) bundle) old.node new.node
   pub others : new.others ≡ old.others
   pub peers : new.peers ≡ with_reached new.node (met bundle old).peers
 
@@ -223,7 +222,7 @@ may_leave link =
     needs_nothing link 0 && (needs_nothing link 1 && (needs_nothing link 2 && needs_nothing link 3))
 
 -- What is known of the line to a peer, and of the commands that are on their way.
-abbrev pub figures_of : LineState → Figures
+abbrev pub figures_of : Line → Figures
 figures_of line =
     record {
       came = line.tally.came;

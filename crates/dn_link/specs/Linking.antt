@@ -1,8 +1,8 @@
 -- What a link is, with what is kept for a peer.
-use Rattle.std.specs.Prelude.{ℕ, List, [], ◌∷◌, None}
+use Rattle.std.specs.Prelude.{ℕ, List, [], ◌∷◌, None, get_or, map}
 use Rattle.dn_seal.specs.{declared.seal.Seal.Seal, Sealing.sealing}
 use Rattle.dn_survivor.specs.Surviving.{surviving}
-use Rattle.dn_link.specs.{declared.link.Link.Link, declared.peer.Peer.Peer, Linked.Linked, Linked.PeerState, Places.by_place, declared.kept.Kept.Kept}
+use Rattle.dn_link.specs.{declared.link.Link.Link, declared.peer.Peer.Peer, Linked.Linked, Linked.PeerState, declared.kept.Kept.Kept}
 use Rattle.dn_link.specs.Kept.{Unacknowledged}
 
 -- what is kept for a peer
@@ -29,7 +29,7 @@ new_peer =
     }
 
 abbrev pub peers_of : List Peer → ℕ → PeerState
-peers_of peers = by_place state_of new_peer peers
+peers_of peers place = get_or (map state_of peers) place new_peer
 
 abbrev pub linked : Link → Linked
 linked link =

@@ -1,10 +1,10 @@
 use Rattle.std.proofs.Common.{rules, ◌≡◌, ◌<◌, ◌+◌, List, ◌%◌, ◌^◌, ℕ, length, get_or, w8, to_z, of_z, refl, ap, ◌∙◌, subst, arith}
-use Rattle.std.specs.Prelude.{Bool, None, ◌&&◌, ◌||◌, is_some, IfSome}
+use Rattle.std.specs.Prelude.{IfSome}
 use Rattle.dn_survivor.specs.{ReportBytes.IsReport, Surviving.Surviving}
 use Rattle.dn_link.specs.{Linked.report_beside, Linked.written, declared.bundle.Part.Part}
 use Rattle.dn_machine.specs.Node.{put}
 use Rattle.dn_lockstep.specs.Contents.{Contents, contents}
-use Rattle.dn_link.specs.{Counting.counts_of, Ends.told_cause, Hearing.SendsCarried, Line.LineState, Line.missing, Kept.going, Kept.kept_after, Kept.taken_by, Linked.PeerState}
+use Rattle.dn_link.specs.{Counting.counts_of, Ends.told_cause, Hearing.SendsCarried, declared.line.Line.Line, Line.missing, Kept.going, Kept.kept_after, Kept.taken_by, Linked.PeerState}
 use Rattle.dn_link.specs.{Linking.linked, Linking.peers_of, Linking.state_of, Relays.AreLacked, Packing.ArePacked}
 use Rattle.dn_link.proofs.{Handing.may_before, Linking.same_reported, Places.peer_at, Places.peers_put}
 use Rattle.dn_link.proofs.link.Link.datagram.Goals as goal
@@ -56,7 +56,7 @@ returns-clause-gives c =
       from = me;
       goes = refl;
       number = after.number ∙ ap (λ (t : PeerState). t.number) here;
-      lead = led ∙ ap (λ (l : LineState). l.own_lead) c.line-line.ensures;
+      lead = led ∙ ap (λ (l : Line). l.own_lead) c.line-line.ensures;
       holes = c.missing.ensures ∙ ap missing c.line-line.ensures;
       cause = c.told_cause-cause.ensures ∙ ap told_cause
           (c.phase.ensures ∙ ap (λ (n : Contents). n.phase) c.lockstep-2.ensures);
