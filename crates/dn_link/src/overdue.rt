@@ -1,6 +1,6 @@
 //! What a link keeps to decide which commands of third players it hands on.
 
-ghost use Rattle.std.specs.Prelude.{◌≡◌, ◌<◌, ◌≤◌, IfSome, false, slice_index};
+ghost use Rattle.std.specs.Prelude.{◌≡◌, ◌<◌, ◌≤◌, IfSome, false, slice_index, ◌∷◌, take};
 ghost use Rattle.dn_link.specs.Relays.{counted_down, four_of, lag_of, is_on, learned};
 
 use crate::bundle::Part;
@@ -146,6 +146,7 @@ impl Overdue {
     /// A tick of this player, at which it has so many commands, and each peer has reported to have so many.
     pub(crate) fn tick(&mut self, me: u8, had: Had, reported: &[Had; 4])
         requires { me < 4 }
+        ensures { self.new.history.ticks.items ≡ had ∷ take 31 self.old.history.ticks.items }
     {
         let learned = [
             self.peers[0].learn(&self.history, &reported[0]),
