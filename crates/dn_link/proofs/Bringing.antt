@@ -45,9 +45,9 @@ pub gives_own : (seal : Seal) (pace : PaceState) (to : ℕ) (old new : Linked) (
     → (gives : Gives seal pace to old new bytes)
     → own_in gives.bundle ≡ flat_map (packets_of old.node.me) gives.own
 gives_own seal pace to old new bytes gives =
-    (λ i. flat_map (own_of (gives.from i)) (gives.parts i))
-    ∙ flat_map-append (own_of old.node.me) gives.own (map handed_part gives.handed)
-    ∙ ap (λ (ps : List Opened). flat_map (own_of old.node.me) gives.own ++ ps) (none_own old.node.me gives.handed)
+    (λ i. flat_map (own_of (gives.from i)) (gives.behind.parts i))
+    ∙ flat_map-append (own_of old.node.me) gives.own (map handed_part gives.behind.handed)
+    ∙ ap (λ (ps : List Opened). flat_map (own_of old.node.me) gives.own ++ ps) (none_own old.node.me gives.behind.handed)
     ∙ append-nil (flat_map (own_of old.node.me) gives.own) ∙ own_only old.node.me gives.own gives.packed.needed
 
 -- they end no earlier behind a later tic

@@ -76,16 +76,16 @@ module _ (marking : Marking) (limits : Limits) (settings : Settings) (session : 
       (flight : Option Flight) (gives : Gives seal pace to old new bytes) → AreOneGame marking limits
       settings (after_packet session player flight new.node) → GoesBetween player to flight → gives.given
       ≡ option_map carried_of flight → HasAsMuch player (session.locksteps player) new.node → WasBundled seal
-      (after_all flight new gives.handed to) bytes × AreLinked marking limits settings
-      (after_all flight new gives.handed to) (put links player new) × IsLater session
-      (after_all flight new gives.handed to)
+      (after_all flight new gives.behind.handed to) bytes × AreLinked marking limits settings
+      (after_all flight new gives.behind.handed to) (put links player new) × IsLater session
+      (after_all flight new gives.behind.handed to)
   gave_by seal pace to new bytes flight gives game between answer much =
       let all : AreKept session.given player old.peers = λ peer. linked.kept player peer mine in
       let taken : Option Carried = taken_by (old.peers to).left gives.given in
-      let later : Session = after_all flight new gives.handed to in
-      let handed_game = hands_on flight new game to gives.handed gives.handed_on in
+      let later : Session = after_all flight new gives.behind.handed to in
+      let handed_game = hands_on flight new game to gives.behind.handed gives.behind.on in
       let is = later_by session later player new.node refl
-      (λ which one found. found_on (given_on session.given flight) (flights_of to gives.handed) which one
+      (λ which one found. found_on (given_on session.given flight) (flights_of to gives.behind.handed) which one
       (found_later session.given flight which one found)) much in
       let told : (peer which : ℕ) → which ≢ peer
       → slice_index (new.peers peer).reported which ≤ has_of (later.locksteps peer) which =
@@ -137,9 +137,9 @@ module _ (marking : Marking) (limits : Limits) (settings : Settings) (session : 
   pub gave_to : (seal : Seal) (pace : PaceState) (to : ℕ) (new : Linked) (bytes : List ℕ)
       → Tells old.node (λ limits me m. IfSome (sent_to to limits me m).1 IsFair)
       → (gives : Gives seal pace to old new bytes)
-      → (flight : Option Flight) × WasBundled seal (after_all flight new gives.handed to) bytes
-      × AreLinked marking limits settings (after_all flight new gives.handed to) (put links player new)
-      × IsLater session (after_all flight new gives.handed to)
+      → (flight : Option Flight) × WasBundled seal (after_all flight new gives.behind.handed to) bytes
+      × AreLinked marking limits settings (after_all flight new gives.behind.handed to) (put links player new)
+      × IsLater session (after_all flight new gives.behind.handed to)
   gave_to seal pace to new bytes fair gives =
       let m = linked.game.last.nodes player in
       let flight : Option Flight = (sent_to to limits player m).1 in

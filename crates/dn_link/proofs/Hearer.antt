@@ -1,5 +1,5 @@
 -- What one packet that asks for nothing does to the node that hears it.
-use Rattle.std.proofs.Common.{◌≡◌, ◌≢◌, ◌<◌, ◌≤◌, ◌+◌, ◌-◌, ◌⊎◌, ◌++◌, ℕ, Bool, true, false, length, drop, refl, ap, sym, ◌∙◌, subst, arith, Option, None, inl, inr}
+use Rattle.std.proofs.Common.{◌≡◌, ◌≢◌, ◌<◌, ◌≤◌, ◌+◌, ◌-◌, ◌⊎◌, ◌++◌, ℕ, Bool, true, false, List, length, drop, refl, ap, sym, ◌∙◌, subst, arith, Option, None, inl, inr}
 use Rattle.std.specs.Prelude.{max}
 use Rattle.std.proofs.lemmas.{Bool.cases_eq, List.length-append, List.length-drop}
 use Rattle.dn_tic.specs.declared.command.TicCmd.{TicCmd}
@@ -69,75 +69,45 @@ module _ (limits : Limits) (me : ℕ) (node : Node) (flight : Flight) (silent : 
     | inr n ↦ ap (λ (x : Peer). x.want) (put_off node.peers from p peer n) ∙ all p l other
   ]
 
-  -- the node is as it was, but for a phase that is no end
+  -- it has the same commands
+  module _ (end : ℕ) (new : Node) (held : new.held ≡ node.held) where
+    same_held : (p : ℕ) → length (new.held p) ≡ length (node.held p)
+    same_held p = ap (λ (h : ℕ → List TicCmd). length (h p)) held
+
+    holds_same : (is_ended new.phase ≡ false → is_ended node.phase ≡ false)
+        → (node.phase ≡ Playing → new.phase ≡ Playing) → ((p : ℕ) → (new.peers p).resend ≡ (node.peers p).resend)
+        → ((node.phase ≡ Playing → flight.start ≤ length (node.held from)) → WantsNone node → WantsNone new)
+        → Leaves end new
+    holds_same ended stays next wants =
+        let same = same_held from in
+        record {
+          ended = ended;
+          stays = stays;
+          others = λ p n. same_held p;
+          least = omega (arith, same);
+          most = omega (arith, same);
+          idle = λ n. same;
+          next = next;
+          wants = wants;
+        }
+
+  -- the node is as it was
   same : (end : ℕ) → Leaves end node
-  same end = record {
-    ended = λ e. e;
-    stays = λ e. e;
-    others = λ p n. refl;
-    least = omega arith;
-    most = omega arith;
-    idle = λ n. refl;
-    next = λ p. refl;
-    wants = λ low all. all;
-  }
+  same end = holds_same end node refl (λ e. e) (λ e. e) (λ p. refl) (λ low all. all)
 
   -- a word of its sender
   pub word_leaves : Leaves (end_of flight) (on_packet limits me node flight).0
   word_leaves = packet_cases limits me node flight (λ (r : Node × Heard). Leaves (end_of flight) r.0) (record {
     dropped = λ number why. same (end_of flight);
-    starts = λ s e k. record {
-      ended = λ x. ap is_ended e;
-      stays = λ x. refl;
-      others = λ p n. refl;
-      least = omega arith;
-      most = omega arith;
-      idle = λ n. refl;
-      next = λ p. refl;
-      wants = λ low all. all;
-    };
-    completes = λ word e all. record {
-      ended = λ x. ap is_ended e;
-      stays = λ x. refl;
-      others = λ p n. refl;
-      least = omega arith;
-      most = omega arith;
-      idle = λ n. refl;
-      next = λ p. refl;
-      wants = λ low none. none;
-    };
-    notes = λ word e some. record {
-      ended = λ x. x;
-      stays = λ x. x;
-      others = λ p n. refl;
-      least = omega arith;
-      most = omega arith;
-      idle = λ n. refl;
-      next = λ p. refl;
-      wants = λ low none. none;
-    };
+    starts = λ s e k. holds_same _ _ refl (λ x. ap is_ended e) (λ x. refl) (λ p. refl) (λ low all. all);
+    completes = λ word e all. holds_same _ _ refl (λ x. ap is_ended e) (λ x. refl) (λ p. refl) (λ low all. all);
+    notes = λ word e some. holds_same _ _ refl (λ x. x) (λ x. x) (λ p. refl) (λ low all. all);
     commands = λ playing. record {
       dropped = λ number why. same (end_of flight);
-      stale = λ l. record {
-        ended = λ x. x;
-        stays = λ x. x;
-        others = λ p n. refl;
-        least = omega arith;
-        most = omega arith;
-        idle = λ n. refl;
-        next = next_put (sender_after limits me node flight) sender_same.0;
-        wants = λ low none. wants_put (sender_after limits me node flight) (sender_same.1 ∙ none from below apart) none;
-      };
-      gap = λ l. record {
-        ended = λ x. x;
-        stays = λ x. x;
-        others = λ p n. refl;
-        least = omega arith;
-        most = omega arith;
-        idle = λ n. refl;
-        next = next_put _ sender_same.0;
-        wants = λ low none. absurd (omega (arith, l, low playing));
-      };
+      stale = λ l. holds_same _ _ refl (λ x. x) (λ x. x) (next_put _ sender_same.0)
+          (λ low none. wants_put _ (sender_same.1 ∙ none from below apart) none);
+      gap = λ l. holds_same _ _ refl (λ x. x) (λ x. x) (next_put _ sender_same.0)
+          (λ low none. absurd (omega (arith, l, low playing)));
       takes = λ l m. record {
         ended = λ x. x;
         stays = λ x. x;
@@ -149,16 +119,8 @@ module _ (limits : Limits) (me : ℕ) (node : Node) (flight : Flight) (silent : 
         wants = λ low none. wants_put _ refl none;
       };
     };
-    requests = λ done. record {
-      ended = λ x. x;
-      stays = λ x. x;
-      others = λ p n. refl;
-      least = omega arith;
-      most = omega arith;
-      idle = λ n. refl;
-      next = next_put _ requested.0;
-      wants = λ low none. wants_put _ (requested.1 ∙ none from below apart) none;
-    };
+    requests = λ done. holds_same _ _ refl (λ x. x) (λ x. x) (next_put _ requested.0)
+        (λ low none. wants_put _ (requested.1 ∙ none from below apart) none);
   })
     where
       grown : length (put node.held from (node.held from ++ drop (length (node.held from) - flight.start) flight.commands) from)
@@ -177,16 +139,8 @@ module _ (limits : Limits) (me : ℕ) (node : Node) (flight : Flight) (silent : 
       go : (phase : Phase) → node.phase ≡ phase
           → Leaves flight.start (on_packet_in limits me node flight node.phase flight.kind).0
       go Listening e = subst (λ (r : Node × Heard). Leaves flight.start r.0)
-          (λ i. on_packet_in limits me node flight (sym e i) (sym is i)) (record {
-            ended = λ x. ap is_ended e;
-            stays = λ x. refl;
-            others = λ p n. refl;
-            least = omega arith;
-            most = omega arith;
-            idle = λ n. refl;
-            next = λ p. refl;
-            wants = λ low all. all;
-          })
+          (λ i. on_packet_in limits me node flight (sym e i) (sym is i))
+          (holds_same _ _ refl (λ x. ap is_ended e) (λ x. refl) (λ p. refl) (λ low all. all))
       go Gathering e = subst (λ (r : Node × Heard). Leaves flight.start r.0)
           (λ i. on_packet_in limits me node flight (sym e i) (sym is i))
           (same flight.start)

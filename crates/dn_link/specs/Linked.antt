@@ -64,9 +64,18 @@ abbrev pub written : Option Report → List ℕ
 written None = []
 written (Some report) = report_bytes report
 
+-- behind its own parts a datagram has commands of third players from this number on, none of which the peer has
+-- reported, of no player who is given up, and only if the peer may be handed any
+pub record HasBehind (link : Linked) (to low : ℕ) (own all : List Part) : Type 0 where
+  pub handed : List Handed
+  pub parts : all ≡ own ++ map handed_part handed
+  pub on : AreHandedOn link.node to handed
+  pub lacked : AreLacked (link.peers to).reported low handed
+  pub stay : All (λ h. has_given_up link h.player ≡ false) handed
+  pub may : handed ≢ [] → MayRelay (surviving_of link) to
+
 -- a datagram to a peer: what is kept for the peer, with the packet of the moment if the peer takes it; behind
--- these, commands of at most two third players, none of which the peer has reported, of no player who is given
--- up, and only if the peer may be handed any; how far the node is; what it reports of those who are given up; by
+-- these, commands of at most two third players; how far the node is; what it reports of those who are given up; by
 -- how many commands it led at its last tick; how many datagrams of the peer are missing; and why the node has
 -- ended, if it has
 pub record Gives (seal : Seal) (pace : PaceState) (to : ℕ) (old new : Linked) (bytes : List ℕ) : Type 0 where
@@ -86,14 +95,9 @@ pub record Gives (seal : Seal) (pace : PaceState) (to : ℕ) (old new : Linked) 
   pub report : bundle.report.items ≡ written (report_beside (surviving_of new) to bundle.parts.items)
   pub proper : IfSome (report_beside (surviving_of new) to bundle.parts.items) IsReport
   pub own : List Part
-  pub handed : List Handed
-  pub parts : bundle.parts.items ≡ own ++ map handed_part handed
   pub packed : ArePacked old.node.me (going (old.peers to).kept (taken_by (old.peers to).left given)) own
-  pub handed_on : AreHandedOn new.node to handed
-  pub lacked : AreLacked (old.peers to).reported 0 handed
-  pub few : length handed ≤ 2
-  pub stay : All (λ h. has_given_up old h.player ≡ false) handed
-  pub may : handed ≢ [] → MayRelay (surviving_of old) to
+  pub behind : HasBehind new to 0 own bundle.parts.items
+  pub few : length behind.handed ≤ 2
   pub others : new.others ≡ old.others
   pub peers : new.peers ≡ put old.peers to (record (old.peers to) {
     kept = kept_after (old.peers to).kept (taken_by (old.peers to).left given);

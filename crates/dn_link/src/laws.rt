@@ -99,9 +99,9 @@ pub fn linked_game_goes_on()
         → Tells (links player).node (λ limits me m. IfSome (sent_to to limits me m).1 IsFair)
         → (gives : Gives seal pace to (links player) new bytes)
         → (flight : Option Flight)
-        × WasBundled seal (after_relays (after_packet session player flight new.node) (flights_of to gives.handed)) bytes
+        × WasBundled seal (after_relays (after_packet session player flight new.node) (flights_of to gives.behind.handed)) bytes
         × StayLinked marking limits settings session links player new
-        (after_relays (after_packet session player flight new.node) (flights_of to gives.handed)) }
+        (after_relays (after_packet session player flight new.node) (flights_of to gives.behind.handed)) }
     ensures received { (marking : Marking) (limits : Limits) (settings : Settings) (session : Session) (links : ℕ → Linked)
         (player : ℕ) (seal : Seal) (bytes : List ℕ) (new : Linked) (answer : Received)
         → AreLinked marking limits settings session links → player < limits.players

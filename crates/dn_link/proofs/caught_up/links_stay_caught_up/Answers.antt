@@ -58,7 +58,7 @@ returns-clause-gave c = λ marking limits settings session links player to seal 
           pace new bytes gives in_time,
       given_on_time marking limits settings session links player linked mine agreed were four to below apart seal
           pace new bytes gives in_time
-          (ends_on session (after_relays (after_packet session player later.0 new.node) (flights_of to gives.handed)) player
+          (ends_on session (after_relays (after_packet session player later.0 new.node) (flights_of to gives.behind.handed)) player
           (links player).node new.node (linked.nodes player mine) refl later.2.1),
     )
 
