@@ -2,39 +2,44 @@
 use Rattle.std.proofs.Common.{◌≡◌, ◌≢◌, ◌<◌, ◌≤◌, ◌+◌, ◌-◌, ◌/◌, ◌⊎◌, ◌&&◌, ℕ, Bool, true, false, List, [], ◌∷◌, length, refl, ap, sym, ◌∙◌, subst, arith, Option, Some, None, All, inl, inr}
 use Rattle.std.proofs.{lemmas.Bool.cases_eq, lemmas.Bool.ltb-true, lemmas.Bool.not-false, lemmas.Bool.true≢false, lemmas.List.Elements.All-head}
 use Rattle.std.proofs.lemmas.List.Elements.{All-tail}
-use Rattle.std.specs.Prelude.{Ok, max, nat_lt, not, slice_get}
+use Rattle.std.specs.Prelude.{Ok, max, nat_lt, slice_get}
 use Rattle.dn_packet.proofs.Texts.{length-commands}
 use Rattle.dn_packet.specs.Text.{text}
 use Rattle.dn_tic.specs.declared.command.Move.{Move}
 use Rattle.dn_setup.specs.Settings.{Settings}
 use Rattle.dn_machine.specs.Flight.{Kind, SetUp, Play, Exit, Flight, packet_of, packet_of_kind, is_close, is_request_close, distance, end_of}
-use Rattle.dn_machine.specs.{declared.answers.Heard.Heard, declared.answers.Phase.TheVariants.Playing, declared.peer.Peer.Peer, Game.Game, Hearing.on_packet}
+use Rattle.dn_machine.specs.{declared.answers.Heard.Heard, declared.answers.Phase.Phase, declared.answers.Phase.TheVariants.Listening, declared.answers.Phase.TheVariants.Gathering, declared.answers.Phase.TheVariants.Playing, declared.answers.Phase.TheVariants.Ended, declared.peer.Peer.Peer, Game.Game, Hearing.on_packet}
 use Rattle.dn_machine.specs.{Limits.Limits, Node.is_ended, Worlds.Rules}
 use Rattle.dn_machine.specs.Node as machine
 use Rattle.dn_machine.proofs.Asking
 use Rattle.dn_machine.proofs.Invariant
 use Rattle.dn_machine.proofs.Promises
 use Rattle.dn_machine.proofs.{Invariant.IsKept, Invariant.history_of, Put.put_at, Put.put_off}
-use Rattle.dn_lockstep.specs.{Contents.Contents, Marking.Marking, Sent.IsFair, OneGame.AreOneGame, OneGame.beside, OneGame.Session, OneGame.with_lockstep}
+use Rattle.dn_lockstep.specs.{Contents.Contents, Marking.Marking, Sent.IsFair, OneGame.AreOneGame, OneGame.beside, OneGame.Session, OneGame.with_lockstep, Phases.is_waiting}
 use Rattle.dn_lockstep.specs.{Represents.Represents, Told.got}
 use Rattle.dn_lockstep.proofs.{OneGame.hear_quiet, Receiving.told_by, Receiving.told_is, Receiving.near_received, Shown.has}
 use Rattle.dn_seal.specs.declared.opened.Opened.{Opened}
 use Rattle.dn_open.specs.Arrivals.{HearsOpened, IsRead, SparesSealed, heard, on_opened}
 use Rattle.dn_open.specs.{declared.hearing.Arrived.Arrived, Sealed.opened_of}
 use Rattle.dn_open.proofs.{Sealables.alike, Deliveries.near_if}
-use Rattle.dn_link.specs.{LinkedGame.WasGiven, CaughtUp.told_end, CaughtUp.next_to, Hearing.ByTest, Hearing.HearsAll, Hearing.HearsUntil, Hearing.is_start}
+use Rattle.dn_link.specs.{LinkedGame.WasGiven, CaughtUp.told_end, CaughtUp.next_to, Hearing.HearsAll}
 use Rattle.dn_link.proofs.Hearer.{IsSpared, Leaves, settings_leave, word_leaves, word_reaches}
 use Rattle.dn_link.proofs.{Keeping.LettersKeep, Keeping.keeps_one, Makers.HaveNoGaps, Makers.ends_of, Makers.then_end}
 
--- who starts is told so
-started_is : (told : Heard) → is_start (Arrived.Heard told) ≡ true → told ≡ Heard.Started
-started_is Heard.Started is = refl
-started_is (Heard.Taken count) is = absurd (cc)
-started_is Heard.Stale is = absurd (cc)
-started_is Heard.Gap is = absurd (cc)
-started_is Heard.Left is = absurd (cc)
-started_is Heard.Noted is = absurd (cc)
-started_is (Heard.Dropped number) is = absurd (cc)
+-- who has started, and has not ended, plays
+plays_of : (phase : Phase) → is_waiting phase ≡ false → is_ended phase ≡ false → phase ≡ Playing
+plays_of Listening started goes_on = absurd (cc)
+plays_of Gathering started goes_on = absurd (cc)
+plays_of Playing started goes_on = refl
+plays_of (Ended cause) started goes_on = absurd (cc)
+
+-- and has started still, if it plays on, or has ended before
+started_on : (now next : Phase) → is_waiting now ≡ false → (now ≡ Playing → next ≡ Playing)
+    → (is_ended next ≡ false → is_ended now ≡ false) → is_waiting next ≡ false
+started_on now Listening started stays ended = ap is_waiting (stays (plays_of now started (ended refl)))
+started_on now Gathering started stays ended = ap is_waiting (stays (plays_of now started (ended refl)))
+started_on now Playing started stays ended = refl
+started_on now (Ended cause) started stays ended = refl
 
 -- where a packet ends, by its kind: settings have no command
 settings_end : (flight : Flight) (settings : Settings) → flight.kind ≡ SetUp settings
@@ -130,13 +135,10 @@ module _ (letters : LettersKeep) (marking : Marking) (limits : Limits) (settings
       omega (arith, sender, ap (λ (p : Opened). p.from) is)
 
   -- what a packet leaves
-  pub record Hears (now next : Contents) (answer : Arrived) (packet : Opened) : Type 0 where
+  pub record Hears (now next : Contents) (packet : Opened) : Type 0 where
     pub sender : packet.from < limits.players
     pub apart : packet.from ≢ player
     pub game : AreOneGame marking limits settings (at next)
-    pub starts : is_start answer ≡ true
-        → (now.phase ≢ Playing) × (is_ended now.phase ≡ false) × (next.phase ≡ Playing)
-    pub plays : next.phase ≡ Playing → (now.phase ≡ Playing) ⊎ (is_start answer ≡ true)
     pub ended : is_ended next.phase ≡ false → is_ended now.phase ≡ false
     pub stays : now.phase ≡ Playing → next.phase ≡ Playing
     pub others : (p : ℕ) → p < limits.players → p ≢ packet.from → got next p ≡ got now p
@@ -150,9 +152,9 @@ module _ (letters : LettersKeep) (marking : Marking) (limits : Limits) (settings
   one_hears : (packet : Opened) (now next : Contents) (answer : Arrived)
       → AreOneGame marking limits settings (at now) → WasGiven session.given player packet → packet.ask ≡ None
       → WantsNone now → (now.phase ≡ Playing → packet.start ≤ got now packet.from)
-      → HearsOpened packet now next answer → SparesSealed now next answer → Hears now next answer packet
+      → HearsOpened packet now next answer → SparesSealed now next answer → Hears now next packet
   one_hears packet now next answer game (which, flight, found, to, is) silent none low hears spares =
-      subst (λ (p : Opened). Hears now next answer p) (sym is)
+      subst (λ (p : Opened). Hears now next p) (sym is)
       (go (is_close (machine.made player m) flight.start && is_request_close (machine.made player m) flight.request) refl)
     where
       m : machine.Node
@@ -193,13 +195,11 @@ module _ (letters : LettersKeep) (marking : Marking) (limits : Limits) (settings
 
       -- it is not heard, as it tells a tic that is far
       late : next ≡ now → (now.phase ≡ Playing → told_end (opened_of flight) ≤ got now flight.from)
-          → is_start answer ≡ false → Hears now next answer (opened_of flight)
-      late same has_it quiet = record {
+          → Hears now next (opened_of flight)
+      late same has_it = record {
         sender = sender;
         apart = apart;
         game = keeps;
-        starts = λ e. absurd (true≢false (sym e ∙ quiet));
-        plays = λ e. inl (ap (λ (n : Contents). n.phase) (sym same) ∙ e);
         ended = λ e. ap (λ (n : Contents). is_ended n.phase) (sym same) ∙ e;
         stays = λ e. ap (λ (n : Contents). n.phase) same ∙ e;
         others = λ p l n. ap (λ (n : Contents). got n p) same;
@@ -212,13 +212,12 @@ module _ (letters : LettersKeep) (marking : Marking) (limits : Limits) (settings
       }
 
       -- it is heard
-      taken : (m' : machine.Node) (told : Heard) → m'.rows ≡ m.rows → Represents limits player next m'
-          → answer ≡ Arrived.Heard told
-          → Leaves limits player m flight asked sender apart (told_end (opened_of flight)) m' told
+      taken : (m' : machine.Node) → m'.rows ≡ m.rows → Represents limits player next m'
+          → Leaves limits player m flight asked sender apart (told_end (opened_of flight)) m'
           → (m.phase ≡ Playing → flight.start ≤ length (m.held flight.from)
           → told_end (opened_of flight) ≤ length (m'.held flight.from))
-          → Hears now next answer (opened_of flight)
-      taken m' told rows after is_told leaves reaches =
+          → Hears now next (opened_of flight)
+      taken m' rows after leaves reaches =
           let phase_was = shows.stands.phase in
           let phase_is = after.stands.phase in
           let was = count flight.from sender in
@@ -227,16 +226,6 @@ module _ (letters : LettersKeep) (marking : Marking) (limits : Limits) (settings
             sender = sender;
             apart = apart;
             game = keeps;
-            starts = λ e.
-                let all = leaves.starts (started_is told (ap is_start (sym is_told) ∙ e)) in (
-                  (λ plays. all.0 (sym phase_was ∙ plays)),
-                  ap is_ended phase_was ∙ all.1,
-                  phase_is ∙ all.2,
-                );
-            plays = λ e. elim (leaves.plays (sym phase_is ∙ e)) [
-              | inl plays ↦ inl (phase_was ∙ plays)
-              | inr starts ↦ inr (ap is_start is_told ∙ ap (λ (x : Heard). is_start (Arrived.Heard x)) starts)
-            ];
             ended = λ e. ap is_ended phase_was ∙ leaves.ended (ap is_ended (sym phase_is) ∙ e);
             stays = λ e. phase_is ∙ leaves.stays (sym phase_was ∙ e);
             others = λ p l n. has limits player next m' after p l ∙ leaves.others p n ∙ sym (count p l);
@@ -267,12 +256,12 @@ module _ (letters : LettersKeep) (marking : Marking) (limits : Limits) (settings
           )
 
       leaves : Leaves limits player m flight asked sender apart (told_end (opened_of flight))
-          (on_packet limits player m flight).0 (on_packet limits player m flight).1
+          (on_packet limits player m flight).0
       leaves = by_kind flight (λ chosen kind. subst (λ (n : ℕ). Leaves limits player m flight asked sender apart
-          n (on_packet limits player m flight).0 (on_packet limits player m flight).1)
+          n (on_packet limits player m flight).0)
           (sym (settings_end flight chosen kind)) (settings_leave limits player m flight asked sender apart
           chosen kind)) (λ kind same. subst (λ (n : ℕ). Leaves limits player m flight asked sender apart n
-          (on_packet limits player m flight).0 (on_packet limits player m flight).1) (sym same)
+          (on_packet limits player m flight).0) (sym same)
           (word_leaves limits player m flight asked sender apart))
 
       spared : IsSpared limits player m flight asked sender apart (on_packet limits player m flight).1
@@ -291,15 +280,14 @@ module _ (letters : LettersKeep) (marking : Marking) (limits : Limits) (settings
 
       go : (test : Bool)
           → (is_close (machine.made player m) flight.start && is_request_close (machine.made player m) flight.request) ≡ test
-          → Hears now next answer (opened_of flight)
+          → Hears now next (opened_of flight)
       go true close =
           let step : on_opened limits player m (Ok (opened_of flight)) (Ok (packet_of flight)) (told_by flight.kind)
           ≡ heard (on_packet limits player m flight) =
           rw (close, alike flight) (ap heard (near_received limits player m flight fair sender apart
           (near_if (machine.made player m) flight close))) in
           let result = heard_as (heard (on_packet limits player m flight)) step in
-          taken (on_packet limits player m flight).0 (on_packet limits player m flight).1
-          (hear_quiet limits player m flight).0 result.0 result.1 leaves reaches
+          taken (on_packet limits player m flight).0 (hear_quiet limits player m flight).0 result.0 leaves reaches
       go false far =
           let step : on_opened limits player m (Ok (opened_of flight)) (Ok (packet_of flight)) (told_by flight.kind)
           ≡ (m, Arrived.Late) = rw far refl in
@@ -312,7 +300,7 @@ module _ (letters : LettersKeep) (marking : Marking) (limits : Limits) (settings
           → told_end (opened_of flight) ≤ length ((game.last.nodes k).held flight.from)) to
           (far_has (beside marking limits) settings game.last kept which flight there (told_end (opened_of flight))
           (no_later flight) (short_of flight fair)) (sym shows.stands.phase ∙ plays) away in
-          omega (arith, all, count flight.from sender)) (ap is_start result.1)
+          omega (arith, all, count flight.from sender))
         where
           apart_from : (test : Bool) (request : Option ℕ) → request ≡ None
               → (test && is_request_close (machine.made player m) request) ≡ false → test ≡ false
@@ -323,16 +311,13 @@ module _ (letters : LettersKeep) (marking : Marking) (limits : Limits) (settings
   abbrev pub IsBehind : (ℕ → ℕ) → List Opened → Contents → Type 0
   IsBehind tics packets now =
       is_ended now.phase ≡ false
-      → (now.phase ≡ Playing → (p : ℕ) → p < limits.players → tics p ≤ got now p) × HaveNoGaps tics packets
+      → ((p : ℕ) → p < limits.players → tics p ≤ got now p) × HaveNoGaps tics packets
 
   abbrev IsQuiet : Opened → Type 0
   IsQuiet packet = WasGiven session.given player packet × (packet.ask ≡ None)
 
   -- what packets leave that end there
-  pub record HearsOn (ends : ℕ → ℕ) (now new : Contents) (started : Bool) : Type 0 where
-    pub game : AreOneGame marking limits settings (at new)
-    pub starts : started ≡ true → (now.phase ≢ Playing) × (is_ended now.phase ≡ false) × (new.phase ≡ Playing)
-    pub plays : new.phase ≡ Playing → (now.phase ≡ Playing) ⊎ (started ≡ true)
+  pub record HearsThem (ends : ℕ → ℕ) (now new : Contents) : Type 0 where
     pub ended : is_ended new.phase ≡ false → is_ended now.phase ≡ false
     pub least : (p : ℕ) → p < limits.players → got now p ≤ got new p
     pub own : got new player ≡ got now player
@@ -340,18 +325,15 @@ module _ (letters : LettersKeep) (marking : Marking) (limits : Limits) (settings
     pub sends : (p : ℕ) → p < limits.players → next_to new p ≡ next_to now p
     pub wants : WantsNone new
     pub ran : new.ran ≡ now.ran
-    pub reach : now.phase ≡ Playing → (p : ℕ) → p < limits.players → ends p ≤ got new p
+    pub reach : new.phase ≡ Playing → (p : ℕ) → p < limits.players → ends p ≤ got new p
 
-  until_hears : (packets : List Opened) (now new : Contents) (started : Bool) (tics : ℕ → ℕ)
-      → AreOneGame marking limits settings (at now) → WantsNone now → All IsQuiet packets
-      → IsBehind tics packets now → HearsUntil packets now new started
-      → HearsOn (ends_of tics packets) now new started
-  until_hears [] now new started tics game none all behind hears =
-      let same : new ≡ now = hears.0 in
+  -- one after the other
+  pub all_hears : (packets : List Opened) (now new : Contents) (tics : ℕ → ℕ)
+      → AreOneGame marking limits settings (at now) → is_waiting now.phase ≡ false → WantsNone now
+      → All IsQuiet packets → IsBehind tics packets now → HearsAll packets now new
+      → HearsThem (ends_of tics packets) now new
+  all_hears [] now new tics game started none all behind same =
       record {
-        game = subst (λ (n : Contents). AreOneGame marking limits settings (at n)) (sym same) game;
-        starts = λ e. absurd (true≢false (sym e ∙ hears.1));
-        plays = λ e. inl (ap (λ (n : Contents). n.phase) (sym same) ∙ e);
         ended = λ e. ap (λ (n : Contents). is_ended n.phase) (sym same) ∙ e;
         least = λ p l. omega (arith, ap (λ (n : Contents). got n p) same);
         own = ap (λ (n : Contents). got n player) same;
@@ -359,12 +341,25 @@ module _ (letters : LettersKeep) (marking : Marking) (limits : Limits) (settings
         sends = λ p l. ap (λ (n : Contents). next_to n p) same;
         wants = subst WantsNone (sym same) none;
         ran = ap (λ (n : Contents). n.ran) same;
-        reach = λ plays p l. let has_it = (behind (ap is_ended plays)).0 plays p l in
+        reach = λ plays p l.
+            let has_it = (behind (ap (λ (n : Contents). is_ended n.phase) (sym same) ∙ ap is_ended plays)).0 p l in
             omega (arith, has_it, ap (λ (n : Contents). got n p) same);
       }
-  until_hears (packet ∷ packets) now new started tics game none all behind (next, answer, hears, spares, then) =
-      go (is_start answer) refl (λ not later. until_hears packets next new started (then_end tics packet)
-      step.game step.wants (All-tail IsQuiet packet packets all) (behind_on not) later) then
+  all_hears (packet ∷ packets) now new tics game started none all behind (next, answer, hears, spares, then) =
+      let later = all_hears packets next new (then_end tics packet) step.game
+      (started_on now.phase next.phase started step.stays step.ended) step.wants
+      (All-tail IsQuiet packet packets all) behind_on then in
+      record {
+        ended = λ e. step.ended (later.ended e);
+        least = λ p l. let one = least_of p l in let more = later.least p l in omega (arith, one, more);
+        own = later.own ∙ step.others player mine (λ e. step.apart (sym e));
+        idle = λ e p l. later.idle (ends e (is_ended next.phase) refl) p l
+            ∙ idle_of (λ plays. true≢false (sym e ∙ ap is_ended plays)) p l;
+        sends = λ p l. later.sends p l ∙ step.sends p l;
+        wants = later.wants;
+        ran = later.ran ∙ step.ran;
+        reach = later.reach;
+      }
     where
       quiet : IsQuiet packet
       quiet = All-head IsQuiet packet packets all
@@ -372,11 +367,11 @@ module _ (letters : LettersKeep) (marking : Marking) (limits : Limits) (settings
       low : packet.from < limits.players → now.phase ≡ Playing → packet.start ≤ got now packet.from
       low inside plays =
           let here = behind (ap is_ended plays) in
-          let has_it = here.0 plays packet.from inside in
+          let has_it = here.0 packet.from inside in
           let begins = here.1.0 in
           omega (arith, has_it, begins)
 
-      step : Hears now next answer packet
+      step : Hears now next packet
       step = one_hears packet now next answer game quiet.0 quiet.1 none
           (low (given_from now game packet quiet.0)) hears spares
 
@@ -392,131 +387,25 @@ module _ (letters : LettersKeep) (marking : Marking) (limits : Limits) (settings
         | inr off ↦ step.others p l off
       ]
 
-      own_of : got next player ≡ got now player
-      own_of = step.others player mine (λ e. step.apart (sym e))
-
-      behind_on : is_start answer ≡ false → IsBehind (then_end tics packet) packets next
-      behind_on not goes_on =
-          let here = behind (step.ended goes_on) in (
-            (λ plays p l. elim (step.plays plays) [
-              | inl played ↦ elim (cases_eq p packet.from) [
-                | inl at ↦
-                    let now_at = put_at tics packet.from p (max (tics packet.from) (told_end packet)) at in
-                    let had = here.0 played packet.from step.sender in
-                    let reach = step.reach played in
-                    omega (arith, now_at, had, reach, step.least, ap (got next) at)
-                | inr off ↦
-                    let now_off = put_off tics packet.from p (max (tics packet.from) (told_end packet)) off in
-                    let had = here.0 played p l in
-                    let same = step.others p l off in
-                    omega (arith, now_off, had, same)
-              ]
-              | inr starts ↦ absurd (true≢false (sym starts ∙ not))
+      behind_on : IsBehind (then_end tics packet) packets next
+      behind_on goes_on =
+          let was = step.ended goes_on in
+          let here = behind was in
+          let reach = step.reach (plays_of now.phase started was) in (
+            (λ p l. elim (cases_eq p packet.from) [
+              | inl at ↦
+                  let now_at = put_at tics packet.from p (max (tics packet.from) (told_end packet)) at in
+                  let had = here.0 packet.from step.sender in
+                  omega (arith, now_at, had, reach, step.least, ap (got next) at)
+              | inr off ↦
+                  let now_off = put_off tics packet.from p (max (tics packet.from) (told_end packet)) off in
+                  let had = here.0 p l in
+                  let same = step.others p l off in
+                  omega (arith, now_off, had, same)
             ]),
             here.1.1,
           )
 
-      go : (test : Bool) → is_start answer ≡ test
-          → (is_start answer ≡ false → HearsUntil packets next new started
-          → HearsOn (ends_of (then_end tics packet) packets) next new started)
-          → ByTest test ((new ≡ next) × (started ≡ true)) (HearsUntil packets next new started)
-          → HearsOn (ends_of (then_end tics packet) packets) now new started
-      go true is on done =
-          let same : new ≡ next = done.0 in
-          let at_start = step.starts is in
-          record {
-            game = subst (λ (n : Contents). AreOneGame marking limits settings (at n)) (sym same) step.game;
-            starts = λ e. (at_start.0, at_start.1, ap (λ (n : Contents). n.phase) same ∙ at_start.2);
-            plays = λ e. inr done.1;
-            ended = λ e. at_start.1;
-            least = λ p l. let more = least_of p l in omega (arith, more, ap (λ (n : Contents). got n p) same);
-            own = ap (λ (n : Contents). got n player) same ∙ own_of;
-            idle = λ e. absurd (true≢false (sym e ∙ at_start.1));
-            sends = λ p l. ap (λ (n : Contents). next_to n p) same ∙ step.sends p l;
-            wants = subst WantsNone (sym same) step.wants;
-            ran = ap (λ (n : Contents). n.ran) same ∙ step.ran;
-            reach = λ plays. absurd (at_start.0 plays);
-          }
-      go false not on then =
-          let later = on not then in
-          record {
-            game = later.game;
-            starts = λ e.
-                let all = later.starts e in
-                ((λ plays. all.0 (step.stays plays)), step.ended all.1, all.2);
-            plays = λ e. elim (later.plays e) [
-              | inl mid ↦ elim (step.plays mid) [
-                | inl first ↦ inl first
-                | inr starts ↦ absurd (true≢false (sym starts ∙ not))
-              ]
-              | inr starts ↦ inr starts
-            ];
-            ended = λ e. step.ended (later.ended e);
-            least = λ p l. let one = least_of p l in let more = later.least p l in omega (arith, one, more);
-            own = later.own ∙ own_of;
-            idle = λ e p l. later.idle (ends e (is_ended next.phase) refl) p l
-                ∙ idle_of (λ plays. true≢false (sym e ∙ ap is_ended plays)) p l;
-            sends = λ p l. later.sends p l ∙ step.sends p l;
-            wants = later.wants;
-            ran = later.ran ∙ step.ran;
-            reach = λ plays. later.reach (step.stays plays);
-          }
-        where
-          ends : is_ended now.phase ≡ true → (test : Bool) → is_ended next.phase ≡ test → is_ended next.phase ≡ true
-          ends e true is = is
-          ends e false is = absurd (true≢false (sym e ∙ step.ended is))
-
-  -- what a datagram leaves, the packets of which end there
-  pub record HearsThem (ends : ℕ → ℕ) (now new : Contents) : Type 0 where
-    pub ended : is_ended new.phase ≡ false → is_ended now.phase ≡ false
-    pub least : (p : ℕ) → p < limits.players → got now p ≤ got new p
-    pub own : got new player ≡ got now player
-    pub idle : is_ended now.phase ≡ true → (p : ℕ) → p < limits.players → got new p ≡ got now p
-    pub sends : (p : ℕ) → p < limits.players → next_to new p ≡ next_to now p
-    pub wants : WantsNone new
-    pub ran : new.ran ≡ now.ran
-    pub reach : new.phase ≡ Playing → (p : ℕ) → p < limits.players → ends p ≤ got new p
-
-  -- all of its packets, and once more from the first where the game starts
-  pub all_hears : (packets : List Opened) (now new : Contents) (started : Bool) (tics : ℕ → ℕ)
-      → AreOneGame marking limits settings (at now) → WantsNone now → All IsQuiet packets
-      → (is_ended now.phase ≡ false
-      → ((p : ℕ) → p < limits.players → tics p ≤ got now p) × HaveNoGaps tics packets)
-      → HearsAll packets now new started → HearsThem (ends_of tics packets) now new
-  all_hears packets now new started tics game none all fits (next, first, then) =
-      go started (until_hears packets now next started tics game none all
-      (λ goes_on. let here = fits goes_on in ((λ plays. here.0), here.1)) first) then
-    where
-      go : (test : Bool) → HearsOn (ends_of tics packets) now next test
-          → ByTest test ((again : Bool) × HearsUntil packets next new again) (new ≡ next)
-          → HearsThem (ends_of tics packets) now new
-      go false begun same = record {
-        ended = λ e. begun.ended (ap (λ (n : Contents). is_ended n.phase) (sym same) ∙ e);
-        least = λ p l. let more = begun.least p l in omega (arith, more, ap (λ (n : Contents). got n p) same);
-        own = ap (λ (n : Contents). got n player) same ∙ begun.own;
-        idle = λ e p l. ap (λ (n : Contents). got n p) same ∙ begun.idle e p l;
-        sends = λ p l. ap (λ (n : Contents). next_to n p) same ∙ begun.sends p l;
-        wants = subst WantsNone (sym same) begun.wants;
-        ran = ap (λ (n : Contents). n.ran) same ∙ begun.ran;
-        reach = λ plays p l. elim (begun.plays (ap (λ (n : Contents). n.phase) (sym same) ∙ plays)) [
-          | inl played ↦ let reach = begun.reach played p l in omega (arith, reach, ap (λ (n : Contents). got n p) same)
-          | inr starts ↦ absurd (cc)
-        ];
-      }
-      go true begun then =
-          let at_start = begun.starts refl in
-          let more = until_hears packets next new then.0 tics begun.game begun.wants all (λ goes_on.
-          let here = fits (begun.ended goes_on) in (
-            (λ plays p l. let was = here.0 p l in let up = begun.least p l in omega (arith, was, up)),
-            here.1,
-          )) then.1 in
-          record {
-            ended = λ e. begun.ended (more.ended e);
-            least = λ p l. let one = begun.least p l in let two = more.least p l in omega (arith, one, two);
-            own = more.own ∙ begun.own;
-            idle = λ e. absurd (true≢false (sym e ∙ at_start.1));
-            sends = λ p l. more.sends p l ∙ begun.sends p l;
-            wants = more.wants;
-            ran = more.ran ∙ begun.ran;
-            reach = λ e. more.reach at_start.2;
-          }
+      ends : is_ended now.phase ≡ true → (test : Bool) → is_ended next.phase ≡ test → is_ended next.phase ≡ true
+      ends e true is = is
+      ends e false is = absurd (true≢false (sym e ∙ step.ended is))

@@ -7,7 +7,7 @@ use Rattle.std.specs.List.{flat_map}
 use Rattle.dn_seal.specs.{declared.opened.Opened.Opened, declared.seal.Seal.Seal}
 use Rattle.dn_link.specs.CaughtUp.{next_to, AreCaughtUp, Brings, HasGrown, IsInStep, last_end}
 use Rattle.dn_link.specs.{declared.bundle.Part.Part, declared.bundle.Part.TheVariants.Whole, declared.bundle.Part.TheVariants.Run, declared.bundle.Part.TheVariants.Relay}
-use Rattle.dn_link.specs.{Linked.Gives, Linked.Linked, Pacing.PaceState, Packets.own_in, Packets.own_of, Packets.packets_of, Packets.opened_from, Packing.IsNeeded}
+use Rattle.dn_link.specs.{Linked.Gives, Linked.Linked, Pacing.PaceState, Packets.own_in, Packets.packets_of, Packets.opened_from, Packing.IsNeeded}
 use Rattle.dn_link.specs.{Relays.Handed, Relays.handed_part, declared.bundle.Bundle.Bundle, declared.bundle.Carried.Carried, Counting.has_ended, Hearing.carried_of}
 use Rattle.dn_link.specs.{Kept.going, Kept.taken_by, Kept.takes_packet, LinkedGame.AreLinked, Text.parts_bytes}
 use Rattle.dn_setup.specs.Settings.{Settings}
@@ -16,7 +16,7 @@ use Rattle.dn_machine.specs.Sending.{commands_flight, on_send, request_to}
 use Rattle.dn_machine.proofs.Put.{put_off}
 use Rattle.dn_lockstep.specs.{Marking.Marking, Represents.Represents, Sent.sent_to, OneGame.Session, Told.got, Told.made}
 use Rattle.dn_lockstep.proofs.Shown.{made_is}
-use Rattle.dn_link.proofs.{Catching.not_yet, Makers.chain_goes, Makers.later_goes, Following.gone_or_idle, Sending.Follows, Sending.follows}
+use Rattle.dn_link.proofs.{Catching.not_yet, Makers.chain_goes, Makers.later_goes, Makers.own_of, Following.gone_or_idle, Sending.Follows, Sending.follows}
 use Rattle.dn_machine.specs.Node as machine
 use Rattle.dn_link.specs.Kept as keep
 use Rattle.dn_link.proofs.Linking as base
@@ -45,9 +45,9 @@ pub gives_own : (seal : Seal) (pace : PaceState) (to : ℕ) (old new : Linked) (
     → (gives : Gives seal pace to old new bytes)
     → own_in gives.bundle ≡ flat_map (packets_of old.node.me) gives.own
 gives_own seal pace to old new bytes gives =
-    (λ i. flat_map (own_of (gives.from i)) (gives.parts i))
-    ∙ flat_map-append (own_of old.node.me) gives.own (map handed_part gives.handed)
-    ∙ ap (λ (ps : List Opened). flat_map (own_of old.node.me) gives.own ++ ps) (none_own old.node.me gives.handed)
+    (λ i. flat_map (own_of (gives.from i)) (gives.behind.parts i))
+    ∙ flat_map-append (own_of old.node.me) gives.own (map handed_part gives.behind.handed)
+    ∙ ap (λ (ps : List Opened). flat_map (own_of old.node.me) gives.own ++ ps) (none_own old.node.me gives.behind.handed)
     ∙ append-nil (flat_map (own_of old.node.me) gives.own) ∙ own_only old.node.me gives.own gives.packed.needed
 
 -- they end no earlier behind a later tic

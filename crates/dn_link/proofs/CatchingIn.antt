@@ -1,7 +1,7 @@
 -- The links of a game stay caught up where one takes in a datagram.
-use Rattle.std.proofs.Common.{◌≡◌, ◌≢◌, ◌<◌, ◌≤◌, ◌+◌, ◌-◌, ◌&&◌, ℕ, zero, suc, Bool, true, false, List, length, refl, ap, sym, ◌∙◌, subst, arith, Option, Some, None, All, inl, inr}
+use Rattle.std.proofs.Common.{◌≡◌, ◌≢◌, ◌<◌, ◌≤◌, ◌+◌, ◌-◌, ℕ, zero, suc, Bool, true, false, List, length, refl, ap, sym, ◌∙◌, subst, arith, Option, Some, None, All, inl, inr}
 use Rattle.std.proofs.lemmas.Bool.{and_from, and_parts, and_right, cases_eq, eq-eqb, ne_eqb, leb-true, lt-ltb, ltb-true, true≢false}
-use Rattle.std.specs.Prelude.{◌==◌, ◌||◌, if◌then◌else◌, is_some, min, nat_le, nat_lt, not, slice_index, unwrap_or, Result, Ok, Err}
+use Rattle.std.specs.Prelude.{◌==◌, if◌then◌else◌, is_some, min, nat_le, nat_lt, not, slice_index, unwrap_or, Result, Ok, Err}
 use Rattle.dn_setup.specs.Settings.{Settings}
 use Rattle.dn_machine.specs.{Limits.Limits, Node.is_ended, Node.put}
 use Rattle.dn_machine.proofs.Put.{put_at, put_off}
@@ -149,9 +149,9 @@ module _ (letters : LettersKeep) (marking : Marking) (limits : Limits) (settings
         let most = held_most old.node relay.player in
         omega (arith, within, most)
 
-    came_heard : (started : Bool) → HearsAll (heard_in (takes old) bundle) old.node new.node started
+    came_heard : HearsAll (heard_in (takes old) bundle) old.node new.node
         → Came × IsLast (last_end first (own_in bundle))
-    came_heard started heard =
+    came_heard heard =
         let here : is_ended old.node.phase ≡ false → has_ended (links bundle.to).node ≡ false =
         (λ e. ap (λ (k : ℕ). has_ended (links k).node) goes ∙ going e) in
         let to : (links bundle.to).node ≡ old.node = ap (λ (k : ℕ). (links k).node) goes in
@@ -161,8 +161,8 @@ module _ (letters : LettersKeep) (marking : Marking) (limits : Limits) (settings
         (λ p. omega arith)
         (subst (λ (n : Contents). HasNoGap (got n from) (own_in bundle)) to (in_step.follows (here e)))) in
         let them = all_hears letters marking limits settings session player mine (heard_in (takes old) bundle)
-        (session.locksteps player) new.node started (got old.node) (subst (AreOneGame marking limits settings)
-        (sym (as_it_is letters marking limits settings session player)) linked.game)
+        (session.locksteps player) new.node (got old.node) (subst (AreOneGame marking limits settings)
+        (sym (as_it_is letters marking limits settings session player)) linked.game) (linked.started player mine)
         (λ p l n. ap (λ (n : Contents). (n.peers p).want) (sym node) ∙ none p l n)
         (λ k d l. (
           parts_heard (has_given_up old) (held_of old.node) from (WasGiven session.given player) bundle.parts.items all k d l,
@@ -172,7 +172,7 @@ module _ (letters : LettersKeep) (marking : Marking) (limits : Limits) (settings
           (λ p l. omega (arith, ap (λ (n : Contents). got n p) node)),
           (go (ap (λ (n : Contents). is_ended n.phase) node ∙ e)).0,
         ))
-        (subst (λ (n : Contents). HearsAll (heard_in (takes old) bundle) n new.node started) node heard) in (
+        (subst (λ (n : Contents). HearsAll (heard_in (takes old) bundle) n new.node) node heard) in (
           record {
             least = λ p l. let more = them.least p l in omega (arith, more, ap (λ (n : Contents). got n p) node);
             own = them.own ∙ ap (λ (n : Contents). got n player) (sym node);
@@ -195,7 +195,7 @@ module _ (letters : LettersKeep) (marking : Marking) (limits : Limits) (settings
 
     module _ (takes_it : AreTakenIn bundle old new) where
       came : Came
-      came = (came_heard takes_it.started takes_it.heard).0
+      came = (came_heard takes_it.heard).0
 
       -- what a peer that has not ended is known to have by its commands, it has
       has_reached : (peer : ℕ) → peer < limits.players → peer ≢ player → has_ended (links peer).node ≡ false
@@ -333,7 +333,7 @@ module _ (letters : LettersKeep) (marking : Marking) (limits : Limits) (settings
 
       -- a player that plays has all of them then
       pub brings : new.node.phase ≡ phase.Playing → last_end first (own_in bundle) ≤ got new.node from
-      brings plays = (came_heard takes_it.started takes_it.heard).1 plays
+      brings plays = (came_heard takes_it.heard).1 plays
 
   -- any bytes that were sealed in step
   module _ (seal : Seal) (bytes : List ℕ) (answer : Received)

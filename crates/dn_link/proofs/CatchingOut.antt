@@ -2,7 +2,7 @@
 use Rattle.std.proofs.Common.{◌≡◌, ◌≢◌, ◌<◌, ◌≤◌, ◌+◌, ◌-◌, ◌%◌, ◌^◌, ℕ, Bool, true, false, List, [], ◌∷◌, ◌++◌, length, map, take, refl, ap, sym, ◌∙◌, subst, arith, Option, Some, None, All, inl, inr}
 use Rattle.std.proofs.{lemmas.Bool.cases_eq, lemmas.Bool.cond_both, lemmas.Bool.true≢false, lemmas.List.Elements.All-take, lemmas.Option.none-some}
 use Rattle.std.proofs.lemmas.Option.{same_Some}
-use Rattle.std.specs.Prelude.{◌==◌, ◌&&◌, ◌||◌, if◌then◌else◌, is_some, min, nat_lt, unwrap_or}
+use Rattle.std.specs.Prelude.{◌==◌, if◌then◌else◌, min, nat_lt, unwrap_or}
 use Rattle.std.specs.Option.{option_map}
 use Rattle.dn_tic.specs.{declared.command.TicCmd.TicCmd, declared.command.Move.Move}
 use Rattle.dn_setup.specs.Settings.{Settings}
@@ -14,7 +14,7 @@ use Rattle.dn_lockstep.proofs.Shown.{made_is, has}
 use Rattle.dn_seal.specs.declared.seal.Seal.{Seal}
 use Rattle.dn_link.specs.Kept.{IsKeptRising, Unacknowledged, going, is_news, kept_after, taken_by}
 use Rattle.dn_link.specs.CaughtUp.{GoesOn, IsInTime, StillGoesOn, next_to, AreCaughtUp, HasNoGap, IsCaughtUp, IsInStep, IsKeptChain, StayCaughtUp, WasInStep}
-use Rattle.dn_link.specs.{declared.bundle.Carried.Carried, Counting.has_ended, Hearing.SendsCarried, Hearing.carried_of, Hearing.ByTest, Linked.Gives, Linked.Linked}
+use Rattle.dn_link.specs.{declared.bundle.Carried.Carried, Counting.has_ended, Hearing.carried_of, Linked.Gives, Linked.Linked}
 use Rattle.dn_link.specs.{Linked.PeerState, LinkedGame.AreLinked, Pacing.PaceState, Packets.opened_from, Packets.own_in}
 use Rattle.dn_link.proofs.Makers.{IsQuiet, first_goes, going_asks, going_goes, keeps_chain, later_goes}
 use Rattle.dn_link.proofs.{Catching.relinked, Bringing.gives_own, Following.covers, Following.kept_rises, Leaving.unended, Linking.taken_given, Sending.Sends}

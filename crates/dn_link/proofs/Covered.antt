@@ -7,7 +7,7 @@ use Rattle.std.specs.Prelude.{if◌then◌else◌, ◌&&◌, ◌↔◌, nat_le, 
 use Rattle.std.specs.List.{flat_map}
 use Rattle.dn_seal.specs.{declared.opened.Opened.Opened, declared.seal.Seal.Seal}
 use Rattle.dn_machine.proofs.Put.{put_at}
-use Rattle.dn_link.specs.Kept.{IsCovering, Reaches, Unacknowledged, acknowledged, end_of, going, has_tic, is_news, kept_after, taken_by, with_packet, without, IsKeptRising, IsRising}
+use Rattle.dn_link.specs.Kept.{IsCovering, Reaches, Unacknowledged, acknowledged, end_of, going, has_tic, is_news, kept_after, taken_by, without, IsKeptRising, IsRising}
 use Rattle.dn_link.specs.{declared.bundle.Carried.Carried, declared.peer.Peer.Peer, Linked.Gives, Linked.Linked, Linked.PeerState, Linking.peers_of, Pacing.PaceState}
 use Rattle.dn_link.specs.{Packets.opened_from, Packets.packets_of, Packing.ArePacked, Text.parts_bytes}
 
@@ -139,7 +139,7 @@ all_covering (peer ∷ peers) (suc place) = all_covering peers place
 
 -- what is covered reaches a packet that is given
 pub reached : (kept : Unacknowledged) (packet : Carried)
-    → (end_of packet ≤ (with_packet kept packet).covered) ↔ Reaches kept packet
+    → (end_of packet ≤ (kept_after kept (Some packet)).covered) ↔ Reaches kept packet
 reached kept packet = grind (arith, and_parts, leb-true, ltb-true, and_from, le-leb, lt-ltb, true≢false)
 
 -- and a datagram has all of them, where it has room

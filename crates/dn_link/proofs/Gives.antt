@@ -1,17 +1,17 @@
 -- What a link gives to a peer, within one game.
-use Rattle.std.proofs.Common.{◌≡◌, ◌<◌, ◌≤◌, ◌≢◌, ◌+◌, ◌%◌, ◌^◌, ℕ, Bool, true, false, List, refl, ap, sym, ◌∙◌, arith, Option, Some}
+use Rattle.std.proofs.Common.{◌≡◌, ◌<◌, ◌≤◌, ◌≢◌, ◌+◌, ◌%◌, ◌^◌, ℕ, true, List, refl, ap, sym, ◌∙◌, arith, Option, Some}
 use Rattle.std.proofs.lemmas.Bool.{cond_both}
-use Rattle.std.specs.Prelude.{◌&&◌, ◌||◌, IfSome, is_some, nat_lt, slice_index}
+use Rattle.std.specs.Prelude.{IfSome, nat_lt, slice_index}
 use Rattle.std.specs.Option.{option_map}
 use Rattle.dn_setup.specs.Settings.{Settings}
 use Rattle.dn_machine.specs.{Flight.Flight, Limits.Limits, Node.put}
 use Rattle.dn_machine.proofs.Put.{put_at}
-use Rattle.dn_lockstep.specs.OneGame.{AreOneGame, Session, with_lockstep, after_packet, after_relays, given_on}
+use Rattle.dn_lockstep.specs.OneGame.{AreOneGame, Session, after_packet, after_relays, given_on}
 use Rattle.dn_lockstep.specs.{Contents.Contents, Marking.Marking, Represents.Represents, Sent.sent_to, Sent.IsFair, Steps.Tells, Told.command_told}
 use Rattle.dn_lockstep.proofs.OneGame.{GoesBetween, sent_between, gave, relays}
 use Rattle.dn_seal.specs.declared.seal.Seal.{Seal}
 use Rattle.dn_link.specs.{declared.bundle.Bundle.Bundle, declared.bundle.Carried.Carried, declared.bundle.Counts.Counts, Counting.counts_of, Counting.has_ended}
-use Rattle.dn_link.specs.{Counting.has_of, Ends.tells_end, LinkedGame.WasBundled, LinkedGame.AreLinked, LinkedGame.IsLater, Hearing.ByTest, Hearing.SendsCarried}
+use Rattle.dn_link.specs.{Counting.has_of, Ends.tells_end, LinkedGame.WasBundled, LinkedGame.AreLinked, LinkedGame.IsLater}
 use Rattle.dn_link.specs.{Hearing.carried_of, Kept.kept_after, Kept.taken_by, Linked.Linked, Linked.Gives, Linked.PeerState, Pacing.PaceState, Relays.AreHandedOn}
 use Rattle.dn_link.specs.Relays.{Handed, flights_of}
 use Rattle.dn_link.proofs.Growing.{HasAsMuch, grows, Holds, holds_same, send_holds}
@@ -76,16 +76,16 @@ module _ (marking : Marking) (limits : Limits) (settings : Settings) (session : 
       (flight : Option Flight) (gives : Gives seal pace to old new bytes) → AreOneGame marking limits
       settings (after_packet session player flight new.node) → GoesBetween player to flight → gives.given
       ≡ option_map carried_of flight → HasAsMuch player (session.locksteps player) new.node → WasBundled seal
-      (after_all flight new gives.handed to) bytes × AreLinked marking limits settings
-      (after_all flight new gives.handed to) (put links player new) × IsLater session
-      (after_all flight new gives.handed to)
+      (after_all flight new gives.behind.handed to) bytes × AreLinked marking limits settings
+      (after_all flight new gives.behind.handed to) (put links player new) × IsLater session
+      (after_all flight new gives.behind.handed to)
   gave_by seal pace to new bytes flight gives game between answer much =
       let all : AreKept session.given player old.peers = λ peer. linked.kept player peer mine in
       let taken : Option Carried = taken_by (old.peers to).left gives.given in
-      let later : Session = after_all flight new gives.handed to in
-      let handed_game = hands_on flight new game to gives.handed gives.handed_on in
+      let later : Session = after_all flight new gives.behind.handed to in
+      let handed_game = hands_on flight new game to gives.behind.handed gives.behind.on in
       let is = later_by session later player new.node refl
-      (λ which one found. found_on (given_on session.given flight) (flights_of to gives.handed) which one
+      (λ which one found. found_on (given_on session.given flight) (flights_of to gives.behind.handed) which one
       (found_later session.given flight which one found)) much in
       let told : (peer which : ℕ) → which ≢ peer
       → slice_index (new.peers peer).reported which ≤ has_of (later.locksteps peer) which =
@@ -137,9 +137,9 @@ module _ (marking : Marking) (limits : Limits) (settings : Settings) (session : 
   pub gave_to : (seal : Seal) (pace : PaceState) (to : ℕ) (new : Linked) (bytes : List ℕ)
       → Tells old.node (λ limits me m. IfSome (sent_to to limits me m).1 IsFair)
       → (gives : Gives seal pace to old new bytes)
-      → (flight : Option Flight) × WasBundled seal (after_all flight new gives.handed to) bytes
-      × AreLinked marking limits settings (after_all flight new gives.handed to) (put links player new)
-      × IsLater session (after_all flight new gives.handed to)
+      → (flight : Option Flight) × WasBundled seal (after_all flight new gives.behind.handed to) bytes
+      × AreLinked marking limits settings (after_all flight new gives.behind.handed to) (put links player new)
+      × IsLater session (after_all flight new gives.behind.handed to)
   gave_to seal pace to new bytes fair gives =
       let m = linked.game.last.nodes player in
       let flight : Option Flight = (sent_to to limits player m).1 in

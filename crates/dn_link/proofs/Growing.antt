@@ -1,5 +1,5 @@
 -- What a node and a lockstep have of a player, with the player's end, never grows less; and one that has
--- left, or ended, stays so.
+-- left, or ended, or started, stays so.
 use Rattle.std.proofs.Common.{◌≡◌, ◌≢◌, ◌<◌, ◌≤◌, ℕ, Bool, true, false, List, refl, ap, sym, ◌∙◌, subst, arith, Some, All, ◌&&◌, ℤ, eqb, ◌++◌, length, Option, None}
 use Rattle.std.proofs.lemmas.Bool.{cond-false, lt-ltb, le-ltb, ne_eqb, cond_both}
 use Rattle.std.proofs.lemmas.List.{length-append}
@@ -14,7 +14,7 @@ use Rattle.dn_machine.specs.{declared.peer.Peer.Peer, Sending.on_build, Sending.
 use Rattle.dn_machine.proofs.Calls.{build_cases, send_cases, run_cases, quit_cases, packet_cases, sender_after}
 use Rattle.dn_machine.proofs.Put.{put_at, put_off}
 use Rattle.dn_machine.specs.Node as machine
-use Rattle.dn_lockstep.specs.{Contents.Contents, Marking.Marking, Sent.IsFair, OneGame.AreOneGame, OneGame.Session, OneGame.with_lockstep, Represents.Represents}
+use Rattle.dn_lockstep.specs.{Contents.Contents, Marking.Marking, Sent.IsFair, OneGame.AreOneGame, OneGame.Session, OneGame.with_lockstep, Phases.is_waiting, Represents.Represents}
 use Rattle.dn_lockstep.proofs.{Shown.got_is, Shown.end_is, Receiving.told_by, Receiving.told_is, Receiving.near_received}
 use Rattle.dn_open.specs.{Arrivals.HearsOpened, Arrivals.IsRead, Arrivals.heard, Arrivals.on_opened, declared.hearing.Arrived.Arrived, Sealed.IsSmall, Sealed.opened_of}
 use Rattle.dn_open.proofs.{Sealables.alike, Deliveries.near_if, Fairness.are_sealable}
@@ -31,12 +31,14 @@ held_of node p = with_end (length (node.held p)) (ends_of node p)
 abbrev HasMore : Node → Node → Type 0
 HasMore old new = (p : ℕ) → held_of old p ≤ held_of new p
 
--- and has left, if it had
+-- and has left, or started, if it had
 abbrev pub Holds : Node → Node → Type 0
-Holds old new = HasMore old new × (has_left old ≡ true → has_left new ≡ true)
+Holds old new =
+    HasMore old new × (has_left old ≡ true → has_left new ≡ true)
+    × (is_waiting old.phase ≡ false → is_waiting new.phase ≡ false)
 
 pub holds_same : (node : Node) → Holds node node
-holds_same node = ((λ p. omega arith), (λ left. left))
+holds_same node = ((λ p. omega arith), (λ left. left), (λ on. on))
 
 -- one that ends has left, if it had played
 played_ends : (played ended : Bool) → (played && ended) ≡ true → (played && true) ≡ true
@@ -72,24 +74,24 @@ module _ (limits : Limits) (i : ℕ) (node : Node) where
 
   pub build_holds : (input : Input) → Holds node (on_build limits i node input).0
   build_holds input = build_cases limits i node (λ (new : Node). Holds node new) input (λ full. holds_same node)
-      (λ plays free. ((λ p. more_counts _ _ (ends_of node p) (longer node.held i _ p)), (λ left. left)))
+      (λ plays free. ((λ p. more_counts _ _ (ends_of node p) (longer node.held i _ p)), (λ left. left), (λ on. on)))
 
   pub send_holds : (to : ℕ) → Holds node (on_send limits i node to).0
   send_holds to = send_cases limits i node (λ (r : Node × Option Flight). Holds node r.0) to
       (holds_same node) (λ other e. holds_same node) (λ other e. sent) (λ other left. sent)
     where
       sent : Holds node (after_sent limits i node to)
-      sent = (peer_holds to _ node.held (λ p. omega arith) (λ count. omega arith), (λ left. left))
+      sent = (peer_holds to _ node.held (λ p. omega arith) (λ count. omega arith), (λ left. left), (λ on. on))
 
   pub run_holds : (marks : ℕ → ℤ) → Holds node (on_run limits node marks).0
   run_holds marks = run_cases limits i node marks (λ (new : Node). Holds node new) (λ waits. holds_same node)
-      (λ player plays none off. ((λ p. omega arith), played_ends node.played (is_ended node.phase)))
-      (λ plays none full. ((λ p. omega arith), played_ends node.played (is_ended node.phase)))
-      (λ plays none free. ((λ p. omega arith), (λ left. left)))
+      (λ player plays none off. ((λ p. omega arith), played_ends node.played (is_ended node.phase), (λ on. refl)))
+      (λ plays none full. ((λ p. omega arith), played_ends node.played (is_ended node.phase), (λ on. refl)))
+      (λ plays none free. ((λ p. omega arith), (λ left. left), (λ on. on)))
 
   pub quit_holds : Holds node (on_quit node).0
   quit_holds = quit_cases limits i node (λ (new : Node). Holds node new) (holds_same node)
-      (λ goes_on. ((λ p. omega arith), played_ends node.played (is_ended node.phase)))
+      (λ goes_on. ((λ p. omega arith), played_ends node.played (is_ended node.phase), (λ on. refl)))
 
   request_known : (peer : Peer) (request : Option ℕ)
       → Knows peer.end (after_request limits.places (made i node) peer request).end
@@ -109,20 +111,21 @@ module _ (limits : Limits) (i : ℕ) (node : Node) where
       omega (arith, a, b)) in
       packet_cases limits i node flight (λ (r : Node × Heard). Holds node r.0) (record {
         dropped = λ number why. holds_same node;
-        starts = λ s e k. ((λ p. omega arith), not_left node.played (is_ended node.phase) (ap is_ended e));
+        starts = λ s e k. ((λ p. omega arith), not_left node.played (is_ended node.phase) (ap is_ended e), (λ on. refl));
         completes = λ word e all.
-            ((λ p. omega arith), not_left node.played (is_ended node.phase) (ap is_ended e));
-        notes = λ word e some. ((λ p. omega arith), (λ left. left));
+            ((λ p. omega arith), not_left node.played (is_ended node.phase) (ap is_ended e), (λ on. refl));
+        notes = λ word e some. ((λ p. omega arith), (λ left. left), (λ on. on));
         commands = λ plays. record {
           dropped = λ number why. holds_same node;
-          stale = λ l. (peer_holds flight.from _ node.held (λ p. omega arith) known, (λ left. left));
-          gap = λ l. (peer_holds flight.from _ node.held (λ p. omega arith) known, (λ left. left));
-          takes = λ l m. (peer_holds flight.from _ _ (longer node.held flight.from _) known, (λ left. left));
+          stale = λ l. (peer_holds flight.from _ node.held (λ p. omega arith) known, (λ left. left), (λ on. on));
+          gap = λ l. (peer_holds flight.from _ node.held (λ p. omega arith) known, (λ left. left), (λ on. on));
+          takes = λ l m. (peer_holds flight.from _ _ (longer node.held flight.from _) known, (λ left. left), (λ on. on));
         };
         requests = λ ended. (
           peer_holds flight.from _ node.held (λ p. omega arith)
               (request_known (node.peers flight.from) flight.request),
           (λ left. left),
+          (λ on. on),
         );
       })
 
@@ -136,26 +139,37 @@ has_is limits me n m r mine p other below = grind (arith, got_is, end_is, cond-f
 pub has_none : (n : Contents) (p : ℕ) → n.players ≤ p → has_of n p ≡ 0
 has_none n p past = rw (le-ltb p n.players past) refl
 
--- whoever has as much as a node has as much as a lockstep, and has ended, if it had
+-- whoever has as much as a node has as much as a lockstep, and has ended, or started, if it had
 abbrev pub HasAsMuch : ℕ → Contents → Contents → Type 0
 HasAsMuch me old new =
     ((which : ℕ) → which ≢ me → has_of old which ≤ has_of new which)
     × (has_ended old ≡ true → has_ended new ≡ true)
+    × (is_waiting old.phase ≡ false → is_waiting new.phase ≡ false)
 
 ended_is : (limits : Limits) (me : ℕ) (n : Contents) (m : machine.Node) → Represents limits me n m
     → has_ended n ≡ has_left m
 ended_is limits me n m r = λ i. r.stands.played i && is_ended (r.stands.phase i)
 
 pub as_much : (me : ℕ) (n : Contents) → HasAsMuch me n n
-as_much me n = ((λ which other. omega arith), (λ ended. ended))
+as_much me n = ((λ which other. omega arith), (λ ended. ended), (λ on. on))
 
 much_on : (me : ℕ) (old mid new : Contents) → HasAsMuch me old mid → HasAsMuch me mid new → HasAsMuch me old new
-much_on me old mid new first later =
-    ((λ which other. omega (arith, first.0 which other, later.0 which other)), (λ ended. later.1 (first.1 ended)))
+much_on me old mid new first later = (
+  (λ which other. omega (arith, first.0 which other, later.0 which other)),
+  (λ ended. later.1 (first.1 ended)),
+  (λ on. later.2 (first.2 on)),
+)
 
 pub grows : (limits : Limits) (me : ℕ) (old new : Contents) (m next : machine.Node) → Represents limits me old m
     → Represents limits me new next → me < limits.players → Holds m next → HasAsMuch me old new
-grows limits me old new m next before after mine holds = grind (arith, has_is, has_none, ended_is)
+grows limits me old new m next before after mine holds = (
+  has_as_much,
+  grind (arith, ended_is),
+  (λ on. ap is_waiting after.stands.phase ∙ holds.2 (ap is_waiting (sym before.stands.phase) ∙ on)),
+)
+  where
+    has_as_much : (which : ℕ) → which ≢ me → has_of old which ≤ has_of new which
+    has_as_much which other = grind (arith, has_is, has_none)
 
 -- what is opened of a fair packet, by the tests that it passes or not
 opened_holds : (limits : Limits) (me : ℕ) (m : machine.Node) (flight : Flight) → IsFair flight
@@ -212,11 +226,11 @@ module _ (letters : LettersKeep) (marking : Marking) (limits : Limits) (settings
         (one_grows packet now next answer here.0 given hears),
   )
 
-  pub all_grows : (packets : List Opened) (new : Contents) (started : Bool)
+  pub all_grows : (packets : List Opened) (new : Contents)
       → AreOneGame marking limits settings session → All (WasGiven session.given player) packets
-      → HearsAll packets (session.locksteps player) new started → HasAsMuch player (session.locksteps player) new
-  all_grows packets new started game all hears =
+      → HearsAll packets (session.locksteps player) new → HasAsMuch player (session.locksteps player) new
+  all_grows packets new game all hears =
       let begun = subst (AreOneGame marking limits settings)
       (sym (as_it_is letters marking limits settings session player)) game in
-      (all_along (WasGiven session.given player) GoesOn goes_on packets (session.locksteps player) new started
+      (all_along (WasGiven session.given player) GoesOn goes_on packets (session.locksteps player) new
       (begun, as_much player (session.locksteps player)) all hears).1

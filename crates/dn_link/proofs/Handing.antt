@@ -8,11 +8,11 @@ use Rattle.dn_tic.specs.{Command.IsCommand, Command.command_bytes, declared.comm
 use Rattle.dn_machine.specs.{Flight.Flight, Relaying.packet_of_one}
 use Rattle.dn_lockstep.specs.{Contents.Contents, Sent.IsFair, Told.command_told}
 use Rattle.dn_lockstep.proofs.Keeping.{none_stops}
-use Rattle.dn_survivor.specs.{declared.others.Others.Others, declared.report.Report.Report, OfOthers.newest_of, Telling.MayRelay, Telling.told_gone}
+use Rattle.dn_survivor.specs.{declared.report.Report.Report, OfOthers.newest_of, Telling.MayRelay, Telling.told_gone}
 use Rattle.dn_open.specs.Sealed.{opened_of}
-use Rattle.dn_link.specs.Surviving.{names, reports_gone, HasBehind, HasTwoBehind, IsHandedFor, may_hand, shares_gone}
+use Rattle.dn_link.specs.Surviving.{names, reports_gone, HasTwoBehind, IsHandedFor, may_hand, shares_gone}
 use Rattle.dn_link.specs.Relays.{AreTold, AreHandedOn, AreLacked, Handed, handed_part, flights_of, run_flights}
-use Rattle.dn_link.specs.{declared.bundle.Part.Part, declared.bundle.Part.TheVariants.Relay, Linked.Linked, Linked.has_given_up, Linked.surviving_of, LinkedGame.WasGiven}
+use Rattle.dn_link.specs.{declared.bundle.Part.Part, declared.bundle.Part.TheVariants.Relay, Linked.HasBehind, Linked.Linked, Linked.has_given_up, Linked.surviving_of, LinkedGame.WasGiven}
 use Rattle.dn_link.specs.Packets.{opened_from, packets_of, short_packet, short_packets}
 use Rattle.dn_link.specs.declared.bundle.Relay as relay
 
@@ -49,17 +49,6 @@ may_relay link to may =
         sym (names_told (newest_of link.others to) player)
         ∙ (and_parts (not (has_given_up link to)) (names (newest_of link.others to) player)
         (second (has_given_up link player) (reports_gone link to player) shares gone)).1
-
-may_same : (old link : Linked) (to : ℕ) → link.others ≡ old.others → MayRelay (surviving_of link) to
-    → MayRelay (surviving_of old) to
-may_same old link to same = subst (λ (o : Others). MayRelay (record { lockstep = link.node; others = link.others }) to
-    → MayRelay (record { lockstep = old.node; others = o }) to) same
-    (λ may. record { stays = may.stays; within = may.within })
-
--- the same of a link that has given up and heard of as many
-pub may_before : (old link : Linked) (to low : ℕ) (own all : List Part) → link.others ≡ old.others
-    → (behind : HasBehind link to low own all) → (behind.handed ≢ []) → MayRelay (surviving_of old) to
-may_before old link to low own all same behind some = may_same old link to same (behind.may some)
 
 -- what is said of those above a number is said of those above a lower one a lower number
 lower : (reported : List ℕ) (low high : ℕ) (handed : List Handed) → low ≤ high → AreLacked reported high handed

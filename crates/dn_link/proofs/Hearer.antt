@@ -1,5 +1,5 @@
 -- What one packet that asks for nothing does to the node that hears it.
-use Rattle.std.proofs.Common.{◌≡◌, ◌≢◌, ◌<◌, ◌≤◌, ◌+◌, ◌-◌, ◌⊎◌, ◌++◌, ℕ, Bool, true, false, length, drop, refl, ap, sym, ◌∙◌, subst, arith, Option, None, inl, inr}
+use Rattle.std.proofs.Common.{◌≡◌, ◌≢◌, ◌<◌, ◌≤◌, ◌+◌, ◌-◌, ◌⊎◌, ◌++◌, ℕ, Bool, true, false, List, length, drop, refl, ap, sym, ◌∙◌, subst, arith, Option, None, inl, inr}
 use Rattle.std.specs.Prelude.{max}
 use Rattle.std.proofs.lemmas.{Bool.cases_eq, List.length-append, List.length-drop}
 use Rattle.dn_tic.specs.declared.command.TicCmd.{TicCmd}
@@ -8,7 +8,7 @@ use Rattle.dn_machine.specs.{declared.answers.Heard.Heard, declared.answers.Phas
 use Rattle.dn_machine.specs.declared.answers.Phase.TheVariants.{Listening, Gathering, Playing, Ended}
 use Rattle.dn_machine.specs.Drops as drops
 use Rattle.dn_machine.specs.Flight.{SetUp, Play, Exit, Flight, is_exit, end_of}
-use Rattle.dn_machine.specs.Hearing.{after_request, after_exit, left_or, on_commands, on_ended, on_packet, on_packet_in}
+use Rattle.dn_machine.specs.Hearing.{after_request, after_exit, on_commands, on_ended, on_packet, on_packet_in}
 use Rattle.dn_machine.proofs.{Put.put_at, Put.put_off, Calls.Refused, Calls.commands_cases, Calls.packet_cases, Calls.sender_after}
 
 -- a packet that is asked for nothing leaves what is sent next, and what is wanted
@@ -44,10 +44,7 @@ module _ (limits : Limits) (me : ℕ) (node : Node) (flight : Flight) (silent : 
   WantsNone m = (p : ℕ) → p < limits.players → p ≢ me → (m.peers p).want ≡ false
 
   -- what it leaves: of other players, and of its sender
-  pub record Leaves (end : ℕ) (new : Node) (answer : Heard) : Type 0 where
-    pub starts : answer ≡ Heard.Started
-        → (node.phase ≢ Playing) × (is_ended node.phase ≡ false) × (new.phase ≡ Playing)
-    pub plays : new.phase ≡ Playing → (node.phase ≡ Playing) ⊎ (answer ≡ Heard.Started)
+  pub record Leaves (end : ℕ) (new : Node) : Type 0 where
     pub ended : is_ended new.phase ≡ false → is_ended node.phase ≡ false
     pub stays : node.phase ≡ Playing → new.phase ≡ Playing
     pub others : (p : ℕ) → p ≢ from → length (new.held p) ≡ length (node.held p)
@@ -72,90 +69,46 @@ module _ (limits : Limits) (me : ℕ) (node : Node) (flight : Flight) (silent : 
     | inr n ↦ ap (λ (x : Peer). x.want) (put_off node.peers from p peer n) ∙ all p l other
   ]
 
-  -- the node is as it was, but for a phase that is no end
-  same : (end : ℕ) (answer : Heard) → answer ≢ Heard.Started → Leaves end node answer
-  same end answer not = record {
-    starts = λ e. absurd (not e);
-    plays = λ e. inl e;
-    ended = λ e. e;
-    stays = λ e. e;
-    others = λ p n. refl;
-    least = omega arith;
-    most = omega arith;
-    idle = λ n. refl;
-    next = λ p. refl;
-    wants = λ low all. all;
-  }
+  -- it has the same commands
+  module _ (end : ℕ) (new : Node) (held : new.held ≡ node.held) where
+    same_held : (p : ℕ) → length (new.held p) ≡ length (node.held p)
+    same_held p = ap (λ (h : ℕ → List TicCmd). length (h p)) held
+
+    holds_same : (is_ended new.phase ≡ false → is_ended node.phase ≡ false)
+        → (node.phase ≡ Playing → new.phase ≡ Playing) → ((p : ℕ) → (new.peers p).resend ≡ (node.peers p).resend)
+        → ((node.phase ≡ Playing → flight.start ≤ length (node.held from)) → WantsNone node → WantsNone new)
+        → Leaves end new
+    holds_same ended stays next wants =
+        let same = same_held from in
+        record {
+          ended = ended;
+          stays = stays;
+          others = λ p n. same_held p;
+          least = omega (arith, same);
+          most = omega (arith, same);
+          idle = λ n. same;
+          next = next;
+          wants = wants;
+        }
+
+  -- the node is as it was
+  same : (end : ℕ) → Leaves end node
+  same end = holds_same end node refl (λ e. e) (λ e. e) (λ p. refl) (λ low all. all)
 
   -- a word of its sender
-  pub word_leaves : Leaves (end_of flight) (on_packet limits me node flight).0 (on_packet limits me node flight).1
-  word_leaves = packet_cases limits me node flight (λ (r : Node × Heard). Leaves (end_of flight) r.0 r.1) (record {
-    dropped = λ number why. same (end_of flight) (Heard.Dropped number) (λ e. cc);
-    starts = λ s e k. record {
-      starts = λ x. ((λ y. absurd (clash (sym e ∙ y))), ap is_ended e, refl);
-      plays = λ x. inr refl;
-      ended = λ x. ap is_ended e;
-      stays = λ x. refl;
-      others = λ p n. refl;
-      least = omega arith;
-      most = omega arith;
-      idle = λ n. refl;
-      next = λ p. refl;
-      wants = λ low all. all;
-    };
-    completes = λ word e all. record {
-      starts = λ x. ((λ y. absurd (clash_gathering (sym e ∙ y))), ap is_ended e, refl);
-      plays = λ x. inr refl;
-      ended = λ x. ap is_ended e;
-      stays = λ x. refl;
-      others = λ p n. refl;
-      least = omega arith;
-      most = omega arith;
-      idle = λ n. refl;
-      next = λ p. refl;
-      wants = λ low none. none;
-    };
-    notes = λ word e some. record {
-      starts = λ x. absurd (cc);
-      plays = λ x. inl x;
-      ended = λ x. x;
-      stays = λ x. x;
-      others = λ p n. refl;
-      least = omega arith;
-      most = omega arith;
-      idle = λ n. refl;
-      next = λ p. refl;
-      wants = λ low none. none;
-    };
+  pub word_leaves : Leaves (end_of flight) (on_packet limits me node flight).0
+  word_leaves = packet_cases limits me node flight (λ (r : Node × Heard). Leaves (end_of flight) r.0) (record {
+    dropped = λ number why. same (end_of flight);
+    starts = λ s e k. holds_same _ _ refl (λ x. ap is_ended e) (λ x. refl) (λ p. refl) (λ low all. all);
+    completes = λ word e all. holds_same _ _ refl (λ x. ap is_ended e) (λ x. refl) (λ p. refl) (λ low all. all);
+    notes = λ word e some. holds_same _ _ refl (λ x. x) (λ x. x) (λ p. refl) (λ low all. all);
     commands = λ playing. record {
-      dropped = λ number why. same (end_of flight) (Heard.Dropped number) (λ e. cc);
-      stale = λ l. record {
-        starts = λ x. absurd (not_left (is_exit flight.kind) Heard.Stale (λ e. cc) x);
-        plays = λ x. inl playing;
-        ended = λ x. x;
-        stays = λ x. x;
-        others = λ p n. refl;
-        least = omega arith;
-        most = omega arith;
-        idle = λ n. refl;
-        next = next_put (sender_after limits me node flight) sender_same.0;
-        wants = λ low none. wants_put (sender_after limits me node flight) (sender_same.1 ∙ none from below apart) none;
-      };
-      gap = λ l. record {
-        starts = λ x. absurd (cc);
-        plays = λ x. inl playing;
-        ended = λ x. x;
-        stays = λ x. x;
-        others = λ p n. refl;
-        least = omega arith;
-        most = omega arith;
-        idle = λ n. refl;
-        next = next_put _ sender_same.0;
-        wants = λ low none. absurd (omega (arith, l, low playing));
-      };
+      dropped = λ number why. same (end_of flight);
+      stale = λ l. holds_same _ _ refl (λ x. x) (λ x. x) (next_put _ sender_same.0)
+          (λ low none. wants_put _ (sender_same.1 ∙ none from below apart) none);
+      gap = λ l. holds_same _ _ refl (λ x. x) (λ x. x) (next_put _ sender_same.0)
+          (λ low none. absurd (omega (arith, l, low playing)));
       takes = λ l m. record {
-        starts = λ x. absurd (not_left (is_exit flight.kind) _ (λ e. cc) x);
-        plays = λ x. inl playing;
         ended = λ x. x;
         stays = λ x. x;
         others = λ p n. ap (length {A = TicCmd}) (put_off node.held from p _ n);
@@ -166,30 +119,10 @@ module _ (limits : Limits) (me : ℕ) (node : Node) (flight : Flight) (silent : 
         wants = λ low none. wants_put _ refl none;
       };
     };
-    requests = λ done. record {
-      starts = λ x. absurd (cc);
-      plays = λ x. inl x;
-      ended = λ x. x;
-      stays = λ x. x;
-      others = λ p n. refl;
-      least = omega arith;
-      most = omega arith;
-      idle = λ n. refl;
-      next = next_put _ requested.0;
-      wants = λ low none. wants_put _ (requested.1 ∙ none from below apart) none;
-    };
+    requests = λ done. holds_same _ _ refl (λ x. x) (λ x. x) (next_put _ requested.0)
+        (λ low none. wants_put _ (requested.1 ∙ none from below apart) none);
   })
     where
-      clash : ◌≡◌ {A = Phase} Listening Playing → ⊥
-      clash e = cc
-
-      clash_gathering : ◌≡◌ {A = Phase} Gathering Playing → ⊥
-      clash_gathering e = cc
-
-      not_left : (exit : Bool) (answer : Heard) → answer ≢ Heard.Started → left_or exit answer ≢ Heard.Started
-      not_left true answer other e = cc
-      not_left false answer other e = other e
-
       grown : length (put node.held from (node.held from ++ drop (length (node.held from) - flight.start) flight.commands) from)
           ≡ length (node.held from) + (length flight.commands - (length (node.held from) - flight.start))
       grown = ap (length {A = TicCmd}) (put_at node.held from from _ refl)
@@ -199,42 +132,27 @@ module _ (limits : Limits) (me : ℕ) (node : Node) (flight : Flight) (silent : 
 
   -- settings
   pub settings_leave : (settings : Settings) → flight.kind ≡ SetUp settings
-      → Leaves flight.start (on_packet limits me node flight).0 (on_packet limits me node flight).1
+      → Leaves flight.start (on_packet limits me node flight).0
   unfolding on_packet
   settings_leave settings is = go node.phase refl
     where
-      clash : ◌≡◌ {A = Phase} Listening Playing → ⊥
-      clash e = cc
-
       go : (phase : Phase) → node.phase ≡ phase
           → Leaves flight.start (on_packet_in limits me node flight node.phase flight.kind).0
-          (on_packet_in limits me node flight node.phase flight.kind).1
-      go Listening e = subst (λ (r : Node × Heard). Leaves flight.start r.0 r.1)
-          (λ i. on_packet_in limits me node flight (sym e i) (sym is i)) (record {
-            starts = λ x. ((λ y. absurd (clash (sym e ∙ y))), ap is_ended e, refl);
-            plays = λ x. inr refl;
-            ended = λ x. ap is_ended e;
-            stays = λ x. refl;
-            others = λ p n. refl;
-            least = omega arith;
-            most = omega arith;
-            idle = λ n. refl;
-            next = λ p. refl;
-            wants = λ low all. all;
-          })
-      go Gathering e = subst (λ (r : Node × Heard). Leaves flight.start r.0 r.1)
+      go Listening e = subst (λ (r : Node × Heard). Leaves flight.start r.0)
           (λ i. on_packet_in limits me node flight (sym e i) (sym is i))
-          (same flight.start (Heard.Dropped drops.out_of_place) (λ e. cc))
-      go Playing e = subst (λ (r : Node × Heard). Leaves flight.start r.0 r.1)
+          (holds_same _ _ refl (λ x. ap is_ended e) (λ x. refl) (λ p. refl) (λ low all. all))
+      go Gathering e = subst (λ (r : Node × Heard). Leaves flight.start r.0)
           (λ i. on_packet_in limits me node flight (sym e i) (sym is i))
-          (same flight.start (Heard.Dropped drops.out_of_place) (λ e. cc))
-      go (Ended cause) e = subst (λ (r : Node × Heard). Leaves flight.start r.0 r.1)
+          (same flight.start)
+      go Playing e = subst (λ (r : Node × Heard). Leaves flight.start r.0)
+          (λ i. on_packet_in limits me node flight (sym e i) (sym is i))
+          (same flight.start)
+      go (Ended cause) e = subst (λ (r : Node × Heard). Leaves flight.start r.0)
           (λ i. on_packet_in limits me node flight (sym e i) (sym is i)) (by node.played)
         where
           by : (played : Bool) → Leaves flight.start (on_ended limits played me node flight (SetUp settings)).0
-              (on_ended limits played me node flight (SetUp settings)).1
-          by true = same flight.start (Heard.Dropped drops.out_of_place) (λ e. cc)
-          by false = same flight.start (Heard.Dropped drops.not_playing) (λ e. cc)
+          by true = same flight.start
+          by false = same flight.start
 
   -- it is dropped by one that does not play alone
   abbrev pub IsSpared : Heard → Type 0

@@ -8,7 +8,7 @@ use Rattle.std.specs.Prelude.{slice_index}
 use Rattle.std.specs.{Int.w32, Int.to_le_bytes, Int.from_le_bytes, Option.option_map, List.flat_map}
 use Rattle.dn_seal.specs.{Opening.ask_in, Envelope.ask_bytes}
 use Rattle.dn_seal.proofs.Openings.{four_bytes, ask_is, asked-small}
-use Rattle.dn_link.specs.Text.{carried_bytes, IsCarried, part_bytes, IsPart, IsRelay, IsRun}
+use Rattle.dn_link.specs.Text.{carried_bytes, IsCarried, part_bytes, run_bytes, IsPart, IsRelay, IsRun}
 use Rattle.dn_link.specs.Told.{number_at, told_whole, told_run, told_relay, told_part, told_all}
 use Rattle.dn_link.specs.{declared.bundle.Carried.Carried, declared.bundle.Part.Part, declared.bundle.Part.TheVariants.Whole, declared.bundle.Part.TheVariants.Run}
 use Rattle.dn_link.specs.declared.bundle.Part.TheVariants.{Relay}
@@ -72,8 +72,18 @@ first_fits (s0 ∷ s1 ∷ s2 ∷ s3 ∷ q ∷ a ∷ b ∷ c ∷ d ∷ n ∷ rest
     }
 first_fits _ packet fits is = absurd (let l = is.long in omega arith)
 
+-- a run that was written stands there
+run_first : (r : run.Run) (rest : List ℕ) → IsRun r
+    → told_run (length r.commands.items / 8) (run_bytes r ++ rest) ≡ Some r
+run_first r rest is = grind (arith, le-ltb, length-append, from_le_bytes-to_le_bytes_4, take-append_seam)
+
 run_back : (r : run.Run) (rest : List ℕ) → IsRun r → told_part (part_bytes (Run r) ++ rest) ≡ Some (Run r)
-run_back r rest is = grind (arith, ne_eqb, lt-ltb, le-ltb, length-append, from_le_bytes-to_le_bytes_4, take-append_seam)
+run_back r rest is =
+    let n : ℕ = length r.commands.items / 8 in
+    let whole = is.whole in
+    let off = ne_eqb n 0 (λ e. absurd (omega (arith, e, whole, is.some))) in
+    let low = lt-ltb n 32 (omega (arith, whole, is.few)) in
+    rw (off, low) (ap (option_map Run) (run_first r rest is))
 
 relay_back : (r : relay.Relay) (rest : List ℕ) → IsRelay r → told_part (part_bytes (Relay r) ++ rest) ≡ Some (Relay r)
 relay_back r rest is =
@@ -89,19 +99,9 @@ relay_back r rest is =
     let who : n / 32 - 1 ≡ r.player = omega (arith, whole, few) in
     let a = le-ltb 159 n (omega (arith, whole, few, small)) in
     let z = ne_eqb k 0 (λ e. absurd (omega (arith, e, whole, some))) in
-    let c = le-ltb 24 k (omega (arith, whole, few)) in
-    let both = length-append (to_le_bytes w32 r.run.start ++ r.run.commands.items) rest in
-    let one = length-append (to_le_bytes w32 r.run.start) r.run.commands.items in
-    let four : length (to_le_bytes w32 r.run.start) ≡ 4 = refl in
-    let b = le-ltb (length (to_le_bytes w32 r.run.start ++ r.run.commands.items ++ rest)) (4 + 8 * k)
-    (omega (arith, whole, both, one, four)) in
-    let start = from_le_bytes-to_le_bytes_4 r.run.start is.run.start in
-    let items : take (8 * k) (r.run.commands.items ++ rest) ≡ r.run.commands.items =
-    ap (λ (j : ℕ). take j (r.run.commands.items ++ rest)) whole ∙ take-append_seam r.run.commands.items rest in
-    rw (off, high, a, count, z, c, b) (λ i. Some (Relay (record {
-      player = who i;
-      run = record { start = start i; commands = record { items = items i } };
-    })))
+    rw (off, high, a, count, z) (ap (λ (o : Option run.Run).
+    option_map Relay (option_map (λ x. record { player = n / 32 - 1; run = x }) o)) (run_first r.run rest is.run)
+    ∙ (λ i. Some (Relay (record { player = who i; run = r.run }))))
 
 pub part_back : (part : Part) (rest : List ℕ) → IsPart part → told_part (part_bytes part ++ rest) ≡ Some part
 part_back part rest is = grind (arith, told_first, written_first, run_back, relay_back)
@@ -126,15 +126,20 @@ whole_is rest part fits e = go (told_whole rest) refl e
               ∙ ap (λ (k : ℕ). carried_bytes packet ++ drop k rest) (sym (length-carried packet)));
         })
 
-run_at : (n : ℕ) (rest : List ℕ) → n ≢ 0 → Fit rest → n ≤ 24 → 4 + 8 * n ≤ length rest → IsPlaced (n ∷ rest)
-    (Run (record { start = number_at 0 rest; commands = record { items = take (8 * n) (drop 4 rest) } }))
+-- what is read as a run is that run's bytes
+record IsRunAt (n : ℕ) (rest : List ℕ) (r : run.Run) : Type 0 where
+  is : IsRun r
+  count : n ≡ length r.commands.items / 8
+  spelled : rest ≡ run_bytes r ++ drop (length (run_bytes r)) rest
+
+run_at : (n : ℕ) (rest : List ℕ) → n ≢ 0 → Fit rest → n ≤ 24 → 4 + 8 * n ≤ length rest
+    → IsRunAt n rest (record { start = number_at 0 rest; commands = record { items = take (8 * n) (drop 4 rest) } })
 run_at n (s0 ∷ s1 ∷ s2 ∷ s3 ∷ more) some fits few long =
     let start : ℕ = from_le_bytes w32 (s0 ∷ s1 ∷ s2 ∷ s3 ∷ []) in
     let starts = four_bytes s0 s1 s2 s3 start (fits 0) (fits 1) (fits 2) (fits 3) refl in
     let one : 1 ≤ n = positive n some in
     let long_1 : 8 * n ≤ length more = omega (arith, long) in
     let sized : length (take (8 * n) more) ≡ 8 * n = length-take-le (8 * n) more long_1 in
-    let eighth : n ≡ length (take (8 * n) more) / 8 = omega (arith, sized) in
     let items : more ≡ take (8 * n) more ++ drop (length (take (8 * n) more)) more =
     sym (take-append-drop (8 * n) more) ∙ ap (λ (k : ℕ). take (8 * n) more ++ drop k more) (sym sized) in
     record {
@@ -144,7 +149,8 @@ run_at n (s0 ∷ s1 ∷ s2 ∷ s3 ∷ more) some fits few long =
         few = omega (arith, sized, few);
         whole = omega (arith, sized);
       };
-      spelled = λ i. eighth i ∷ (starts i ++ items i);
+      count = omega (arith, sized);
+      spelled = λ i. starts i ++ items i;
     }
   where
     positive : (k : ℕ) → k ≢ 0 → 1 ≤ k
@@ -152,48 +158,45 @@ run_at n (s0 ∷ s1 ∷ s2 ∷ s3 ∷ more) some fits few long =
     positive (suc k) is = omega arith
 run_at n _ some fits few long = absurd (omega arith)
 
-run_is : (n : ℕ) (rest : List ℕ) (part : Part) → n ≢ 0 → Fit rest → told_run n rest ≡ Some part
-    → IsPlaced (n ∷ rest) part
-run_is n rest part some fits e = grind (arith, lt-ltb, none-some, le-ltb, same_Some, run_at)
+run_is : (n : ℕ) (rest : List ℕ) (r : run.Run) → n ≢ 0 → Fit rest → told_run n rest ≡ Some r → IsRunAt n rest r
+run_is n rest r some fits e = grind (arith, lt-ltb, none-some, le-ltb, same_Some, run_at)
 
-relay_at : (n : ℕ) (rest : List ℕ) → 32 ≤ n → n ≤ 159 → n % 32 ≢ 0 → n % 32 ≤ 24 → Fit rest
-    → 4 + 8 * (n % 32) ≤ length rest
-    → IsPlaced (n ∷ rest) (Relay (record {
-      player = n / 32 - 1;
-      run = record { start = number_at 0 rest; commands = record { items = take (8 * (n % 32)) (drop 4 rest) } };
-    }))
-relay_at n (s0 ∷ s1 ∷ s2 ∷ s3 ∷ more) high low some few fits long =
-    let k : ℕ = n % 32 in
-    let start : ℕ = from_le_bytes w32 (s0 ∷ s1 ∷ s2 ∷ s3 ∷ []) in
-    let starts = four_bytes s0 s1 s2 s3 start (fits 0) (fits 1) (fits 2) (fits 3) refl in
-    let one : 1 ≤ n % 32 = positive_of (n % 32) some in
-    let long_1 : 8 * (n % 32) ≤ length more = omega (arith, long) in
-    let sized : length (take (8 * (n % 32)) more) ≡ 8 * (n % 32) = length-take-le (8 * (n % 32)) more long_1 in
-    let head : n ≡ 32 * (n / 32 - 1 + 1) + length (take (8 * (n % 32)) more) / 8 = omega (arith, sized, high) in
-    let items : more ≡ take (8 * (n % 32)) more ++ drop (length (take (8 * (n % 32)) more)) more =
-    sym (take-append-drop (8 * (n % 32)) more)
-    ∙ ap (λ (j : ℕ). take (8 * (n % 32)) more ++ drop j more) (sym sized) in
-    record {
-      is = record {
-        player = omega (arith, low);
-        run = record {
-          start = small s0 s1 s2 s3 (fits 0) (fits 1) (fits 2) (fits 3);
-          some = omega (arith, sized, one);
-          few = omega (arith, sized, few);
-          whole = omega (arith, sized);
-        };
-      };
-      spelled = λ i. head i ∷ (starts i ++ items i);
-    }
+run_part : (n : ℕ) (rest : List ℕ) (part : Part) → n ≢ 0 → Fit rest → option_map Run (told_run n rest) ≡ Some part
+    → IsPlaced (n ∷ rest) part
+run_part n rest part some fits e = go (told_run n rest) refl e
   where
-    positive_of : (k : ℕ) → k ≢ 0 → 1 ≤ k
-    positive_of zero is = absurd (is refl)
-    positive_of (suc k) is = omega arith
-relay_at n _ high low some few fits long = absurd (omega arith)
+    go : (one : Option run.Run) → told_run n rest ≡ one → option_map Run one ≡ Some part → IsPlaced (n ∷ rest) part
+    go None is e = absurd (none-some part e)
+    go (Some r) is e =
+        let at = run_is n rest r some fits is in
+        subst (IsPlaced (n ∷ rest)) (same_Some (Run r) part e) (record {
+          is = at.is;
+          spelled = λ i. at.count i ∷ at.spelled i;
+        })
 
-relay_is : (n : ℕ) (rest : List ℕ) (part : Part) → 32 ≤ n → Fit rest → told_relay n rest ≡ Some part
-    → IsPlaced (n ∷ rest) part
-relay_is n rest part high fits e = grind (arith, lt-ltb, none-some, le-ltb, eq-eqb, ne_eqb, same_Some, relay_at)
+relay_part : (n : ℕ) (rest : List ℕ) (part : Part) → 32 ≤ n → Fit rest
+    → option_map Relay (told_relay n rest) ≡ Some part → IsPlaced (n ∷ rest) part
+relay_part n rest part high fits e = elim (cases_lt 159 n) [
+  | inl over ↦ let on = lt-ltb 159 n over in
+      let none : ◌≡◌ {A = Option Part} None (Some part) = rw on at e in absurd (none-some part none)
+  | inr low ↦ let off = le-ltb 159 n low in elim (cases_eq (n % 32) 0) [
+    | inl nothing ↦ let on = eq-eqb (n % 32) 0 nothing in
+        let none : ◌≡◌ {A = Option Part} None (Some part) = rw (off, on) at e in absurd (none-some part none)
+    | inr some ↦ let no = ne_eqb (n % 32) 0 some in go low some (told_run (n % 32) rest) refl (rw (off, no) at e)
+  ]
+]
+  where
+    go : n ≤ 159 → n % 32 ≢ 0 → (one : Option run.Run) → told_run (n % 32) rest ≡ one
+        → option_map Relay (option_map (λ x. record { player = n / 32 - 1; run = x }) one) ≡ Some part
+        → IsPlaced (n ∷ rest) part
+    go low some None is e = absurd (none-some part e)
+    go low some (Some r) is e =
+        let at = run_is (n % 32) rest r some fits is in
+        let head : n ≡ 32 * (n / 32 - 1 + 1) + length r.commands.items / 8 = omega (arith, high, at.count) in
+        subst (IsPlaced (n ∷ rest)) (same_Some (Relay (record { player = n / 32 - 1; run = r })) part e) (record {
+          is = record { player = omega (arith, low); run = at.is };
+          spelled = λ i. head i ∷ at.spelled i;
+        })
 
 pub part_is : (bytes : List ℕ) (part : Part) → Fit bytes → told_part bytes ≡ Some part → IsPlaced bytes part
 part_is [] part fits e = absurd (none-some part e)
@@ -207,10 +210,10 @@ part_is (n ∷ rest) part fits e = elim (cases_eq n 0) [
       elim (cases_lt n 32) [
         | inl own ↦
             let low = lt-ltb n 32 own in
-            run_is n rest part some (fit_drop 1 (n ∷ rest) fits) (rw (off, low) at e)
+            run_part n rest part some (fit_drop 1 (n ∷ rest) fits) (rw (off, low) at e)
         | inr third ↦
             let high = le-ltb n 32 third in
-            relay_is n rest part third (fit_drop 1 (n ∷ rest) fits) (rw (off, high) at e)
+            relay_part n rest part third (fit_drop 1 (n ∷ rest) fits) (rw (off, high) at e)
       ]
 ]
 

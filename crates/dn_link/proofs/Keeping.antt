@@ -1,11 +1,11 @@
 -- The locksteps of one game stay those of one game where one hears a datagram.
-use Rattle.std.proofs.Common.{arith, ◌≡◌, Bool, true, false, List, [], ◌∷◌, sym, subst, All, ℕ, ap, ◌∙◌, Some}
+use Rattle.std.proofs.Common.{arith, ◌≡◌, List, [], ◌∷◌, sym, subst, All, ℕ, ap, ◌∙◌, Some}
 use Rattle.std.proofs.lemmas.List.Elements.{All-head, All-tail}
 use Rattle.std.specs.Prelude.{slice_get}
 use Rattle.dn_lockstep.specs.{Contents.Contents, Marking.Marking, OneGame.AreOneGame, OneGame.Session, OneGame.with_lockstep}
 use Rattle.dn_seal.specs.declared.opened.Opened.{Opened}
 use Rattle.dn_open.specs.{Arrivals.HearsOpened, Arrivals.SparesSealed, declared.hearing.Arrived.Arrived, Sealed.opened_of}
-use Rattle.dn_link.specs.{Hearing.ByTest, Hearing.HearsUntil, Hearing.HearsAll, Hearing.is_start, LinkedGame.WasGiven}
+use Rattle.dn_link.specs.{Hearing.HearsAll, LinkedGame.WasGiven}
 use Rattle.dn_setup.specs.Settings.{Settings}
 use Rattle.dn_machine.specs.{Flight.Flight, Limits.Limits, Node.put}
 use Rattle.dn_machine.proofs.Put.{put_at}
@@ -19,21 +19,12 @@ KeepsOne Fits Holds =
     → HearsOpened packet now next answer → SparesSealed now next answer → Holds next
 
 module _ (Fits : Opened → Type 0) (Holds : Contents → Type 0) (one : KeepsOne Fits Holds) where
-  pub until_along : (packets : List Opened) (now new : Contents) (started : Bool) → Holds now → All Fits packets
-      → HearsUntil packets now new started → Holds new
-  until_along [] now new started here all hears = subst Holds (sym hears.0) here
-  until_along (packet ∷ packets) now new started here all (next, answer, hears, spares, then) =
-      let after : Holds next = one packet now next answer here (All-head Fits packet packets all) hears spares in
-      go (is_start answer) after (until_along packets next new started after (All-tail Fits packet packets all)) then
-    where
-      go : (test : Bool) → Holds next → (HearsUntil packets next new started → Holds new)
-          → ByTest test ((new ≡ next) × (started ≡ true)) (HearsUntil packets next new started) → Holds new
-      go true after later then = subst Holds (sym then.0) after
-      go false after later then = later then
-
-  pub all_along : (packets : List Opened) (now new : Contents) (started : Bool) → Holds now → All Fits packets
-      → HearsAll packets now new started → Holds new
-  all_along packets now new started here all (next, first, then) = grind (arith, until_along)
+  pub all_along : (packets : List Opened) (now new : Contents) → Holds now → All Fits packets
+      → HearsAll packets now new → Holds new
+  all_along [] now new here all hears = subst Holds (sym hears) here
+  all_along (packet ∷ packets) now new here all (next, answer, hears, spares, then) =
+      all_along packets next new (one packet now next answer here (All-head Fits packet packets all) hears spares)
+      (All-tail Fits packet packets all) then
 
 put_same : {A : Type 0} (f : ℕ → A) (i : ℕ) → put f i (f i) ≡ f
 put_same f i = grind arith
@@ -73,11 +64,11 @@ module _ (letters : LettersKeep) (marking : Marking) (limits : Limits) (settings
             ∙ put_twice session.locksteps player now next) i;
       }) after
 
-  pub all_keeps : (packets : List Opened) (new : Contents) (started : Bool)
+  pub all_keeps : (packets : List Opened) (new : Contents)
       → AreOneGame marking limits settings session → All (WasGiven session.given player) packets
-      → HearsAll packets (session.locksteps player) new started → AreOneGame marking limits settings (at new)
-  all_keeps packets new started game all hears =
+      → HearsAll packets (session.locksteps player) new → AreOneGame marking limits settings (at new)
+  all_keeps packets new game all hears =
       all_along (WasGiven session.given player) (λ now. AreOneGame marking limits settings (at now))
       (λ packet now next answer here given heard spares. keeps_one packet now next answer here given heard)
-      packets (session.locksteps player) new started
+      packets (session.locksteps player) new
       (subst (AreOneGame marking limits settings) (sym as_it_is) game) all hears

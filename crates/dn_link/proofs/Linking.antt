@@ -1,15 +1,15 @@
 -- A link of one game, and what calls leave that keep what it knows of its peers.
-use Rattle.std.proofs.Common.{◌≡◌, ℕ, Bool, true, false, refl, ap, sym, ◌∙◌, inl, inr, ◌≤◌, List, arith, ◌<◌, subst, [], ◌∷◌, Some, All, ◌++◌, Option, None}
+use Rattle.std.proofs.Common.{◌≡◌, ℕ, true, refl, ap, sym, ◌∙◌, ◌≤◌, List, arith, ◌<◌, subst, [], ◌∷◌, Some, All, ◌++◌, Option, None}
 use Rattle.std.proofs.lemmas.List.Elements.{All-nil, All-cons, All-head, All-tail, All-append}
-use Rattle.std.proofs.{lemmas.Bool.cases_eq, lemmas.Option.same_Some, lemmas.Option.none-some, lemmas.Grind.flat_map-append}
-use Rattle.std.specs.Prelude.{if◌then◌else◌, max, slice_index, slice_get, map}
+use Rattle.std.proofs.{lemmas.Option.same_Some, lemmas.Option.none-some, lemmas.Grind.flat_map-append}
+use Rattle.std.specs.Prelude.{max, slice_index, slice_get, map}
 use Rattle.std.specs.{List.flat_map, Option.option_map}
 use Rattle.dn_setup.specs.Settings.{Settings}
 use Rattle.dn_seal.specs.{declared.opened.Opened.Opened, declared.seal.Seal.Seal}
 use Rattle.dn_machine.specs.{Node.put, Flight.Flight, Limits.Limits}
 use Rattle.dn_machine.proofs.Put.{put_at, put_off}
 use Rattle.dn_machine.specs.Node as machine
-use Rattle.dn_lockstep.proofs.OneGame.{gave, GoesBetween}
+use Rattle.dn_lockstep.proofs.OneGame.{GoesBetween}
 use Rattle.dn_lockstep.specs.{Contents.Contents, Marking.Marking, OneGame.AreOneGame, OneGame.given_on, OneGame.Session, OneGame.with_lockstep, Represents.Represents}
 use Rattle.dn_lockstep.specs.Steps.{Simulates}
 use Rattle.dn_open.specs.Sealed.{sealing_of}
@@ -167,21 +167,21 @@ module _ (given : List Flight) (flight : Option Flight) (player : ℕ) (old new 
 
   -- what was given before was given with what is handed on
   pub with_handed : (which : ℕ) (one : Flight) → slice_get (given_on given flight) which ≡ Some one
-      → slice_get (given_on given flight ++ flights_of to gives.handed) which ≡ Some one
-  with_handed which one found = found_on (given_on given flight) (flights_of to gives.handed) which one found
+      → slice_get (given_on given flight ++ flights_of to gives.behind.handed) which ≡ Some one
+  with_handed which one found = found_on (given_on given flight) (flights_of to gives.behind.handed) which one found
 
-  pub goes_given : All (WasGiven (given_on given flight ++ flights_of to gives.handed) gives.bundle.to)
+  pub goes_given : All (WasGiven (given_on given flight ++ flights_of to gives.behind.handed) gives.bundle.to)
       (packets_in gives.bundle)
   goes_given =
-      let P = WasGiven (given_on given flight ++ flights_of to gives.handed) to in
+      let P = WasGiven (given_on given flight ++ flights_of to gives.behind.handed) to in
       let both = All-append P (flat_map (packets_of player) gives.own)
-      (flat_map (packets_of player) (map handed_part gives.handed))
-      (opened_later (given_on given flight) (given_on given flight ++ flights_of to gives.handed) with_handed to
+      (flat_map (packets_of player) (map handed_part gives.behind.handed))
+      (opened_later (given_on given flight) (given_on given flight ++ flights_of to gives.behind.handed) with_handed to
       (flat_map (packets_of player) gives.own) own_given)
-      (all_given new.node (given_on given flight) player to gives.handed gives.handed_on) in
-      let whole = subst (All P) (sym (flat_map-append (packets_of player) gives.own (map handed_part gives.handed))) both in
-      let spelled = subst (λ (parts : List Part). All P (flat_map (packets_of player) parts)) (sym gives.parts) whole in
-      subst (λ (k : ℕ). All (WasGiven (given_on given flight ++ flights_of to gives.handed) k) (packets_in gives.bundle))
+      (all_given new.node (given_on given flight) player to gives.behind.handed gives.behind.on) in
+      let whole = subst (All P) (sym (flat_map-append (packets_of player) gives.own (map handed_part gives.behind.handed))) both in
+      let spelled = subst (λ (parts : List Part). All P (flat_map (packets_of player) parts)) (sym gives.behind.parts) whole in
+      subst (λ (k : ℕ). All (WasGiven (given_on given flight ++ flights_of to gives.behind.handed) k) (packets_in gives.bundle))
       (sym gives.goes)
       (subst (λ (k : ℕ). All P (flat_map (packets_of k) gives.bundle.parts.items)) (sym (gives.from ∙ own)) spelled)
 
@@ -191,6 +191,6 @@ module _ (given : List Flight) (flight : Option Flight) (player : ℕ) (old new 
       (λ peer. all_stay given flight player peer (old.peers peer).kept.packets (all peer))
       (keeps_given given flight player to (old.peers to).kept taken between is_given (all to)))
 
-  pub stays_kept : AreKept (given_on given flight ++ flights_of to gives.handed) player new.peers
-  stays_kept peer = all_later (given_on given flight) (given_on given flight ++ flights_of to gives.handed) with_handed
+  pub stays_kept : AreKept (given_on given flight ++ flights_of to gives.behind.handed) player new.peers
+  stays_kept peer = all_later (given_on given flight) (given_on given flight ++ flights_of to gives.behind.handed) with_handed
       player peer (new.peers peer).kept.packets (own_kept peer)

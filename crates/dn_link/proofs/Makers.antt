@@ -8,7 +8,7 @@ use Rattle.std.specs.List.{flat_map}
 use Rattle.dn_seal.specs.declared.opened.Opened.{Opened}
 use Rattle.dn_machine.specs.Node.{put}
 use Rattle.dn_machine.proofs.Put.{put_at, put_off}
-use Rattle.dn_link.specs.Packets.{heard_of, opened_from, own_of, packets_of, short_packet, short_packets}
+use Rattle.dn_link.specs.Packets.{heard_of, opened_from, packets_of, short_packet, short_packets}
 use Rattle.dn_link.specs.CaughtUp.{IsChain, HasNoGap, last_end, told_end, IsKeptChain}
 use Rattle.dn_link.specs.Kept.{IsRising, Unacknowledged, end_of, going, is_news, kept_after, without}
 use Rattle.dn_link.specs.{declared.bundle.Part.Part, declared.bundle.Part.TheVariants.Whole, declared.bundle.Part.TheVariants.Run, declared.bundle.Part.TheVariants.Relay}
@@ -213,6 +213,10 @@ run_goes player (suc n) start commands long =
     behind : (tic later : ℕ) (packets : List Opened) → tic ≤ later → HasNoGap tic packets → HasNoGap later packets
     behind tic later [] less goes = tt
     behind tic later (packet ∷ packets) less (low, goes) = (omega (arith, low, less), goes)
+
+-- what a part has of its sender's own packets
+abbrev pub own_of : ℕ → Part → List Opened
+own_of = heard_of (λ relay. false)
 
 -- what is heard of a datagram whose sender's own packets have no gap, where what is taken of others has none
 module _ (takes : relay.Relay → Bool) (from : ℕ) (first : ℕ → ℕ)

@@ -1,6 +1,6 @@
 -- What a link takes in, within one game.
 use Rattle.std.proofs.Common.{◌≡◌, ◌<◌, ◌≤◌, ◌≢◌, ℕ, Bool, true, false, List, refl, ap, sym, ◌∙◌, subst, arith, All, inl, inr, Some}
-use Rattle.std.specs.Prelude.{◌&&◌, not, Result, Ok, Err, slice_index}
+use Rattle.std.specs.Prelude.{Result, Ok, Err, slice_index}
 use Rattle.std.proofs.lemmas.Bool.{cases_eq}
 use Rattle.dn_setup.specs.Settings.{Settings}
 use Rattle.dn_machine.specs.{Limits.Limits, Node.put}
@@ -13,9 +13,9 @@ use Rattle.dn_open.specs.Sealed.{sealing_of}
 use Rattle.dn_link.specs.{declared.bundle.Bundle.Bundle, declared.bundle.BundleFault.BundleFault, Counting.has_ended, Counting.has_of}
 use Rattle.dn_link.specs.{Counting.held_of, declared.received.Received.Received, declared.received.Received.TheVariants.Excluded, declared.received.Received.TheVariants.GivenUp, declared.received.Received.TheVariants.Heard, Ends.excludes, Linked.HearsPeer}
 use Rattle.dn_link.specs.{declared.received.Received.TheVariants.Stranger, LinkedGame.HasReached, LinkedGame.WasGiven, LinkedGame.IsGenuineDatagram, Hearing.ByTest, Hearing.HearsAll, LinkedGame.AreLinked, LinkedGame.IsLater}
-use Rattle.dn_link.specs.{Pacing.PaceState, Packets.heard_in, Packets.packets_in, Reading.IsBundledAs, Linked.Linked, Linked.Receives, Linked.ReceivesAs, Linked.TakesIn, Linked.PeerState}
+use Rattle.dn_link.specs.{Packets.heard_in, Packets.packets_in, Reading.IsBundledAs, Linked.Linked, Linked.Receives, Linked.ReceivesAs, Linked.TakesIn, Linked.PeerState}
 use Rattle.dn_link.specs.{Linked.has_given_up, Linked.is_peer, Linked.met, Linked.takes as takes_of}
-use Rattle.dn_link.proofs.{Leaving.has_left, Leaving.parts_heard, Keeping.LettersKeep, Keeping.all_keeps, Growing.HasAsMuch, Growing.all_grows, Relinking.AreKept, Relinking.met_kept, Relinking.reached_kept}
+use Rattle.dn_link.proofs.{Leaving.has_left, Leaving.parts_heard, Keeping.LettersKeep, Keeping.all_keeps, Growing.all_grows, Relinking.AreKept, Relinking.met_kept, Relinking.reached_kept}
 use Rattle.dn_link.proofs.{Relinking.later_by, Relinking.relinked, Linking.at_most, Linking.larger_most, Linking.same_bundle}
 use Rattle.dn_link.proofs.Reporting.{AreTakenIn, taken_whole}
 use Rattle.dn_link.proofs.Linking as base
@@ -45,10 +45,10 @@ module _ (marking : Marking) (limits : Limits) (settings : Settings) (session : 
         × IsLater session (with_lockstep session player new.node)
     taken_in bundle new all reached takes =
         let packets = heard_in (takes_of old) bundle in
-        let heard = subst (λ (n : Contents). HearsAll packets n new.node takes.started) node takes.heard in
+        let heard = subst (λ (n : Contents). HearsAll packets n new.node) node takes.heard in
         let each = parts_heard (has_given_up old) (held_of old.node) bundle.from (WasGiven session.given player) bundle.parts.items all in
-        let game = all_keeps letters marking limits settings session player packets new.node takes.started linked.game each heard in
-        let much = all_grows letters marking limits settings session player mine packets new.node takes.started linked.game each heard in
+        let game = all_keeps letters marking limits settings session player packets new.node linked.game each heard in
+        let much = all_grows letters marking limits settings session player mine packets new.node linked.game each heard in
         let later : Session = with_lockstep session player new.node in
         let is = later_by session later player new.node refl (λ which flight found. found) much in
         let told : (peer which : ℕ) → which ≢ peer

@@ -4,14 +4,14 @@ use Rattle.std.proofs.lemmas.List.Elements.{All-nil, All-cons, All-head, All-tai
 use Rattle.std.proofs.lemmas.Option.{none-some, same_Some}
 use Rattle.std.specs.Prelude.{if◌then◌else◌, nat_le, slice_get, slice_index}
 use Rattle.std.specs.{List.flat_map, Option.option_map}
-use Rattle.dn_machine.specs.{Flight.Flight, Node.put, Limits.Limits}
+use Rattle.dn_machine.specs.{Flight.Flight, Node.put, Limits.Limits, Started.started_node}
 use Rattle.dn_remain.proofs.Vanished.Put.{at_put, at_both}
 use Rattle.dn_link.specs.Linked.{Linked, PeerState, met, with_reached, IsWhole}
 use Rattle.dn_link.specs.Kept.{Unacknowledged, going, is_news, kept_after, without, end_of}
 use Rattle.dn_link.specs.{declared.bundle.Bundle.Bundle, Counting.reached, Counting.has_ended, Counting.has_of, declared.bundle.Part.Part}
 use Rattle.dn_link.specs.{declared.bundle.Carried.Carried, LinkedGame.WasGiven, LinkedGame.AreLinked, LinkedGame.IsLater, Hearing.carried_of, Packets.opened_from}
 use Rattle.dn_link.specs.{Packets.packets_of, Packing.ArePacked}
-use Rattle.dn_lockstep.specs.{Contents.Contents, Marking.Marking, OneGame.AreOneGame, OneGame.Session, OneGame.given_on}
+use Rattle.dn_lockstep.specs.{Contents.Contents, Marking.Marking, OneGame.AreOneGame, OneGame.Session, OneGame.given_on, Phases.is_waiting, Represents.Represents}
 use Rattle.dn_survivor.specs.{OfOthers.has, OfOthers.nothing_kept, declared.others.Others.Others}
 use Rattle.dn_setup.specs.Settings.{Settings}
 use Rattle.dn_lockstep.proofs.OneGame.{GoesBetween}
@@ -26,6 +26,11 @@ nobody player = grind arith
 
 pub new_whole : (link : Linked) → link.others ≡ nothing_kept → IsWhole link
 new_whole link is player = ap (λ (o : Others). has o.gone player) is ∙ nobody player
+
+-- one that plays from the beginning on has started
+pub new_started : (limits : Limits) (settings : Settings) (player : ℕ) (n : Contents)
+    → Represents limits player n (started_node limits.players settings player) → is_waiting n.phase ≡ false
+new_started limits settings player n shows = ap is_waiting shows.stands.phase
 
 -- and nobody where none is given up since
 pub still_whole : (old new : Linked) → new.others.gone ≡ old.others.gone → IsWhole old → IsWhole new
@@ -144,6 +149,9 @@ later_by session later player new locksteps given much = record {
   ended = subst (λ (f : ℕ → Contents). (k : ℕ) → has_ended (session.locksteps k) ≡ true → has_ended (f k) ≡ true)
       (sym locksteps) (at_put (λ (k : ℕ) (n : Contents). has_ended (session.locksteps k) ≡ true → has_ended n ≡ true)
       session.locksteps player new much.1 (λ k off was. was));
+  started = subst (λ (f : ℕ → Contents). (k : ℕ) → is_waiting (session.locksteps k).phase ≡ false → is_waiting (f k).phase ≡ false)
+      (sym locksteps) (at_put (λ (k : ℕ) (n : Contents). is_waiting (session.locksteps k).phase ≡ false → is_waiting n.phase ≡ false)
+      session.locksteps player new much.2 (λ k off was. was));
 }
 
 -- what the links keep was given later, too, where what another link keeps that takes the place of one was
@@ -172,6 +180,7 @@ relinked marking limits settings session later links player new linked game lock
       nodes = λ other below. at_both (λ (k : ℕ) (l : Linked) (n : Contents). k < limits.players → l.node ≡ n)
           links session.locksteps player new new.node (λ l. refl) (λ k off. linked.nodes k) other below
           ∙ sym (ap (λ (f : ℕ → Contents). f other) locksteps);
+      started = λ other below. is.started other (linked.started other below);
       kept = λ other peer below. all_put session.given later.given is.given links player new kept other peer
           (linked.kept other peer below);
       reported = λ other peer which. at_put (λ (k : ℕ) (l : Linked). k < limits.players → which ≢ peer

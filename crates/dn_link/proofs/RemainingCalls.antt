@@ -1,5 +1,5 @@
 -- The links of one game in which players may be given up stay so.
-use Rattle.std.proofs.Common.{◌≡◌, ◌<◌, ℕ, ℤ, pos, Bool, true, false, List, get_or, refl, ap, sym, ◌∙◌, subst, Option, Some, inl, inr, None, [], ◌∷◌}
+use Rattle.std.proofs.Common.{◌≡◌, ◌<◌, ℕ, ℤ, pos, Bool, false, List, get_or, refl, ap, sym, ◌∙◌, subst, Option, Some, inl, inr, None, [], ◌∷◌}
 use Rattle.std.proofs.lemmas.Bool.{cases_eq}
 use Rattle.std.specs.Prelude.{slice_get}
 use Rattle.dn_tic.specs.{declared.command.Move.Move, declared.input.Input.Input}
@@ -14,7 +14,7 @@ use Rattle.dn_survivor.specs.{declared.report.Report.Report, Surviving.Surviving
 use Rattle.dn_survivor.specs.{declared.answers.Reported.Reported, declared.others.Others.Others}
 use Rattle.dn_survivor.proofs.OneGame as one_game
 use Rattle.dn_link.specs.{Linked.Linked, Linked.PeerState, Linked.surviving_of, RemainingLinks.AreRemainingLinks, RemainingLinks.KeepsGiven, Surviving.GivesUpPeer}
-use Rattle.dn_link.proofs.Relinking.{AreKept, AreGiven, all_later, all_put, found_on}
+use Rattle.dn_link.proofs.Relinking.{AreKept, all_later, all_put, found_on}
 
 -- Whose a survivor is stays.
 

@@ -9,8 +9,8 @@ use Rattle.dn_lockstep.specs.{Contents.Contents, Marking.Marking}
 use Rattle.dn_seal.specs.declared.seal.Seal.{Seal}
 use Rattle.dn_link.specs.{declared.bundle.Bundle.Bundle, declared.bundle.BundleFault.BundleFault, Ends.excludes}
 use Rattle.dn_link.specs.{declared.received.Received.Received, declared.received.Received.TheVariants.Excluded, declared.received.Received.TheVariants.GivenUp, declared.received.Received.TheVariants.Heard}
-use Rattle.dn_link.specs.{declared.received.Received.TheVariants.Stranger, LinkedGame.WasGiven, Counting.held_of, Hearing.ByTest, Hearing.HearsAll}
-use Rattle.dn_link.specs.{Packets.heard_in, Packets.packets_in, Reading.IsBundledAs, Reading.IsDatagramOf, RemainingLinks.AreRemainingLinks, RemainingLinks.KeepsGiven, RemainingLinks.IsGenuineIn, RemainingLinks.WasSealedIn, RemainingLinks.WasTold}
+use Rattle.dn_link.specs.{declared.received.Received.TheVariants.Stranger, LinkedGame.WasGiven, Counting.held_of, Hearing.ByTest}
+use Rattle.dn_link.specs.{Packets.heard_in, Packets.packets_in, Reading.IsBundledAs, Reading.IsDatagramOf, RemainingLinks.AreRemainingLinks, RemainingLinks.IsGenuineIn, RemainingLinks.WasSealedIn, RemainingLinks.WasTold}
 use Rattle.dn_link.specs.{Linked.HearsPeer, Linked.Linked, Linked.Receives, Linked.ReceivesAs, Linked.TakesIn, Linked.TakesPackets, Linked.TakesRead, Linked.PeerState, Linked.has_given_up, Linked.is_peer, Linked.met, Linked.surviving_of}
 use Rattle.dn_link.specs.{Linked.takes}
 use Rattle.dn_open.specs.Sealed.{sealing_of}
@@ -50,7 +50,7 @@ module _ (marking : Marking) (limits : Limits) (settings : Settings) (session : 
   taken_in bundle new all free takes_it =
       let game = all_along (MayBeHeard marking limits settings session player old.others) AreHere
       (packet_keeps marking limits settings session player old.others) (heard_in (takes old) bundle) old.node
-      new.node takes_it.started here
+      new.node here
       (λ k d below. (
         parts_heard (has_given_up old) (held_of old.node) bundle.from (WasGiven session.packets player) bundle.parts.items all k d below,
         elim (parts_from (has_given_up old) (held_of old.node) bundle.from bundle.parts.items k d below) [

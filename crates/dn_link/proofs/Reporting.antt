@@ -1,6 +1,6 @@
 -- What a report changes in a link, where one comes with a datagram; and what it has as its bytes.
-use Rattle.std.proofs.Common.{◌≡◌, ◌⊎◌, ℕ, Bool, true, false, List, [], ◌∷◌, ◌++◌, zero, suc, refl, ap, sym, ◌∙◌, subst, arith, Option, Some, None, inl, inr, length}
-use Rattle.std.proofs.{lemmas.Bool.cases_eq, lemmas.Bool.cond_both, lemmas.Option.none-some, lemmas.Option.same_Some}
+use Rattle.std.proofs.Common.{◌≡◌, ◌⊎◌, ℕ, Bool, true, false, List, [], ◌++◌, zero, suc, refl, ap, sym, ◌∙◌, subst, Option, Some, None, inl, inr, length}
+use Rattle.std.proofs.{lemmas.Bool.cases_eq, lemmas.Bool.cond_both}
 use Rattle.std.specs.Prelude.{IfSome, Result, Ok, Err, if◌then◌else◌, nat_lt, ◌==◌}
 use Rattle.dn_tic.specs.declared.command.TicCmd.{TicCmd}
 use Rattle.dn_machine.specs.{Limits.Limits, Node.put, Settling.settled_one, declared.peer.Peer.Peer, declared.answers.Cause.TheVariants.Quit}
@@ -12,12 +12,12 @@ use Rattle.dn_machine.proofs.Put.{put_at, put_off, same_functions}
 use Rattle.dn_remain.specs.Vanished.Calls.{can_decide}
 use Rattle.dn_lockstep.specs.{Contents.Contents, Settling.missing, Settling.on_settle, Settling.refused_end, Settling.settled_unless}
 use Rattle.dn_lockstep.specs.declared.lockstep.settling.Settled.{Settled}
-use Rattle.dn_survivor.specs.Calls.{HearsReport, decided_by, end_by, heard_by, settled_below}
+use Rattle.dn_survivor.specs.Calls.{decided_by, end_by, heard_by, settled_below}
 use Rattle.dn_survivor.specs.OfOthers.{commands_of, first_of, has, nodes_of, own_of}
-use Rattle.dn_survivor.specs.{OneGame.Given, OneGame.reports_on, ReportBytes.IsReadAs, ReportBytes.IsReport, ReportBytes.report_bytes, declared.answers.Reported.Reported}
+use Rattle.dn_survivor.specs.{OneGame.Given, OneGame.reports_on, ReportBytes.IsReadAs, ReportBytes.IsReport, ReportBytes.report_bytes}
 use Rattle.dn_survivor.specs.{declared.others.Others.Others, declared.report.Report.Report, declared.report.ReportFault.ReportFault}
 use Rattle.dn_survivor.proofs.ReportBytes.{one_reading}
-use Rattle.dn_link.specs.Linked.{IsWhole, Linked, PeerState, TakesIn, TakesRead, fitting, met, surviving_of, takes, with_reached, written}
+use Rattle.dn_link.specs.Linked.{IsWhole, Linked, TakesIn, TakesRead, fitting, met, surviving_of, takes, with_reached, written}
 use Rattle.dn_link.specs.{Ends.told_cause, declared.bundle.Bundle.Bundle, Hearing.HearsAll, Packets.heard_in, RemainingLinks.WasTold}
 use Rattle.dn_link.proofs.{RemainingCalls.hears_same, Relinking.last_at, Relinking.still_whole, Sending.resend_of}
 
@@ -39,8 +39,7 @@ quiet_read from (Ok report) mid new whole (reported, hears, waits, quiet, peers)
 
 -- so a datagram is taken in as its packets are
 pub record AreTakenIn (bundle : Bundle) (old new : Linked) : Type 0 where
-  pub started : Bool
-  pub heard : HearsAll (heard_in (takes old) bundle) old.node new.node started
+  pub heard : HearsAll (heard_in (takes old) bundle) old.node new.node
   pub gone : new.others.gone ≡ old.others.gone
   pub peers : new.peers ≡ with_reached new.node (met bundle old).peers
 
@@ -50,8 +49,7 @@ taken_whole bundle old new whole (mid, packets, read, is, comes) =
     let gone : mid.others.gone ≡ old.others.gone = ap (λ (o : Others). o.gone) packets.others in
     let quiet = quiet_read bundle.from read mid new (still_whole old mid gone whole) comes in
     record {
-      started = packets.started;
-      heard = subst (λ (n : Contents). HearsAll (heard_in (takes old) bundle) old.node n packets.started)
+      heard = subst (λ (n : Contents). HearsAll (heard_in (takes old) bundle) old.node n)
           (sym quiet.0) packets.heard;
       gone = quiet.1 ∙ gone;
       peers = quiet.2 ∙ packets.peers

@@ -1,6 +1,6 @@
 -- What comes in leaves the packets to a peer as they go on, unless the peer asks for commands past those.
-use Rattle.std.proofs.Common.{◌≡◌, ◌≢◌, ◌≤◌, ◌⊎◌, ◌&&◌, ◌||◌, ℕ, Bool, true, false, List, [], ◌∷◌, refl, ap, sym, ◌∙◌, subst, arith, Option, Some, None, All, inl, inr, ◌<◌, ◌+◌, ◌/◌, ◌%◌, ◌^◌, zero, suc, ◌++◌, length, take, drop}
-use Rattle.std.specs.Prelude.{IfSome, not, Result, Ok, Err, slice_index}
+use Rattle.std.proofs.Common.{◌≡◌, ◌≢◌, ◌≤◌, ◌*◌, ◌⊎◌, ℕ, Bool, true, false, List, [], ◌∷◌, refl, ap, sym, ◌∙◌, subst, arith, Option, Some, None, All, inl, inr, ◌<◌, ◌+◌, ◌/◌, ◌%◌, ◌^◌, zero, suc, ◌++◌, length, take, drop}
+use Rattle.std.specs.Prelude.{IfSome, Result, Ok, Err}
 use Rattle.std.proofs.lemmas.Bool.{cases_eq}
 use Rattle.std.proofs.lemmas.List.Elements.{All-head, All-tail, All-nil, All-cons, All-append, All-take, All-drop}
 use Rattle.std.specs.List.{flat_map}
@@ -18,13 +18,13 @@ use Rattle.dn_lockstep.proofs.Shown.{made_is}
 use Rattle.dn_open.specs.{Arrivals.HearsOpened, declared.hearing.Arrived.Arrived, Sealed.sealing_of}
 use Rattle.dn_link.specs.{declared.bundle.Bundle.Bundle, declared.bundle.BundleFault.BundleFault, declared.bundle.Part.Part, declared.bundle.Part.TheVariants.Whole, declared.bundle.Part.TheVariants.Run, declared.bundle.Part.TheVariants.Relay}
 use Rattle.dn_link.specs.{declared.received.Received.Received, declared.received.Received.TheVariants.Excluded, declared.received.Received.TheVariants.GivenUp, declared.received.Received.TheVariants.Heard, Ends.excludes, declared.received.Received.TheVariants.Stranger, Counting.held_of, Counting.reached}
-use Rattle.dn_link.specs.{Hearing.ByTest, Hearing.HearsAll, Hearing.HearsUntil, Hearing.is_start, Kept.IsKeptRising, CaughtUp.AskWithin, CaughtUp.AsksWithin, CaughtUp.GoesOn, CaughtUp.IsGone, CaughtUp.StillGoesOn, Reading.IsBundledAs}
+use Rattle.dn_link.specs.{Hearing.ByTest, Hearing.HearsAll, Kept.IsKeptRising, CaughtUp.AsksWithin, CaughtUp.GoesOn, CaughtUp.IsGone, CaughtUp.StillGoesOn, Reading.IsBundledAs}
 use Rattle.dn_link.specs.{Linked.Linked, Linked.PeerState, Linked.Receives, Linked.ReceivesAs, Linked.TakesIn, Linked.TakesPackets, Linked.TakesRead, Linked.HearsPeer, Linked.surviving_of, Linked.after_report, Linked.has_given_up, Linked.is_peer, Linked.met, Linked.takes, Linked.with_reached}
 use Rattle.dn_link.proofs.{Sending.opened_asked, Following.next_same, Following.same_peers, Following.still, Leaving.parts_from, Leaving.parts_heard, Leaving.stays_left, Covered.rises_past, Sending.resend_of}
 use Rattle.dn_survivor.specs.{Calls.HearsReport, Calls.HearsReportUnless, Calls.refused_report, OfOthers.with_newest, Surviving.Surviving, declared.answers.Reported.Reported, declared.report.Report.Report, declared.report.ReportFault.ReportFault}
 use Rattle.dn_link.proofs.Reporting.{report_same}
 use Rattle.dn_link.specs.Packets.{packets_of, heard_in, packets_in, short_body, short_packet, short_packets, opened_from}
-use Rattle.dn_link.specs.Text.{relay_head, run_bytes, bundle_bytes, carried_bytes, counts_bytes, part_bytes, parts_bytes, report_field, sealed_bytes}
+use Rattle.dn_link.specs.Text.{run_bytes, bundle_bytes, carried_bytes, counts_bytes, part_bytes, parts_bytes, report_field, sealed_bytes}
 
 -- The packets of a datagram are of its sender, and bytes.
 abbrev IsByte : ℕ → Type 0
@@ -82,8 +82,8 @@ part_of_bytes from (Run run) low all =
     (after (to_le_bytes w32 run.start) run.commands.items (All-tail IsByte (length run.commands.items / 8)
     (to_le_bytes w32 run.start ++ run.commands.items) all))
 part_of_bytes from (Relay relay) low all =
-    let head : ℕ = relay_head relay in
-    let first : relay_head relay < 256 = All-head IsByte head (run_bytes relay.run) all in
+    let head : ℕ = 32 * (relay.player + 1) + length relay.run.commands.items / 8 in
+    let first : head < 256 = All-head IsByte head (run_bytes relay.run) all in
     shorts_bytes (length relay.run.commands.items / 8) relay.player relay.run.start relay.run.commands.items
     (omega (arith, first))
     (after (to_le_bytes w32 relay.run.start) relay.run.commands.items (All-tail IsByte head (run_bytes relay.run) all))
@@ -197,36 +197,15 @@ module _ (are : AreRead) (limits : Limits) (me to bound : ℕ) where
     | inr asks ↦ inr (rest asks)
   ]
 
-  until_heeds : (packets : List Opened) (now new : Contents) (started : Bool) (m : machine.Node)
-      → Represents limits me now m → All IsSpelled packets → Within m packets
-      → HearsUntil packets now new started → Heeds m new
-  until_heeds [] now new started m shows all within heard =
-      (m, subst (λ (n : Contents). Represents limits me n m) (sym heard.0) shows, refl, inl refl)
-  until_heeds (packet ∷ packets) now new started m shows all within (next, answer, one, spares, then) =
+  all_heeds : (packets : List Opened) (now new : Contents) (m : machine.Node)
+      → Represents limits me now m → All IsSpelled packets → Within m packets → HearsAll packets now new → Heeds m new
+  all_heeds [] now new m shows all within heard =
+      (m, subst (λ (n : Contents). Represents limits me n m) (sym heard) shows, refl, inl refl)
+  all_heeds (packet ∷ packets) now new m shows all within (next, answer, one, spares, then) =
       let first = one_heeds packet packets now next answer m shows (All-head IsSpelled packet packets all) within one in
-      go (is_start answer) first
-      (λ later. heeds_on m first.0 new first.2 first.3 (until_heeds packets next new started first.0 first.1
+      heeds_on m first.0 new first.2 first.3 (all_heeds packets next new first.0 first.1
       (All-tail IsSpelled packet packets all) (within_on m first.0 (packet ∷ packets) packets first.2
-      (λ asks. All-tail AsksLittle packet packets asks) within) later)) then
-    where
-      go : (test : Bool) → Heeds m next → (HearsUntil packets next new started → Heeds m new)
-          → ByTest test ((new ≡ next) × (started ≡ true)) (HearsUntil packets next new started) → Heeds m new
-      go true first later then = subst (Heeds m) (sym then.0) first
-      go false first later then = later then
-
-  all_heeds : (packets : List Opened) (now new : Contents) (started : Bool) (m : machine.Node)
-      → Represents limits me now m → All IsSpelled packets → Within m packets
-      → HearsAll packets now new started → Heeds m new
-  all_heeds packets now new started m shows all within (next, first, then) =
-      let begun = until_heeds packets now next started m shows all within first in
-      go started begun then
-    where
-      go : (test : Bool) → Heeds m next
-          → ByTest test ((again : Bool) × HearsUntil packets next new again) (new ≡ next) → Heeds m new
-      go true begun then =
-          heeds_on m begun.0 new begun.2 begun.3 (until_heeds packets next new then.0 begun.0 begun.1 all
-          (within_on m begun.0 packets packets begun.2 (λ asks. asks) within) then.1)
-      go false begun then = subst (Heeds m) (sym then) begun
+      (λ asks. All-tail AsksLittle packet packets asks) within) then)
 
 module _ (are : AreRead) (limits : Limits) (me to : ℕ) (old new : Linked) (goes_old : GoesOn limits me to old) where
   -- of the peer, which sent the datagram or did not
@@ -276,13 +255,13 @@ module _ (are : AreRead) (limits : Limits) (me to : ℕ) (old new : Linked) (goe
       (ap (λ (l : Linked). l.peers) same)
 
   taken_in : (bundle : Bundle) → All IsSpelled (packets_in bundle) → (made me goes_old.node ≤ (new.peers to).kept.covered)
-      ⊎ (bundle.from ≡ to → AskWithin (new.peers to).kept.covered (packets_in bundle))
+      ⊎ (bundle.from ≡ to → All (λ packet. IfSome packet.ask (λ tic. tic ≤ (new.peers to).kept.covered)) (packets_in bundle))
       → TakesPackets bundle old new → StillGoesOn limits me to old new
   taken_in bundle all within takes_it =
       let met_now = is_met bundle takes_it in
       let heeds : Heeds are limits me to (new.peers to).kept.covered goes_old.node new.node =
       all_heeds are limits me to (new.peers to).kept.covered (heard_in (takes old) bundle) old.node new.node
-      takes_it.started goes_old.node goes_old.shows
+      goes_old.node goes_old.shows
       (parts_heard (has_given_up old) (held_of old.node) bundle.from IsSpelled bundle.parts.items all) little takes_it.heard in
       still limits me to old new goes_old heeds.0 heeds.1 met_now.rising met_now.more (elim heeds.3 [
         | inl same ↦ next_same limits me to old new goes_old heeds.0 met_now.more met_now.gone same
@@ -356,7 +335,7 @@ module _ (are : AreRead) (limits : Limits) (me to : ℕ) (old new : Linked) (goe
           let first = taken_in are limits me to old mid goes_old bundle
           (packets_of_bytes seal bundle (subst AreBytes is.is fit)) (elim asks [
             | inl all ↦ inl (omega (arith, all, count, kept))
-            | inr none ↦ inr (λ from. subst (λ (k : ℕ). AskWithin k (packets_in bundle)) kept (none bundle is from))
+            | inr none ↦ inr (λ from. subst (λ (k : ℕ). All (λ packet. IfSome packet.ask (λ tic. tic ≤ k)) (packets_in bundle)) kept (none bundle is from))
           ]) packets in
           let second = read limits me to mid new first.goes bundle.from told comes in
           record { goes = second.goes; covered = omega (arith, first.covered, second.covered) }

@@ -1,5 +1,4 @@
--- That a peer is to be sent commands from where those end that are kept for it, and that the links of a
--- game are caught up.
+-- That what a peer is to be sent goes on from what is kept for it, and that from what it has.
 use Rattle.std.specs.Prelude.{◌≡◌, ◌≢◌, ◌<◌, ◌≤◌, ℕ, ◌+◌, ◌-◌, true, false, All, List, [], ◌∷◌, Option, None, Some, ◌⊎◌, IfSome}
 use Rattle.dn_seal.specs.{declared.opened.Opened.Opened, declared.seal.Seal.Seal}
 use Rattle.dn_machine.specs.{Limits.Limits, Node.put, Sending.lag}
@@ -8,8 +7,6 @@ use Rattle.dn_lockstep.specs.{Told.got, Told.made, Contents.Contents, Represents
 use Rattle.dn_open.specs.Sealed.{sealing_of}
 use Rattle.dn_link.specs.{declared.bundle.Bundle.Bundle, declared.bundle.Carried.Carried, Counting.has_ended, Ends.excludes, Kept.IsKeptRising, Kept.Unacknowledged}
 use Rattle.dn_link.specs.{Kept.end_of, Linked.Linked, Packets.own_in, Packets.packets_in, Reading.IsDatagramOf, Text.IsBundle, Text.sealed_bytes}
-
--- That a peer is to be sent commands from where those end that are kept for it, or from earlier on.
 
 -- from which tic on a peer is to be sent commands: the next packet begins there, unless more were made from
 -- there on than are kept; then it begins with the newest, or behind it where packets repeat none
@@ -41,15 +38,11 @@ pub record IsInTime (to : ℕ) (link : Linked) : Type 0 where
   pub there : made link.node ≤ next_to link.node to + link.node.places
   pub few : made link.node ≤ (link.peers to).kept.done + 24
 
--- none of these packets asks for commands from a later tic on
-abbrev pub AskWithin : ℕ → List Opened → Type 0
-AskWithin count packets = All (λ packet. IfSome packet.ask (λ tic. tic ≤ count)) packets
-
--- and if the bytes are a datagram of the peer, none of its packets does
+-- if the bytes are a datagram of the peer, none of its packets asks for commands from a later tic on
 abbrev pub AsksWithin : Seal → ℕ → ℕ → ℕ → List ℕ → Type 0
 AsksWithin seal me from count bytes =
     (bundle : Bundle) → IsDatagramOf (sealing_of seal me) bytes bundle → bundle.from ≡ from
-    → AskWithin count (packets_in bundle)
+    → All (λ packet. IfSome packet.ask (λ tic. tic ≤ count)) (packets_in bundle)
 
 -- That the links of a game are caught up: what each keeps for a peer goes on from what the peer has.
 
@@ -96,10 +89,9 @@ AreCaughtUp limits links =
     (player peer : ℕ) → player < limits.players → peer < limits.players → peer ≢ player
     → IsCaughtUp limits player peer (links player) (links peer)
 
--- a datagram between two players is one of its sender to a peer who is not given up, and asks for nothing again;
--- and unless its receiver has ended, its sender's
--- packets have no gap behind what the receiver has of the sender. Of commands that it hands on nothing is said:
--- those past a gap are not heard
+-- a datagram between two players is one of its sender to a peer who is not given up, and asks for nothing
+-- again; and unless its receiver has ended, its sender's packets have no gap behind what the receiver has of the
+-- sender. Of commands that it hands on nothing is said: those past a gap are not heard
 pub record IsInStep (limits : Limits) (links : ℕ → Linked) (bundle : Bundle) : Type 0 where
   pub sender : bundle.from < limits.players
   pub receiver : bundle.to < limits.players

@@ -40,15 +40,12 @@ is_news kept packet =
     && (nat_lt kept.covered (end_of packet) && nat_lt (length kept.packets) 24)
 
 -- it is kept if it has
-abbrev pub with_packet : Unacknowledged → Carried → Unacknowledged
-with_packet kept packet =
+abbrev pub kept_after : Unacknowledged → Option Carried → Unacknowledged
+kept_after kept None = kept
+kept_after kept (Some packet) =
     if is_news kept packet
     then record kept { packets = kept.packets ++ packet ∷ []; covered = end_of packet }
     else kept
-
-abbrev pub kept_after : Unacknowledged → Option Carried → Unacknowledged
-kept_after kept None = kept
-kept_after kept (Some packet) = with_packet kept packet
 
 -- what goes to the peer: what is kept, and the packet of the moment, kept or not
 abbrev pub going : Unacknowledged → Option Carried → List Carried

@@ -1,5 +1,4 @@
--- How a player leans towards the mean of all, and how ticks are stretched on a line that is longer than the
--- window, and loses little.
+-- How a player leans towards the mean of all, and how ticks are stretched.
 use Rattle.std.specs.Prelude.{ℕ, ◌+◌, ◌-◌, ◌==◌, ◌+ℤ◌, ◌-ℤ◌, if◌then◌else◌, nat_lt, nat_le, nat_abs, neg_ℤ, ℤ, pos, int_div, ◌*◌, ◌||◌, Bool, min}
 use Rattle.std.specs.Int.{int_max, int_min}
 
@@ -61,11 +60,6 @@ pub record StretchingState : Type 0 where
 abbrev pub drops : StretchingState → StretchingState
 drops stretching = record stretching { dropped = min (stretching.dropped + 1) 255 }
 
--- what counts of a block: nothing where datagrams are missing, or where the game stood still
-abbrev pub counted_drops : Bool → StretchingState → ℕ
-counted_drops missing stretching =
-    if missing || nat_lt 12 stretching.dropped then 0 else stretching.dropped
-
 abbrev pub blocks_after : ℕ → ℕ → ℕ
 blocks_after dropped blocks = if dropped == 0 then 0 else min (blocks + 1) 4
 
@@ -83,9 +77,9 @@ ends_block dropped stretching =
       slow = slow_after dropped (blocks_after dropped stretching.blocks) stretching.slow;
     }
 
--- a tick
+-- a tick. Of a block nothing counts where datagrams are missing, or where the game stood still
 abbrev pub stretches : Bool → StretchingState → StretchingState
 stretches missing stretching =
     if stretching.ticks == 15
-    then ends_block (counted_drops missing stretching) stretching
+    then ends_block (if missing || nat_lt 12 stretching.dropped then 0 else stretching.dropped) stretching
     else record stretching { ticks = stretching.ticks + 1 }

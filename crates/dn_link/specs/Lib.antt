@@ -19,5 +19,4 @@ pub mod Line
 pub mod Leaning
 pub mod Pace
 pub mod Pacing
-pub mod Places
 pub mod Tally

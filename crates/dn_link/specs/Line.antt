@@ -1,23 +1,11 @@
 -- What is known of the line from a peer, and of the leads.
-use Rattle.std.specs.Prelude.{ℕ, ◌+◌, ◌-◌, ◌/◌, ◌==◌, ◌-ℤ◌, if◌then◌else◌, nat_lt, min, max, ℤ, pos, negsuc, Option, None, Some}
+use Rattle.std.specs.Prelude.{ℕ, ◌+◌, ◌-◌, ◌/◌, ◌==◌, ◌-ℤ◌, if◌then◌else◌, nat_lt, min, max, ℤ, pos, negsuc, None, Some}
 use Rattle.std.specs.Int.{int_max, int_min}
 use Rattle.dn_lockstep.specs.{Contents.Contents, Told.got, Told.made}
-use Rattle.dn_link.specs.{declared.bundle.Bundle.Bundle, Tally.TallyState, Tally.tallied}
-
--- the number of the newest datagram that came; how many numbers before it are missing in its block of
--- sixty-four, and how many in the block before; what it reported: how many its sender misses, and by how many
--- commands its sender led; and by how many commands this player led at its last tick; and what came
-pub record LineState : Type 0 where
-  pub newest : Option ℕ
-  pub holes : ℕ
-  pub before : ℕ
-  pub reported_holes : ℕ
-  pub lead : ℤ
-  pub own_lead : ℤ
-  pub tally : TallyState
+use Rattle.dn_link.specs.{declared.bundle.Bundle.Bundle, declared.line.Line.Line, Tally.tallied}
 
 -- a line from which nothing came
-abbrev pub new_line : LineState
+abbrev pub new_line : Line
 new_line =
     record {
       newest = None;
@@ -29,34 +17,23 @@ new_line =
       tally = record { came = 0; lost = 0; repeated = 0; too_old = 0; seen = 0 };
     }
 
--- a number that has one byte at most
-abbrev pub byte_of : ℕ → ℕ
-byte_of n = min n 255
-
--- a datagram is newer than the newest: what is missing between them counts in the block of the older
-abbrev pub next_block : ℕ → ℕ → LineState → LineState
-next_block number missing line =
-    record line { holes = 0; before = byte_of (line.holes + missing) }
-
-abbrev pub same_block : ℕ → ℕ → LineState → LineState
-same_block number missing line = record line { holes = byte_of (line.holes + missing) }
-
-abbrev pub counted : ℕ → ℕ → LineState → LineState
+-- a datagram is newer than the newest: what is missing between them counts in the block of the older, up to 255
+abbrev pub counted : ℕ → ℕ → Line → Line
 counted newest number line =
     if number / 64 == newest / 64
-    then same_block number (number - newest - 1) line
-    else next_block number (number - newest - 1) line
+    then record line { holes = min (line.holes + (number - newest - 1)) 255 }
+    else record line { holes = 0; before = min (line.holes + (number - newest - 1)) 255 }
 
-abbrev pub with_tally : Bundle → LineState → LineState
+abbrev pub with_tally : Bundle → Line → Line
 with_tally bundle line = record line { tally = tallied line.newest bundle.number line.tally }
 
 -- what it reports is the newest
-abbrev pub after_newest : Bundle → LineState → LineState
+abbrev pub after_newest : Bundle → Line → Line
 after_newest bundle line =
     record line { newest = Some bundle.number; reported_holes = bundle.holes; lead = bundle.lead }
 
 -- a datagram came: the first of all, a newer one, or an old one, which tells nothing
-abbrev pub heard_on : Bundle → LineState → LineState
+abbrev pub heard_on : Bundle → Line → Line
 heard_on bundle line =
     elim line.newest [
       | None ↦ after_newest bundle (with_tally bundle line)
@@ -67,7 +44,7 @@ heard_on bundle line =
     ]
 
 -- how many of the peer's datagrams are missing
-abbrev pub missing : LineState → ℕ
+abbrev pub missing : Line → ℕ
 missing line = max line.holes line.before
 
 -- by how many commands a player leads another: those that it made, less those that it has of the other

@@ -1,5 +1,5 @@
 -- What a link keeps, what its calls do, and what is known of the line to a peer.
-use Rattle.std.specs.Prelude.{◌≡◌, ℕ, ◌+◌, ◌-◌, ◌%◌, ◌^◌, ◌==◌, ◌≤◌, ◌&&◌, ◌||◌, if◌then◌else◌, nat_lt, min, max, length, Bool, not, List, [], ◌∷◌, slice_index, ◌++◌, ◌≢◌, map, All, Option, is_none, is_some, pos, IfSome, None, Some, false, Result, Ok, Err}
+use Rattle.std.specs.Prelude.{◌≡◌, ℕ, ◌+◌, ◌-◌, ◌%◌, ◌^◌, ◌==◌, ◌≤◌, ◌&&◌, ◌||◌, if◌then◌else◌, nat_lt, min, max, length, Bool, not, List, [], ◌∷◌, slice_index, ◌++◌, ◌≢◌, map, All, Option, is_some, pos, IfSome, None, Some, false, Result, Ok, Err}
 use Rattle.dn_seal.specs.declared.seal.Seal.{Seal}
 use Rattle.dn_machine.specs.Node.{put}
 use Rattle.dn_lockstep.specs.{Contents.Contents, Contents.end_in, Told.made}
@@ -11,7 +11,7 @@ use Rattle.dn_link.specs.declared.received.Received.TheVariants.{Unopened, Stran
 use Rattle.dn_link.specs.Kept.{Unacknowledged, acknowledged, going, kept_after, taken_by}
 use Rattle.dn_link.specs.{declared.bundle.Bundle.Bundle, declared.bundle.BundleFault.BundleFault, declared.bundle.Carried.Carried, declared.received.Received.Received}
 use Rattle.dn_link.specs.{Reading.IsBundledAs, Counting.counts_of, Counting.held_of, Counting.reached, Hearing.SendsCarried, Hearing.ByTest, Hearing.HearsAll}
-use Rattle.dn_link.specs.{Line.missing, Line.LineState, Pacing.PaceState, Packets.heard_in, Packets.takes_relay, Packing.ArePacked, Relays.AreHandedOn, Relays.AreLacked}
+use Rattle.dn_link.specs.{Line.missing, declared.line.Line.Line, Pacing.PaceState, Packets.heard_in, Packets.takes_relay, Packing.ArePacked, Relays.AreHandedOn, Relays.AreLacked}
 use Rattle.dn_link.specs.{Relays.Handed, Relays.handed_part, declared.bundle.Part.Part, Ends.excludes, Ends.left_by, Ends.told_cause, Text.IsBundle, Text.parts_bytes}
 use Rattle.dn_link.specs.{Text.sealed_bytes, declared.tally.Figures.Figures}
 use Rattle.dn_link.specs.declared.bundle.Relay as relay
@@ -64,9 +64,18 @@ abbrev pub written : Option Report → List ℕ
 written None = []
 written (Some report) = report_bytes report
 
+-- behind its own parts a datagram has commands of third players from this number on, none of which the peer has
+-- reported, of no player who is given up, and only if the peer may be handed any
+pub record HasBehind (link : Linked) (to low : ℕ) (own all : List Part) : Type 0 where
+  pub handed : List Handed
+  pub parts : all ≡ own ++ map handed_part handed
+  pub on : AreHandedOn link.node to handed
+  pub lacked : AreLacked (link.peers to).reported low handed
+  pub stay : All (λ h. has_given_up link h.player ≡ false) handed
+  pub may : handed ≢ [] → MayRelay (surviving_of link) to
+
 -- a datagram to a peer: what is kept for the peer, with the packet of the moment if the peer takes it; behind
--- these, commands of at most two third players, none of which the peer has reported, of no player who is given
--- up, and only if the peer may be handed any; how far the node is; what it reports of those who are given up; by
+-- these, commands of at most two third players; how far the node is; what it reports of those who are given up; by
 -- how many commands it led at its last tick; how many datagrams of the peer are missing; and why the node has
 -- ended, if it has
 pub record Gives (seal : Seal) (pace : PaceState) (to : ℕ) (old new : Linked) (bytes : List ℕ) : Type 0 where
@@ -86,14 +95,9 @@ pub record Gives (seal : Seal) (pace : PaceState) (to : ℕ) (old new : Linked) 
   pub report : bundle.report.items ≡ written (report_beside (surviving_of new) to bundle.parts.items)
   pub proper : IfSome (report_beside (surviving_of new) to bundle.parts.items) IsReport
   pub own : List Part
-  pub handed : List Handed
-  pub parts : bundle.parts.items ≡ own ++ map handed_part handed
   pub packed : ArePacked old.node.me (going (old.peers to).kept (taken_by (old.peers to).left given)) own
-  pub handed_on : AreHandedOn new.node to handed
-  pub lacked : AreLacked (old.peers to).reported 0 handed
-  pub few : length handed ≤ 2
-  pub stay : All (λ h. has_given_up old h.player ≡ false) handed
-  pub may : handed ≢ [] → MayRelay (surviving_of old) to
+  pub behind : HasBehind new to 0 own bundle.parts.items
+  pub few : length behind.handed ≤ 2
   pub others : new.others ≡ old.others
   pub peers : new.peers ≡ put old.peers to (record (old.peers to) {
     kept = kept_after (old.peers to).kept (taken_by (old.peers to).left given);
@@ -141,8 +145,7 @@ with_reached node peers player =
 -- what a datagram tells of the peer is taken in, and its packets. What is heard then acknowledges, for whoever
 -- made it
 pub record TakesPackets (bundle : Bundle) (old new : Linked) : Type 0 where
-  pub started : Bool
-  pub heard : HearsAll (heard_in (takes old) bundle) old.node new.node started
+  pub heard : HearsAll (heard_in (takes old) bundle) old.node new.node
   pub others : new.others ≡ old.others
   pub peers : new.peers ≡ with_reached new.node (met bundle old).peers
 
@@ -237,7 +240,7 @@ may_leave link =
     needs_nothing link 0 && (needs_nothing link 1 && (needs_nothing link 2 && needs_nothing link 3))
 
 -- What is known of the line to a peer, and of the commands that are on their way.
-abbrev pub figures_of : LineState → Figures
+abbrev pub figures_of : Line → Figures
 figures_of line =
     record {
       came = line.tally.came;

@@ -1,8 +1,8 @@
 -- What a link is, with what is kept for a peer.
-use Rattle.std.specs.Prelude.{ℕ, List, [], ◌∷◌, None}
+use Rattle.std.specs.Prelude.{ℕ, List, [], ◌∷◌, None, get_or, map}
 use Rattle.dn_seal.specs.{declared.seal.Seal.Seal, Sealing.sealing}
 use Rattle.dn_survivor.specs.Surviving.{surviving}
-use Rattle.dn_link.specs.{declared.link.Link.Link, declared.peer.Peer.Peer, Linked.Linked, Linked.PeerState, Places.by_place, declared.kept.Kept.Kept}
+use Rattle.dn_link.specs.{declared.lag.Had.Had, declared.link.Link.Link, declared.peer.Peer.Peer, Linked.Linked, Linked.PeerState, declared.kept.Kept.Kept}
 use Rattle.dn_link.specs.Kept.{Unacknowledged}
 
 -- what is kept for a peer
@@ -29,7 +29,7 @@ new_peer =
     }
 
 abbrev pub peers_of : List Peer → ℕ → PeerState
-peers_of peers = by_place state_of new_peer peers
+peers_of peers place = get_or (map state_of peers) place new_peer
 
 abbrev pub linked : Link → Linked
 linked link =
@@ -38,6 +38,10 @@ linked link =
       others = (surviving link.survivor).others;
       peers = peers_of link.peers;
     }
+
+-- how many commands of each of four players it had at its last ticks, the newest first
+abbrev pub history_of : Link → List Had
+history_of link = link.overdue.history.ticks.items
 
 -- what it has in common with the others of its game
 abbrev pub seal_of : Link → Seal

@@ -6,27 +6,22 @@ use Rattle.dn_lockstep.specs.Contents.{Contents}
 use Rattle.dn_seal.specs.declared.seal.Seal.{Seal}
 use Rattle.dn_open.specs.Sealed.{sealing_of}
 use Rattle.dn_link.specs.Leaning.{LeaningState, looks, step_of, worked_off, StretchingState, drops, stretches}
-use Rattle.dn_link.specs.{declared.bundle.Bundle.Bundle, declared.bundle.BundleFault.BundleFault, Ends.excludes, Hearing.ByTest, Line.LineState, Line.heard_on}
+use Rattle.dn_link.specs.{declared.bundle.Bundle.Bundle, declared.bundle.BundleFault.BundleFault, Ends.excludes, Hearing.ByTest, Line.heard_on}
 use Rattle.dn_link.specs.{Line.lead_over, Line.missing, Linked.Linked, Linked.end_known, Linked.is_peer, Linked.remains, Pacing.PaceState, Reading.IsBundledAs}
 use Rattle.dn_link.specs.Tally.{stops}
 
--- an input for which there was no room is owed
-abbrev pub owed_after : Input → Made → Option Input
-owed_after input Full = Some input
-owed_after input made = None
+-- an input that is owed stays so until there is room for it
+abbrev pub still_owed : Made → Option Input → Option Input
+still_owed Full owed = owed
+still_owed made owed = None
 
 -- the input of a tick: one that is still owed is dropped for it
 abbrev pub after_input : Input → Made → PaceState → PaceState
 after_input input made pace =
     record pace {
-      owed = owed_after input made;
+      owed = still_owed made (Some input);
       stretching = if is_some pace.owed then drops pace.stretching else pace.stretching;
     }
-
--- one that is owed stays so until there is room for it
-abbrev pub still_owed : Made → Option Input → Option Input
-still_owed Full owed = owed
-still_owed made owed = None
 
 -- a datagram of a peer came
 abbrev pub after_datagram : Bundle → PaceState → PaceState
@@ -78,13 +73,11 @@ playing link pace =
 abbrev pub wants_second : Linked → PaceState → ℕ → Bool
 wants_second link pace player = is_paced link pace player && nat_le 2 (pace.lines player).reported_holes
 
--- datagrams are missing on a line, there or here
-abbrev pub is_lossy_line : LineState → Bool
-is_lossy_line line = nat_le 2 line.reported_holes || nat_le 2 (missing line)
-
--- datagrams are missing on the line of a peer that plays
+-- datagrams are missing on the line of a peer that plays, there or here
 abbrev pub is_lossy_to : Linked → PaceState → ℕ → Bool
-is_lossy_to link pace player = is_paced link pace player && is_lossy_line (pace.lines player)
+is_lossy_to link pace player =
+    is_paced link pace player
+    && (nat_le 2 (pace.lines player).reported_holes || nat_le 2 (missing (pace.lines player)))
 
 abbrev pub is_lossy : Linked → PaceState → Bool
 is_lossy link pace =

@@ -1,48 +1,29 @@
 -- What a link keeps for its pace.
-use Rattle.std.specs.Prelude.{ℕ, List, None, pos, Option}
+use Rattle.std.specs.Prelude.{ℕ, None, pos, Option, get_or}
 use Rattle.dn_tic.specs.declared.input.Input.{Input}
-use Rattle.dn_link.specs.{declared.line.Line.Line, declared.link.Link.Link, declared.pace.Pace.Pace, Line.LineState, Line.new_line, Places.by_place, Leaning.LeaningState}
-use Rattle.dn_link.specs.{Leaning.StretchingState, declared.leaning.Leaning.Leaning, declared.tally.Tally.Tally, declared.stretching.Stretching.Stretching}
-use Rattle.dn_link.specs.Tally.{TallyState}
+use Rattle.dn_link.specs.{declared.line.Line.Line, declared.link.Link.Link, declared.pace.Pace.Pace, Line.new_line, Leaning.LeaningState}
+use Rattle.dn_link.specs.{Leaning.StretchingState, declared.leaning.Leaning.Leaning, declared.stretching.Stretching.Stretching}
 
 -- the line from each player, the input of which a command is owed, how the ticks lean and stretch, and how many
 -- bytes came that were no datagram
 pub record PaceState : Type 0 where
-  pub lines : ℕ → LineState
+  pub lines : ℕ → Line
   pub owed : Option Input
   pub leaning : LeaningState
   pub stretching : StretchingState
   pub refused : ℕ
 
 -- what each of these is, of what the link holds
-abbrev pub tally_of : Tally → TallyState
-tally_of t = record { came = t.came; lost = t.lost; repeated = t.repeated; too_old = t.too_old; seen = t.seen }
-
-abbrev pub line_of : Line → LineState
-line_of l =
-    record {
-      newest = l.newest;
-      holes = l.holes;
-      before = l.before;
-      reported_holes = l.reported_holes;
-      lead = l.lead;
-      own_lead = l.own_lead;
-      tally = tally_of l.tally;
-    }
-
 abbrev pub leaning_of : Leaning → LeaningState
 leaning_of l = record { rest = l.rest; looked = l.looked; sum = l.sum; left = l.left }
 
 abbrev pub stretching_of : Stretching → StretchingState
 stretching_of s = record { ticks = s.ticks; dropped = s.dropped; blocks = s.blocks; slow = s.slow }
 
-abbrev pub lines_of : List Line → ℕ → LineState
-lines_of lines = by_place line_of new_line lines
-
 abbrev pub state_of : Pace → PaceState
 state_of p =
     record {
-      lines = lines_of p.lines;
+      lines = λ player. get_or p.lines player new_line;
       owed = p.owed;
       leaning = leaning_of p.leaning;
       stretching = stretching_of p.stretching;

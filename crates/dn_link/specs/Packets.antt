@@ -1,5 +1,5 @@
 -- The packets that a datagram carries.
-use Rattle.std.specs.Prelude.{ℕ, zero, suc, ◌+◌, ◌/◌, ◌%◌, ◌^◌, List, [], ◌∷◌, ◌++◌, length, take, drop, Bool, ◌&&◌, not, nat_le, slice_index, if◌then◌else◌, None}
+use Rattle.std.specs.Prelude.{ℕ, zero, suc, ◌+◌, ◌/◌, ◌%◌, ◌^◌, List, [], ◌∷◌, ◌++◌, length, take, drop, Bool, ◌&&◌, not, nat_le, slice_index, if◌then◌else◌, None, false}
 use Rattle.std.specs.List.{flat_map}
 use Rattle.byteorder.specs.Endian.{little_bytes}
 use Rattle.dn_packet.specs.Text.{sum_of}
@@ -58,15 +58,9 @@ heard_of takes from (Relay relay) = if takes relay then packets_of from (Relay r
 abbrev pub heard_in : (relay.Relay → Bool) → Bundle → List Opened
 heard_in takes bundle = flat_map (heard_of takes bundle.from) bundle.parts.items
 
--- what a part has of its sender's own packets
-abbrev pub own_of : ℕ → Part → List Opened
-own_of from (Whole packet) = packets_of from (Whole packet)
-own_of from (Run run) = packets_of from (Run run)
-own_of from (Relay relay) = []
-
--- what a datagram carries of them, oldest first
+-- what it carries of its sender's own packets, oldest first
 abbrev pub own_in : Bundle → List Opened
-own_in bundle = flat_map (own_of bundle.from) bundle.parts.items
+own_in bundle = heard_in (λ relay. false) bundle
 
 -- what a datagram carries, oldest first
 abbrev pub packets_in : Bundle → List Opened

@@ -18,21 +18,16 @@ IsNeeded from (Relay relay) = ⊥
 abbrev pub IsEnded : Part → Part → Type 0
 IsEnded (Run one) (Run other) =
     (one.start + length one.commands.items / 8) % 2 ^ 32 ≡ other.start → length one.commands.items ≡ 192
-IsEnded (Run one) (Whole packet) = Unit {0}
-IsEnded (Run one) (Relay relay) = Unit {0}
-IsEnded (Whole packet) other = Unit {0}
-IsEnded (Relay relay) other = Unit {0}
+IsEnded one other = Unit {0}
 
 -- each part, by the one behind it
 abbrev pub AreEnded : List Part → Type 0
-AreEnded [] = Unit {0}
-AreEnded (one ∷ []) = Unit {0}
 AreEnded (one ∷ other ∷ parts) = IsEnded one other × AreEnded (other ∷ parts)
+AreEnded parts = Unit {0}
 
 abbrev pub runs : Part → ℕ
-runs (Whole packet) = 0
 runs (Run run) = 1
-runs (Relay relay) = 0
+runs part = 0
 
 -- how many of the parts are a last part that is a run: 1 or 0
 abbrev pub runs_last : List Part → ℕ

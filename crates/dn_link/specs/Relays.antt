@@ -1,11 +1,10 @@
 -- The commands of third players that a player hands on, and which these are.
-use Rattle.std.specs.Prelude.{◌≡◌, ◌≢◌, ◌<◌, ◌≤◌, ℕ, ◌+◌, ◌^◌, negsuc, List, [], ◌∷◌, length, slice_index, Some, ◌-◌, ◌/◌, ◌&&◌, ◌||◌, if◌then◌else◌, nat_lt, nat_le, min, max, Bool, slice_get, Option, None}
+use Rattle.std.specs.Prelude.{◌≡◌, ◌≢◌, ◌<◌, ◌≤◌, ℕ, ◌+◌, ◌^◌, negsuc, List, [], ◌∷◌, length, slice_index, Some, ◌-◌, ◌/◌, ◌&&◌, ◌||◌, if◌then◌else◌, nat_lt, nat_le, min, max, Bool, slice_get, get_or, Option, None}
 use Rattle.std.specs.List.{flat_map}
 use Rattle.dn_tic.specs.{Command.IsCommand, Command.command_bytes, declared.command.TicCmd.TicCmd}
 use Rattle.dn_machine.specs.{Flight.Flight, Relaying.packet_of_one}
 use Rattle.dn_lockstep.specs.{Contents.Contents, Told.command_told}
 use Rattle.dn_link.specs.{declared.bundle.Part.Part, declared.bundle.Part.TheVariants.Relay, declared.bundle.Run.Run, declared.lag.Had.Had, declared.lag.Lag.Lag}
-use Rattle.dn_link.specs.Places.{by_place}
 
 -- whose commands, from which tic on, and these
 pub record Handed : Type 0 where
@@ -116,20 +115,12 @@ handed run lag = record lag { end = min (run.start + min (length run.commands.it
 
 -- what is known of how late a peer reports the commands of a player
 abbrev pub lag_of : List Lag → ℕ → Lag
-lag_of lags player = by_place (λ lag. lag) (record { usual = 0; told = 0; left = 0; end = 0 }) lags player
-
-abbrev pub learned_of : List Had → Had → List Lag → ℕ → Lag
-learned_of history reported lags player =
-    learned history player (slice_index reported.counts player) (lag_of lags player)
+lag_of lags player = get_or lags player (record { usual = 0; told = 0; left = 0; end = 0 })
 
 abbrev pub is_on : List Had → ℕ → Had → List Lag → ℕ → Bool
 is_on history me reported lags player =
     is_overdue history player (slice_index reported.counts player) (lag_of lags player)
     || is_slow (lag_of lags me) (lag_of lags player)
-
-abbrev pub counted_of : List Had → ℕ → Had → List Lag → ℕ → Lag
-counted_of history me reported lags player =
-    counted_down (is_on history me reported lags player) (lag_of lags player)
 
 abbrev pub four_of : (ℕ → Lag) → List Lag
 four_of lag = lag 0 ∷ lag 1 ∷ lag 2 ∷ lag 3 ∷ []

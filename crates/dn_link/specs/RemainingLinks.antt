@@ -37,7 +37,7 @@ StayRemaining marking limits settings session links player new later =
 abbrev pub after_datagram : {seal : Seal} {pace : PaceState} {old new : Linked} {bytes : List ℕ} → Session
     → (player to : ℕ) → Option Flight → Gives seal pace to old new bytes → Session
 after_datagram {seal} {pace} {old} {new} {bytes} session player to packet gives =
-    after_report (after_relays (after_packet session player packet (surviving_of new)) (flights_of to gives.handed))
+    after_report (after_relays (after_packet session player packet (surviving_of new)) (flights_of to gives.behind.handed))
     player to (report_beside (surviving_of new) to gives.bundle.parts.items)
 
 -- this report was given by one player to another

@@ -32,23 +32,6 @@ WaitsAt links moment player =
     × RunsBy marks (links moment player).node (links (suc moment) player).node (λ limits m marks. on_run limits m marks)
     (λ answer told. (Ran.Waiting other ≡ answer) × (row ≡ told))
 
--- it gives a peer this datagram, which is no late one, and has room for all that its sender has to give
-pub record GivesAt (seal : Seal) (links : ℕ → ℕ → Linked) (moment player to : ℕ) (bytes : List ℕ) : Type 0 where
-  pub pace : PaceState
-  pub gives : Gives seal pace to (links moment player) (links (suc moment) player) bytes
-  pub soon : made (links moment player).node ≤ next_to (links moment player).node to + 12
-  pub few : length gives.own < 22
-  pub short : length (parts_bytes gives.own) ≤ 998
-  pub size : length bytes ≤ 1200
-
--- it takes in these bytes, which were sealed in this game in step
-pub record TakesAt (seal : Seal) (limits : Limits) (sessions : ℕ → Session) (links : ℕ → ℕ → Linked)
-    (moment player : ℕ) (bytes : List ℕ) : Type 0 where
-  pub answer : Received
-  pub genuine : IsGenuineDatagram seal (sessions moment) player bytes
-  pub in_step : IsInStepTo seal limits (links moment) player bytes
-  pub takes : Receives seal bytes (links moment player) (links (suc moment) player) answer
-
 -- in each of its rounds a player's link is asked for a command, and later runs tics until it waits
 pub record AreRounds {marking : Marking} {limits : Limits} {settings : Settings} {last : ℕ}
     (stretch : Stretch marking limits settings last) (rounds : ℕ) : Type 0 where
@@ -64,7 +47,8 @@ pub record AreRounds {marking : Marking} {limits : Limits} {settings : Settings}
       → waited round player < built (suc round) player
 
 -- of the datagrams that a player gives a peer in its rounds from this one on, one of k rounds is taken in by
--- the peer before it waits in its round d later
+-- the peer before it waits in its round d later. It is no late one, and has room for all that its sender has to
+-- give; and what comes was sealed in this game in step
 pub record Arrives {marking : Marking} {limits : Limits} {settings : Settings} {last : ℕ}
     {stretch : Stretch marking limits settings last} {count : ℕ} (rounds : AreRounds stretch count) (seal : Seal)
     (k d first player peer : ℕ) : Type 0 where
@@ -77,8 +61,16 @@ pub record Arrives {marking : Marking} {limits : Limits} {settings : Settings} {
   pub built : rounds.built round player < given
   pub comes : given < taken
   pub waited : taken < rounds.waited (round + d) peer
-  pub gives : GivesAt seal stretch.links given player peer bytes
-  pub takes : TakesAt seal limits stretch.sessions stretch.links taken peer bytes
+  pub pace : PaceState
+  pub gives : Gives seal pace peer (stretch.links given player) (stretch.links (suc given) player) bytes
+  pub soon : made (stretch.links given player).node ≤ next_to (stretch.links given player).node peer + 12
+  pub few : length gives.own < 22
+  pub short : length (parts_bytes gives.own) ≤ 998
+  pub size : length bytes ≤ 1200
+  pub answer : Received
+  pub genuine : IsGenuineDatagram seal (stretch.sessions taken) peer bytes
+  pub in_step : IsInStepTo seal limits (stretch.links taken) peer bytes
+  pub takes : Receives seal bytes (stretch.links taken peer) (stretch.links (suc taken) peer) answer
 
 -- the lines let one datagram of any k rounds through, at most d rounds late
 abbrev pub AreFairLines : {marking : Marking} {limits : Limits} {settings : Settings} {last : ℕ}

@@ -1,12 +1,11 @@
 -- What becomes of a link that gives up a player: of its peers, of its runs, and of what it hands on.
-use Rattle.std.specs.Prelude.{◌≡◌, ℕ, ◌&&◌, Bool, true, false, not, Option, Some, None, ℤ, List, ◌≢◌, ◌≤◌, ◌||◌, ◌++◌, [], All, length, map, slice_index}
+use Rattle.std.specs.Prelude.{◌≡◌, ℕ, ◌&&◌, Bool, false, not, Option, Some, None, ℤ, List, ◌≤◌, ◌||◌, length, slice_index}
 use Rattle.dn_tic.specs.declared.command.Move.{Move}
 use Rattle.dn_machine.specs.{declared.answers.Ran.Ran, Running.on_run_but}
 use Rattle.dn_lockstep.specs.Steps.{RunsBy}
 use Rattle.dn_survivor.specs.{declared.report.Report.Report, OfOthers.has, OfOthers.newest_of, Calls.GivesUp, Surviving.Surviving, declared.answers.GivenUp.GivenUp}
-use Rattle.dn_survivor.specs.Telling.{MayRelay}
-use Rattle.dn_link.specs.Relays.{AreHandedOn, AreLacked, Handed, IsHandedOn, handed_part}
-use Rattle.dn_link.specs.{Linked.Linked, Linked.has_given_up, Linked.surviving_of, declared.bundle.Part.Part, declared.bundle.Part.TheVariants.Relay, Text.IsRun}
+use Rattle.dn_link.specs.Relays.{Handed, IsHandedOn, handed_part}
+use Rattle.dn_link.specs.{Linked.HasBehind, Linked.Linked, Linked.has_given_up, Linked.surviving_of, declared.bundle.Part.Part, declared.bundle.Part.TheVariants.Relay, Text.IsRun}
 use Rattle.dn_link.specs.declared.bundle.Relay as relay
 
 -- a run of a link, in which no mark is compared of players who are given up
@@ -53,15 +52,6 @@ pub record IsHandedFor (link : Linked) (to player : ℕ) (relay : relay.Relay) :
   pub stays : has_given_up link handed.player ≡ false
   pub run : IsRun relay.run
 
--- the parts of a datagram, and behind them runs of players from this number on
-pub record HasBehind (link : Linked) (to low : ℕ) (own all : List Part) : Type 0 where
-  pub handed : List Handed
-  pub parts : all ≡ own ++ map handed_part handed
-  pub on : AreHandedOn link.node to handed
-  pub lacked : AreLacked (link.peers to).reported low handed
-  pub stay : All (λ h. has_given_up link h.player ≡ false) handed
-  pub may : handed ≢ [] → MayRelay (surviving_of link) to
-
--- of two players at most
+-- behind its own parts a datagram has runs of two players at most
 abbrev pub HasTwoBehind : Linked → ℕ → (own all : List Part) → Type 0
 HasTwoBehind link to own all = (behind : HasBehind link to 0 own all) × (length behind.handed ≤ 2)

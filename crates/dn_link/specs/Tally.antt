@@ -1,20 +1,12 @@
 -- What came over a line, in numbers for the screen.
 use Rattle.std.specs.Prelude.{ℕ, ◌+◌, ◌-◌, ◌*◌, ◌/◌, ◌%◌, ◌^◌, ◌==◌, if◌then◌else◌, nat_lt, nat_le, min, Bool, Option, None, Some, bit_and, bit_or}
-
--- how many datagrams came; how many numbers before the newest did not; how many came twice, or too late to
--- tell; and which of the last sixty-four numbers came, the newest in the lowest bit
-pub record TallyState : Type 0 where
-  pub came : ℕ
-  pub lost : ℕ
-  pub repeated : ℕ
-  pub too_old : ℕ
-  pub seen : ℕ
+use Rattle.dn_link.specs.declared.tally.Tally.{Tally}
 
 -- counts stop at the largest of 32 bits
 abbrev pub stops : ℕ → ℕ
 stops n = min n (2 ^ 32 - 1)
 
-abbrev pub begins : TallyState → TallyState
+abbrev pub begins : Tally → Tally
 begins tally = record tally { came = stops (tally.came + 1); seen = 1 }
 
 -- which came, so many numbers later
@@ -22,7 +14,7 @@ abbrev pub seen_later : ℕ → ℕ → ℕ
 seen_later step seen = if nat_lt step 64 then bit_or (seen * 2 ^ step % 2 ^ 64) 1 else 1
 
 -- a newer one came: those between are missing so far
-abbrev pub goes_on : ℕ → TallyState → TallyState
+abbrev pub goes_on : ℕ → Tally → Tally
 goes_on step tally =
     record tally {
       came = stops (tally.came + 1);
@@ -35,7 +27,7 @@ abbrev pub was_seen : ℕ → ℕ → Bool
 was_seen back seen = bit_and (seen / 2 ^ back) 1 == 1
 
 -- one that was missing came late
-abbrev pub comes_late : ℕ → TallyState → TallyState
+abbrev pub comes_late : ℕ → Tally → Tally
 comes_late back tally =
     record tally {
       came = stops (tally.came + 1);
@@ -43,21 +35,17 @@ comes_late back tally =
       seen = bit_or tally.seen (2 ^ back);
     }
 
-abbrev pub comes_again : TallyState → TallyState
-comes_again tally = record tally { repeated = stops (tally.repeated + 1) }
-
-abbrev pub comes_too_late : TallyState → TallyState
-comes_too_late tally = record tally { too_old = stops (tally.too_old + 1) }
-
--- one that is no newer than the newest
-abbrev pub falls_back : ℕ → TallyState → TallyState
+-- one that is no newer than the newest: it came too late to tell, came again, or was missing
+abbrev pub falls_back : ℕ → Tally → Tally
 falls_back back tally =
     if nat_le 64 back
-    then comes_too_late tally
-    else (if was_seen back tally.seen then comes_again tally else comes_late back tally)
+    then record tally { too_old = stops (tally.too_old + 1) }
+    else (if was_seen back tally.seen
+    then record tally { repeated = stops (tally.repeated + 1) }
+    else comes_late back tally)
 
 -- a datagram of this number came, after the newest
-abbrev pub tallied : Option ℕ → ℕ → TallyState → TallyState
+abbrev pub tallied : Option ℕ → ℕ → Tally → Tally
 tallied None number tally = begins tally
 tallied (Some newest) number tally =
     if nat_lt newest number then goes_on (number - newest) tally else falls_back (newest - number) tally

@@ -23,15 +23,13 @@ carried_bytes packet =
 abbrev pub run_bytes : run.Run → List ℕ
 run_bytes run = to_le_bytes w32 run.start ++ run.commands.items
 
-abbrev pub relay_head : relay.Relay → ℕ
-relay_head relay = 32 * (relay.player + 1) + length relay.run.commands.items / 8
-
 -- a whole packet stands behind a byte of 0; a run behind its number of commands; and a run of a third player
 -- behind that number and 32 times the player's number plus one
 abbrev pub part_bytes : Part → List ℕ
 part_bytes (Whole packet) = 0 ∷ carried_bytes packet
-part_bytes (Run run) = length run.commands.items / 8 ∷ (to_le_bytes w32 run.start ++ run.commands.items)
-part_bytes (Relay relay) = relay_head relay ∷ run_bytes relay.run
+part_bytes (Run run) = length run.commands.items / 8 ∷ run_bytes run
+part_bytes (Relay relay) =
+    (32 * (relay.player + 1) + length relay.run.commands.items / 8) ∷ run_bytes relay.run
 
 abbrev pub parts_bytes : List Part → List ℕ
 parts_bytes parts = length parts ∷ flat_map part_bytes parts

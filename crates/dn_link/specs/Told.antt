@@ -5,6 +5,8 @@ use Rattle.std.specs.Option.{option_map}
 use Rattle.dn_seal.specs.Opening.{ask_in}
 use Rattle.dn_link.specs.{declared.bundle.Bundle.Bundle, declared.bundle.Carried.Carried, declared.bundle.Counts.Counts, declared.bundle.Part.Part}
 use Rattle.dn_link.specs.{declared.bundle.Part.TheVariants.Whole, declared.bundle.Part.TheVariants.Run, declared.bundle.Part.TheVariants.Relay, Text.part_bytes}
+use Rattle.dn_link.specs.declared.bundle.Run as run
+use Rattle.dn_link.specs.declared.bundle.Relay as relay
 
 -- the number of four bytes from a place on
 abbrev pub number_at : ℕ → List ℕ → ℕ
@@ -32,27 +34,18 @@ told_whole bytes =
     }) (ask_in (slice_index bytes 4) (number_at 5 bytes)))
 
 -- a run of so many commands, where the bytes reach
-abbrev pub told_run : ℕ → List ℕ → Option Part
+abbrev pub told_run : ℕ → List ℕ → Option run.Run
 told_run n bytes =
     if nat_lt 24 n || nat_lt (length bytes) (4 + 8 * n)
     then None
-    else Some (Run (record {
-      start = number_at 0 bytes;
-      commands = record { items = take (8 * n) (drop 4 bytes) };
-    }))
+    else Some (record { start = number_at 0 bytes; commands = record { items = take (8 * n) (drop 4 bytes) } })
 
 -- a run of a third player, whose number and how many commands they are the first byte tells
-abbrev pub told_relay : ℕ → List ℕ → Option Part
+abbrev pub told_relay : ℕ → List ℕ → Option relay.Relay
 told_relay n bytes =
-    if nat_lt 159 n || (n % 32 == 0 || (nat_lt 24 (n % 32) || nat_lt (length bytes) (4 + 8 * (n % 32))))
+    if nat_lt 159 n || n % 32 == 0
     then None
-    else Some (Relay (record {
-      player = n / 32 - 1;
-      run = record {
-        start = number_at 0 bytes;
-        commands = record { items = take (8 * (n % 32)) (drop 4 bytes) };
-      };
-    }))
+    else option_map (λ run. record { player = n / 32 - 1; run = run }) (told_run (n % 32) bytes)
 
 -- by the first byte
 abbrev pub told_part : List ℕ → Option Part
@@ -60,7 +53,7 @@ told_part [] = None
 told_part (n ∷ rest) =
     if n == 0
     then option_map Whole (told_whole rest)
-    else (if nat_lt n 32 then told_run n rest else told_relay n rest)
+    else (if nat_lt n 32 then option_map Run (told_run n rest) else option_map Relay (told_relay n rest))
 
 -- so many parts, and nothing after them
 abbrev pub told_all : ℕ → List ℕ → Option (List Part)

@@ -19,8 +19,8 @@ ghost use Rattle.dn_lockstep.specs.{Steps.Steps, Steps.Tells, Told.got, Told.mad
 ghost use Rattle.dn_survivor.specs.OfOthers.{nothing_kept};
 ghost use Rattle.dn_seal.specs.{declared.opened.Opened.Opened, declared.seal.Seal.Seal, Opening.Sealing};
 ghost use Rattle.dn_open.specs.Sealed.{sealing_of};
-ghost use Rattle.dn_link.specs.{declared.bundle.Bundle.Bundle, declared.bundle.BundleFault.BundleFault, declared.received.Received.Received, LinkedGame.IsEmpty};
-ghost use Rattle.dn_link.specs.{LinkedGame.IsGenuineDatagram, LinkedGame.WasBundled, LinkedGame.WasGiven, Counting.has_ended, Linked.Gives};
+ghost use Rattle.dn_link.specs.{declared.bundle.Bundle.Bundle, declared.bundle.BundleFault.BundleFault, declared.received.Received.Received};
+ghost use Rattle.dn_link.specs.{Ends.tells_end, LinkedGame.IsGenuineDatagram, LinkedGame.WasBundled, LinkedGame.WasGiven, Counting.has_ended, Linked.Gives};
 ghost use Rattle.dn_link.specs.{Linked.Linked, Linked.Receives, Linked.certain, Linked.may_leave, LinkedGame.AreLinked, LinkedGame.IsLater};
 ghost use Rattle.dn_link.specs.{LinkedGame.StayLinked, Linking.new_peer, Hearing.HearsAll, Pacing.PaceState, Reading.IsBundledAs, Relays.flights_of, Text.IsBundle, Text.sealed_bytes};
 
@@ -40,10 +40,10 @@ pub fn bundles_are_read_back()
 /// those of one game.
 pub fn datagrams_keep_one_game()
     ensures { (marking : Marking) (limits : Limits) (settings : Settings) (session : Session) (player : ℕ)
-        (packets : List Opened) (new : Contents) (started : Bool)
+        (packets : List Opened) (new : Contents)
         → AreOneGame marking limits settings session → player < limits.players
         → All (WasGiven session.given player) packets
-        → HearsAll packets (session.locksteps player) new started
+        → HearsAll packets (session.locksteps player) new
         → AreOneGame marking limits settings (with_lockstep session player new) }
 {
     letters_keep_one_game();
@@ -51,7 +51,7 @@ pub fn datagrams_keep_one_game()
 
 /// New links of the same limits, one for each player, which play with these settings from the beginning on, are
 /// those of one game, in which nobody is given up.
-#[tactic(auto, using(crate::proofs::Relinking::new_whole))]
+#[tactic(auto, using(crate::proofs::Relinking::new_whole, crate::proofs::Relinking::new_started))]
 pub fn linked_game_starts()
     ensures { (marking : Marking) (limits : Limits) (settings : Settings) (links : ℕ → Linked)
         → IsWindow limits → IsGame limits.players → IsSettings settings
@@ -99,9 +99,9 @@ pub fn linked_game_goes_on()
         → Tells (links player).node (λ limits me m. IfSome (sent_to to limits me m).1 IsFair)
         → (gives : Gives seal pace to (links player) new bytes)
         → (flight : Option Flight)
-        × WasBundled seal (after_relays (after_packet session player flight new.node) (flights_of to gives.handed)) bytes
+        × WasBundled seal (after_relays (after_packet session player flight new.node) (flights_of to gives.behind.handed)) bytes
         × StayLinked marking limits settings session links player new
-        (after_relays (after_packet session player flight new.node) (flights_of to gives.handed)) }
+        (after_relays (after_packet session player flight new.node) (flights_of to gives.behind.handed)) }
     ensures received { (marking : Marking) (limits : Limits) (settings : Settings) (session : Session) (links : ℕ → Linked)
         (player : ℕ) (seal : Seal) (bytes : List ℕ) (new : Linked) (answer : Received)
         → AreLinked marking limits settings session links → player < limits.players
@@ -124,8 +124,9 @@ pub fn linked_game_goes_on()
 pub fn sealed_datagrams_are_genuine()
     ensures stay { (seal : Seal) (session later : Session) (bytes : List ℕ) → IsLater session later
         → WasBundled seal session bytes → WasBundled seal later bytes }
-    ensures empty { (seal : Seal) (session : Session) (bytes : List ℕ) → IsEmpty seal bytes
-        → WasBundled seal session bytes }
+    ensures empty { (seal : Seal) (session : Session) (bundle : Bundle) → IsBundle bundle → bundle.parts.items ≡ []
+        → ((which : ℕ) → which ≢ bundle.from → slice_index bundle.counts.got which ≡ 0)
+        → tells_end bundle ≡ false → WasBundled seal session (sealed_bytes seal bundle) }
     ensures genuine { (seal : Seal) (session : Session) (player : ℕ) (bytes : List ℕ)
         → WasBundled seal session bytes → IsGenuineDatagram seal session player bytes }
     ensures refused { (seal : Seal) (session : Session) (player : ℕ) (bytes : List ℕ) (fault : BundleFault)

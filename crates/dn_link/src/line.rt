@@ -1,9 +1,8 @@
 //! What is known of the line from a peer.
 
-ghost use Rattle.std.specs.Prelude.{◌≡◌, ◌<◌, ◌≤◌, ◌+ℤ◌, ◌-ℤ◌, None, nat_abs, nat_le, pos};
+ghost use Rattle.std.specs.Prelude.{◌≡◌, ◌<◌, ◌≤◌, ◌+ℤ◌, ◌-ℤ◌, ◌||◌, None, min, nat_abs, nat_le, pos};
 ghost use Rattle.dn_lockstep.specs.Contents.{contents};
-ghost use Rattle.dn_link.specs.{Line.byte_of, Line.counted, Line.heard_on, Line.lead_over, Line.missing, Line.after_newest, Line.new_line, Line.with_tally, Pacing.line_of};
-ghost use Rattle.dn_link.specs.{Pace.is_lossy_line};
+ghost use Rattle.dn_link.specs.{Line.counted, Line.heard_on, Line.lead_over, Line.missing, Line.after_newest, Line.new_line, Line.with_tally};
 
 use crate::bundle::Bundle;
 use crate::tally::Tally;
@@ -17,7 +16,7 @@ const LOSSY: u8 = 2;
 
 /// A number of at most one byte.
 fn byte_of(number: u64) -> u8
-    ensures { result ≡ byte_of number }
+    ensures { result ≡ min number 255 }
 {
     number.min(255) as u8
 }
@@ -74,7 +73,7 @@ pub(crate) struct Line {
 impl Line {
     /// From which nothing came.
     pub(crate) fn new() -> Line
-        ensures { line_of result ≡ new_line }
+        ensures { result ≡ new_line }
     {
         Line {
             newest: None,
@@ -89,7 +88,7 @@ impl Line {
 
     /// The same line at a tick, with this player's lead over its peer by the counts of the lockstep.
     pub(crate) fn at_tick(&self, lockstep: &Lockstep, player: u8) -> Line
-        ensures { line_of result ≡ record (line_of self.now) { own_lead = lead_over (contents lockstep.now) player } }
+        ensures { result ≡ record self.now { own_lead = lead_over (contents lockstep.now) player } }
     {
         Line {
             own_lead: lead_over(lockstep, player),
@@ -99,21 +98,21 @@ impl Line {
 
     /// How many of the peer's datagrams are missing.
     pub(crate) fn missing(&self) -> u8
-        ensures { result ≡ missing (line_of self.now) }
+        ensures { result ≡ missing self.now }
     {
         self.holes.max(self.before)
     }
 
     /// Whether the peer reports that datagrams to it are missing.
     pub(crate) fn misses(&self) -> bool
-        ensures { result ≡ nat_le 2 (line_of self.now).reported_holes }
+        ensures { result ≡ nat_le 2 self.now.reported_holes }
     {
         self.reported_holes >= LOSSY
     }
 
     /// Whether datagrams are missing, there or here.
     pub(crate) fn is_lossy(&self) -> bool
-        ensures { result ≡ is_lossy_line (line_of self.now) }
+        ensures { result ≡ (nat_le 2 self.now.reported_holes || nat_le 2 (missing self.now)) }
     {
         self.misses() || self.missing() >= LOSSY
     }
@@ -121,7 +120,7 @@ impl Line {
     /// Counts what is missing between two datagrams.
     fn count(&mut self, newest: u32, number: u32)
         requires { newest < number }
-        ensures { line_of self.new ≡ counted newest number (line_of self.old) }
+        ensures { self.new ≡ counted newest number self.old }
     {
         let holes = byte_of(u64::from(self.holes) + u64::from(number - newest - 1));
         if number / BLOCK == newest / BLOCK {
@@ -134,7 +133,7 @@ impl Line {
 
     /// What a datagram reported is the newest.
     fn tell(&mut self, bundle: &Bundle)
-        ensures { line_of self.new ≡ after_newest bundle.now (line_of self.old) }
+        ensures { self.new ≡ after_newest bundle.now self.old }
     {
         self.newest = Some(bundle.number);
         self.reported_holes = bundle.holes;
@@ -143,14 +142,14 @@ impl Line {
 
     /// Counts a datagram.
     fn tally(&mut self, bundle: &Bundle)
-        ensures { line_of self.new ≡ with_tally bundle.now (line_of self.old) }
+        ensures { self.new ≡ with_tally bundle.now self.old }
     {
         self.tally.count(self.newest, bundle.number);
     }
 
     /// A datagram came. An old one tells nothing.
     pub(crate) fn hear(&mut self, bundle: &Bundle)
-        ensures { line_of self.new ≡ heard_on bundle.now (line_of self.old) }
+        ensures { self.new ≡ heard_on bundle.now self.old }
     {
         self.tally(bundle);
         match self.newest {

@@ -1,7 +1,7 @@
 //! What a link keeps to decide which commands of third players it hands on.
 
-ghost use Rattle.std.specs.Prelude.{◌≡◌, ◌<◌, ◌≤◌, IfSome, false};
-ghost use Rattle.dn_link.specs.Relays.{counted_of, four_of, lag_of, is_on, learned_of};
+ghost use Rattle.std.specs.Prelude.{◌≡◌, ◌<◌, ◌≤◌, IfSome, false, slice_index, ◌∷◌, take};
+ghost use Rattle.dn_link.specs.Relays.{counted_down, four_of, lag_of, is_on, learned};
 
 use crate::bundle::Part;
 use crate::lag::{Had, History, Lag};
@@ -44,7 +44,7 @@ impl Towards {
     }
 
     /// How late it reports the commands of a player.
-    #[tactic(auto, using(crate::proofs::Places::place_at))]
+    #[tactic(auto, using(std::proofs::lemmas::List::get_or_default))]
     fn lag(&self, player: u8) -> Lag
         requires { player < 4 }
         ensures { result ≡ lag_of self.now.lags player }
@@ -55,7 +55,8 @@ impl Towards {
     /// The lag of a player's commands once it has reported so many.
     fn lag_after(&self, history: &History, player: u8, reported: &Had) -> Lag
         requires { player < 4 }
-        ensures { result ≡ learned_of history.now.ticks.items reported.now self.now.lags player }
+        ensures { result ≡ learned history.now.ticks.items player (slice_index reported.now.counts player)
+            (lag_of self.now.lags player) }
     {
         let mut lag = self.lag(player);
         lag.learn(history, player, reported.of(player));
@@ -64,7 +65,8 @@ impl Towards {
 
     /// It has reported to have so many commands of each player.
     fn learn(&self, history: &History, reported: &Had) -> Towards
-        ensures { result.lags ≡ four_of (learned_of history.now.ticks.items reported.now self.now.lags) }
+        ensures { result.lags ≡ four_of (λ player. learned history.now.ticks.items player
+            (slice_index reported.now.counts player) (lag_of self.now.lags player)) }
     {
         Towards {
             lags: [
@@ -92,7 +94,8 @@ impl Towards {
     fn counted_down(&self, history: &History, me: u8, player: u8, reported: &Had) -> Lag
         requires few { me < 4 }
         requires one { player < 4 }
-        ensures { result ≡ counted_of history.now.ticks.items me reported.now self.now.lags player }
+        ensures { result ≡ counted_down (is_on history.now.ticks.items me reported.now self.now.lags player)
+            (lag_of self.now.lags player) }
     {
         let is_on = self.is_on(history, me, player, reported);
         let mut lag = self.lag(player);
@@ -103,7 +106,8 @@ impl Towards {
     /// A tick, before which it had reported so many.
     fn tick(&self, history: &History, me: u8, reported: &Had) -> Towards
         requires { me < 4 }
-        ensures lags { result.lags ≡ four_of (counted_of history.now.ticks.items me reported.now self.now.lags) }
+        ensures lags { result.lags ≡ four_of (λ player.
+            counted_down (is_on history.now.ticks.items me reported.now self.now.lags player) (lag_of self.now.lags player)) }
         ensures given { result.given ≡ false }
     {
         Towards {
@@ -142,6 +146,7 @@ impl Overdue {
     /// A tick of this player, at which it has so many commands, and each peer has reported to have so many.
     pub(crate) fn tick(&mut self, me: u8, had: Had, reported: &[Had; 4])
         requires { me < 4 }
+        ensures { self.new.history.ticks.items ≡ had ∷ take 31 self.old.history.ticks.items }
     {
         let learned = [
             self.peers[0].learn(&self.history, &reported[0]),

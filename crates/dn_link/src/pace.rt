@@ -1,9 +1,9 @@
 //! What a link keeps for its pace.
 
-ghost use Rattle.std.specs.Prelude.{◌≡◌, ◌<◌, ◌≤◌, ◌+ℤ◌, pos, nat_abs};
+ghost use Rattle.std.specs.Prelude.{◌≡◌, ◌<◌, ◌≤◌, ◌+ℤ◌, pos, nat_abs, Some};
 ghost use Rattle.dn_machine.specs.declared.answers.Made.{Made as AnyMade};
 ghost use Rattle.dn_lockstep.specs.Contents.{contents};
-ghost use Rattle.dn_link.specs.{Leaning.looks, Leaning.step_of, Leaning.worked_off, Pacing.line_of, Pace.after_datagram, Pace.after_input, Pace.after_refusal, Pace.owed_after, Pace.still_owed};
+ghost use Rattle.dn_link.specs.{Leaning.looks, Leaning.step_of, Leaning.worked_off, Pace.after_datagram, Pace.after_input, Pace.after_refusal, Pace.still_owed};
 ghost use Rattle.dn_link.specs.{Pace.with_leads, Pacing.new_pace, Pacing.state_of, Leaning.stretches};
 
 use crate::bundle::Bundle;
@@ -16,7 +16,7 @@ use dn_tic::Input;
 
 /// An input for which there was no room is owed.
 fn owed_after(input: Input, made: Made) -> Option<Input>
-    ensures { result ≡ owed_after input made }
+    ensures { result ≡ still_owed made (Some input) }
 {
     match made {
         Made::Full => Some(input),
@@ -62,10 +62,10 @@ impl Pace {
     }
 
     /// The line from a player.
-    #[tactic(auto, using(crate::proofs::Places::place_at))]
+    #[tactic(auto, using(std::proofs::lemmas::List::get_or_default))]
     pub(crate) fn line(&self, player: u8) -> &Line
         requires { player < 4 }
-        ensures { line_of result.now ≡ (state_of self.now).lines player }
+        ensures { result.now ≡ (state_of self.now).lines player }
     {
         &self.lines[player as usize]
     }

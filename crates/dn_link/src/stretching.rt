@@ -1,7 +1,7 @@
 //! How ticks are stretched on a line that is longer than the window.
 
 ghost use Rattle.std.specs.Prelude.{◌≡◌, ◌≤◌, pos, nat_abs};
-ghost use Rattle.dn_link.specs.Leaning.{counted_drops, drops, ends_block, stretches};
+ghost use Rattle.dn_link.specs.Leaning.{drops, ends_block, stretches};
 
 /// How many ticks a block has.
 const BLOCK: u8 = 16;

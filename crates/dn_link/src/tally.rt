@@ -1,8 +1,7 @@
 //! What came over a line, and what is known of it, in numbers for the screen.
 
 ghost use Rattle.std.specs.Prelude.{◌≡◌, ◌<◌, ◌≤◌};
-ghost use Rattle.dn_link.specs.{Tally.begins, Tally.comes_again, Tally.comes_late, Tally.comes_too_late, Tally.falls_back, Tally.goes_on, Tally.seen_later, Tally.tallied, Tally.was_seen, Linked.figures_of};
-ghost use Rattle.dn_link.specs.{Pacing.tally_of, Pacing.line_of};
+ghost use Rattle.dn_link.specs.{Tally.begins, Tally.comes_late, Tally.falls_back, Tally.goes_on, Tally.seen_later, Tally.tallied, Tally.was_seen, Linked.figures_of};
 
 use crate::line::Line;
 
@@ -42,7 +41,7 @@ fn was_seen(back: u32, seen: u64) -> bool
 impl Tally {
     /// The first came.
     fn begin(&mut self)
-        ensures { tally_of self.new ≡ begins (tally_of self.old) }
+        ensures { self.new ≡ begins self.old }
     {
         self.came = self.came.saturating_add(1);
         self.seen = 1;
@@ -51,7 +50,7 @@ impl Tally {
     /// A newer one came.
     fn go_on(&mut self, step: u32)
         requires { 1 ≤ step }
-        ensures { tally_of self.new ≡ goes_on step (tally_of self.old) }
+        ensures { self.new ≡ goes_on step self.old }
     {
         self.came = self.came.saturating_add(1);
         self.lost = self.lost.saturating_add(step - 1);
@@ -61,7 +60,7 @@ impl Tally {
     /// One that was missing came late.
     fn come_late(&mut self, back: u32)
         requires { back < 64 }
-        ensures { tally_of self.new ≡ comes_late back (tally_of self.old) }
+        ensures { self.new ≡ comes_late back self.old }
     {
         self.came = self.came.saturating_add(1);
         self.lost = self.lost.saturating_sub(1);
@@ -70,7 +69,7 @@ impl Tally {
 
     /// One that is no newer than the newest came.
     fn fall_back(&mut self, back: u32)
-        ensures { tally_of self.new ≡ falls_back back (tally_of self.old) }
+        ensures { self.new ≡ falls_back back self.old }
     {
         if back >= KNOWN {
             self.too_old = self.too_old.saturating_add(1);
@@ -83,7 +82,7 @@ impl Tally {
 
     /// A datagram of this number came, after the newest.
     pub(crate) fn count(&mut self, newest: Option<u32>, number: u32)
-        ensures { tally_of self.new ≡ tallied newest number (tally_of self.old) }
+        ensures { self.new ≡ tallied newest number self.old }
     {
         match newest {
             None => self.begin(),
@@ -121,7 +120,7 @@ pub struct Figures {
 impl Figures {
     /// Those of a line.
     pub(crate) fn of(line: &Line) -> Figures
-        ensures { result ≡ figures_of (line_of line.now) }
+        ensures { result ≡ figures_of line.now }
     {
         Figures {
             came: line.tally.came,

@@ -11,8 +11,8 @@ use arrayvec::ArrayVec;
 const MOST_HANDED: u8 = 24;
 
 impl Link {
-    ghost use Rattle.std.specs.Prelude.{◌≡◌, ◌<◌, ◌≤◌, ◌||◌, All, length, not, slice_index, true, false, IfSome};
-    ghost use Rattle.dn_link.specs.{Linked.has_given_up, Linked.is_peer, Linked.remains, Linking.linked, Linking.seal_of, Surviving.HasTwoBehind, Surviving.IsHandedFor, Surviving.may_hand, Surviving.shares_gone};
+    ghost use Rattle.std.specs.Prelude.{◌≡◌, ◌<◌, ◌≤◌, ◌||◌, ◌∷◌, take, All, length, not, slice_index, true, false, IfSome};
+    ghost use Rattle.dn_link.specs.{Counting.held_of, Linking.history_of, Linked.has_given_up, Linked.is_peer, Linked.remains, Linking.linked, Linking.seal_of, Surviving.HasTwoBehind, Surviving.IsHandedFor, Surviving.may_hand, Surviving.shares_gone};
     ghost use Rattle.dn_link.specs.{Pacing.pace_of, Text.IsPart, Text.parts_bytes};
 
     /// Whether a player is not given up, or a peer has reported to have given it up too.
@@ -35,7 +35,9 @@ impl Link {
     }
 
     /// How many commands of each player it has.
-    fn had(&self) -> Had {
+    fn had(&self) -> Had
+        ensures { result.counts ≡ held_of (linked self.now).node }
+    {
         let counts = held_of(self.lockstep());
         Had { counts }
     }
@@ -57,6 +59,8 @@ impl Link {
 
     /// A tick, for what is handed on from here on.
     pub(super) fn look_back(&mut self)
+        ensures history { history_of self.new
+            ≡ record { counts = held_of (linked self.old).node } ∷ take 31 (history_of self.old) }
         ensures link { linked self.new ≡ linked self.old }
         ensures pace { pace_of self.new ≡ pace_of self.old }
         ensures seal { seal_of self.new ≡ seal_of self.old }

@@ -39,16 +39,16 @@ impl Link {
     }
 
     /// Hears the packets of a datagram.
-    fn hear_packets(&mut self, bundle: &Bundle) -> bool
+    fn hear_packets(&mut self, bundle: &Bundle)
         ensures heard { HearsAll (heard_in (takes (linked self.old)) bundle.now) (linked self.old).node
-            (linked self.new).node result }
+            (linked self.new).node }
         ensures others { (linked self.new).others ≡ (linked self.old).others }
         ensures peers { (linked self.new).peers ≡ (linked self.old).peers }
         ensures pace { pace_of self.new ≡ pace_of self.old }
         ensures seal { seal_of self.new ≡ seal_of self.old }
     {
         let gone = self.survivor.others().gone;
-        hear_bundle(self.survivor.lockstep_mut(), &gone, bundle)
+        hear_bundle(self.survivor.lockstep_mut(), &gone, bundle);
     }
 
     /// Notes what a player must have had when it made the last of its commands that are here.
@@ -87,7 +87,7 @@ impl Link {
     {
         self.meet(bundle);
         self.pace.hear(bundle);
-        let _ = self.hear_packets(bundle);
+        self.hear_packets(bundle);
         self.note_all_reached();
     }
 

@@ -32,9 +32,9 @@ fn whole_in(bytes: &[u8]) -> Option<Carried>
 }
 
 /// The run of so many commands at the front of bytes.
-fn run_in(count: u8, bytes: &[u8]) -> Option<Part>
+fn run_in(count: u8, bytes: &[u8]) -> Option<Run>
     ensures told { result ≡ told_run count bytes.now }
-    ensures room { IfSome result (λ part. length (part_bytes part) ≤ 1 + length bytes.now) }
+    ensures room { IfSome result (λ run. 4 + length run.commands.items ≤ length bytes.now) }
 {
     let size = 8 * usize::from(count);
     if count > 24 || bytes.len() < 4 + size {
@@ -42,32 +42,28 @@ fn run_in(count: u8, bytes: &[u8]) -> Option<Part>
     }
     let mut commands = ArrayVec::new();
     let _ = commands.try_extend_from_slice(&bytes[4..4 + size]);
-    Some(Part::Run(Run {
+    Some(Run {
         start: tic_at(bytes, 0),
         commands,
-    }))
+    })
 }
 
 /// The run of a third player at the front of bytes.
-fn relay_in(head: u8, bytes: &[u8]) -> Option<Part>
+fn relay_in(head: u8, bytes: &[u8]) -> Option<Relay>
     requires { 32 ≤ head }
     ensures told { result ≡ told_relay head bytes.now }
-    ensures room { IfSome result (λ part. length (part_bytes part) ≤ 1 + length bytes.now) }
+    ensures room { IfSome result (λ relay. 4 + length relay.run.commands.items ≤ length bytes.now) }
 {
-    let count = head % 32;
-    let size = 8 * usize::from(count);
-    if head > 159 || count == 0 || count > 24 || bytes.len() < 4 + size {
+    if head > 159 || head % 32 == 0 {
         return None;
     }
-    let mut commands = ArrayVec::new();
-    let _ = commands.try_extend_from_slice(&bytes[4..4 + size]);
-    Some(Part::Relay(Relay {
+    let Some(run) = run_in(head % 32, bytes) else {
+        return None;
+    };
+    Some(Relay {
         player: head / 32 - 1,
-        run: Run {
-            start: tic_at(bytes, 0),
-            commands,
-        },
-    }))
+        run,
+    })
 }
 
 /// The part at the front of bytes.
@@ -79,10 +75,16 @@ fn part_in(bytes: &[u8]) -> Option<Part>
         return None;
     }
     if bytes[0] > 31 {
-        return relay_in(bytes[0], &bytes[1..]);
+        return match relay_in(bytes[0], &bytes[1..]) {
+            Some(relay) => Some(Part::Relay(relay)),
+            None => None,
+        };
     }
     if bytes[0] != 0 {
-        return run_in(bytes[0], &bytes[1..]);
+        return match run_in(bytes[0], &bytes[1..]) {
+            Some(run) => Some(Part::Run(run)),
+            None => None,
+        };
     }
     match whole_in(&bytes[1..]) {
         Some(packet) => Some(Part::Whole(packet)),

@@ -342,7 +342,7 @@ module _ {marking : Marking} {limits : Limits} {settings : Settings} {last : ℕ
     before = omega (arith, it.comes, in_time)
 
     abbrev bundle : Bundle
-    bundle = it.gives.gives.bundle
+    bundle = it.gives.bundle
 
     was : AreLinked marking limits settings (stretch.sessions it.given) (at it.given)
     was = stretch.are it.given (omega (arith, before))
@@ -360,37 +360,37 @@ module _ {marking : Marking} {limits : Limits} {settings : Settings} {last : ℕ
     brings_then : Brings (made (at it.given player).node) (at it.given) bundle
     brings_then =
         let there = brings marking limits settings (stretch.sessions it.given) (at it.given) player was mine
-        (stretch.caught_up it.given (omega (arith, before))) peer below apart seal it.gives.pace
-        (at (suc it.given) player) it.bytes it.gives.gives
-        (λ goes_on. let soon = it.gives.soon in omega (arith, soon, room)) it.gives.soon
-        (stretch.plays it.given player (omega (arith, before)) mine) it.gives.few it.gives.short in
+        (stretch.caught_up it.given (omega (arith, before))) peer below apart seal it.pace
+        (at (suc it.given) player) it.bytes it.gives
+        (λ goes_on. let soon = it.soon in omega (arith, soon, room)) it.soon
+        (stretch.plays it.given player (omega (arith, before)) mine) it.few it.short in
         subst (λ (l : Linked). has_ended l.node ≡ false → made (at it.given player).node ≤ last_end
         (got l.node bundle.from) (own_in bundle)) (ap (put (at it.given) player (at (suc it.given) player))
-        it.gives.gives.goes ∙ put_off (at it.given) player peer (at (suc it.given) player) apart ∙ ap
-        (at it.given) (sym it.gives.gives.goes)) there
+        it.gives.goes ∙ put_off (at it.given) player peer (at (suc it.given) player) apart ∙ ap
+        (at it.given) (sym it.gives.goes)) there
 
     brings_later : Brings (made (at it.given player).node) (at it.taken) bundle
     brings_later = brings_on limits (at it.given) (at it.taken) bundle (made (at it.given player).node)
         (grown stretch agreed it.taken it.given (omega (arith, it.comes)) (omega (arith, in_time)))
-        (omega (arith, it.gives.gives.from, own, mine)) (omega (arith, it.gives.gives.goes, below)) brings_then
+        (omega (arith, it.gives.from, own, mine)) (omega (arith, it.gives.goes, below)) brings_then
 
     is_datagram : IsDatagramOf (sealing_of seal peer) it.bytes bundle
     is_datagram = record {
       game = game;
-      fits = it.gives.gives.fits;
-      short = it.gives.size;
-      to = it.gives.gives.goes;
-      is = it.gives.gives.is;
+      fits = it.gives.fits;
+      short = it.size;
+      to = it.gives.goes;
+      is = it.gives.is;
     }
 
     all_there : got (at it.given player).node player ≤ got (at (suc it.taken) peer).node player
     all_there =
         let has_it = brought (stretch.sessions it.taken) (at it.taken) peer seal it.bytes
-        (at (suc it.taken) peer) it.takes.answer bundle (made (at it.given player).node)
+        (at (suc it.taken) peer) it.answer bundle (made (at it.given player).node)
         (stretch.are it.taken (omega (arith, in_time))) (stretch.caught_up it.taken (omega (arith, in_time))) below
-        it.takes.genuine it.takes.in_step it.takes.takes is_datagram
+        it.genuine it.in_step it.takes is_datagram
         (stretch.plays (suc it.taken) peer (omega (arith, in_time)) below) brings_later in
-        let from : bundle.from ≡ player = it.gives.gives.from ∙ own in
+        let from : bundle.from ≡ player = it.gives.from ∙ own in
         omega (
           arith,
           has_it,

@@ -1,7 +1,7 @@
 use Rattle.std.proofs.Common.{◌≡◌, ◌∙◌, ℕ, refl, ap, arith}
 use Rattle.dn_machine.specs.{Sending.on_build, Running.on_run, Running.on_quit}
 use Rattle.dn_lockstep.specs.{Contents.Contents, Steps.marks_in, Steps.with_row, OneGame.after_packet, OneGame.after_relays, OneGame.with_lockstep, Told.got}
-use Rattle.dn_link.specs.{Counting.has_ended, Linked.Linked, Linked.PeerState, CaughtUp.next_to, Relays.flights_of}
+use Rattle.dn_link.specs.{Counting.has_ended, Linked.PeerState, CaughtUp.next_to, Relays.flights_of}
 use Rattle.dn_link.proofs.Catching.{build_quiet, ends_on, quit_quiet, run_quiet, shows_still, still}
 use Rattle.dn_link.proofs.{CatchingIn.received, CatchingOut.given_on_time, CatchingOut.was_in_step, Growing.build_holds, Growing.run_holds, Growing.quit_holds}
 use Rattle.dn_link.proofs.Linking.{much_by, shows}
@@ -58,7 +58,7 @@ returns-clause-gave c = λ marking limits settings session links player to seal 
           pace new bytes gives in_time,
       given_on_time marking limits settings session links player linked mine agreed were four to below apart seal
           pace new bytes gives in_time
-          (ends_on session (after_relays (after_packet session player later.0 new.node) (flights_of to gives.handed)) player
+          (ends_on session (after_relays (after_packet session player later.0 new.node) (flights_of to gives.behind.handed)) player
           (links player).node new.node (linked.nodes player mine) refl later.2.1),
     )
 

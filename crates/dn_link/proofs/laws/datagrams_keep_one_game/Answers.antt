@@ -3,5 +3,5 @@ use Rattle.dn_link.proofs.laws.datagrams_keep_one_game.Goals as goal
 
 pub returns : goal.returns
 returns c =
-    λ marking limits settings session player packets new started game mine all hears.
-    all_keeps c.letters_keep_one_game.ensures marking limits settings session player packets new started game all hears
+    λ marking limits settings session player packets new game mine all hears.
+    all_keeps c.letters_keep_one_game.ensures marking limits settings session player packets new game all hears

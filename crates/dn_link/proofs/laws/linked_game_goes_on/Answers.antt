@@ -1,14 +1,10 @@
-use Rattle.std.proofs.Common.{◌≡◌, ◌<◌, ℕ, List, refl, ap, sym, ◌∙◌, subst, pos, false, get_or}
-use Rattle.std.specs.Prelude.{slice_index}
-use Rattle.dn_setup.specs.Settings.{Settings}
-use Rattle.dn_machine.specs.{Limits.Limits, Node.put, Sending.on_build, Running.on_run, Running.on_quit, Running.is_over, declared.answers.Ran.Ran}
-use Rattle.dn_lockstep.specs.OneGame.{AreOneGame, Session, with_lockstep, world_told, after_build, after_run}
-use Rattle.dn_lockstep.specs.{Contents.Contents, Contents.end_in, Marking.Marking, Steps.RunsBy, Steps.marks_in, Steps.with_row, Steps.Steps}
-use Rattle.dn_link.specs.{Linked.Linked, LinkedGame.AreLinked, LinkedGame.IsLater}
+use Rattle.std.proofs.Common.{◌≡◌, ◌<◌, ℕ, refl, ap, sym, ◌∙◌, subst, pos, false, get_or}
+use Rattle.dn_machine.specs.{Sending.on_build, Running.on_run, Running.on_quit, Running.is_over, declared.answers.Ran.Ran}
+use Rattle.dn_lockstep.specs.OneGame.{with_lockstep, world_told, after_build, after_run}
+use Rattle.dn_lockstep.specs.{Contents.Contents, Contents.end_in, Steps.RunsBy, Steps.marks_in, Steps.with_row, Steps.Steps}
 use Rattle.dn_link.proofs.Growing.{HasAsMuch, as_much, build_holds, run_holds, quit_holds}
-use Rattle.dn_link.proofs.{Relinking.AreGiven, Relinking.later_by, Relinking.relinked, Linking.at_most, Linking.called, Linking.much_by, Gives.gave_to, Receives.received}
+use Rattle.dn_link.proofs.{Linking.called, Linking.much_by, Gives.gave_to, Receives.received}
 use Rattle.dn_survivor.specs.declared.others.Others.{Others}
-use Rattle.dn_link.proofs.Linking as base
 use Rattle.dn_link.proofs.laws.linked_game_goes_on.Goals as goal
 
 pub returns : goal.returns

@@ -1,4 +1,4 @@
-use Rattle.std.proofs.Common.{◌≡◌, ◌≤◌, ℕ, true, false, List, All, sym, ◌∙◌, subst, arith}
+use Rattle.std.proofs.Common.{◌≡◌, ◌≤◌, ℕ, true, false, List, All, refl, sym, ◌∙◌, subst, arith}
 use Rattle.std.specs.List.{flat_map}
 use Rattle.std.proofs.lemmas.List.Elements.{All-nil}
 use Rattle.std.specs.Prelude.{Result, Ok, Err}
@@ -10,10 +10,10 @@ use Rattle.dn_link.proofs.laws.sealed_datagrams_are_genuine.Goals as goal
 pub returns : goal.returns
 returns c = record {
   stay = bundled_on;
-  empty = λ seal session bytes (bundle, fits, is, none, nothing, no_end). (
+  empty = λ seal session bundle fits none nothing no_end. (
     bundle,
     fits,
-    is,
+    refl,
     subst (λ (parts : List Part). All (WasGiven session.given bundle.to) (flat_map (packets_of bundle.from) parts)) (sym none)
         (All-nil (WasGiven session.given bundle.to)),
     record {

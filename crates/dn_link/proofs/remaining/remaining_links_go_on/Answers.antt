@@ -17,7 +17,7 @@ use Rattle.dn_link.specs.Linked.{Gives, Linked, is_peer, remains, report_beside,
 use Rattle.dn_link.specs.{declared.bundle.Carried.Carried, Hearing.carried_of, Hearing.SendsCarried, Relays.Handed, Relays.flights_of, Pacing.PaceState, Text.parts_bytes}
 use Rattle.dn_lockstep.proofs.OneGame.{GoesBetween}
 use Rattle.dn_survivor.specs.OneGame.{AreRemaining, Session, after_packet, after_relays, after_report, reports_on}
-use Rattle.dn_survivor.specs.{Telling.MayRelay, Telling.report_for, declared.others.Others.Others, declared.report.Report.Report, Surviving.Surviving}
+use Rattle.dn_survivor.specs.{Telling.MayRelay, Telling.report_for, declared.report.Report.Report, Surviving.Surviving}
 use Rattle.dn_survivor.specs.Surviving.{has_given_up}
 use Rattle.dn_link.proofs.RemainingCalls.{built, gives_up, quits, reports_stay, runs, same_link, told}
 use Rattle.dn_link.proofs.{Handing.gives_all, Linking.goes_given, Linking.stays_kept, Relinking.found_later, Relinking.found_on, RemainingReceives.received}
@@ -127,7 +127,7 @@ module _ (marking : Marking) (limits : Limits) (settings : Settings) (session : 
     -- it goes out in a datagram of this game, and the links are those of the game after it
     abbrev after_all : Option Flight → Session
     after_all packet =
-        after_relays (after_packet session player packet (surviving_of new)) (flights_of to gives.handed)
+        after_relays (after_packet session player packet (surviving_of new)) (flights_of to gives.behind.handed)
 
     abbrev told_now : Option Report
     told_now = report_beside (surviving_of new) to gives.bundle.parts.items
@@ -138,19 +138,13 @@ module _ (marking : Marking) (limits : Limits) (settings : Settings) (session : 
         × AreRemainingLinks marking limits settings (after_datagram session player to packet gives)
         (put links player new) × KeepsGiven session (after_datagram session player to packet gives)
 
-    -- what it has given up, and heard, stays with the packet
-    may_still : MayRelay (surviving_of old) to → MayRelay (surviving_of new) to
-    may_still = subst (λ (o : Others). MayRelay (record { lockstep = old.node; others = o }) to
-        → MayRelay (record { lockstep = new.node; others = new.others }) to) gives.others
-        (λ may. record { stays = may.stays; within = may.within })
-
     -- commands of third players are handed on with it
     hands_on : (packet : Option Flight)
         → AreRemaining marking limits settings (after_packet session player packet (surviving_of new))
         → AreRemaining marking limits settings (after_all packet)
-    hands_on packet game = go gives.handed refl
+    hands_on packet game = go gives.behind.handed refl
       where
-        go : (handed : List Handed) → gives.handed ≡ handed → AreRemaining marking limits settings (after_all packet)
+        go : (handed : List Handed) → gives.behind.handed ≡ handed → AreRemaining marking limits settings (after_all packet)
         go [] e =
             subst (λ (hs : List Handed). AreRemaining marking limits settings
             (after_relays (after_packet session player packet (surviving_of new)) (flights_of to hs))) (sym e)
@@ -158,7 +152,7 @@ module _ (marking : Marking) (limits : Limits) (settings : Settings) (session : 
             (record (after_packet session player packet (surviving_of new)) { packets = given }))
             (sym (append-nil (given_on session.packets packet))) game)
         go (h ∷ handed) e =
-            let may = may_still (gives.may (λ none. absurd (some_not h handed (sym e ∙ none)))) in
+            let may = gives.behind.may (λ none. absurd (some_not h handed (sym e ∙ none))) in
             gives_all new.node to (λ given. AreRemaining marking limits settings
             (record (after_packet session player packet (surviving_of new)) { packets = given }))
             (λ given who tic command now its there apart told fair.
@@ -169,7 +163,7 @@ module _ (marking : Marking) (limits : Limits) (settings : Settings) (session : 
             one_game.relays marking limits settings now player mine who to tic command (omega (arith, its, count))
             (omega (arith, there, count)) apart (subst (λ (s : Surviving). MayRelay s to) (sym here) may)
             (ap (λ (s : Surviving). command_told s.lockstep who tic) here ∙ told) fair)
-            (given_on session.packets packet) gives.handed game gives.handed_on
+            (given_on session.packets packet) gives.behind.handed game gives.behind.on
 
     -- and the report, if there is one and room for it
     tells_on : (packet : Option Flight)
@@ -195,7 +189,7 @@ module _ (marking : Marking) (limits : Limits) (settings : Settings) (session : 
         let on = base.relinked marking limits settings session links linked
         (after_all packet) player new (hands_on packet game) refl
         (record {
-          packets = λ which one found. found_on (given_on session.packets packet) (flights_of to gives.handed) which one
+          packets = λ which one found. found_on (given_on session.packets packet) (flights_of to gives.behind.handed) which one
               (found_later session.packets packet which one found);
           reports = λ which given found. found;
         })

@@ -1,12 +1,12 @@
 use Rattle.std.proofs.Common.{rules, ◌≡◌, ◌<◌, ◌+◌, List, ◌%◌, ◌^◌, ℕ, length, get_or, w8, to_z, of_z, refl, ap, ◌∙◌, subst, arith}
-use Rattle.std.specs.Prelude.{Bool, None, ◌&&◌, ◌||◌, is_some, IfSome}
+use Rattle.std.specs.Prelude.{IfSome}
 use Rattle.dn_survivor.specs.{ReportBytes.IsReport, Surviving.Surviving}
 use Rattle.dn_link.specs.{Linked.report_beside, Linked.written, declared.bundle.Part.Part}
 use Rattle.dn_machine.specs.Node.{put}
 use Rattle.dn_lockstep.specs.Contents.{Contents, contents}
-use Rattle.dn_link.specs.{Counting.counts_of, Ends.told_cause, Hearing.SendsCarried, Line.LineState, Line.missing, Kept.going, Kept.kept_after, Kept.taken_by, Linked.PeerState}
-use Rattle.dn_link.specs.{Linking.linked, Linking.peers_of, Linking.state_of, Relays.AreLacked, Packing.ArePacked}
-use Rattle.dn_link.proofs.{Handing.may_before, Linking.same_reported, Places.peer_at, Places.peers_put}
+use Rattle.dn_link.specs.{Counting.counts_of, Ends.told_cause, Hearing.SendsCarried, declared.line.Line.Line, Line.missing, Kept.going, Kept.kept_after, Kept.taken_by, Linked.PeerState}
+use Rattle.dn_link.specs.{Linking.linked, Linking.peers_of, Linking.state_of, Packing.ArePacked}
+use Rattle.dn_link.proofs.{Places.peer_at, Places.peers_put}
 use Rattle.dn_link.proofs.link.Link.datagram.Goals as goal
 
 pub returns-clause-gives : goal.returns-clause-gives
@@ -23,17 +23,11 @@ returns-clause-gives c =
     let here = peer_at peers c.args.to c.index-self-to.result below in
     let after = c.parts-number.ensures in
     let line = c.line-line.result.now in
-    let behind = c.with_handed-parts.ensures.behind.0 in
     let new_peers = peers_put peers c.args.to c.parts-number.new.self below
     ∙ ap (put (peers_of peers) c.args.to) (after.peer ∙ (λ i. record (here i) {
       kept = kept_after (here i).kept (taken_by (here i).left packet);
       number = ((here i).number + 1) % 2 ^ 32;
     })) in
-    let old_peer = peers_of peers c.args.to in
-    let reported = ap (λ (f : ℕ → PeerState). (f c.args.to).reported) new_peers
-    ∙ same_reported (peers_of peers) c.args.to (kept_after old_peer.kept (taken_by old_peer.left packet))
-    ((old_peer.number + 1) % 2 ^ 32) c.args.to in
-    let lacked = subst (λ (l : List ℕ). AreLacked l 0 behind.handed) reported behind.lacked in
     let now : Surviving = record { lockstep = after_it; others = (linked c.args.self.now).others } in
     let led : to_z w8 (of_z w8 line.own_lead) ≡ line.own_lead = search rules in
     record {
@@ -56,7 +50,7 @@ returns-clause-gives c =
       from = me;
       goes = refl;
       number = after.number ∙ ap (λ (t : PeerState). t.number) here;
-      lead = led ∙ ap (λ (l : LineState). l.own_lead) c.line-line.ensures;
+      lead = led ∙ ap (λ (l : Line). l.own_lead) c.line-line.ensures;
       holes = c.missing.ensures ∙ ap missing c.line-line.ensures;
       cause = c.told_cause-cause.ensures ∙ ap told_cause
           (c.phase.ensures ∙ ap (λ (n : Contents). n.phase) c.lockstep-2.ensures);
@@ -66,13 +60,8 @@ returns-clause-gives c =
       proper = subst (λ (parts : List Part). IfSome (report_beside now c.args.to parts) IsReport)
           c.as_slice-2.ensures.value c.report_beside-report.ensures.proper;
       own = c.parts-number.result.1.items;
-      handed = behind.handed;
-      parts = behind.parts;
-      handed_on = behind.on;
-      lacked = lacked;
+      behind = c.with_handed-parts.ensures.behind.0;
       few = c.with_handed-parts.ensures.behind.1;
-      stay = behind.stay;
-      may = may_before (linked c.args.self.now) _ c.args.to 0 _ _ refl behind;
       packed = subst (λ (t : PeerState). ArePacked n.me
           (going t.kept (taken_by t.left packet)) c.parts-number.result.1.items) here
           (subst (λ (k : ℕ). ArePacked k (going (state_of (get_or peers c.args.to c.index-self-to.result)).kept

@@ -1,6 +1,6 @@
 use Rattle.std.proofs.Common.{rules, ◌≡◌, ◌-ℤ◌, true, w8, w32, to_z, of_z, ap, ◌∙◌}
 use Rattle.dn_lockstep.specs.Contents.{Contents}
-use Rattle.dn_link.specs.{Line.LineState, Line.lead_over, Linking.linked, Pace.is_paced, Pacing.pace_of}
+use Rattle.dn_link.specs.{declared.line.Line.Line, Line.lead_over, Linking.linked, Pace.is_paced, Pacing.pace_of}
 use Rattle.dn_link.proofs.link.Link.difference.Goals as goal
 
 pub returns-clause-value : goal.returns-clause-value
@@ -11,5 +11,5 @@ returns-clause-value c =
     let seen : to_z w8 (of_z w8 c.lead_over.result) ≡ c.lead_over.result = search rules in
     let told : to_z w8 (of_z w8 other) ≡ other = search rules in
     let mine = seen ∙ c.lead_over.ensures ∙ ap (λ (n : Contents). lead_over n c.args.player) c.lockstep.ensures in
-    let theirs = told ∙ ap (λ (l : LineState). l.lead) c.line.ensures in
+    let theirs = told ∙ ap (λ (l : Line). l.lead) c.line.ensures in
     rw paced (same ∙ c.apart.ensures.value ∙ (λ i. mine i -ℤ theirs i))

@@ -1,6 +1,6 @@
-use Rattle.std.proofs.Common.{◌≡◌, ap, ◌∙◌, refl, w8, to_z, of_z, rules}
+use Rattle.std.proofs.Common.{ap, ◌∙◌}
 use Rattle.std.specs.Prelude.{pos}
-use Rattle.dn_link.specs.{Counting.counts_of, Linking.linked}
+use Rattle.dn_link.specs.{Counting.counts_of}
 use Rattle.dn_link.proofs.link.Link.exclusion.Goals as goal
 
 pub returns-clause-is : goal.returns-clause-is

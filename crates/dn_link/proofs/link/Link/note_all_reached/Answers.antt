@@ -1,12 +1,12 @@
 -- What is noted of one peer after the other is noted of all.
-use Rattle.std.proofs.Common.{◌≡◌, ◌<◌, ◌≤◌, ◌+◌, ◌-◌, ◌⊎◌, ℕ, Bool, true, false, refl, ap, sym, ◌∙◌, arith, inl, inr, rules, length}
+use Rattle.std.proofs.Common.{◌≡◌, ◌<◌, ◌≤◌, ◌+◌, ◌-◌, ◌⊎◌, ℕ, Bool, true, false, refl, ap, sym, ◌∙◌, arith, inl, inr, rules, length, map}
 use Rattle.std.specs.Prelude.{if◌then◌else◌, nat_lt}
 use Rattle.std.proofs.lemmas.Bool.{cases_eq, cases_lt, ltb-true}
 use Rattle.dn_machine.specs.Node.{put}
 use Rattle.dn_machine.proofs.Put.{put_at, put_off, same_functions}
 use Rattle.dn_lockstep.specs.Contents.{Contents}
 use Rattle.dn_link.specs.{Counting.reached, Kept.acknowledged, Linked.Linked, Linked.PeerState, Linked.with_reached, Linking.new_peer, Linking.linked, Linking.state_of}
-use Rattle.dn_link.proofs.Places.{place_past}
+use Rattle.std.proofs.lemmas.List.{get_or_past, length-map}
 use Rattle.dn_link.proofs.link.Link.note_all_reached.Goals as goal
 
 -- one is noted
@@ -76,4 +76,5 @@ returns-clause-link c =
     ∙ ap (note 2) (c.note_reached-2.ensures.link ∙ ap (note 1) c.note_reached.ensures.link)) in
     each ∙ ap (λ (f : ℕ → PeerState). record link { peers = f })
     (all_noted link.node link.peers old.survivor.lockstep.few
-    (λ place past. place_past state_of new_peer old.peers place (omega (arith, four, past))))
+    (λ place past. get_or_past (map state_of old.peers) place new_peer
+    (let count = length-map old.peers state_of in omega (arith, count, four, past))))

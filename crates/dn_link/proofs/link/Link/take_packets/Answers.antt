@@ -1,6 +1,6 @@
 use Rattle.std.proofs.Common.{ap, sym, ◌∙◌, subst}
 use Rattle.dn_link.specs.{Hearing.HearsAll, Linking.linked, Pace.after_datagram, Packets.heard_in}
-use Rattle.dn_link.specs.Linked.{Linked, TakesPackets, met, takes, with_reached}
+use Rattle.dn_link.specs.Linked.{Linked, TakesPackets, takes, with_reached}
 use Rattle.dn_link.proofs.link.Link.take_packets.Goals as goal
 
 pub returns-clause-heard : goal.returns-clause-heard
@@ -10,8 +10,7 @@ returns-clause-heard c =
     let mid = linked c.hear_packets.new.self in
     let node = mid.node in
     subst (λ (l : Linked). TakesPackets b old l) (sym c.note_all_reached.ensures.link) (record {
-      started = c.hear_packets.result;
-      heard = subst (λ (l : Linked). HearsAll (heard_in (takes l) b) l.node node c.hear_packets.result)
+      heard = subst (λ (l : Linked). HearsAll (heard_in (takes l) b) l.node node)
           c.meet.ensures.link c.hear_packets.ensures.heard;
       others = c.hear_packets.ensures.others ∙ ap (λ (l : Linked). l.others) c.meet.ensures.link;
       peers = ap (with_reached node) (c.hear_packets.ensures.peers ∙ ap (λ (l : Linked). l.peers) c.meet.ensures.link);

@@ -1,9 +1,9 @@
-use Rattle.std.proofs.Common.{rules, ◌≡◌, ◌≤◌, ℕ, zero, suc, ◌∷◌, [], length, refl, ap, sym, ◌∙◌, arith}
+use Rattle.std.proofs.Common.{rules, ◌≡◌, ◌≤◌, ℕ, zero, suc, ◌∷◌, [], length, refl, ap, sym, ◌∙◌, arith, get_or}
+use Rattle.std.proofs.lemmas.List.{get_or_past}
 use Rattle.std.specs.Prelude.{false, nat_lt, pos}
 use Rattle.dn_machine.proofs.Put.{same_functions}
 use Rattle.dn_lockstep.specs.Contents.{contents}
-use Rattle.dn_link.specs.{Line.LineState, Line.lead_over, Line.new_line, Pacing.line_of, Pacing.lines_of, Pacing.state_of}
-use Rattle.dn_link.proofs.Places.{place_past}
+use Rattle.dn_link.specs.{declared.line.Line.Line, Line.lead_over, Line.new_line, Pacing.state_of}
 use Rattle.dn_link.proofs.pace.Pace.see_leads.Goals as goal
 
 not_below : (one other : ℕ) → other ≤ one → nat_lt one other ≡ false
@@ -14,13 +14,13 @@ returns c =
     let old = state_of c.args.self.now in
     let n = contents c.args.lockstep.now in
     let four : length c.args.self.now.lines ≡ 4 = search rules in
-    let new : ℕ → LineState = lines_of (c.at_tick.result ∷ c.at_tick-2.result ∷ c.at_tick-3.result ∷ c.at_tick-4.result ∷ []) in
-    let seen : ℕ → LineState = (λ player. record (old.lines player) { own_lead = lead_over n player }) in
+    let new : ℕ → Line = (λ player. get_or (c.at_tick.result ∷ c.at_tick-2.result ∷ c.at_tick-3.result ∷ c.at_tick-4.result ∷ []) player new_line) in
+    let seen : ℕ → Line = (λ player. record (old.lines player) { own_lead = lead_over n player }) in
     let past : (player : ℕ) → 4 ≤ player → new_line ≡ seen player =
     (λ player beyond.
     let none : nat_lt player n.players ≡ false = not_below player n.players (omega (arith, beyond, c.args.lockstep.now.few)) in
     let unled : lead_over n player ≡ pos 0 = rw none refl in
-    (λ i. record (sym (place_past line_of new_line c.args.self.now.lines player (omega (arith, four, beyond))) i) {
+    (λ i. record (sym (get_or_past c.args.self.now.lines player new_line (omega (arith, four, beyond))) i) {
       own_lead = sym unled i;
     })) in
     let go : (player : ℕ) → new player ≡ seen player = (λ player. elim player as (λ k. new k ≡ seen k) [
@@ -30,4 +30,4 @@ returns c =
       | suc (suc (suc zero)) ↦ c.at_tick-4.ensures ∙ (λ i. record (c.line-4.ensures i) { own_lead = lead_over n 3 })
       | suc (suc (suc (suc player))) ↦ past (suc (suc (suc (suc player)))) (omega arith)
     ]) in
-    ap (λ (f : ℕ → LineState). record old { lines = f }) (same_functions go)
+    ap (λ (f : ℕ → Line). record old { lines = f }) (same_functions go)
