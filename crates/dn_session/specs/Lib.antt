@@ -21,3 +21,4 @@ pub mod Events
 pub mod Session
 pub mod Roster
 pub mod Parts
+pub mod Sessions
