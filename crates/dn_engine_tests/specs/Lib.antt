@@ -1,3 +1,4 @@
 pub mod Calls
 pub mod Pairs
 pub mod Sealed
+pub mod Sessions

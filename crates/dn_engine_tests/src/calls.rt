@@ -36,7 +36,7 @@ pub fn give(lockstep: &mut Lockstep, command: Command) -> Made
 }
 
 /// Each player's mark in a world that has counted this many rows.
-fn marks_at(rows: u32) -> [i16; 4]
+pub(crate) fn marks_at(rows: u32) -> [i16; 4]
     ensures { result ≡ marks_at rows }
 {
     let mark = (rows % 128) as i16;

@@ -5,9 +5,11 @@
 mod calls;
 mod pairs;
 mod sealed;
+mod sessions;
 #[cfg(test)]
 mod tests;
 
 pub use calls::{Parcel, give, hand, quit, run, take};
 pub use pairs::{Pair, open, pass, play};
 pub use sealed::{open_bytes, seal_packet};
+pub use sessions::{begin_game, pass_on, run_tic};

@@ -40,7 +40,7 @@ twice f p one two = same_functions (λ other. elim (cases_eq other p) [
 ])
 
 -- where no row was told all is as it was
-untold : (told : ℕ → Rows) (p other : ℕ) → told other ≡ put told p (told p) other
+pub untold : (told : ℕ → Rows) (p other : ℕ) → told other ≡ put told p (told p) other
 untold told p other = elim (cases_eq other p) [
   | inl at ↦ ap told at ∙ sym (put_at told p other (told p) at)
   | inr off ↦ sym (put_off told p other (told p) off)

@@ -9,3 +9,5 @@ pub mod Going
 pub mod Sending
 pub mod Readings
 pub mod Rosters
+pub mod NewLinks
+pub mod Staying

@@ -159,7 +159,7 @@ fixed_there s fits =
       third = long_told t.2 (all 2 None (omega arith));
     }
 
-fixed : (side : Side) (place : Place) → IsSide side → place_in side ≡ Some place → IsFixed place.game
+pub fixed : (side : Side) (place : Place) → IsSide side → place_in side ≡ Some place → IsFixed place.game
 fixed (side.Host host) place fits e =
     subst (λ (p : Place). IsFixed p.game) (some_then (lobby host).begun (place_here (lobby host)) place e).1
     (fixed_here (lobby host) fits)

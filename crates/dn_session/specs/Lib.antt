@@ -22,3 +22,4 @@ pub mod Events
 pub mod Session
 pub mod Roster
 pub mod Parts
+pub mod Sessions

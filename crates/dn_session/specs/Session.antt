@@ -263,6 +263,11 @@ GivesUpPart player now (Some old) (Some new) gave =
 abbrev pub link_in : Option Part → Option Link
 link_in part = option_map (λ part. (playing part).link) part
 
+-- what it is to pass on
+abbrev pub passing_in : Option Part → Option (Address × List ℕ)
+passing_in None = None
+passing_in (Some part) = (playing part).passing
+
 -- what the host does in the lobby
 
 abbrev pub kicked_as : Option (List ℕ) → Lobby → Lobby

@@ -4,12 +4,13 @@ ghost use Rattle.std.specs.{Prelude.◌≡◌, Prelude.◌≢◌, Prelude.◌≤
 ghost use Rattle.dn_seal.specs.{declared.seal.Seal.Seal, Envelope.Letter, Envelope.body_bytes as letter_bytes};
 ghost use Rattle.dn_session.specs.declared.{greeting.Address.Address, greeting.Call.Call, greeting.GreetingFault.GreetingFault, greeting.Hint.Hint, greeting.Hinted.Hinted, greeting.Refused.Refused, greeting.Seating.Seating, seats.Held.Held, terms.Terms.Terms};
 ghost use Rattle.dn_session.specs.declared.greeting.Refusal.TheVariants.{Cookie};
+ghost use Rattle.dn_session.specs.declared.joiner.Stage.TheVariants.{Playing};
 ghost use Rattle.dn_session.specs.declared.seats.Seat.TheVariants.{Absent, Taken};
 ghost use Rattle.dn_session.specs.Reading.{IsCallIn, IsHintedIn, IsRefusedIn, IsSeatingIn};
 ghost use Rattle.dn_session.specs.Text.{body_bytes, call_rest, greeting_bytes, hinted_bytes, refused_rest, seating_rest, told_number, IsCall, IsHinted, IsRefused, IsSeating};
 ghost use Rattle.dn_session.specs.Cookies.{game_of, game_text, is_good, is_recent, time_of};
 ghost use Rattle.dn_session.specs.Hosting.{game, hint_for, hint_to, refused, seating, seating_to, HearsCall, IsLobby, IsReadReply, Lobby, WasHeard};
-ghost use Rattle.dn_session.specs.{Joining.acts, Joining.game_in, Joining.is_answer, Joining.is_own, Joining.on_refused, Joining.on_seating, Joining.on_time, Joining.Joining, Seats.is_of, Seats.is_ready, Terms.IsTerms};
+ghost use Rattle.dn_session.specs.{Joining.acts, Joining.game_in, Joining.is_answer, Joining.is_heard, Joining.is_own, Joining.on_refused, Joining.on_seating, Joining.on_time, Joining.Joining, Seats.is_of, Seats.is_ready, Session.HearsReply, Terms.IsTerms};
 
 /// Bytes are read as one greeting of each sort, or for one fault.
 pub fn one_greeting()
@@ -50,11 +51,17 @@ pub fn calls_without_a_cookie_change_nothing()
         → HearsCall from bytes now old new reply → (new ≡ old) × (reply ≡ Some (refused from call now Cookie old)) }
 {}
 
-/// A game that has begun keeps its players: no bytes change anything any more.
+/// A game that has begun keeps its players: no bytes change anything any more, neither of its host nor of one who
+/// joined, and nor does time.
 pub fn begun_once()
-    ensures { (from : Address) (bytes : List ℕ) (now : ℕ) (old new : Lobby) (reply : Option (List ℕ))
+    ensures host { (from : Address) (bytes : List ℕ) (now : ℕ) (old new : Lobby) (reply : Option (List ℕ))
         → old.begun ≡ true → HearsCall from bytes now old new reply → new ≡ old }
-{}
+    ensures joiner { (from : Address) (bytes : List ℕ) (now : ℕ) (old new : Joining) → old.stage ≡ Playing
+        → HearsReply (is_heard from old) bytes now old new → new ≡ old }
+    ensures time { (now : ℕ) (j : Joining) → j.stage ≡ Playing → on_time now j ≡ (j, None) }
+{
+    joiners_act_when_due();
+}
 
 /// Who plays is told so as often as it calls, whatever its cookie.
 pub fn players_are_told_as_often_as_they_call()

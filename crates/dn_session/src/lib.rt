@@ -14,6 +14,7 @@ mod host;
 mod joiner;
 mod laws;
 mod lead;
+mod meetings;
 mod part;
 mod parts;
 mod places;
@@ -48,8 +49,9 @@ pub use laws::{
     seated_joiners_heed_no_refusal,
 };
 pub use lead::{Seen, Standing, View, due, is_given_up};
+pub use meetings::{sessions_play, sessions_stay};
 pub use part::{Part, Transmit};
-pub use parts::{sent_bytes_are_genuine, sessions_play, sessions_play_on};
+pub use parts::sessions_play_on;
 pub use places::{Place, Places};
 pub use reading::{is_greeting, open, read_hinted};
 pub use roster::{one_link_a_place, places_are_ones_own};

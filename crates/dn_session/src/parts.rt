@@ -1,4 +1,4 @@
-//! Laws: the parts of the players of one game have links of one game, whatever their sessions do.
+//! Laws: the parts of the players of one game keep links of one game, whatever their sessions do.
 
 ghost use Rattle.std.specs.Prelude.{◌≡◌, ◌<◌, ◌⊎◌, ℕ, ℤ, Bool, List, Option, None, Some, IfSome};
 ghost use Rattle.dn_tic.specs.{declared.command.Move.Move, declared.input.Input.Input};
@@ -6,33 +6,18 @@ ghost use Rattle.dn_setup.specs.Settings.{Settings};
 ghost use Rattle.dn_machine.specs.{Limits.Limits, declared.answers.Ran.Ran};
 ghost use Rattle.dn_lockstep.specs.Marking.{Marking};
 ghost use Rattle.dn_seal.specs.declared.seal.Seal.{Seal};
-ghost use Rattle.dn_survivor.specs.OneGame.{started_session, Session};
-ghost use Rattle.dn_link.specs.{Linked.surviving_of, Linking.linked, RemainingLinks.IsGenuineIn, RemainingLinks.KeepsGiven, RemainingLinks.WasSealedIn};
-ghost use Rattle.dn_session.specs.declared.{greeting.Address.Address, side.Begun.Begun, terms.Terms.Terms};
-ghost use Rattle.dn_session.specs.Parts.{limits_of, links_of, AreMarksOf, AreParts, GoOn};
+ghost use Rattle.dn_survivor.specs.OneGame.{Session};
+ghost use Rattle.dn_link.specs.{Linking.linked, RemainingLinks.IsGenuineIn, RemainingLinks.WasSealedIn};
+ghost use Rattle.dn_session.specs.declared.greeting.Address.{Address};
+ghost use Rattle.dn_session.specs.Parts.{links_of, AreMarksOf, AreParts, GoOn};
 ghost use Rattle.dn_session.specs.Playing.{Playing, GivesUpBy, GivesWhen, HearsBytes, Polls, QuitsBy, RunsNext};
-ghost use Rattle.dn_session.specs.{Sent.SendsNext, Session.game_seal, Session.IsPartOf, Terms.IsTerms};
+ghost use Rattle.dn_session.specs.Sent.{SendsNext};
 
-use dn_link::{remaining_bytes_are_genuine, remaining_links_go_on, remaining_links_start};
-use dn_lockstep::windows_hold;
+use dn_link::{remaining_bytes_are_genuine, remaining_links_go_on};
 
-/// The parts that the sessions of one game make, of one number and with the same terms, one for each player,
-/// have the links of one game.
-pub fn sessions_play()
-    ensures { (marking : Marking) (secret : Option (List ℕ)) (game : List ℕ) (terms : Terms) (begun : ℕ → Begun)
-        (times : ℕ → ℕ) (parts : ℕ → Playing) → IsTerms terms
-        → ((p : ℕ) → p < terms.players → ((begun p).game ≡ game) × ((begun p).terms ≡ terms) × ((begun p).me ≡ p)
-        × IsPartOf secret (begun p) (times p) (parts p))
-        → AreParts marking (limits_of terms) terms.settings (game_seal secret game)
-        (started_session terms.players terms.settings (λ p. surviving_of (links_of parts p))) parts }
-{
-    remaining_links_start();
-    windows_hold();
-}
-
-/// And so they stay after each call on one of their sessions, as long as what it opens was sealed in this game
-/// before. At a run the caller hands in the marks of a world that moved on by the rows that it was told. Whom a
-/// session gives up, and when, is not asked. What is sent came so and is passed on, or was sealed in the game.
+/// Parts that have links of one game keep them after each call on one of them, as long as what it opens was sealed
+/// in this game before. At a run the caller hands in the marks of a world that moved on by the rows that it was
+/// told. Whom a part gives up, and when, is not asked. What is sent came so and is passed on, or was sealed in the game.
 pub fn sessions_play_on()
     ensures hears { (marking : Marking) (limits : Limits) (settings : Settings) (seal : Seal) (session : Session)
         (parts : ℕ → Playing) (p now : ℕ) (from : Address) (bytes : List ℕ) (new : Playing)
@@ -69,15 +54,5 @@ pub fn sessions_play_on()
         ⊎ IfSome sent (λ (s : Address × List ℕ). WasSealedIn seal on.later s.1)) }
 {
     remaining_links_go_on();
-    remaining_bytes_are_genuine();
-}
-
-/// What was sent in such a game may come to any part of it, at any later time.
-pub fn sent_bytes_are_genuine()
-    ensures stay { (seal : Seal) (session later : Session) (bytes : List ℕ) → KeepsGiven session later
-        → WasSealedIn seal session bytes → WasSealedIn seal later bytes }
-    ensures genuine { (seal : Seal) (session : Session) (player : ℕ) (bytes : List ℕ)
-        → WasSealedIn seal session bytes → IsGenuineIn seal session player bytes }
-{
     remaining_bytes_are_genuine();
 }

@@ -1,0 +1,108 @@
+-- The sessions of one game after a call on one of them.
+use Rattle.std.proofs.Common.{◌≡◌, ◌<◌, ℕ, List, refl, ap, sym, subst, ◌∙◌, Option, Some, None, inl, inr}
+use Rattle.std.proofs.lemmas.Bool.{cases_eq}
+use Rattle.dn_tic.specs.declared.command.Move.{Move}
+use Rattle.dn_machine.specs.Node.{put}
+use Rattle.dn_machine.proofs.Put.{put_at, put_off}
+use Rattle.dn_lockstep.specs.Marking.{Marking}
+use Rattle.dn_survivor.specs.OneGame.{Session}
+use Rattle.dn_session.specs.{Parts.GoOn, Parts.limits_of, Playing.Playing, Playing.playing, Session.IfPlaying, Session.Meeting, Session.game_seal, Sessions.AreSessions, Sessions.IsPartFor}
+use Rattle.dn_session.specs.{Sessions.StaySessions, declared.part.Part.Part, declared.side.Begun.Begun}
+use Rattle.dn_session.proofs.Going.{untold}
+
+module _ (marking : Marking) (secret : Option (List ℕ)) (b : Begun) (session : Session) (meetings : ℕ → Meeting)
+    (player : ℕ) (new : Meeting) (are : AreSessions marking secret b session meetings)
+    (few : player < b.terms.players) where
+  abbrev pub Stay : Option (List (Option Move)) → Type 0
+  Stay row = StaySessions marking secret b session meetings player new row
+
+  abbrev pub On : Playing → Option (List (Option Move)) → Type 0
+  On part row = GoOn marking (limits_of b.terms) b.terms.settings (game_seal secret b.game) session are.parts player part row
+
+  -- the part of a session that has one
+  pub its : (part : Part) → (meetings player).part ≡ Some part → are.parts player ≡ playing part
+  its part has = subst (λ (o : Option Part). IsPartFor secret b player o (are.parts player)) has (are.own player few)
+
+  -- and of one that has none
+  pub unmade : (meetings player).part ≡ None → IsPartFor secret b player None (are.parts player)
+  unmade none = subst (λ (o : Option Part). IsPartFor secret b player o (are.parts player)) none (are.own player few)
+
+  -- a part goes on
+  pub moved : (part : Part) (row : Option (List (Option Move))) → new.part ≡ Some part → On (playing part) row → Stay row
+  moved part row has on = record {
+    later = on.later;
+    stay = record {
+      parts = put are.parts player (playing part);
+      are = on.stay;
+      own = λ other low. elim (cases_eq other player) [
+        | inl at ↦ subst (λ (m : Meeting). IsPartFor secret b other m.part (put are.parts player (playing part) other))
+            (sym (put_at meetings player other new at))
+            (subst (λ (o : Option Part). IsPartFor secret b other o (put are.parts player (playing part) other)) (sym has)
+            (put_at are.parts player other (playing part) at))
+        | inr off ↦ subst (λ (m : Meeting). IsPartFor secret b other m.part (put are.parts player (playing part) other))
+            (sym (put_off meetings player other new off))
+            (subst (IsPartFor secret b other (meetings other).part) (sym (put_off are.parts player other (playing part) off))
+            (are.own other low))
+      ];
+    };
+    given = on.given;
+    told = on.told;
+  }
+
+  -- and of the later session this holds
+  pub moved_and : (P : Session → Type 0) (part : Part) → new.part ≡ Some part
+      → (on : On (playing part) None) × P on.later → (on : Stay None) × P on.later
+  unfolding moved
+  moved_and P part has (on, holds) = (moved part None has on, holds)
+
+  -- what is no matter of the part changes nothing
+  pub idle : new.part ≡ (meetings player).part → Stay None
+  idle same = record {
+    later = session;
+    stay = record {
+      parts = are.parts;
+      are = are.are;
+      own = λ other low. elim (cases_eq other player) [
+        | inl at ↦ subst (λ (m : Meeting). IsPartFor secret b other m.part (are.parts other))
+            (sym (put_at meetings player other new at))
+            (subst (λ (o : Option Part). IsPartFor secret b other o (are.parts other))
+            (ap (λ (p : ℕ). (meetings p).part) at ∙ sym same) (are.own other low))
+        | inr off ↦ subst (λ (m : Meeting). IsPartFor secret b other m.part (are.parts other))
+            (sym (put_off meetings player other new off)) (are.own other low)
+      ];
+    };
+    given = record { packets = λ which packet found. found; reports = λ which given found. found };
+    told = λ other. untold session.told player other;
+  }
+
+  -- what a part does, if there is one: where there is none, none is there after it
+  pub by_part : (Does : Option Part → Option Part → Type 0) (R : Type 0)
+      → ((after : Option Part) → Does None after → after ≡ None) → ((old : Part) → Does (Some old) None → ⊥)
+      → (new.part ≡ (meetings player).part → Does None new.part → R)
+      → ((old next : Part) → (meetings player).part ≡ Some old → are.parts player ≡ playing old → new.part ≡ Some next
+      → Does (Some old) (Some next) → R)
+      → Does (meetings player).part new.part → R
+  by_part Does R none lost idles moves does = go (meetings player).part new.part refl refl does
+    where
+      go : (old after : Option Part) → (meetings player).part ≡ old → new.part ≡ after → Does old after → R
+      go None after had has is = idles (has ∙ none after is ∙ sym had) (subst (Does None) (sym has) is)
+      go (Some old) None had has is = absurd (lost old is)
+      go (Some old) (Some next) had has is = moves old next had (its old had) has is
+
+  -- and tells no row
+  pub if_part : (Does : Option Part → Option Part → Type 0)
+      → ((after : Option Part) → Does None after → after ≡ None) → ((old : Part) → Does (Some old) None → ⊥)
+      → ((old next : Part) → are.parts player ≡ playing old → Does (Some old) (Some next) → On (playing next) None)
+      → Does (meetings player).part new.part → Stay None
+  if_part Does none lost moves = by_part Does (Stay None) none lost (λ same is. idle same)
+      (λ old next had same has is. moved next None has (moves old next same is))
+
+  pub if_playing : (Does : Playing → Playing → Type 0)
+      → ((next : Playing) → Does (are.parts player) next → On next None)
+      → IfPlaying Does (meetings player).part new.part → Stay None
+  if_playing Does step = if_part (IfPlaying Does) still (λ old is. is) (λ old next same is. step (playing next)
+      (subst (λ (p : Playing). Does p (playing next)) (sym same) is))
+    where
+      still : (after : Option Part) → IfPlaying Does None after → after ≡ None
+      still None is = refl
+      still (Some after) is = absurd is

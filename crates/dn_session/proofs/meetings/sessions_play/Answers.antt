@@ -1,0 +1,48 @@
+use Rattle.std.proofs.Common.{◌≡◌, None, refl, sym, subst, ◌∙◌, arith, inl, inr}
+use Rattle.std.specs.Prelude.{nat_le}
+use Rattle.std.proofs.lemmas.Bool.{and_parts, cases_Bool, leb-true}
+use Rattle.std.proofs.lemmas.Option.{none-some}
+use Rattle.dn_lockstep.specs.{Opening.CanBeAhead, Opening.IsGame}
+use Rattle.dn_session.specs.declared.terms.LobbyFault.TheVariants as fault
+use Rattle.dn_session.specs.{Parts.config_for, Parts.limits_of, Parts.links_of, Terms.IsTerms, Terms.is_ahead, Terms.is_count, Terms.terms_fault, declared.terms.Terms.Terms}
+use Rattle.dn_session.proofs.{NewLinks.one_place, NewLinks.place_link, Rosters.fixed, Rosters.ones_game}
+use Rattle.dn_session.proofs.meetings.sessions_play.Goals as goal
+
+-- terms without a fault are of a game that a lockstep can have
+can_be : (terms : Terms) → terms_fault terms ≡ None → IsGame terms.players × CanBeAhead terms.ahead
+can_be terms none = elim (cases_Bool (is_count terms.players)) [
+  | inr wrong ↦ absurd (none-some fault.Players (sym none ∙ rw wrong refl))
+  | inl game ↦ elim (cases_Bool (is_ahead terms.ahead)) [
+    | inr wrong ↦ absurd (none-some fault.Ahead (sym none ∙ rw (game, wrong) refl))
+    | inl ahead ↦
+        let a = and_parts (nat_le 2 terms.players) (nat_le terms.players 4) game in
+        let b = and_parts (nat_le 1 terms.ahead) (nat_le terms.ahead 12) ahead in (
+          (leb-true 2 terms.players a.0, leb-true terms.players 4 a.1),
+          (leb-true 1 terms.ahead b.0, leb-true terms.ahead 12 b.1),
+        )
+  ]
+]
+
+pub returns-clause-place : goal.returns-clause-place
+returns-clause-place c = one_place
+
+pub returns-clause-made : goal.returns-clause-made
+returns-clause-made c = λ secret one side b here player now part fits begun plays is.
+    place_link secret one side b here player part.link fits begun plays is.link
+
+pub returns-clause-opens : goal.returns-clause-opens
+returns-clause-opens c = λ marking secret one b meetings parts side begun each.
+    let place = ones_game one b begun in
+    let proper : IsTerms b.terms = subst IsTerms (sym place.3) (fixed one place.0 side place.1).terms in
+    let can = can_be b.terms proper.fits in
+    let few = can.1.1 in
+    record {
+      parts = parts;
+      are = record {
+        links = c.remaining_links_start.ensures marking (limits_of b.terms) b.terms.settings (links_of parts)
+            (c.windows_hold.ensures.window (config_for b.terms) b.terms.ahead can.1) can.0 (omega (arith, few)) proper.settings
+            (λ p low. (each p low).1.opened) (λ p low. (each p low).1.others) (λ p peer low. (each p low).1.peers peer);
+        sealed = λ p low. (each p low).1.sealed;
+      };
+      own = λ p low. (each p low).0;
+    }
