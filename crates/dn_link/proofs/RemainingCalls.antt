@@ -13,8 +13,8 @@ use Rattle.dn_survivor.specs.OneGame.{AreRemaining, Given, Session, after_build,
 use Rattle.dn_survivor.specs.{declared.report.Report.Report, Surviving.Surviving, Surviving.has_given_up, Telling.report_for, declared.answers.GivenUp.GivenUp}
 use Rattle.dn_survivor.specs.{declared.answers.Reported.Reported, declared.others.Others.Others}
 use Rattle.dn_survivor.proofs.OneGame as one_game
-use Rattle.dn_link.specs.{Linked.Linked, Linked.PeerState, Linked.surviving_of, RemainingLinks.AreRemainingLinks, RemainingLinks.KeepsGiven, Surviving.GivesUpPeer}
-use Rattle.dn_link.proofs.Relinking.{AreKept, all_later, all_put, found_on}
+use Rattle.dn_link.specs.{Linked.Linked, Linked.PeerState, Linked.probed, Linked.surviving_of, RemainingLinks.AreRemainingLinks, RemainingLinks.KeepsGiven, Surviving.GivesUpPeer}
+use Rattle.dn_link.proofs.Relinking.{AreKept, all_later, all_put, found_on, put_kept}
 
 -- Whose a survivor is stays.
 
@@ -118,6 +118,13 @@ module _ (marking : Marking) (limits : Limits) (settings : Settings) (session : 
     same_link new same =
         stays new (ap surviving_of same)
         (subst (λ (l : Linked). AreKept session.packets player l.peers) (sym same) all_kept)
+
+    pub counted : (to : ℕ) (new : Linked) → new ≡ probed old to
+        → GoOn (with_survivor session player (surviving_of new)) (put links player new)
+    counted to new same =
+        stays new (ap surviving_of same)
+        (subst (λ (l : Linked). AreKept session.packets player l.peers) (sym same)
+        (put_kept session.packets player old.peers to _ all_kept (all_kept to)))
 
     pub built : (new : Linked) (input : Input) (made : Made)
         → Steps old.node new.node (λ limits me m. on_build limits me m input) (λ answer. made ≡ answer)

@@ -221,6 +221,11 @@ probe pace link to =
 abbrev pub probe_for : Seal → PaceState → Linked → ℕ → Option (List ℕ)
 probe_for seal pace link to = if remains link to then Some (sealed_bytes seal (probe pace link to)) else None
 
+-- after it the next datagram has the next number
+abbrev pub probed : Linked → ℕ → Linked
+probed link to =
+    record link { peers = put link.peers to (record (link.peers to) { number = ((link.peers to).number + 1) % 2 ^ 32 }) }
+
 -- the tic after a player's last command, where a node knows it
 abbrev pub end_known : Contents → ℕ → Option ℕ
 end_known node player = if nat_lt player node.players then end_in node player else None

@@ -57,7 +57,7 @@ impl Peer {
     }
 
     /// The number of the datagram that goes to it now.
-    fn next_number(&mut self) -> u32
+    pub(crate) fn next_number(&mut self) -> u32
         ensures number { result ≡ (state_of self.old).number }
         ensures next { state_of self.new
             ≡ record (state_of self.old) { number = ((state_of self.old).number + 1) % 2 ^ 32 } }

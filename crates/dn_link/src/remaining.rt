@@ -22,7 +22,7 @@ ghost use Rattle.dn_survivor.specs.{OneGame.after_run, OneGame.with_survivor, de
 ghost use Rattle.dn_seal.specs.declared.seal.Seal.{Seal};
 ghost use Rattle.dn_open.specs.Sealed.{sealing_of};
 ghost use Rattle.dn_link.specs.{declared.bundle.Bundle.Bundle, declared.bundle.BundleFault.BundleFault, declared.received.Received.Received, Linked.Gives};
-ghost use Rattle.dn_link.specs.{Linked.Linked, Linked.Receives, Linked.has_given_up, Linked.remains, Linked.surviving_of, Linking.new_peer};
+ghost use Rattle.dn_link.specs.{Linked.Linked, Linked.Receives, Linked.has_given_up, Linked.probed, Linked.remains, Linked.surviving_of, Linking.new_peer};
 ghost use Rattle.dn_link.specs.{Pacing.PaceState, Reading.IsBundledAs, RemainingLinks.AreRemainingLinks, RemainingLinks.IsGenuineIn, RemainingLinks.KeepsGiven, RemainingLinks.after_datagram};
 ghost use Rattle.dn_link.specs.{RemainingLinks.StayRemaining, RemainingLinks.WasSealedIn, Surviving.GivesUpPeer, Text.IsBundle, Text.sealed_bytes};
 
@@ -49,7 +49,7 @@ pub fn remaining_links_start()
 /// in this game before: what `Link::datagram`, `Link::probe` and `Link::exclusion_datagram` give was. At a run the caller hands
 /// in the marks of a world that moved on by the rows that it was told, of the players who take part in the tic.
 /// Whom a link gives up, and when, is not asked. `built` is of `build`, `give` and `catch_up`, `gave` of
-/// `datagram`, `received` of `receive`, and `kept` of a call that changes nothing, as `probe` is one.
+/// `datagram`, `probed` of `probe`, `received` of `receive`, and `kept` of a call that changes nothing.
 pub fn remaining_links_go_on()
     ensures built { (marking : Marking) (limits : Limits) (settings : Settings) (session : Session) (links : ℕ → Linked)
         (player : ℕ) (new : Linked) (input : Input) (made : Made)
@@ -93,6 +93,12 @@ pub fn remaining_links_go_on()
         × WasSealedIn seal (after_datagram session player to packet gives) bytes
         × StayRemaining marking limits settings session links player new
         (after_datagram session player to packet gives) }
+    ensures probed { (marking : Marking) (limits : Limits) (settings : Settings) (session : Session) (links : ℕ → Linked)
+        (player to : ℕ) (new : Linked)
+        → AreRemainingLinks marking limits settings session links → player < limits.players
+        → new ≡ probed (links player) to
+        → StayRemaining marking limits settings session links player new
+        (with_survivor session player (surviving_of new)) }
     ensures received { (marking : Marking) (limits : Limits) (settings : Settings) (session : Session) (links : ℕ → Linked)
         (player : ℕ) (seal : Seal) (bytes : List ℕ) (new : Linked) (answer : Received)
         → AreRemainingLinks marking limits settings session links → player < limits.players

@@ -1,7 +1,7 @@
 -- What a player's part sends, and where to.
 use Rattle.std.specs.Prelude.{◌≡◌, ℕ, ◌+◌, ◌==◌, ◌&&◌, ◌||◌, Bool, not, true, false, nat_lt, if◌then◌else◌, List, position, slice_index_or, slice_set, Option, Some, None, IfSome, is_none, is_some}
 use Rattle.dn_lockstep.specs.{Sent.IsFair, Sent.sent_to, Steps.Tells}
-use Rattle.dn_link.specs.{Linked.Gives, Linked.Linked, Linked.exclusion, Linked.exclusion_for, Linked.has_given_up, Linked.is_peer, Linked.probe, Linked.probe_for, Linked.remains, Linking.linked, Linking.seal_of, Pacing.pace_of, Text.IsBundle}
+use Rattle.dn_link.specs.{Linked.Gives, Linked.Linked, Linked.exclusion, Linked.exclusion_for, Linked.has_given_up, Linked.is_peer, Linked.probe, Linked.probe_for, Linked.probed, Linked.remains, Linking.linked, Linking.seal_of, Pacing.pace_of, Text.IsBundle}
 use Rattle.dn_session.specs.{Places.is_near_at, Places.is_since, Places.place_of, Places.probed_at, Players.four, Playing.KeepsGame, Playing.Playing, Playing.ended_as, Playing.exclusion_of}
 use Rattle.dn_session.specs.{Watch.silence, declared.greeting.Address.Address, declared.places.Place.Place}
 
@@ -56,7 +56,10 @@ SendsWhen false player old new sent =
     × (sent ≡ Some (address, bytes))
     × (probe_for (seal_of old.link) (pace_of old.link) (linked old.link) player ≡ Some bytes)
     × IsBundle (probe (pace_of old.link) (linked old.link) player)
+    × (linked new.link ≡ probed (linked old.link) player) × KeepsGame old.link new.link
+    × (pace_of new.link ≡ pace_of old.link)
     × (new ≡ record old {
+      link = new.link;
       owed = slice_set old.owed player false;
       places = probed_at player old.watch.looked old.places;
     })

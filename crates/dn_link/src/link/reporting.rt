@@ -14,10 +14,10 @@ use dn_survivor::report::{MAX_REPORT, decode};
 const ROOM: usize = 1139;
 
 impl Link {
-    ghost use Rattle.std.specs.{Prelude.◌≡◌, Prelude.◌+◌, Prelude.◌<◌, Prelude.◌≤◌, Prelude.IfSome, Prelude.Result, Prelude.length, Option.option_map};
+    ghost use Rattle.std.specs.{Prelude.◌≡◌, Prelude.◌+◌, Prelude.◌<◌, Prelude.◌≤◌, Prelude.IfSome, Prelude.if◌then◌else◌, Prelude.Result, Prelude.length, Option.option_map};
     ghost use Rattle.dn_survivor.specs.ReportBytes.{IsReadAs, IsReport};
     ghost use Rattle.dn_survivor.specs.declared.report.{Report.Report, ReportFault.ReportFault};
-    ghost use Rattle.dn_link.specs.{Linked.TakesRead, Linked.exclusion, Linked.exclusion_for, Linked.probe, Linked.probe_for, Linked.report_beside, Linked.surviving_of, Linked.written, Linking.linked, Linking.seal_of};
+    ghost use Rattle.dn_link.specs.{Linked.TakesRead, Linked.exclusion, Linked.exclusion_for, Linked.probe, Linked.probe_for, Linked.probed, Linked.remains, Linked.report_beside, Linked.surviving_of, Linked.written, Linking.linked, Linking.seal_of};
     ghost use Rattle.dn_link.specs.{Pacing.pace_of, Text.IsBundle, Text.parts_bytes};
 
     /// The bytes of the report to a peer, if there is one, and room for it beside these parts.
@@ -99,17 +99,32 @@ impl Link {
         }
     }
 
-    /// What goes to where a peer may be, before it is known to be there: how far this player is, and no packets.
-    /// It has 62 bytes, and making it changes nothing. None to a number that is no peer's, nor to one who is given
-    /// up.
-    pub fn probe(&self, to: u8) -> Option<ArrayVec<u8, 1200>>
+    /// A datagram to a peer has taken its number.
+    fn count_datagram(&mut self, to: u8)
+        requires { to < 4 }
+        ensures link { linked self.new ≡ probed (linked self.old) to }
+        ensures pace { pace_of self.new ≡ pace_of self.old }
+        ensures seal { seal_of self.new ≡ seal_of self.old }
+    {
+        let _ = self.peers[to as usize].next_number();
+    }
+
+    /// What goes to where a peer may be, before it is known to be there: how far this player is, and no packets. It
+    /// has 62 bytes. None to a number that is no peer's, nor to one who is given up.
+    pub fn probe(&mut self, to: u8) -> Option<ArrayVec<u8, 1200>>
         ensures sealed { option_map (λ bytes. bytes.items) result
-            ≡ probe_for (seal_of self.now) (pace_of self.now) (linked self.now) to }
-        ensures fits { IfSome result (λ bytes. IsBundle (probe (pace_of self.now) (linked self.now) to)) }
+            ≡ probe_for (seal_of self.old) (pace_of self.old) (linked self.old) to }
+        ensures fits { IfSome result (λ bytes. IsBundle (probe (pace_of self.old) (linked self.old) to)) }
+        ensures link { linked self.new
+            ≡ (if remains (linked self.old) to then probed (linked self.old) to else linked self.old) }
+        ensures pace { pace_of self.new ≡ pace_of self.old }
+        ensures seal { seal_of self.new ≡ seal_of self.old }
     {
         if !self.is_peer(to) || self.has_given_up(to) {
             return None;
         }
-        Some(seal_bundle(&self.sealer, &self.empty(to)))
+        let bundle = self.empty(to);
+        self.count_datagram(to);
+        Some(seal_bundle(&self.sealer, &bundle))
     }
 }

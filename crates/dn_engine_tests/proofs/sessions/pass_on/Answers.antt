@@ -26,7 +26,7 @@ returns-in-Some c = λ marking secret b history meetings p q are mine yours apar
     (option_map sent_of c.transmit.result) are mine
     (subst (λ (m : Meeting). Sends m sender (option_map sent_of c.transmit.result)) (sym here) c.transmit.ensures) in
     let sealed : WasSealedIn (game_seal secret b.game) gone.0.later c.in-Some.sent.bytes.items =
-    elim gone.1 (ap (λ (m : Meeting). m.reply) here ∙ no_reply) (ap (λ (m : Meeting). m.call) here ∙ no_call) [
+    elim (gone.1 (ap (λ (m : Meeting). m.reply) here ∙ no_reply) (ap (λ (m : Meeting). m.call) here ∙ no_call)) [
       | inl passed ↦ absurd (none-some (sent_of c.in-Some.sent) (sym no_passing
           ∙ sym (ap (λ (m : Meeting). passing_in m.part) here) ∙ sym passed ∙ ap (option_map sent_of) c.in-Some.is))
       | inr made ↦ subst (λ (sent : Option Transmit). IfSome (option_map sent_of sent)

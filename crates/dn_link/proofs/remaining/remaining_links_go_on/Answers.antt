@@ -19,7 +19,7 @@ use Rattle.dn_lockstep.proofs.OneGame.{GoesBetween}
 use Rattle.dn_survivor.specs.OneGame.{AreRemaining, Session, after_packet, after_relays, after_report, reports_on}
 use Rattle.dn_survivor.specs.{Telling.MayRelay, Telling.report_for, declared.report.Report.Report, Surviving.Surviving}
 use Rattle.dn_survivor.specs.Surviving.{has_given_up}
-use Rattle.dn_link.proofs.RemainingCalls.{built, gives_up, quits, reports_stay, runs, same_link, told}
+use Rattle.dn_link.proofs.RemainingCalls.{built, counted, gives_up, quits, reports_stay, runs, same_link, told}
 use Rattle.dn_link.proofs.{Handing.gives_all, Linking.goes_given, Linking.stays_kept, Relinking.found_later, Relinking.found_on, RemainingReceives.received}
 use Rattle.dn_link.proofs.Reporting.{fits_or_not, told_last, written_is}
 use Rattle.dn_seal.specs.declared.seal.Seal.{Seal}
@@ -288,6 +288,10 @@ returns-clause-gave c = λ marking limits settings session links player to seal 
     fair gives.
     let sent = gave marking limits settings session links linked player mine seal pace to new bytes gives stays
     fair in (sent.0, sent.1.0, (sent.1.1, sent.1.2))
+
+pub returns-clause-probed : goal.returns-clause-probed
+returns-clause-probed c = λ marking limits settings session links player to new linked mine.
+    counted marking limits settings session links linked player mine to new
 
 pub returns-clause-received : goal.returns-clause-received
 returns-clause-received c = λ marking limits settings session links player seal bytes new answer linked mine.

@@ -100,7 +100,10 @@ returns-clause-sends c = λ marking limits settings seal session parts p new sen
       | false ↦ λ is.
           empty (remains (links p) player) (probe (pace_of (parts p).link) (links p) player) is.0 is.1
           is.4 is.5 refl refl is.3
-          (same (ap (λ (q : Playing). linked q.link) is.6) (ap (λ (q : Playing). seal_of q.link) is.6))
+          (silently marking limits settings seal session parts p are few new
+          (with_survivor session p (surviving_of (linked new.link))) is.7
+          (c.remaining_links_go_on.ensures.probed marking limits settings session links p player (linked new.link)
+          are.links few is.6) refl)
     ] in
     let datagrams : (first : Option ℕ) → first_owed (parts p) ≡ first → SendsFirst first (parts p) new sent → Goal =
     λ first. elim first as (λ k. first_owed (parts p) ≡ k → SendsFirst k (parts p) new sent → Goal) [
