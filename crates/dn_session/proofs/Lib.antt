@@ -7,4 +7,6 @@ pub mod Numbers
 pub mod Going
 pub mod Sending
 pub mod Readings
+pub mod Rests
 pub mod Rosters
+pub mod Told
