@@ -1,6 +1,5 @@
 -- Bytes are read as one hint.
-use Rattle.std.proofs.Common.{◌≡◌, ℕ, List, [], ◌∷◌, length, arith, refl, ap, sym, ◌∙◌, None, Result, Ok, Err, inl, inr}
-use Rattle.std.proofs.lemmas.Option.{same_Some, none-some}
+use Rattle.std.proofs.Common.{◌≡◌, ℕ, List, [], ◌∷◌, length, arith, refl, ap, sym, ◌∙◌, None, Result}
 use Rattle.dn_session.specs.{Reading.IsHintedIn, Reading.hint_fault, Text.IsHinted, Text.hint_byte, Text.hinted_bytes, Text.version_of}
 use Rattle.dn_session.proofs.{Readings.only, Told.told_hint, Told.told_hinted}
 use Rattle.dn_session.specs.{declared.greeting.GreetingFault.GreetingFault, declared.greeting.Hint.Hint, declared.greeting.Hinted.Hinted}

@@ -194,8 +194,7 @@ seats_back (one ∷ two ∷ three ∷ []) place bytes long each is =
     let i3 = All-head IsShown three [] (All-tail IsShown two (three ∷ []) r1) in
     let sized : Sized (seat_pieces one two three) =
     (length-shown one i1, (length-shown two i2, (length-shown three i3, tt))) in
-    let (first, (second, (third, last))) = stand place (seat_pieces one two three) [] bytes sized is in
-    (
+    let (first, (second, (third, last))) = stand place (seat_pieces one two three) [] bytes sized is in (
       length-joined (seat_pieces one two three) [] sized,
       λ a b c ra rb rc x. ra one i1 first x ∷ rb two i2 second x ∷ rc three i3 third x ∷ [],
     )
