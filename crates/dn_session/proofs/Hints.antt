@@ -1,7 +1,7 @@
 -- Bytes are read as one hint.
-use Rattle.std.proofs.Common.{◌≡◌, ℕ, List, [], ◌∷◌, length, arith, refl, ap, sym, ◌∙◌, None, Result, Ok, Err, inl, inr}
-use Rattle.std.proofs.lemmas.Option.{same_Some, none-some}
-use Rattle.dn_session.specs.{Reading.IsHintedIn, Reading.hint_fault, Text.IsHinted, Text.hint_byte, Text.hinted_bytes, Text.version_of, Told.told_hint, Told.told_hinted}
+use Rattle.std.proofs.Common.{◌≡◌, ℕ, List, [], ◌∷◌, length, arith, refl, ap, sym, ◌∙◌, None, Result}
+use Rattle.dn_session.specs.{Reading.IsHintedIn, Reading.hint_fault, Text.IsHinted, Text.hint_byte, Text.hinted_bytes, Text.version_of}
+use Rattle.dn_session.proofs.{Readings.only, Told.told_hint, Told.told_hinted}
 use Rattle.dn_session.specs.{declared.greeting.GreetingFault.GreetingFault, declared.greeting.Hint.Hint, declared.greeting.Hinted.Hinted}
 use Rattle.dn_session.specs.declared.greeting.Hint.TheVariants as hint
 
@@ -36,18 +36,7 @@ clean_hint hinted is =
     sixteen hinted.number is.number (λ m. hint_fault (hinted_bytes (record hinted { number = m })) ≡ None)
     (λ a b c d e f g h i j k l n o p q. refl)
 
-not_both : (bytes : List ℕ) (h : Hinted) (f : GreetingFault) → IsHintedIn bytes (Ok h) → IsHintedIn bytes (Err f) → ⊥
-not_both bytes h f ok (inl first) = none-some f (sym (ap hint_fault ok.1 ∙ clean_hint h ok.0) ∙ first)
-not_both bytes h f ok (inr (form, none, never)) = never h ok.0 ok.1
-
-one_fault : (bytes : List ℕ) (f g : GreetingFault) → IsHintedIn bytes (Err f) → IsHintedIn bytes (Err g) → f ≡ g
-one_fault bytes f g (inl x) (inl y) = same_Some f g (sym x ∙ y)
-one_fault bytes f g (inl x) (inr y) = absurd (none-some f (sym y.1 ∙ x))
-one_fault bytes f g (inr x) (inl y) = absurd (none-some g (sym x.1 ∙ y))
-one_fault bytes f g (inr x) (inr y) = x.0 ∙ sym y.0
-
 pub one_hint : (bytes : List ℕ) (a b : Result Hinted GreetingFault) → IsHintedIn bytes a → IsHintedIn bytes b → a ≡ b
-one_hint bytes (Ok s) (Ok t) x y = ap Ok (same_hinted s t x.0 y.0 (sym x.1 ∙ y.1))
-one_hint bytes (Ok s) (Err f) x y = absurd (not_both bytes s f x y)
-one_hint bytes (Err f) (Ok t) x y = absurd (not_both bytes t f y x)
-one_hint bytes (Err f) (Err g) x y = ap Err (one_fault bytes f g x y)
+one_hint bytes =
+    only IsHinted hinted_bytes (hint_fault bytes) bytes (λ hinted is e. ap hint_fault e ∙ clean_hint hinted is)
+    (λ s t x y. same_hinted s t x.0 y.0 (sym x.1 ∙ y.1))

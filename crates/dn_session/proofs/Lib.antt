@@ -8,6 +8,8 @@ pub mod Numbers
 pub mod Going
 pub mod Sending
 pub mod Readings
+pub mod Rests
 pub mod Rosters
 pub mod NewLinks
 pub mod Staying
+pub mod Told

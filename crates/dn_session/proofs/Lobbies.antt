@@ -5,11 +5,11 @@ use Rattle.std.proofs.lemmas.List.{get_or-set_other, get_or-set_same, length-app
 use Rattle.std.proofs.{Math.ListN.get_or-eq_default, lemmas.List.Elements.All-cons, lemmas.List.Elements.All-nil, lemmas.List.Sums.fails_before_first}
 use Rattle.std.proofs.{lemmas.List.Sums.passes_at_first, lemmas.Option.none-some, lemmas.Option.same_Some}
 use Rattle.std.specs.Prelude.{All, IfSome, map, position, slice_index_or, if◌then◌else◌, ◌||◌, nat_lt, nat_le}
-use Rattle.std.specs.{Int.w32, Int.to_le_bytes, List.position_or_len}
+use Rattle.std.specs.{Int.w32, Int.to_le_bytes, List.position_or_len, Option.option_or}
 use Rattle.dn_seal.specs.Hmac.{hmac}
 use Rattle.dn_seal.proofs.Envelopes.{length-tag}
 use Rattle.dn_session.specs.Hosting.{IsLobby, IsReadReply, IsSeat, Lobby, bar, filled_by, in_game, in_lobby, kicked, kicked_from, on_newcomer, on_opened, on_player, refused, seated, seating, seating_to, unless_barred, with_seat}
-use Rattle.dn_session.specs.Seats.{first_of, held_again, is_free, is_here, is_of, is_silent, seat_for, seat_of, shown_at, taken_again, taken_by}
+use Rattle.dn_session.specs.Seats.{held_again, is_free, is_here, is_of, is_silent, seat_for, seat_of, shown_at, taken_again, taken_by}
 use Rattle.dn_session.specs.{Cookies.cookie_of, Cookies.is_good, Cookies.is_recent, Cookies.time_of, Text.IsCall, Text.IsHolder, Text.IsSeating, Text.is_wish}
 use Rattle.dn_session.specs.{declared.greeting.Address.Address, declared.greeting.Call.Call, declared.greeting.Refusal.Refusal, declared.greeting.Shown.Shown}
 use Rattle.dn_session.specs.{declared.seats.Held.Held, declared.seats.Seat.Seat}
@@ -109,7 +109,7 @@ module _ (l : Lobby) (fits : IsLobby l) where
       (few, present p l.terms.players (n + 1) (get_or l.seats n seat.Absent) never there.1 (fits.seats n few))
 
   lowest : (now n : ℕ) (free : Option ℕ) → position is_free l.seats ≡ free
-      → first_of free (position (is_silent now) l.seats) ≡ Some n → (n < 3) × (n + 1 < l.terms.players)
+      → option_or free (position (is_silent now) l.seats) ≡ Some n → (n < 3) × (n + 1 < l.terms.players)
   lowest now n None none is = passes (is_silent now) n refl is
   lowest now n (Some k) some is = passes is_free n refl (some ∙ is)
 

@@ -1,6 +1,7 @@
 -- Games of one number.
 use Rattle.std.proofs.Common.{◌≡◌, ℕ, List, [], ◌∷◌, length, refl, ap, sym, ◌∙◌}
-use Rattle.dn_session.specs.{Cookies.game_label, Cookies.game_text, Rests.Stand, Rests.length-terms, Rests.stand, Rests.terms_back, Terms.IsTerms, Terms.terms_bytes, Told.told_at, Told.told_terms}
+use Rattle.dn_session.specs.{Cookies.game_label, Cookies.game_text, Terms.IsTerms, Terms.terms_bytes}
+use Rattle.dn_session.proofs.{Rests.Stand, Rests.length-terms, Rests.stand, Rests.terms_back, Told.told_at, Told.told_terms}
 use Rattle.dn_session.specs.declared.terms.Terms.{Terms}
 
 length-label : length game_label ≡ 13

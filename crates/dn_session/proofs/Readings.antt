@@ -1,15 +1,17 @@
 -- Bytes are read as one greeting of a sort, and what a reader returns is that one.
 use Rattle.std.proofs.Common.{◌≡◌, ◌≢◌, ◌≤◌, ◌+◌, ◌-◌, ℕ, List, [], ◌∷◌, ◌++◌, length, take, drop, refl, ap, sym, subst, ◌∙◌, arith, Option, Some, None, Result, Ok, Err, inl, inr, Bool, true, false}
-use Rattle.std.proofs.lemmas.Bool.{cases_lt, eq-eqb, eqb-true, le-ltb, leb-true, lt-ltb, ltb-false}
+use Rattle.std.proofs.lemmas.Bool.{cases_lt, eq-eqb, eqb-true, le-ltb, lt-ltb, ltb-false}
 use Rattle.std.proofs.{lemmas.List.take-append-drop, lemmas.List.take-take, lemmas.List.drop-take, lemmas.List.length-append, lemmas.Option.same_Some}
 use Rattle.std.proofs.{lemmas.Option.none-some, lemmas.Slice.Eq.bytes_eq-Decides, Math.Seq.take-append_seam, Math.Seq.drop-append_seam}
-use Rattle.std.specs.Prelude.{MatchOption, slice_index, ◌==◌, not, nat_lt, if◌then◌else◌}
+use Rattle.std.specs.Prelude.{IfSome, slice_index, ◌==◌, not, nat_lt, if◌then◌else◌}
 use Rattle.std.specs.{Option.ok_or, Str.bytes_eq}
 use Rattle.dn_seal.specs.{Hmac.suite_byte, Hmac.tag_of, Opening.told_body, Opening.told_tag, declared.seal.Seal.Seal}
 use Rattle.dn_seal.proofs.Envelopes.{length-tag}
 use Rattle.dn_session.specs.declared.greeting.GreetingFault.TheVariants.{Form, Kind, Length, Short, Suite, Tag, Version, What}
-use Rattle.dn_session.specs.{Hosting.hint_for, Reading.IsCallIn, Reading.IsReadAs, Reading.first_fault, Sorts.Sort, Text.body_bytes, Text.greeting_bytes, Text.head_bytes}
-use Rattle.dn_session.specs.{Text.kind_bytes, declared.greeting.GreetingFault.GreetingFault, declared.greeting.Hint.Hint}
+use Rattle.dn_session.specs.{Hosting.hint_for, Reading.IsCallIn, Reading.IsGreetingIn, Reading.IsReadAs, Reading.IsRefusedIn, Reading.IsSeatingIn, Reading.first_fault, Sorts.Sort, Sorts.calls, Sorts.refusals, Sorts.seatings, Text.body_bytes, Text.greeting_bytes, Text.head_bytes}
+use Rattle.dn_session.specs.{Text.kind_bytes, declared.greeting.Call.Call, declared.greeting.GreetingFault.GreetingFault, declared.greeting.Hint.Hint, declared.greeting.Refused.Refused, declared.greeting.Seating.Seating}
+use Rattle.dn_session.proofs.Rests.{call_back, length-call, length-refused, length-seating, refused_back, seating_back}
+use Rattle.dn_session.proofs.Told.{told_call, told_refused, told_seating}
 
 -- what bytes without a fault have
 pub record Passes (seal : Seal) (what size : ℕ) (bytes : List ℕ) : Type 0 where
@@ -123,59 +125,101 @@ module _ (seal : Seal) (what : ℕ) (rest : List ℕ) where
         tag = its_tag ∙ ap (tag_of seal.key) (sym its_body);
       }
 
-module _ {T : Type 0} (sort : Sort T) (seal : Seal) (bytes : List ℕ) where
+-- bytes of something that fits have no fault: then what they are read as, if that is a fault, is all that they are
+-- read as; and so is anything, where they are read as one thing at most that fits
+module _ {T : Type 0} (Is : T → Type 0) (text : T → List ℕ) (first : Option GreetingFault) (bytes : List ℕ)
+    (clean : (t : T) → Is t → bytes ≡ text t → first ≡ None) where
   abbrev Reads : Result T GreetingFault → Type 0
-  Reads = IsReadAs seal sort.what sort.size sort.Is sort.rest bytes
+  Reads = IsReadAs Is text first bytes
 
-  none_ok : (t : T) → Reads (Ok t) → first_fault seal sort.what sort.size bytes ≡ None
-  none_ok t (is, e) = ap (first_fault seal sort.what sort.size) e
-      ∙ clean seal sort.what sort.size (greeting_bytes seal sort.what (sort.rest t))
-      (its_tests seal sort.what (sort.rest t) sort.size (sort.long t is) (leb-true 29 sort.size sort.enough))
+  pub only_fault : (f : GreetingFault) → Reads (Err f) → (b : Result T GreetingFault) → Reads b → Err f ≡ b
+  only_fault f (inl x) (Ok t) y = absurd (none-some f (sym (clean t y.0 y.1) ∙ x))
+  only_fault f (inr x) (Ok t) y = absurd (x.2 t y.0 y.1)
+  only_fault f (inl x) (Err g) (inl y) = ap Err (same_Some f g (sym x ∙ y))
+  only_fault f (inl x) (Err g) (inr y) = absurd (none-some f (sym y.1 ∙ x))
+  only_fault f (inr x) (Err g) (inl y) = absurd (none-some g (sym x.1 ∙ y))
+  only_fault f (inr x) (Err g) (inr y) = ap Err (x.0 ∙ sym y.0)
 
-  rest_ok : (t : T) → Reads (Ok t) → drop 12 (told_body bytes) ≡ sort.rest t
-  rest_ok t (is, e) = ap (λ (xs : List ℕ). drop 12 (told_body xs)) e ∙ its_rest seal sort.what (sort.rest t)
+  pub only : ((s t : T) → Reads (Ok s) → Reads (Ok t) → s ≡ t)
+      → (a b : Result T GreetingFault) → Reads a → Reads b → a ≡ b
+  only one (Ok s) (Ok t) x y = ap Ok (one s t x y)
+  only one (Ok s) (Err f) x y = sym (only_fault f y (Ok s) x)
+  only one (Err f) b x y = only_fault f x b y
 
-  not_both : (t : T) (f : GreetingFault) → Reads (Ok t) → Reads (Err f) → ⊥
-  not_both t f ok (inl first) = none-some f (sym (none_ok t ok) ∙ first)
-  not_both t f ok (inr (form, none, never)) = never t ok.0 (rest_ok t ok)
+-- a sort of which each greeting has a rest, which is as long as it should be
+pub record IsSized {T : Type 0} (sort : Sort T) : Type 0 where
+  pub enough : 29 ≤ sort.size
+  pub long : (t : T) → sort.Is t → length (sort.rest t) + 28 ≡ sort.size
 
-  told_is : (t : T) → Reads (Ok t) → sort.told (drop 12 (told_body bytes)) ≡ t
-  told_is t ok = ap sort.told (rest_ok t ok) ∙ sort.back t ok.0
+module _ {T : Type 0} (sort : Sort T) (sized : IsSized sort) (seal : Seal) (bytes : List ℕ) where
+  abbrev first : Option GreetingFault
+  first = first_fault seal sort.what sort.size bytes
 
-  pub only : (a b : Result T GreetingFault) → Reads a → Reads b → a ≡ b
-  only (Ok s) (Ok t) x y = ap Ok (sym (told_is s x) ∙ told_is t y)
-  only (Ok s) (Err f) x y = absurd (not_both s f x y)
-  only (Err f) (Ok t) x y = absurd (not_both t f y x)
-  only (Err f) (Err g) (inl x) (inl y) = ap Err (same_Some f g (sym x ∙ y))
-  only (Err f) (Err g) (inl x) (inr y) = absurd (none-some f (sym y.1 ∙ x))
-  only (Err f) (Err g) (inr x) (inl y) = absurd (none-some g (sym x.1 ∙ y))
-  only (Err f) (Err g) (inr x) (inr y) = ap Err (x.0 ∙ sym y.0)
+  abbrev written : T → List ℕ
+  written t = greeting_bytes seal sort.what (sort.rest t)
+
+  pub clean_of : (t : T) → sort.Is t → bytes ≡ written t → first ≡ None
+  clean_of t is e = ap (first_fault seal sort.what sort.size) e ∙ clean seal sort.what sort.size (written t)
+      (its_tests seal sort.what (sort.rest t) sort.size (sized.long t is) sized.enough)
+
+  rest_of : (t : T) → bytes ≡ written t → drop 12 (told_body bytes) ≡ sort.rest t
+  rest_of t e = ap (λ (xs : List ℕ). drop 12 (told_body xs)) e ∙ its_rest seal sort.what (sort.rest t)
 
   -- what stands between the head and the tag
   abbrev there : List ℕ
   there = take (length bytes - 16 - 12) (drop 12 bytes)
 
-  between : first_fault seal sort.what sort.size bytes ≡ None → drop 12 (told_body bytes) ≡ there
+  between : first ≡ None → drop 12 (told_body bytes) ≡ there
   between none =
       let p = passed seal sort.what sort.size bytes none in
       let long = p.long in
       let cut : length bytes - 16 ≡ 12 + (length bytes - 16 - 12) = omega (arith, long) in
       ap (λ (n : ℕ). drop 12 (take n bytes)) cut ∙ drop-take 12 (length bytes - 16 - 12) bytes
 
-  -- is read, or nothing is
-  pub opened : first_fault seal sort.what sort.size bytes ≡ None → (found : Option T)
-      → MatchOption found ((t : T) → sort.Is t → there ≢ sort.rest t) (λ t. sort.Is t × (there ≡ sort.rest t))
-      → (result : Result T GreetingFault) → result ≡ ok_or found Form → Reads result
-  opened none found means result is = subst Reads (sym is) (go found means)
-    where
-      go : (found : Option T) → MatchOption found ((t : T) → sort.Is t → there ≢ sort.rest t)
-          (λ t. sort.Is t × (there ≡ sort.rest t)) → Reads (ok_or found Form)
-      go (Some t) (fits, same) = (
-        fits,
-        assembled seal sort.what sort.size bytes (passed seal sort.what sort.size bytes none)
-            ∙ ap (greeting_bytes seal sort.what) (between none ∙ same),
-      )
-      go None never = inr (refl, none, λ t is e. never t is (sym (between none) ∙ e))
+  -- the one greeting that is found there is read, or nothing is
+  module _ (none : first ≡ None) (found : Option T)
+      (just : (t : T) → sort.Is t → there ≡ sort.rest t → found ≡ Some t) where
+    found_is : (t : T) → sort.Is t → bytes ≡ written t → found ≡ Some t
+    found_is t is e = just t is (sym (between none) ∙ rest_of t e)
+
+    read_found : (read : Option T) → found ≡ read → IfSome read (λ t. sort.Is t × (there ≡ sort.rest t))
+        → IsGreetingIn sort seal bytes (ok_or read Form)
+    read_found (Some t) e (fits, same) = (
+      fits,
+      assembled seal sort.what sort.size bytes (passed seal sort.what sort.size bytes none)
+          ∙ ap (greeting_bytes seal sort.what) (between none ∙ same),
+    )
+    read_found None e is = inr (refl, none, λ t is same. none-some t (sym e ∙ found_is t is same))
+
+    pub opened : IfSome found (λ t. sort.Is t × (there ≡ sort.rest t))
+        → (result : Result T GreetingFault) → result ≡ ok_or found Form → IsGreetingIn sort seal bytes result
+    opened is result e = subst (IsGreetingIn sort seal bytes) (sym e) (read_found found refl is)
+
+    pub opened_only : (a b : Result T GreetingFault) → IsGreetingIn sort seal bytes a → IsGreetingIn sort seal bytes b
+        → a ≡ b
+    opened_only = only sort.Is written first bytes clean_of
+        (λ s t x y. same_Some s t (sym (found_is s x.0 x.1) ∙ found_is t y.0 y.1))
+
+  -- and where the rest tells the greeting, bytes are read as one
+  pub one_told : (told : List ℕ → T) → ((t : T) → sort.Is t → told (sort.rest t) ≡ t)
+      → (a b : Result T GreetingFault) → IsGreetingIn sort seal bytes a → IsGreetingIn sort seal bytes b → a ≡ b
+  one_told told back = only sort.Is written first bytes clean_of
+      (λ s t x y. sym (back s x.0) ∙ ap told (sym (rest_of s x.1) ∙ rest_of t y.1) ∙ back t y.0)
+
+pub one_call : (seal : Seal) (bytes : List ℕ) (a b : Result Call GreetingFault)
+    → IsCallIn seal bytes a → IsCallIn seal bytes b → a ≡ b
+one_call seal bytes =
+    one_told calls (record { enough = omega arith; long = length-call }) seal bytes told_call call_back
+
+pub one_seating : (seal : Seal) (bytes : List ℕ) (a b : Result Seating GreetingFault)
+    → IsSeatingIn seal bytes a → IsSeatingIn seal bytes b → a ≡ b
+one_seating seal bytes =
+    one_told seatings (record { enough = omega arith; long = length-seating }) seal bytes told_seating seating_back
+
+pub one_refusal : (seal : Seal) (bytes : List ℕ) (a b : Result Refused GreetingFault)
+    → IsRefusedIn seal bytes a → IsRefusedIn seal bytes b → a ≡ b
+one_refusal seal bytes =
+    one_told refusals (record { enough = omega arith; long = length-refused }) seal bytes told_refused refused_back
 
 -- bytes with any other fault are not too short
 pub long_fault : (seal : Seal) (what size : ℕ) (bytes : List ℕ) (f : GreetingFault)

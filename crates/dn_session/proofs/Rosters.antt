@@ -1,14 +1,14 @@
 -- Which session a game gives a place to.
-use Rattle.std.proofs.Common.{◌≡◌, ◌≤◌, ◌<◌, ◌-◌, ◌+◌, ℕ, zero, suc, List, [], ◌∷◌, length, get_or, refl, ap, sym, subst, ◌∙◌, arith, Option, Some, None, inl, inr, Bool, true, false}
+use Rattle.std.proofs.Common.{◌≡◌, ◌≤◌, ◌<◌, ◌-◌, ◌+◌, ℕ, List, [], ◌∷◌, length, get_or, refl, ap, sym, subst, ◌∙◌, arith, Option, Some, None, inl, inr, Bool, true, false}
 use Rattle.std.proofs.{Math.ListN.get_or-map, lemmas.Bool.and_parts, lemmas.Bool.cases_Bool, lemmas.Bool.eqb-true, lemmas.Bool.leb-true, lemmas.Option.same_Some}
 use Rattle.std.proofs.lemmas.Slice.Eq.{bytes_eq-Decides}
-use Rattle.std.specs.Prelude.{All, IfSome, nat_le, nat_lt, map, replicate, slice_index_or, if◌then◌else◌, ◌==◌}
+use Rattle.std.specs.Prelude.{All, IfSome, nat_le, nat_lt, map, if◌then◌else◌, ◌==◌}
 use Rattle.std.specs.Option.{option_map}
-use Rattle.dn_session.specs.Hosting.{IsLobby, IsSeat, Lobby, game, lobby, roster}
-use Rattle.dn_session.specs.Joining.{Joining, game_by, game_in, holds, is_own, joining, number_of, roster_in}
-use Rattle.dn_session.specs.Roster.{Fixed, IsJoining, IsSide, Place, key_of, number_of_game, own_number, place_by, place_here, place_in, place_told, session_at, text_of_game}
+use Rattle.dn_session.specs.Hosting.{IsLobby, IsSeat, Lobby, game, lobby}
+use Rattle.dn_session.specs.Joining.{Joining, game_by, game_in, holds, is_own, joining, number_of}
+use Rattle.dn_session.specs.Roster.{Fixed, IsSide, Place, key_of, number_of_game, own_number, place_by, place_here, place_in, place_told, session_at, text_of_game}
 use Rattle.dn_session.specs.{Cookies.game_text, Seats.number_in, Session.begun_here, Session.begun_in, Session.begun_there, Session.begun_with, Terms.IsTerms}
-use Rattle.dn_session.specs.{Text.IsHolder, Text.IsSeating, declared.greeting.Seating.Seating, declared.greeting.Shown.Shown, declared.joiner.Joiner.Joiner}
+use Rattle.dn_session.specs.{Text.IsHolder, Text.IsSeating, declared.greeting.Seating.Seating, declared.greeting.Shown.Shown}
 use Rattle.dn_session.specs.{declared.joiner.Stage.Stage, declared.seats.Seat.Seat, declared.side.Begun.Begun, declared.side.Side.Side}
 use Rattle.dn_session.specs.declared.joiner.Stage.TheVariants as stage
 use Rattle.dn_session.specs.declared.seats.Seat.TheVariants as seat

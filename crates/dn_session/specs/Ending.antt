@@ -1,9 +1,9 @@
 -- How a game ends for a player, whom it gives up under a policy, and how it leaves.
-use Rattle.std.specs.Prelude.{ℕ, ◌-◌, ◌*◌, ◌==◌, ◌&&◌, ◌||◌, Bool, true, false, nat_le, if◌then◌else◌, Option, Some, None}
+use Rattle.std.specs.Prelude.{ℕ, ◌-◌, ◌*◌, ◌==◌, ◌&&◌, ◌||◌, Bool, false, nat_le, if◌then◌else◌, Option, Some, None}
 use Rattle.std.specs.{List.list_all, Option.option_map, Option.option_or}
 use Rattle.dn_machine.specs.declared.answers.Phase.{Phase}
 use Rattle.dn_link.specs.Linked.{Linked, needs_nothing}
-use Rattle.dn_session.specs.{Cookies.is_one, Lead.due, Lead.highest, Lead.is_given_up, Lead.is_late, Lead.is_open, Lead.is_there, Lead.lead, Players.four, Players.has_gone, Players.is_abandoned}
+use Rattle.dn_session.specs.{Cookies.is_one, Lead.highest, Lead.is_given_up, Lead.is_late, Lead.is_open, Lead.is_there, Lead.lead, Players.four, Players.has_gone, Players.is_abandoned}
 use Rattle.dn_session.specs.declared.{ending.Ending.Ending, ending.Progress.Progress, lead.View.View, terms.Policy.Policy}
 use Rattle.dn_machine.specs.declared.answers.Cause.TheVariants as cause
 use Rattle.dn_machine.specs.declared.answers.Phase.TheVariants as phase
@@ -11,14 +11,11 @@ use Rattle.dn_session.specs.declared.ending.Ending.TheVariants as ending
 use Rattle.dn_session.specs.declared.ending.Progress.TheVariants as progress
 use Rattle.dn_session.specs.declared.terms.Policy.TheVariants as policy
 
--- so long nobody waits: silence for half of it is 24 days
-abbrev pub for_ever : ℕ
-for_ever = 4294967295
-
--- for how long somebody is awaited before the session gives a player up by itself
+-- for how long somebody is awaited before the session gives a player up by itself. Under any other policy so long that
+-- nobody waits: silence for half of it is 24 days
 abbrev pub patience : Policy → ℕ
 patience (policy.GiveUp seconds) = seconds * 1000
-patience policy = for_ever
+patience policy = 4294967295
 
 -- its player may give up others from three seconds on: one that leads any other, and one that follows the one that leads
 abbrev pub is_leading : View → ℕ → Bool
@@ -42,16 +39,13 @@ own_ending (phase.Ended cause.Full) = Some ending.Full
 own_ending (phase.Ended (cause.Inconsistent player was should)) = Some (ending.Inconsistent player)
 own_ending phase = None
 
--- it is left alone where it has given up somebody, and nobody remains
-abbrev pub is_alone : Linked → Bool
-is_alone link = has_gone link && is_abandoned link
-
--- how the game of a player ends, if it does: the first of these that is so
+-- how the game of a player ends, if it does: the first of these that is so. It is left alone where it has given up
+-- somebody, and nobody remains
 abbrev pub ending_of : Policy → View → Linked → Option Ending
 ending_of policy view link =
     option_or (own_ending link.node.phase)
     (if is_given_up view then Some ending.GivenUp else
-    (if is_alone link then Some ending.Alone else option_map ending.Lost (lost_under policy view)))
+    (if has_gone link && is_abandoned link then Some ending.Alone else option_map ending.Lost (lost_under policy view)))
 
 -- who is given up or alone has nobody to tell; any other says that it leaves, and leaves then
 abbrev pub ended_by : Ending → ℕ → Progress

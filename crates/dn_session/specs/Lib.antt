@@ -1,8 +1,6 @@
 pub mod Terms
 pub mod Text
-pub mod Told
 pub mod Sorts
-pub mod Rests
 pub mod Reading
 pub mod Cookies
 pub mod Seats

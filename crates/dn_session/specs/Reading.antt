@@ -2,9 +2,17 @@
 use Rattle.std.specs.Prelude.{◌≡◌, ◌≢◌, ◌⊎◌, ℕ, ◌==◌, Bool, not, nat_lt, if◌then◌else◌, List, length, take, drop, slice_index, Option, Some, None, Result, Ok, Err}
 use Rattle.std.specs.Str.{bytes_eq}
 use Rattle.dn_seal.specs.{Hmac.suite_byte, Hmac.tag_of, Opening.told_body, Opening.told_tag, declared.seal.Seal.Seal}
-use Rattle.dn_session.specs.{Rests.calls, Rests.refusals, Rests.seatings, Text.IsHinted, Text.greeting_bytes, Text.hinted_bytes, Text.kind_bytes}
+use Rattle.dn_session.specs.{Sorts.Sort, Sorts.calls, Sorts.refusals, Sorts.seatings, Text.IsHinted, Text.greeting_bytes, Text.hinted_bytes, Text.kind_bytes}
 use Rattle.dn_session.specs.declared.{greeting.Call.Call, greeting.GreetingFault.GreetingFault, greeting.Hinted.Hinted, greeting.Refused.Refused, greeting.Seating.Seating}
 use Rattle.dn_session.specs.declared.greeting.GreetingFault.TheVariants.{Form, Kind, Length, Short, Suite, Tag, Version, What}
+
+-- what fits and has these bytes, or the first fault that they have. Form is the last: they have no other, and nothing
+-- that fits has them
+abbrev pub IsReadAs : {T : Type 0} → (T → Type 0) → (T → List ℕ) → Option GreetingFault → List ℕ
+    → Result T GreetingFault → Type 0
+IsReadAs Is text first bytes (Ok read) = Is read × (bytes ≡ text read)
+IsReadAs {T} Is text first bytes (Err fault) =
+    (first ≡ Some fault) ⊎ ((fault ≡ Form) × (first ≡ None) × ((read : T) → Is read → bytes ≢ text read))
 
 -- bytes have the kind and the name of greetings
 abbrev pub is_greeting : List ℕ → Bool
@@ -22,24 +30,20 @@ first_fault seal what size bytes =
     if not (slice_index bytes 0 == suite_byte seal.suite) then Some Suite else (
     if not (bytes_eq (told_tag bytes) (tag_of seal.key (told_body bytes))) then Some Tag else None))))))
 
--- a greeting that fits, whose bytes these are, or the first fault that they have. Form is the last: nothing of the
--- kind stands under the tag, which a holder of the key alone can cause
-abbrev pub IsReadAs : {T : Type 0} → Seal → ℕ → ℕ → (T → Type 0) → (T → List ℕ) → List ℕ
-    → Result T GreetingFault → Type 0
-IsReadAs seal what size Is rest bytes (Ok read) = Is read × (bytes ≡ greeting_bytes seal what (rest read))
-IsReadAs {T} seal what size Is rest bytes (Err fault) =
-    (first_fault seal what size bytes ≡ Some fault)
-    ⊎ ((fault ≡ Form) × (first_fault seal what size bytes ≡ None)
-    × ((read : T) → Is read → drop 12 (told_body bytes) ≢ rest read))
+-- a greeting of this sort. Form is then that none stands under the tag, which a holder of the key alone can cause
+abbrev pub IsGreetingIn : {T : Type 0} → Sort T → Seal → List ℕ → Result T GreetingFault → Type 0
+IsGreetingIn sort seal bytes =
+    IsReadAs sort.Is (λ greeting. greeting_bytes seal sort.what (sort.rest greeting))
+    (first_fault seal sort.what sort.size bytes) bytes
 
 abbrev pub IsCallIn : Seal → List ℕ → Result Call GreetingFault → Type 0
-IsCallIn seal bytes read = IsReadAs seal calls.what calls.size calls.Is calls.rest bytes read
+IsCallIn = IsGreetingIn calls
 
 abbrev pub IsSeatingIn : Seal → List ℕ → Result Seating GreetingFault → Type 0
-IsSeatingIn seal bytes read = IsReadAs seal seatings.what seatings.size seatings.Is seatings.rest bytes read
+IsSeatingIn = IsGreetingIn seatings
 
 abbrev pub IsRefusedIn : Seal → List ℕ → Result Refused GreetingFault → Type 0
-IsRefusedIn seal bytes read = IsReadAs seal refusals.what refusals.size refusals.Is refusals.rest bytes read
+IsRefusedIn = IsGreetingIn refusals
 
 -- the first fault of bytes where a hint is expected
 unfoldable pub hint_fault : List ℕ → Option GreetingFault
@@ -49,10 +53,5 @@ hint_fault bytes =
     if not (slice_index bytes 11 == 4) then Some What else (
     if not (length bytes == 29) then Some Length else None)))
 
--- a hint, or the first fault of the bytes
 abbrev pub IsHintedIn : List ℕ → Result Hinted GreetingFault → Type 0
-IsHintedIn bytes (Ok hinted) = IsHinted hinted × (bytes ≡ hinted_bytes hinted)
-IsHintedIn bytes (Err fault) =
-    (hint_fault bytes ≡ Some fault)
-    ⊎ ((fault ≡ Form) × (hint_fault bytes ≡ None)
-    × ((hinted : Hinted) → IsHinted hinted → bytes ≢ hinted_bytes hinted))
+IsHintedIn bytes = IsReadAs IsHinted hinted_bytes (hint_fault bytes) bytes

@@ -1,6 +1,6 @@
 -- The seats 1 to 3, as the host keeps them.
 use Rattle.std.specs.Prelude.{ℕ, ◌&&◌, ◌||◌, Bool, not, true, false, max, nat_le, nat_lt, if◌then◌else◌, List, position, replicate, slice_index_or, Option, Some, None, ◌-◌}
-use Rattle.std.specs.Str.{bytes_eq}
+use Rattle.std.specs.{Option.option_or, Str.bytes_eq}
 use Rattle.dn_session.specs.{Cookies.is_recent, declared.greeting.Address.Address, declared.greeting.Call.Call, declared.greeting.Shown.Shown, declared.seats.Held.Held, declared.seats.Seat.Seat}
 use Rattle.dn_session.specs.declared.seats.Seat.TheVariants as seat
 
@@ -32,12 +32,8 @@ is_ready now filled (seat.Taken held) = is_recent now held.heard && nat_le fille
 
 -- which seat a newcomer gets, counted from 0: the one that it wants, or the lowest that is free, or the lowest whose
 -- holder is silent
-abbrev pub first_of : Option ℕ → Option ℕ → Option ℕ
-first_of None other = other
-first_of (Some n) other = Some n
-
 abbrev pub seat_of : Option ℕ → ℕ → List Seat → Option ℕ
-seat_of None now seats = first_of (position is_free seats) (position (is_silent now) seats)
+seat_of None now seats = option_or (position is_free seats) (position (is_silent now) seats)
 seat_of (Some wish) now seats =
     let wanted = slice_index_or seats (wish - 1) seat.Absent in
     if is_free wanted || is_silent now wanted then Some (wish - 1) else None

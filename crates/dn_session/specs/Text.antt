@@ -49,13 +49,10 @@ call_rest call =
 
 -- the 65 bytes of a seat: whether it is held and was not heard recently (1) or was (2), who holds it, where, and
 -- what its player is called
-abbrev pub heard_byte : Bool → ℕ
-heard_byte heard = 1 + bit heard
-
 abbrev pub shown_bytes : Option Shown → List ℕ
 shown_bytes None = replicate 65 0
 shown_bytes (Some shown) =
-    heard_byte shown.heard ∷ (shown.holder.number ++ (shown.holder.address.bytes ++ shown.holder.name))
+    (1 + bit shown.heard) ∷ (shown.holder.number ++ (shown.holder.address.bytes ++ shown.holder.name))
 
 -- of a seating: the caller's number, the count of the call, a new cookie, the host's number, the name of its player,
 -- the caller's seat, whether the game has begun, the terms, and the seats 1 to 3

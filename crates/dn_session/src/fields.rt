@@ -1,9 +1,9 @@
 //! The fields of greetings: writing and reading them.
 
-ghost use Rattle.std.specs.Prelude.{◌≡◌, ◌≢◌, ◌≤◌, ◌+◌, length, IfSome, MatchOption};
+ghost use Rattle.std.specs.Prelude.{◌≡◌, ◌≤◌, ◌+◌, ◌==◌, if◌then◌else◌, [], ◌∷◌, drop, length, take, IfSome, Option, None, Some};
 ghost use Rattle.std.specs.List.{flat_map};
-ghost use Rattle.dn_session.specs.{Terms.bit, Terms.policy_bytes, Terms.settings_bytes, Terms.terms_bytes, Terms.IsTerms, Text.heard_byte, Text.padding, Text.reason_bytes, Text.shown_bytes};
-ghost use Rattle.dn_session.specs.{Text.IsHolder, Told.told_at, Told.told_name, Told.told_policy, Told.told_reason, Told.told_shown, Told.told_terms};
+ghost use Rattle.dn_session.specs.{Terms.bit, Terms.policy_bytes, Terms.settings_bytes, Terms.terms_bytes, Terms.IsTerms, Text.padding, Text.reason_bytes, Text.shown_bytes};
+ghost use Rattle.dn_session.specs.Text.{IsHolder};
 
 use crate::greeting::{Address, Holder, Refusal, Shown};
 use crate::terms::{Policy, Terms, terms_fault};
@@ -114,7 +114,7 @@ pub(crate) fn reason_bytes(refusal: Refusal) -> [u8; 2]
 /// The sixteen bytes from a place on.
 pub(crate) fn sixteen_at(bytes: &[u8], place: usize) -> [u8; 16]
     requires { place + 16 ≤ length bytes.now }
-    ensures { result ≡ told_at 16 place bytes.now }
+    ensures { result ≡ take 16 (drop place bytes.now) }
 {
     let mut sixteen = [0; 16];
     sixteen.copy_from_slice(&bytes[place..place + 16]);
@@ -123,14 +123,14 @@ pub(crate) fn sixteen_at(bytes: &[u8], place: usize) -> [u8; 16]
 
 /// The number that is named, if one is.
 pub(crate) fn name_in(byte: u8) -> Option<u8>
-    ensures { result ≡ told_name byte }
+    ensures { result ≡ (if byte == 0 then None else Some byte) }
 {
     if byte == 0 { None } else { Some(byte) }
 }
 
 /// The policy that two bytes tell.
 fn policy_in(kind: u8, seconds: u8) -> Policy
-    ensures { result ≡ told_policy kind seconds }
+    ensures { (policy : Policy) → policy_bytes policy ≡ kind ∷ seconds ∷ [] → result ≡ policy }
 {
     match kind {
         1 => Policy::Wait,
@@ -142,8 +142,9 @@ fn policy_in(kind: u8, seconds: u8) -> Policy
 /// The seat that these bytes are.
 pub(crate) fn shown_in(bytes: &[u8]) -> Option<Shown>
     requires { 65 ≤ length bytes.now }
-    ensures value { result ≡ told_shown bytes.now }
     ensures fits { IfSome result (λ shown. IsHolder shown.holder) }
+    ensures only { (seat : Option Shown) → IfSome seat (λ shown. IsHolder shown.holder) → bytes.now ≡ shown_bytes seat
+        → result ≡ seat }
 {
     if bytes[0] == 0 {
         return None;
@@ -162,7 +163,7 @@ pub(crate) fn shown_in(bytes: &[u8]) -> Option<Shown>
 
 /// The reason that two bytes tell.
 pub(crate) fn reason_in(reason: u8, players: u8) -> Refusal
-    ensures { result ≡ told_reason reason players }
+    ensures { (why : Refusal) → reason_bytes why ≡ reason ∷ players ∷ [] → result ≡ why }
 {
     match reason {
         1 => Refusal::Cookie,
@@ -177,8 +178,8 @@ pub(crate) fn reason_in(reason: u8, players: u8) -> Refusal
 /// The terms that these bytes are, if a game may have them.
 pub(crate) fn terms_in(bytes: &[u8]) -> Option<Terms>
     requires { length bytes.now ≡ 288 }
-    ensures { MatchOption result ((terms : Terms) → IsTerms terms → told_terms bytes.now ≢ terms)
-        (λ terms. IsTerms terms × (told_terms bytes.now ≡ terms)) }
+    ensures fits { IfSome result IsTerms }
+    ensures only { (terms : Terms) → IsTerms terms → bytes.now ≡ terms_bytes terms → result ≡ Some terms }
 {
     let settings = Settings::new(
         bytes[8],

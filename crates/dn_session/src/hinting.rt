@@ -1,7 +1,7 @@
 //! Hints to those whose calls cannot be read.
 
 ghost use Rattle.std.specs.Prelude.{◌≡◌, ◌≢◌, ◌≤◌, length, MatchOption};
-ghost use Rattle.dn_session.specs.{declared.greeting.Hinted.Hinted, Text.hint_byte, Text.hinted_bytes, Text.version_of, Text.IsHinted, Told.told_hinted};
+ghost use Rattle.dn_session.specs.{declared.greeting.Hinted.Hinted, Text.hint_byte, Text.hinted_bytes, Text.version_of, Text.IsHinted};
 
 use crate::fields::sixteen_at;
 use crate::greeting::{Hint, Hinted};
@@ -39,7 +39,7 @@ pub fn hinted_bytes(hinted: &Hinted) -> ArrayVec<u8, 581>
 /// The hint that these bytes may be.
 fn told_hinted(bytes: &[u8]) -> Hinted
     requires { 29 ≤ length bytes.now }
-    ensures { result ≡ told_hinted bytes.now }
+    ensures { (hinted : Hinted) → IsHinted hinted → bytes.now ≡ hinted_bytes hinted → result ≡ hinted }
 {
     let number = sixteen_at(bytes, 12);
     let hint = match bytes[28] {

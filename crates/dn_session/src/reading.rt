@@ -1,8 +1,8 @@
 //! Reading any bytes as a greeting.
 
-ghost use Rattle.std.specs.{Prelude.◌≡◌, Prelude.◌≢◌, Prelude.◌≤◌, Prelude.◌+◌, Prelude.length, Prelude.MatchOption, Prelude.None, Prelude.Result};
+ghost use Rattle.std.specs.{Prelude.◌≡◌, Prelude.◌≤◌, Prelude.length, Prelude.None, Prelude.Result};
 ghost use Rattle.dn_seal.specs.Sealing.{sealing};
-ghost use Rattle.dn_session.specs.{declared.greeting.GreetingFault.GreetingFault, declared.greeting.Hinted.Hinted, Reading.first_fault, Reading.hint_fault, Reading.is_greeting, Reading.IsHintedIn, Reading.IsReadAs};
+ghost use Rattle.dn_session.specs.{declared.greeting.GreetingFault.GreetingFault, declared.greeting.Hinted.Hinted, Reading.first_fault, Reading.hint_fault, Reading.is_greeting, Reading.IsGreetingIn, Reading.IsHintedIn};
 
 use crate::greeting::{GreetingFault, Hinted};
 use crate::hinting::{HINTED, hinted_in};
@@ -51,29 +51,16 @@ fn fault_in(sealer: &Sealer, what: u8, size: usize, bytes: &[u8]) -> Option<Gree
     None
 }
 
-/// What stands behind the head, if it is a greeting of this sort.
-fn greeting_in<G: Greeting>(rest: &[u8]) -> Option<G>
-    requires { length rest.now + 28 ≡ G.sort.size }
-    ensures { MatchOption result ((greeting : G) → G.sort.Is greeting → rest.now ≢ G.sort.rest greeting)
-        (λ greeting. G.sort.Is greeting × (rest.now ≡ G.sort.rest greeting)) }
-{
-    let greeting = G::told(rest)?;
-    if *rest == *greeting.rest().as_slice() {
-        return Some(greeting);
-    }
-    None
-}
-
 /// Reads bytes as a greeting of this sort, or returns the first fault that they have.
 pub fn open<G: Greeting>(sealer: &Sealer, bytes: &[u8]) -> Result<G, GreetingFault>
-    ensures opens { IsReadAs (sealing sealer.now).seal G.sort.what G.sort.size G.sort.Is G.sort.rest bytes.now result }
-    ensures only { (read : Result G GreetingFault)
-        → IsReadAs (sealing sealer.now).seal G.sort.what G.sort.size G.sort.Is G.sort.rest bytes.now read → result ≡ read }
+    ensures opens { IsGreetingIn G.sort (sealing sealer.now).seal bytes.now result }
+    ensures only { (read : Result G GreetingFault) → IsGreetingIn G.sort (sealing sealer.now).seal bytes.now read
+        → result ≡ read }
 {
     let (what, size) = G::what_and_size();
     match fault_in(sealer, what, size, bytes) {
         Some(fault) => Err(fault),
-        None => greeting_in(&bytes[12..bytes.len() - 16]).ok_or(GreetingFault::Form),
+        None => G::told(&bytes[12..bytes.len() - 16]).ok_or(GreetingFault::Form),
     }
 }
 

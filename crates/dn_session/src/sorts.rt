@@ -1,7 +1,8 @@
 //! The sorts of greetings that have a tag.
 
-ghost use Rattle.std.specs.Prelude.{◌≡◌, ◌≢◌, ◌+◌, length, All, IfSome, MatchOption};
-ghost use Rattle.dn_session.specs.{Rests.calls, Rests.refusals, Rests.seatings, Sorts.Sort, Text.is_joiners_seat, Text.IsHolder, Told.told_seating};
+ghost use Rattle.std.specs.Prelude.{◌≡◌, ◌≤◌, ◌+◌, length, All, IfSome, Some};
+ghost use Rattle.dn_session.specs.{Sorts.calls, Sorts.refusals, Sorts.seatings, Sorts.Sort, Terms.IsTerms, Text.is_joiners_seat, Text.call_rest, Text.refused_rest, Text.seating_rest};
+ghost use Rattle.dn_session.specs.Text.{IsCall, IsHolder, IsRefused, IsSeating};
 
 use crate::fields::{
     bit, name_in, padding, reason_bytes, reason_in, seats_bytes, shown_in, sixteen_at, terms_bytes,
@@ -24,17 +25,32 @@ pub trait Greeting: Copy {
 
     /// The sort that byte 11 of its head tells, and how many bytes it has, head and tag among them.
     fn what_and_size() -> (u8, usize)
-        ensures { result ≡ (sort.what, sort.size) };
+        ensures value { result ≡ (sort.what, sort.size) }
+        ensures enough { 29 ≤ sort.size }
+        ensures long { (greeting : Self) → sort.Is greeting → length (sort.rest greeting) + 28 ≡ sort.size };
 
-    /// Decodes the bytes between the twelve of the head and the 16 of the tag: as many as `rest` writes, no
-    /// more and no fewer. None if a field is out of range. Where there is one it need not have been encoded so:
-    /// [`open`] compares the bytes with those of its `rest`.
-    ///
-    /// [`open`]: crate::open
+    /// The greeting whose rest these bytes are: those between the twelve of the head and the 16 of the tag. None
+    /// where they are that of none whose fields are in range.
     fn told(bytes: &[u8]) -> Option<Self>
         requires { length bytes.now + 28 ≡ sort.size }
-        ensures { MatchOption result ((greeting : Self) → sort.Is greeting → sort.told bytes.now ≢ greeting)
-            (λ greeting. sort.Is greeting × (sort.told bytes.now ≡ greeting)) };
+        ensures is { IfSome result (λ greeting. sort.Is greeting × (bytes.now ≡ sort.rest greeting)) }
+        ensures only { (greeting : Self) → sort.Is greeting → bytes.now ≡ sort.rest greeting → result ≡ Some greeting };
+}
+
+/// The call that these bytes tell.
+fn call_in(bytes: &[u8]) -> Call
+    requires { length bytes.now ≡ 553 }
+    ensures { (call : Call) → IsCall call → bytes.now ≡ call_rest call → result ≡ call }
+{
+    Call {
+        number: sixteen_at(bytes, 0),
+        count: tic_at(bytes, 16),
+        cookie: sixteen_at(bytes, 20),
+        seat: name_in(bytes[36]),
+        players: name_in(bytes[37]),
+        identity: sixteen_at(bytes, 38),
+        name: sixteen_at(bytes, 54),
+    }
 }
 
 impl Greeting for Call {
@@ -60,20 +76,12 @@ impl Greeting for Call {
     }
 
     fn told(bytes: &[u8]) -> Option<Call> {
-        let call = Call {
-            number: sixteen_at(bytes, 0),
-            count: tic_at(bytes, 16),
-            cookie: sixteen_at(bytes, 20),
-            seat: name_in(bytes[36]),
-            players: name_in(bytes[37]),
-            identity: sixteen_at(bytes, 38),
-            name: sixteen_at(bytes, 54),
-        };
-        if is_wish(call.seat) && is_count_or_none(call.players) {
-            Some(call)
-        } else {
-            None
+        let call = call_in(bytes);
+        let fits = is_wish(call.seat) && is_count_or_none(call.players);
+        if fits && *bytes == *call.rest().as_slice() {
+            return Some(call);
         }
+        None
     }
 }
 
@@ -84,16 +92,17 @@ fn is_joiners_seat(players: u8, seat: u8) -> bool
     1 <= seat && seat < players
 }
 
-/// The seating behind a head, under these terms.
-fn seating_in(bytes: &[u8], terms: Terms) -> Seating
+/// The seating that these bytes tell, if a game may have its terms.
+fn seating_in(bytes: &[u8]) -> Option<Seating>
     requires { length bytes.now ≡ 553 }
-    ensures value { result ≡ record (told_seating bytes.now) { terms = terms } }
-    ensures fits { All (λ seat. IfSome seat (λ shown. IsHolder shown.holder)) result.seats }
+    ensures fits { IfSome result (λ s. IsTerms s.terms × All (λ seat. IfSome seat (λ shown. IsHolder shown.holder)) s.seats) }
+    ensures only { (s : Seating) → IsSeating s → bytes.now ≡ seating_rest s → result ≡ Some s }
 {
+    let terms = terms_in(&bytes[70..358])?;
     let one = shown_in(&bytes[358..423]);
     let two = shown_in(&bytes[423..488]);
     let three = shown_in(&bytes[488..553]);
-    Seating {
+    Some(Seating {
         number: sixteen_at(bytes, 0),
         count: tic_at(bytes, 16),
         cookie: sixteen_at(bytes, 20),
@@ -103,7 +112,7 @@ fn seating_in(bytes: &[u8], terms: Terms) -> Seating
         begun: bytes[69] == 1,
         terms,
         seats: [one, two, three],
-    }
+    })
 }
 
 impl Greeting for Seating {
@@ -127,15 +136,25 @@ impl Greeting for Seating {
     }
 
     fn told(bytes: &[u8]) -> Option<Seating> {
-        let Some(terms) = terms_in(&bytes[70..358]) else {
-            return None;
-        };
-        let players = terms.players;
-        if is_joiners_seat(players, bytes[68]) {
-            Some(seating_in(bytes, terms))
-        } else {
-            None
+        let seating = seating_in(bytes)?;
+        let fits = is_joiners_seat(seating.terms.players, seating.seat);
+        if fits && *bytes == *seating.rest().as_slice() {
+            return Some(seating);
         }
+        None
+    }
+}
+
+/// The refusal that these bytes tell.
+fn refused_in(bytes: &[u8]) -> Refused
+    requires { length bytes.now ≡ 38 }
+    ensures { (refused : Refused) → IsRefused refused → bytes.now ≡ refused_rest refused → result ≡ refused }
+{
+    Refused {
+        number: sixteen_at(bytes, 0),
+        count: tic_at(bytes, 16),
+        cookie: sixteen_at(bytes, 20),
+        refusal: reason_in(bytes[36], bytes[37]),
     }
 }
 
@@ -156,11 +175,10 @@ impl Greeting for Refused {
     }
 
     fn told(bytes: &[u8]) -> Option<Refused> {
-        Some(Refused {
-            number: sixteen_at(bytes, 0),
-            count: tic_at(bytes, 16),
-            cookie: sixteen_at(bytes, 20),
-            refusal: reason_in(bytes[36], bytes[37]),
-        })
+        let refused = refused_in(bytes);
+        if *bytes == *refused.rest().as_slice() {
+            return Some(refused);
+        }
+        None
     }
 }

@@ -1,8 +1,8 @@
 use Rattle.std.proofs.Common.{◌≡◌, ℕ, List, Bool, refl, ap, ◌∙◌, Option, Some, None, Ok, true, false}
 use Rattle.std.specs.Prelude.{position}
-use Rattle.dn_session.specs.{Cookies.is_good, Hosting.Lobby, Hosting.on_call, Hosting.on_opened, Hosting.refused, Rests.calls, Seats.is_of, declared.greeting.Address.Address}
+use Rattle.dn_session.specs.{Cookies.is_good, Hosting.Lobby, Hosting.on_call, Hosting.on_opened, Hosting.refused, Seats.is_of, declared.greeting.Address.Address}
 use Rattle.dn_session.specs.{declared.greeting.Call.Call, declared.greeting.Refusal.TheVariants.Cookie}
-use Rattle.dn_session.proofs.Readings.{only}
+use Rattle.dn_session.proofs.Readings.{one_call}
 use Rattle.dn_session.proofs.laws.calls_without_a_cookie_change_nothing.Goals as goal
 
 -- what is made of such a call, in the lobby and in the game
@@ -15,7 +15,7 @@ told_again from call now old true game other without = let none = other refl in 
 
 pub returns : goal.returns
 returns c = λ from bytes call now old new reply opens other without hears.
-    let read : hears.0 ≡ Ok call = only calls old.seal bytes hears.0 (Ok call) hears.1 opens in
+    let read : hears.0 ≡ Ok call = one_call old.seal bytes hears.0 (Ok call) hears.1 opens in
     let made = ap (on_call from bytes now old) read
     ∙ ap (λ (after : Lobby × List ℕ). (after.0, Some after.1))
     (told_again from call now old old.begun refl other without) in (

@@ -1,8 +1,8 @@
 use Rattle.std.proofs.Common.{◌≡◌, ◌≤◌, ℕ, List, length, drop, refl, ap, sym, subst, ◌∙◌, arith, Some, Ok, Err, Result, length-drop}
 use Rattle.std.proofs.{lemmas.List.length-take-le, lemmas.Option.same_Some}
 use Rattle.dn_session.specs.Hosting.{IsLobby, IsReadReply, Lobby, on_call, on_opened}
-use Rattle.dn_session.specs.{Reading.IsCallIn, Rests.calls, declared.greeting.Address.Address, declared.greeting.Call.Call, declared.greeting.GreetingFault.GreetingFault}
-use Rattle.dn_session.proofs.{Lobbies.good_call, Readings.hint_is_long, Readings.only}
+use Rattle.dn_session.specs.{Reading.IsCallIn, declared.greeting.Address.Address, declared.greeting.Call.Call, declared.greeting.GreetingFault.GreetingFault}
+use Rattle.dn_session.proofs.{Lobbies.good_call, Readings.hint_is_long, Readings.one_call}
 use Rattle.dn_session.proofs.laws.replies_are_read_back.Goals as goal
 
 kept : (from : Address) (bytes : List ℕ) (now : ℕ) (old : Lobby) → length from.bytes ≡ 32 → IsLobby old
@@ -16,7 +16,7 @@ returns-clause-kept c = λ from bytes now old new reply a fits hears.
 
 pub returns-clause-told : goal.returns-clause-told
 returns-clause-told c = λ from bytes call now old new reply a fits opens hears.
-    let read : hears.0 ≡ Ok call = only calls old.seal bytes hears.0 (Ok call) hears.1 opens in
+    let read : hears.0 ≡ Ok call = one_call old.seal bytes hears.0 (Ok call) hears.1 opens in
     let after = on_opened from call now old in
     let lobby : new ≡ after.0 = hears.2
     ∙ ap (λ (r : Result Call GreetingFault). (on_call from bytes now old r).0) read in

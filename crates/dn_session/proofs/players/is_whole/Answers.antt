@@ -1,4 +1,4 @@
-use Rattle.std.proofs.Common.{◌≡◌, ap, ◌∙◌, Option, ℕ}
+use Rattle.std.proofs.Common.{◌≡◌, ap, ◌∙◌}
 use Rattle.dn_lockstep.specs.Contents.{Contents}
 use Rattle.dn_link.specs.{Linked.end_known, Linking.linked}
 use Rattle.dn_session.specs.{Players.count_in, Players.ends_by}

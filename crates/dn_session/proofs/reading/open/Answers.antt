@@ -1,7 +1,7 @@
 use Rattle.std.proofs.Common.{◌≡◌, ℕ, List, Option, sym, ◌∙◌, inl}
 use Rattle.dn_seal.specs.declared.seal.Seal.{Seal}
 use Rattle.dn_session.specs.{Reading.first_fault, declared.greeting.GreetingFault.GreetingFault}
-use Rattle.dn_session.proofs.{Readings.only, Readings.opened}
+use Rattle.dn_session.proofs.Readings.{IsSized, clean_of, only_fault, opened, opened_only}
 use Rattle.dn_session.proofs.reading.open.Goals as goal
 
 -- the fault that was found, as the sort has it
@@ -11,12 +11,17 @@ of_sort seal bytes same found is = sym (λ i. first_fault seal (same i).0 (same 
 
 pub returns-in-Some-clause-only : goal.returns-in-Some-clause-only
 returns-in-Some-clause-only g c =
-    let first = of_sort _ _ c.what_and_size-what.ensures c.fault_in.ensures.first c.in-Some.is in
-    λ read. only g.G.Greeting.sort _ _ _ read (inl first)
+    let kind = c.what_and_size-what.ensures in
+    let sized : IsSized g.G.Greeting.sort = record { enough = kind.enough; long = kind.long } in
+    let first = of_sort _ _ kind.value c.fault_in.ensures.first c.in-Some.is in
+    only_fault _ _ _ _ (clean_of g.G.Greeting.sort sized _ _) _ (inl first)
 
 pub returns-in-None : goal.returns-in-None
 returns-in-None g c =
-    let first = of_sort _ _ c.what_and_size-what.ensures c.fault_in.ensures.first c.in-None.is in
-    let reads =
-    opened g.G.Greeting.sort _ _ first _ c.greeting_in.ensures _ c.ok_or.ensures.value in
-    record { opens = reads; only = λ read. only g.G.Greeting.sort _ _ _ read reads }
+    let sort = g.G.Greeting.sort in
+    let kind = c.what_and_size-what.ensures in
+    let sized : IsSized sort = record { enough = kind.enough; long = kind.long } in
+    let first = of_sort _ _ kind.value c.fault_in.ensures.first c.in-None.is in
+    let told = c.told.ensures in
+    let reads = opened sort sized _ _ first _ told.only told.is _ c.ok_or.ensures.value in
+    record { opens = reads; only = λ read. opened_only sort sized _ _ first _ told.only _ read reads }

@@ -13,7 +13,7 @@ returns-clause-value g c =
     let two : c.append-2.new.bytes.items ≡ suite_byte seal.suite ∷ kind_bytes =
     c.append-2.ensures ∙ ap (λ (xs : List ℕ). xs ++ kind_bytes) one in
     let three : c.append-3.new.bytes.items ≡ head_bytes seal what =
-    c.append-3.ensures ∙ (λ i. two i ++ 2 ∷ (c.what_and_size-what.ensures i).0 ∷ []) in
+    c.append-3.ensures ∙ (λ i. two i ++ 2 ∷ (c.what_and_size-what.ensures.value i).0 ∷ []) in
     let behind : c.as_slice.result.now ≡ rest = c.as_slice.ensures.value ∙ c.rest.ensures in
     let four : c.append-4.new.bytes.items ≡ body_bytes seal what rest =
     c.append-4.ensures ∙ (λ i. three i ++ behind i) in

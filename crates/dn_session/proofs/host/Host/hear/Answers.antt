@@ -1,7 +1,7 @@
 use Rattle.std.proofs.Common.{◌≡◌, ◌+◌, ℕ, length, arith, ap, sym, subst, ◌∙◌}
 use Rattle.dn_seal.specs.declared.seal.Seal.{Seal}
-use Rattle.dn_session.specs.{Hosting.IsLobby, Hosting.lobby, Rests.length-call, Text.call_rest}
-use Rattle.dn_session.proofs.{Lobbies.good_call, Readings.hint_is_long, Readings.length-text}
+use Rattle.dn_session.specs.{Hosting.IsLobby, Hosting.lobby, Text.call_rest}
+use Rattle.dn_session.proofs.{Lobbies.good_call, Readings.hint_is_long, Readings.length-text, Rests.length-call}
 use Rattle.dn_session.proofs.host.Host.hear.Goals as goal
 
 pub hint_to-requires : goal.hint_to-requires

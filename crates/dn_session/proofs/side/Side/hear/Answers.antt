@@ -1,5 +1,5 @@
 use Rattle.std.proofs.Common.{subst}
-use Rattle.dn_session.specs.{Joining.is_heard, Joining.joining, Roster.IsSide, declared.side.Side.Side}
+use Rattle.dn_session.specs.{Joining.is_heard, Joining.joining, Roster.IsSide}
 use Rattle.dn_session.proofs.Joiners.{deaf_fits}
 use Rattle.dn_session.proofs.side.Side.hear.Goals as goal
 

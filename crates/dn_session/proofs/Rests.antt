@@ -1,13 +1,12 @@
--- The rest of a greeting, which stands behind its head, is found again in its bytes; and, at the end, the three sorts.
--- It stands here, since the sorts carry these laws, and no file of specs may name one of proofs.
+-- The rest of a greeting, which stands behind its head, is found again in its bytes.
 use Rattle.std.proofs.Common.{◌≡◌, ◌≤◌, ◌+◌, ℕ, zero, suc, List, [], ◌∷◌, ◌++◌, length, take, drop, All, refl, ap, sym, ◌∙◌, arith, Option, Some, None, length-append, true, false, Bool}
 use Rattle.std.proofs.{Math.ListN.get_or, Math.Seq.drop-append_seam, Math.Seq.take-append_seam, Math.Seq.take-length, lemmas.Bool.ne_eqb, lemmas.List.drop-drop, lemmas.List.get_or-drop}
 use Rattle.std.proofs.{lemmas.List.get_or-take, lemmas.List.Elements.All-head, lemmas.List.Elements.All-tail, lemmas.Nat.from_le_bytes-to_le_bytes_4}
 use Rattle.std.specs.Prelude.{⊤, IfSome, ◌==◌, slice_index, unwrap_or, ◌<◌, ◌^◌}
 use Rattle.std.specs.{List.flat_map, Int.w32, Int.to_le_bytes, Int.from_le_bytes}
-use Rattle.dn_session.specs.{Sorts.Sort, Sorts.sort, Terms.IsTerms, Terms.bit, Terms.policy_bytes, Terms.terms_bytes, Text.IsCall, Text.IsHolder, Text.IsRefused, Text.IsSeating, Text.call_rest}
-use Rattle.dn_session.specs.{Text.heard_byte, Text.is_count_or_none, Text.is_wish, Text.padding, Text.reason_bytes, Text.refused_rest, Text.seating_rest, Text.shown_bytes, Told.told_at}
-use Rattle.dn_session.specs.{Told.told_call, Told.told_name, Told.told_policy, Told.told_reason, Told.told_refused, Told.told_seating, Told.told_shown, Told.told_terms}
+use Rattle.dn_session.specs.{Terms.IsTerms, Terms.bit, Terms.policy_bytes, Terms.terms_bytes, Text.IsCall, Text.IsHolder, Text.IsRefused, Text.IsSeating, Text.call_rest}
+use Rattle.dn_session.specs.{Text.is_count_or_none, Text.is_wish, Text.padding, Text.reason_bytes, Text.refused_rest, Text.seating_rest, Text.shown_bytes}
+use Rattle.dn_session.proofs.Told.{told_at, told_call, told_name, told_policy, told_reason, told_refused, told_seating, told_shown, told_terms}
 use Rattle.dn_session.specs.declared.{greeting.Call.Call, greeting.Refusal.Refusal, greeting.Refused.Refused, greeting.Seating.Seating, greeting.Shown.Shown, terms.Policy.Policy}
 use Rattle.dn_session.specs.declared.{terms.Policy.TheVariants.End, terms.Policy.TheVariants.GiveUp, terms.Policy.TheVariants.Wait, terms.Terms.Terms}
 use Rattle.dn_session.specs.declared.greeting.Refusal.TheVariants as refusal
@@ -115,6 +114,12 @@ policy_back Wait ys = (refl, refl)
 policy_back (GiveUp seconds) ys = (refl, refl)
 policy_back (End seconds) ys = (refl, refl)
 
+pub policy_there : (policy : Policy) (ys : List ℕ)
+    → policy_bytes policy ≡ slice_index (policy_bytes policy ++ ys) 0 ∷ slice_index (policy_bytes policy ++ ys) 1 ∷ []
+policy_there Wait ys = refl
+policy_there (GiveUp seconds) ys = refl
+policy_there (End seconds) ys = refl
+
 -- terms take 288 bytes, and are found again in them
 module _ (terms : Terms) (is : IsTerms terms) where
   abbrev terms_pieces : List (List ℕ × ℕ)
@@ -139,12 +144,12 @@ module _ (terms : Terms) (is : IsTerms terms) where
       rw (extra, limit, no_monsters, respawn, policy, identity, own) refl
 
 -- a seat takes 65 bytes, and is found again in them
-abbrev IsShown : Option Shown → Type 0
+abbrev pub IsShown : Option Shown → Type 0
 IsShown seat = IfSome seat (λ shown. IsHolder shown.holder)
 
 abbrev holder_pieces : Shown → List (List ℕ × ℕ)
 holder_pieces shown =
-    (heard_byte shown.heard ∷ [], 1) ∷ (shown.holder.number, 16) ∷ (shown.holder.address.bytes, 32) ∷ []
+    ((1 + bit shown.heard) ∷ [], 1) ∷ (shown.holder.number, 16) ∷ (shown.holder.address.bytes, 32) ∷ []
 
 length-shown : (seat : Option Shown) → IsShown seat → length (shown_bytes seat) ≡ 65
 length-shown None is = refl
@@ -153,11 +158,11 @@ length-shown (Some shown) is =
     length-joined (holder_pieces shown) shown.holder.name (refl, (is.number, (is.address, tt))) in
     omega (arith, all, is.name)
 
-heard_back : (heard : Bool) → ((heard_byte heard == 0) ≡ false) × ((heard_byte heard == 2) ≡ heard)
+heard_back : (heard : Bool) → ((1 + bit heard == 0) ≡ false) × ((1 + bit heard == 2) ≡ heard)
 heard_back true = (refl, refl)
 heard_back false = (refl, refl)
 
-shown_back : (seat : Option Shown) → IsShown seat → told_shown (shown_bytes seat) ≡ seat
+pub shown_back : (seat : Option Shown) → IsShown seat → told_shown (shown_bytes seat) ≡ seat
 shown_back None is = refl
 shown_back (Some shown) is =
     let (there, (number, (address, last))) = stand 0 (holder_pieces shown) shown.holder.name (shown_bytes (Some shown))
@@ -170,11 +175,18 @@ shown_back (Some shown) is =
 abbrev seat_pieces : (one two three : Option Shown) → List (List ℕ × ℕ)
 seat_pieces one two three = (shown_bytes one, 65) ∷ (shown_bytes two, 65) ∷ (shown_bytes three, 65) ∷ []
 
-seats_back : (seats : List (Option Shown)) (place : ℕ) (bytes : List ℕ) → length seats ≡ 3 → All IsShown seats
+-- a seat is what the bytes from this place on are read as
+abbrev pub Reads : ℕ → List ℕ → Option Shown → Type 0
+Reads place bytes read = (seat : Option Shown) → IsShown seat → told_at 65 place bytes ≡ shown_bytes seat → read ≡ seat
+
+told_reads : (place : ℕ) (bytes : List ℕ) → Reads place bytes (told_shown (told_at 65 place bytes))
+told_reads place bytes seat is e = ap told_shown e ∙ shown_back seat is
+
+pub seats_back : (seats : List (Option Shown)) (place : ℕ) (bytes : List ℕ) → length seats ≡ 3 → All IsShown seats
     → drop place bytes ≡ flat_map shown_bytes seats
     → (length (flat_map shown_bytes seats) ≡ 195)
-    × (told_shown (told_at 65 place bytes) ∷ told_shown (told_at 65 (place + 65) bytes)
-    ∷ told_shown (told_at 65 (place + 65 + 65) bytes) ∷ [] ≡ seats)
+    × ((a b c : Option Shown) → Reads place bytes a → Reads (place + 65) bytes b → Reads (place + 65 + 65) bytes c
+    → a ∷ b ∷ c ∷ [] ≡ seats)
 seats_back (one ∷ two ∷ three ∷ []) place bytes long each is =
     let i1 = All-head IsShown one (two ∷ three ∷ []) each in
     let r1 = All-tail IsShown one (two ∷ three ∷ []) each in
@@ -182,11 +194,10 @@ seats_back (one ∷ two ∷ three ∷ []) place bytes long each is =
     let i3 = All-head IsShown three [] (All-tail IsShown two (three ∷ []) r1) in
     let sized : Sized (seat_pieces one two three) =
     (length-shown one i1, (length-shown two i2, (length-shown three i3, tt))) in
-    let (first, (second, (third, last))) = stand place (seat_pieces one two three) [] bytes sized is in
-    let one_is = ap told_shown first ∙ shown_back one i1 in
-    let two_is = ap told_shown second ∙ shown_back two i2 in
-    let three_is = ap told_shown third ∙ shown_back three i3 in
-    (length-joined (seat_pieces one two three) [] sized, λ x. one_is x ∷ two_is x ∷ three_is x ∷ [])
+    let (first, (second, (third, last))) = stand place (seat_pieces one two three) [] bytes sized is in (
+      length-joined (seat_pieces one two three) [] sized,
+      λ a b c ra rb rc x. ra one i1 first x ∷ rb two i2 second x ∷ rc three i3 third x ∷ [],
+    )
 seats_back _ place bytes long each is = absurd (omega (arith, long))
 
 -- a seating
@@ -209,15 +220,27 @@ module _ (s : Seating) (is : IsSeating s) where
       let all : length (seating_rest s) ≡ 358 + length seats = length-joined seating_pieces seats seating_sized in
       omega (arith, all, (seats_back s.seats 0 seats is.three is.seats refl).0)
 
+  stands : Stand 0 seating_pieces seats (seating_rest s)
+  stands = stand 0 seating_pieces seats (seating_rest s) seating_sized refl
+
+  pub seating_terms : told_at 288 70 (seating_rest s) ≡ terms_bytes s.terms
+  seating_terms = let (number, (count, (cookie, (host, (name, (seat, (begun, (terms, last)))))))) = stands in terms
+
+  pub seating_seats : (a b c : Option Shown) → Reads 358 (seating_rest s) a → Reads 423 (seating_rest s) b
+      → Reads 488 (seating_rest s) c → a ∷ b ∷ c ∷ [] ≡ s.seats
+  seating_seats =
+      let (number, (count, (cookie, (host, (name, (seat, (begun, (terms, last)))))))) = stands in
+      (seats_back s.seats 358 (seating_rest s) is.three is.seats last).1
+
   pub seating_back : told_seating (seating_rest s) ≡ s
   seating_back =
-      let (number, (count, (cookie, (host, (name, (seat, (begun, (terms, last)))))))) =
-      stand 0 seating_pieces seats (seating_rest s) seating_sized refl in
+      let (number, (count, (cookie, (host, (name, (seat, (begun, (terms, last)))))))) = stands in
       let counted = number_at s.count _ is.count count in
       let own = byte_at 68 (seating_rest s) _ seat in
       let flag = ap (λ n. n == 1) (byte_at 69 (seating_rest s) _ begun) ∙ bit_back s.begun in
       let same_terms = ap told_terms terms ∙ terms_back s.terms is.terms in
-      let three = (seats_back s.seats 358 (seating_rest s) is.three is.seats last).1 in
+      let three = seating_seats _ _ _ (told_reads 358 (seating_rest s)) (told_reads 423 (seating_rest s))
+      (told_reads 488 (seating_rest s)) in
       rw (number, counted, cookie, host, name, own, flag, same_terms, three) refl
 
 -- a refusal
@@ -230,6 +253,15 @@ reason_back (refusal.Players n) = (refl, refl)
 reason_back refusal.Identity = (refl, refl)
 reason_back refusal.Kicked = (refl, refl)
 
+reason_there : (why : Refusal)
+    → reason_bytes why ≡ slice_index (reason_bytes why) 0 ∷ slice_index (reason_bytes why) 1 ∷ []
+reason_there refusal.Cookie = refl
+reason_there refusal.Full = refl
+reason_there refusal.Begun = refl
+reason_there (refusal.Players n) = refl
+reason_there refusal.Identity = refl
+reason_there refusal.Kicked = refl
+
 module _ (r : Refused) (is : IsRefused r) where
   abbrev refused_pieces : List (List ℕ × ℕ)
   refused_pieces = (r.number, 16) ∷ (to_le_bytes w32 r.count, 4) ∷ (r.cookie, 16) ∷ []
@@ -240,22 +272,22 @@ module _ (r : Refused) (is : IsRefused r) where
       length-joined refused_pieces (reason_bytes r.refusal) (is.number, (refl, (is.cookie, tt))) in
       omega (arith, all, (reason_back r.refusal).0)
 
+  refused_stands : Stand 0 refused_pieces (reason_bytes r.refusal) (refused_rest r)
+  refused_stands = stand 0 refused_pieces (reason_bytes r.refusal) (refused_rest r) (is.number, (refl, (is.cookie, tt))) refl
+
+  -- a byte of the reason
+  reason_at : (n : ℕ) → slice_index (reason_bytes r.refusal) n ≡ slice_index (refused_rest r) (36 + n)
+  reason_at n =
+      let (number, (count, (cookie, last))) = refused_stands in
+      ap (λ l. get_or l n 0) (sym last) ∙ get_or-drop 36 (refused_rest r) n 0
+
+  pub refused_reason : reason_bytes r.refusal
+      ≡ slice_index (refused_rest r) 36 ∷ slice_index (refused_rest r) 37 ∷ []
+  refused_reason = reason_there r.refusal ∙ (λ x. reason_at 0 x ∷ reason_at 1 x ∷ [])
+
   pub refused_back : told_refused (refused_rest r) ≡ r
   refused_back =
-      let (number, (count, (cookie, last))) = stand 0 refused_pieces (reason_bytes r.refusal) (refused_rest r)
-      (is.number, (refl, (is.cookie, tt))) refl in
+      let (number, (count, (cookie, last))) = refused_stands in
       let counted = number_at r.count _ is.count count in
-      let why = (λ x. told_reason
-      ((sym (get_or-drop 36 (refused_rest r) 0 0) ∙ ap (λ l. get_or l 0 0) last) x)
-      ((sym (get_or-drop 36 (refused_rest r) 1 0) ∙ ap (λ l. get_or l 1 0) last) x)) ∙ (reason_back r.refusal).1 in
+      let why = (λ x. told_reason (sym (reason_at 0) x) (sym (reason_at 1) x)) ∙ (reason_back r.refusal).1 in
       rw (number, counted, cookie, why) refl
-
--- the sorts
-abbrev pub calls : Sort Call
-calls = sort 1 581 IsCall call_rest told_call (refl, length-call, call_back)
-
-abbrev pub seatings : Sort Seating
-seatings = sort 2 581 IsSeating seating_rest told_seating (refl, length-seating, seating_back)
-
-abbrev pub refusals : Sort Refused
-refusals = sort 3 66 IsRefused refused_rest told_refused (refl, length-refused, refused_back)
