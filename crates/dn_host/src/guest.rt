@@ -8,9 +8,9 @@ ghost use Rattle.dn_host.specs.declared.ends.HostFault.TheVariants as fault;
 use crate::ends::{HostFault, Outcome};
 use crate::host::PROGRAM;
 use crate::plan::Plan;
+use crate::play::play;
 use crate::screen::Screen;
 use crate::system::System;
-use crate::turns::Turns;
 use crate::wire::Wire;
 use dn_session::{Address, JoinConfig, Session};
 use std::alloc::Global;
@@ -63,7 +63,7 @@ pub fn join_game<Y: System, W: Wire, S: Screen>(
         return Err(HostFault::Random);
     };
     match Session::join(&joining(plan, guest, random), 0) {
-        Ok(session) => Turns::play(session, plan, system, alloc, wire, screen),
+        Ok(session) => play(session, plan, system, alloc, wire, screen),
         Err(_) => Err(HostFault::Terms),
     }
 }

@@ -7,9 +7,9 @@ ghost use Rattle.dn_host.specs.declared.ends.HostFault.TheVariants as fault;
 
 use crate::ends::{HostFault, Outcome};
 use crate::plan::Plan;
+use crate::play::play;
 use crate::screen::Screen;
 use crate::system::System;
-use crate::turns::Turns;
 use crate::wire::Wire;
 use dn_measure::SILENCE;
 use dn_session::{HostConfig, Policy, Session, Terms};
@@ -88,7 +88,7 @@ pub fn host_game<Y: System, W: Wire, S: Screen>(
         return Err(HostFault::Random);
     };
     match Session::host(&hosted(plan, hosting, random)) {
-        Ok(session) => Turns::play(session, plan, system, alloc, wire, screen),
+        Ok(session) => play(session, plan, system, alloc, wire, screen),
         Err(_) => Err(HostFault::Terms),
     }
 }

@@ -11,6 +11,7 @@ mod host;
 mod leaving;
 mod others;
 mod plan;
+mod play;
 mod screen;
 mod system;
 mod turns;

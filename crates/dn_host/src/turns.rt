@@ -1,6 +1,6 @@
 //! The turns of a session, one after another.
 
-ghost use Rattle.std.specs.Prelude.{◌≡◌, ◌⊎◌, false, IfErr, IfOk, Some, None, Err};
+ghost use Rattle.std.specs.Prelude.{◌≡◌, IfErr, IfOk, Some, Err};
 ghost use Rattle.dn_host.specs.declared.ends.HostFault.TheVariants as fault;
 ghost use Rattle.dn_lockstep.specs.declared.config.NodeFault.{NodeFault};
 ghost use Rattle.dn_session.specs.Session.{begun_in, link_in, meeting, Begins};
@@ -11,7 +11,7 @@ use crate::game::Game;
 use crate::hearing::{hear_all, send_all};
 use crate::plan::Plan;
 use crate::screen::{Screen, Told};
-use crate::system::{System, millis, rest};
+use crate::system::millis;
 use crate::wire::Wire;
 use dn_measure::Summary;
 use dn_session::{Over, Session};
@@ -41,7 +41,7 @@ fn show_game<S: Screen>(game: &mut Game, session: &Session, screen: &mut S, now:
 }
 
 impl Turns {
-    ghost use Rattle.dn_host.specs.{Outcomes.IsLeftOf, Outcomes.IsPlayed, Outcomes.SumsUp, Playing.InGame, Telling.ShowsEach, Telling.Tells, Turns.IsTurn, Turns.Plays, Turns.Starts, Turns.new_turns, Turns.stage_of};
+    ghost use Rattle.dn_host.specs.{Outcomes.IsLeftOf, Outcomes.SumsUp, Playing.InGame, Telling.ShowsEach, Telling.Tells, Turns.IsTurn, Turns.Plays, Turns.Starts, Turns.new_turns, Turns.stage_of};
 
     /// Of a session that begins now.
     pub(crate) fn new(session: Session, plan: &Plan) -> Turns
@@ -184,36 +184,5 @@ impl Turns {
             link: session.into_link(),
             summary,
         }
-    }
-
-    /// Plays a session that begins now, until it ends.
-    pub(crate) fn play<Y: System, W: Wire, S: Screen>(
-        session: Session,
-        plan: &Plan,
-        system: &mut Y,
-        alloc: Global,
-        wire: &mut W,
-        screen: &mut S,
-    ) -> Result<Outcome, HostFault>
-        ensures played { IsPlayed W.sends W.polls S.shows S.waits S.misses Y.reads Y.naps plan.now
-            (stage_of (new_turns session plan.now) wire.old screen.old) system.old wire.new screen.new system.new result }
-        ensures fault { IfErr result (λ f. (f ≡ fault.Memory) ⊎ (f ≡ fault.Clock)) }
-    {
-        let mut turns = Turns::new(session, plan);
-        let Some(start) = system.time() else {
-            return Err(HostFault::Clock);
-        };
-        for taken in 0..u64::MAX {
-            let Some(time) = system.time() else {
-                return Err(HostFault::Clock);
-            };
-            let now = time.saturating_sub(start);
-            let is_busy = turns.turn(alloc, wire, screen, now)?;
-            match turns.ending() {
-                Some(ending) => return Ok(turns.outcome(ending, now)),
-                None => rest(system, is_busy),
-            }
-        }
-        Err(HostFault::Clock)
     }
 }

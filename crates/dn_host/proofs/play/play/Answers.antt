@@ -3,7 +3,7 @@ use Rattle.std.proofs.lemmas.Bool.{false≢true}
 use Rattle.dn_host.specs.{declared.turns.Turns.Turns, Outcomes.GoesOn, Outcomes.IsRun, Turns.new_turns, Turns.stage_of, Turns.Repeats}
 use Rattle.dn_host.specs.declared.ends.HostFault.TheVariants as fault
 use Rattle.dn_host.proofs.{Played.timed, Turned.all_done, Turned.done_again, Turned.not_done}
-use Rattle.dn_host.proofs.turns.Turns.play.Goals as goal
+use Rattle.dn_host.proofs.play.play.Goals as goal
 
 pub loop-taken-init : goal.loop-taken-init
 loop-taken-init g c = (λ r b y all rest. rest, ap (λ (t : Turns). t.plan) c.new-turns.ensures)

@@ -1,6 +1,6 @@
 use Rattle.std.specs.Prelude.{◌≡◌, ◌-◌, ◌^◌, Bool, Result}
 use Rattle.dn_host.specs.{declared.ends.HostFault.HostFault, declared.ends.Outcome.Outcome, Outcomes.GoesOn, Turns.stage_of, Turns.Repeats, Turns.Stage}
-use Rattle.dn_host.proofs.turns.Turns.play.Given as goal
+use Rattle.dn_host.proofs.play.play.Given as goal
 
 -- the turns that may still be taken, behind those that were, are all of them
 abbrev pub invariant-loop-taken : goal.invariant-loop-taken
