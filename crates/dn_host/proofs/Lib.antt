@@ -1,3 +1,4 @@
 pub mod Hosts
+pub mod Played
 pub mod Turned
 pub mod Sockets

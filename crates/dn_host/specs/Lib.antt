@@ -1,14 +1,8 @@
 pub mod Addresses
 pub mod Arrived
-pub mod Counted
-pub mod Ends
 pub mod Leaving
-pub mod Measured
 pub mod Offers
-pub mod Others
 pub mod Outcomes
 pub mod Playing
-pub mod Summaries
+pub mod Telling
 pub mod Turns
-pub mod Waiting
-pub mod Walks

@@ -1,6 +1,6 @@
 -- What a host offers, and a joiner asks for.
 use Rattle.std.specs.Prelude.{◌≡◌, ℕ, List, [], codes, replicate, None}
-use Rattle.dn_session.specs.{declared.joiner.JoinConfig.JoinConfig, declared.terms.Policy.TheVariants.End, declared.terms.Terms.Terms, Terms.terms_fault, Text.join_fault}
+use Rattle.dn_session.specs.{declared.host.HostConfig.HostConfig, declared.joiner.JoinConfig.JoinConfig, declared.terms.Policy.TheVariants.End, declared.terms.Terms.Terms, Terms.terms_fault, Text.join_fault}
 use Rattle.dn_host.specs.{declared.guest.Guest.Guest, declared.host.Hosting.Hosting, declared.plan.Plan.Plan}
 
 -- the identity of every program of this kind
@@ -20,6 +20,10 @@ terms_of hosting = record {
   identity = program;
   own = replicate 256 0;
 }
+
+-- what a host's session is made of, with these random bytes
+abbrev pub hosted : Plan → Hosting → List ℕ → HostConfig
+hosted plan h random = record { secret = plan.secret; random = random; name = replicate 16 0; terms = terms_of h }
 
 -- it is a game
 abbrev pub IsOffer : Hosting → Type 0

@@ -1,19 +1,16 @@
--- What is left of a session.
-use Rattle.std.specs.Prelude.{◌≡◌, ℕ, Bool, true, false, List, Option, Some, None, Ok, is_some, replicate, unwrap_or}
-use Rattle.dn_link.specs.{declared.link.Link.Link, Linking.linked, Pacing.pace_of}
-use Rattle.dn_measure.specs.{declared.measure.Summary.Summary, declared.measure.Told.Told, Measure.IsMeasureOf, Measure.IsSummaryOf}
-use Rattle.dn_session.specs.{Events.over_in, Session.begun_in, Session.link_in, Session.meeting, Session.IsHostSession, Session.IsJoinSession, Session.Meeting}
-use Rattle.dn_session.specs.declared.{ending.Over.Over, greeting.Address.Address, side.Begun.Begun, session.Session.Session}
-use Rattle.dn_host.specs.{Arrived.arrivals_by, Ends.end_of, Offers.joining, Offers.terms_of, Summaries.IsSummaryBy, Turns.Scene, Turns.TakesTurns}
-use Rattle.dn_host.specs.declared.{ends.Ending.Ending, ends.Outcome.Outcome, game.Game.Game, guest.Guest.Guest, host.Hosting.Hosting, plan.Plan.Plan}
-use Rattle.dn_host.specs.declared.ends.Ending.TheVariants.{Ended, Refused, Hinted}
+-- How a session goes on until it ends, and what is left of it.
+use Rattle.std.specs.Prelude.{◌≡◌, ◌-◌, ◌^◌, ℕ, Bool, true, false, List, Option, Some, None, Result, Ok, Err, unwrap_or}
+use Rattle.dn_link.specs.{declared.link.Link.Link, Hearing.ByTest, Linking.linked, Pacing.pace_of}
+use Rattle.dn_measure.specs.{Measure.IsMeasureOf, Measure.IsSummaryOf, declared.measure.Summary.Summary, declared.measure.Told.Told, declared.status.Status.Status}
+use Rattle.dn_session.specs.{Coming.lines_in, Events.over_in, Session.begun_in, Session.link_in, Session.Meeting, declared.ending.Over.Over, declared.greeting.Address.Address, declared.greeting.Refusal.Refusal, declared.side.Begun.Begun, declared.session.Session.Session, declared.terms.LobbyFault.LobbyFault}
+use Rattle.dn_host.specs.{Arrived.came_of_each, Arrived.IsSummaryBy, Leaving.end_of, Turns.new_turns, Turns.stage_of, Turns.IsTurn, Turns.Repeats, Turns.Scene, Turns.Stage}
+use Rattle.dn_host.specs.declared.{ends.Ending.Ending, ends.Ending.TheVariants.Ended, ends.Ending.TheVariants.Refused, ends.Ending.TheVariants.Hinted, ends.HostFault.HostFault, ends.HostFault.TheVariants.Clock, ends.HostFault.TheVariants.Random, ends.HostFault.TheVariants.Terms, ends.Outcome.Outcome, game.Game.Game, plan.Plan.Plan}
 use Rattle.dn_session.specs.declared.ending.Over.TheVariants as over
 
 -- the host gave no seat, or could not read the calls
 abbrev pub is_refusal : Ending → Bool
 is_refusal (Ended end) = false
-is_refusal (Refused refusal) = true
-is_refusal (Hinted hint) = true
+is_refusal ending = true
 
 -- how it ends: as its part in the game did, or for the reason for which its player left; or in its lobby
 abbrev pub ended_with : Option Over → Option Game → Option Ending
@@ -25,17 +22,12 @@ ended_with over game = None
 abbrev pub ended_at : Meeting → Option Game → Option Ending
 ended_at m game = ended_with (over_in m.lobby m.part) game
 
--- what was measured of a link up to some time, at this rate
-pub record IsMeasured (now rate : ℕ) (game : Game) (link : Link) (s : Summary) : Type 0 where
-  pub own : (start : ℕ) (told : List Told) → IsMeasureOf game.counts.measure start told
-      → IsSummaryOf start told now rate (arrivals_by (linked link) (pace_of link) game.counts.late) s
-  pub by : IsSummaryBy (linked link) (pace_of link) s
-
--- it is measured up to when its player began to leave; nothing is where no game began
+-- what was measured of a link, up to when its player began to leave; nothing was where no game began
 abbrev pub SumsUp : ℕ → Option Begun → Option Game → Option Link → Option Summary → Type 0
 SumsUp now (Some begun) (Some game) (Some link) None = ⊥
-SumsUp now (Some begun) (Some game) (Some link) (Some s) =
-    IsMeasured (unwrap_or game.left now) begun.terms.rate game link s
+SumsUp now (Some begun) (Some game) (Some link) (Some s) = IsSummaryBy (linked link) (pace_of link) s
+    × ((start : ℕ) (told : List Told) → IsMeasureOf game.counts.measure start told → IsSummaryOf start told
+    (unwrap_or game.left now) begun.terms.rate (came_of_each (lines_in (linked link) (pace_of link)) game.counts.late) s)
 SumsUp now begun game link summary = summary ≡ None
 
 -- what is left of a session that is this now: its own link
@@ -44,30 +36,51 @@ pub record IsLeftOf (now : ℕ) (m : Meeting) (game : Option Game) (o : Outcome)
   pub link : o.link ≡ link_in m.part
   pub summary : SumsUp now (begun_in m.lobby) game o.link o.summary
 
--- turns of this session, from its beginning on, lead to where it has ended
-abbrev pub IsPlayed : {W : Type 0} → (W → Option (Address × List ℕ) → W → Type 0)
-    → (W → Address → List ℕ → W → Type 0) → (seconds : ℕ) → Scene W → W → Outcome → Type 0
-IsPlayed {W = W} polls sends seconds start wire o =
-    (now : ℕ) × (end : Scene W) × TakesTurns polls sends seconds start end × (end.wire ≡ wire)
-    × IsLeftOf now end.session end.game o
+module _ {W : Type 0} (sends : W → Address → List ℕ → W → Type 0) (polls : W → Option (Address × List ℕ) → W → Type 0)
+    {S : Type 0} (shows : S → Status → S → Type 0) (waits : S → Refusal → S → Type 0) (misses : S → S → Type 0)
+    {Y : Type 0} (reads : Y → Option ℕ → Y → Type 0) (naps : Y → Y → Type 0)
+  where
+    -- after a turn: it broke off, or the session has ended, and this is left of it; else a nap, unless more may have come
+    abbrev pub Follows : (now : ℕ) → Result Bool HostFault → Result Outcome HostFault → Scene W → Y → (on : Bool) → Y → Type 0
+    Follows now (Err fault) r z x true y = ⊥
+    Follows now (Err fault) r z x false y = (r ≡ Err fault) × (y ≡ x)
+    Follows now (Ok busy) r z x true y = (ended_at z.session z.game ≡ None) × ByTest busy (y ≡ x) (naps x y)
+    Follows now (Ok busy) r z x false y = (o : Outcome) × IsLeftOf now z.session z.game o × (r ≡ Ok o) × (y ≡ x)
 
--- a session of a host with this plan, with whatever bytes it drew
-abbrev pub IsHosted : {W : Type 0} → (W → Option (Address × List ℕ) → W → Type 0)
-    → (W → Address → List ℕ → W → Type 0) → Plan → Hosting → W → W → Outcome → Type 0
-IsHosted polls sends plan hosting before after o =
-    (random : List ℕ) × (session : Session)
-    × IsHostSession
-    (record { secret = plan.secret; random = random; name = replicate 16 0; terms = terms_of hosting })
-    (Ok session)
-    × IsPlayed polls sends plan.seconds (record { session = meeting session; game = None; wire = before }) after o
+    -- a turn at the time since the start, by the clock; without the clock there is none
+    abbrev pub IsTimed : Plan → (start : ℕ) → Result Outcome HostFault → Option ℕ → Stage W S → Y → (on : Bool) → Stage W S → Y
+        → Type 0
+    IsTimed plan start r None a x true b y = ⊥
+    IsTimed plan start r None a x false b y = (r ≡ Err Clock) × (b ≡ a) × (y ≡ x)
+    IsTimed plan start r (Some time) a x on b y = (turned : Result Bool HostFault)
+        × IsTurn sends polls shows waits misses plan (time - start) a b turned
+        × Follows (time - start) turned r b.scene x on y
 
--- and of one who joins and calls from its beginning on, which is the time 0
-abbrev pub IsJoined : {W : Type 0} → (W → Option (Address × List ℕ) → W → Type 0)
-    → (W → Address → List ℕ → W → Type 0) → Plan → Guest → W → W → Outcome → Type 0
-IsJoined polls sends plan guest before after o =
-    (random : List ℕ) × (session : Session) × IsJoinSession (joining plan guest random) 0 (Ok session)
-    × IsPlayed polls sends plan.seconds (record { session = meeting session; game = None; wire = before }) after o
+    abbrev pub GoesOn : Plan → (start : ℕ) → Result Outcome HostFault → Stage W S → Y → (on : Bool) → Stage W S → Y → Type 0
+    GoesOn plan start r a x on b y = (time : Option ℕ) × (z : Y) × reads x time z × IsTimed plan start r time a z on b y
 
--- there is a link where a seat was given
-abbrev pub HasLink : Outcome → Type 0
-HasLink o = is_refusal o.ending ≡ false → is_some o.link ≡ true
+    -- it goes on until it has ended, or broke off; after 2^64 - 1 turns that is said to be the clock's fault
+    abbrev pub IsRun : Plan → Option ℕ → Stage W S → Y → Stage W S → Y → Result Outcome HostFault → Type 0
+    IsRun plan None a x b y r = (r ≡ Err Clock) × (b ≡ a) × (y ≡ x)
+    IsRun plan (Some start) a x b y r =
+        (all : Bool) × Repeats (GoesOn plan start r) (2 ^ 64 - 1) a x b y all × (all ≡ true → r ≡ Err Clock)
+
+    -- a session is played from its beginning on, when the clock is read for the first time
+    abbrev pub IsPlayed : Plan → Stage W S → Y → W → S → Y → Result Outcome HostFault → Type 0
+    IsPlayed plan a x wire screen y r = (time : Option ℕ) × (z : Y) × reads x time z
+        × (b : Stage W S) × IsRun plan time a z b y r × (b.scene.wire ≡ wire) × (b.sight.screen ≡ screen)
+
+    -- a session is played, if it was made; else nothing else happens
+    abbrev pub IsHeld : Plan → Result Session LobbyFault → W → S → Y → W → S → Y → Result Outcome HostFault → Type 0
+    IsHeld plan (Err refused) v s x w t y r = (r ≡ Err Terms) × (w ≡ v) × (t ≡ s) × (y ≡ x)
+    IsHeld plan (Ok session) v s x w t y r = IsPlayed plan (stage_of (new_turns session plan) v s) x w t y r
+
+    module _ (draws : Y → Option (List ℕ) → Y → Type 0) (Made : List ℕ → Result Session LobbyFault → Type 0) where
+      -- it is made of the random bytes that the system gave, if it gave any
+      abbrev pub IsDrawn : Plan → Option (List ℕ) → W → S → Y → W → S → Y → Result Outcome HostFault → Type 0
+      IsDrawn plan None v s x w t y r = (r ≡ Err Random) × (w ≡ v) × (t ≡ s) × (y ≡ x)
+      IsDrawn plan (Some random) v s x w t y r =
+          (made : Result Session LobbyFault) × Made random made × IsHeld plan made v s x w t y r
+
+      abbrev pub IsGame : Plan → W → S → Y → W → S → Y → Result Outcome HostFault → Type 0
+      IsGame plan v s x w t y r = (random : Option (List ℕ)) × (z : Y) × draws x random z × IsDrawn plan random v s z w t y r

@@ -1,8 +1,9 @@
 //! What came from each player.
 
-ghost use Rattle.std.specs.Prelude.{◌≡◌};
+ghost use Rattle.std.specs.Prelude.{◌≡◌, Some};
 ghost use Rattle.dn_link.specs.{Linking.linked, Pacing.pace_of};
-ghost use Rattle.dn_host.specs.Arrived.{arrivals_in, came_of_each, figures_by, is_late, late_by, late_in, one_more, standing_in, standings_in};
+ghost use Rattle.dn_session.specs.Coming.{lines_in};
+ghost use Rattle.dn_host.specs.Arrived.{arrivals_in, arrivals_of, came_of_each, is_late, late_in, one_more, standing_in, standings_in};
 
 use dn_link::{Figures, Link};
 use dn_measure::{Arrivals, PeerStatus};
@@ -12,7 +13,7 @@ pub(crate) type Lines = [Option<Figures>; 4];
 
 /// What is known of each line.
 pub(crate) fn lines_of(link: &Link) -> Lines
-    ensures { result ≡ figures_by (linked link.now) (pace_of link.now) }
+    ensures { result ≡ lines_in (linked link.now) (pace_of link.now) }
 {
     [
         link.figures(0),
@@ -45,7 +46,7 @@ fn one_more(is_late: bool, count: u32) -> u32
 
 /// How many datagrams came late of each player, with the one that came between these figures.
 fn late_by(before: &Lines, after: &Lines, late: [u32; 4]) -> [u32; 4]
-    ensures { result ≡ late_by before.now after.now late }
+    ensures { result ≡ late_in (Some before.now) (Some after.now) late }
 {
     [
         one_more(is_late(&before[0], &after[0]), late[0]),
@@ -66,17 +67,24 @@ pub(crate) fn late_in(before: &Option<Lines>, after: &Option<Lines>, late: [u32;
 }
 
 /// What came over a line, so much of it late.
+fn arrivals_of(line: &Figures, late: u32) -> Arrivals
+    ensures { result ≡ arrivals_of line.now late }
+{
+    Arrivals {
+        came: line.came,
+        lost: line.lost,
+        late,
+        twice: line.repeated,
+        old: line.too_old,
+    }
+}
+
+/// If there is one.
 fn arrivals_in(line: &Option<Figures>, late: u32) -> Option<Arrivals>
     ensures { result ≡ arrivals_in line.now late }
 {
     match line {
-        Some(line) => Some(Arrivals {
-            came: line.came,
-            lost: line.lost,
-            late,
-            twice: line.repeated,
-            old: line.too_old,
-        }),
+        Some(line) => Some(arrivals_of(line, late)),
         None => None,
     }
 }
@@ -97,12 +105,12 @@ pub(crate) fn came_of_each(lines: &Lines, late: [u32; 4]) -> [Option<Arrivals>; 
 fn standing_in(line: &Option<Figures>, late: u32) -> Option<PeerStatus>
     ensures { result ≡ standing_in line.now late }
 {
-    match (line, arrivals_in(line, late)) {
-        (Some(line), Some(arrivals)) => Some(PeerStatus {
+    match line {
+        Some(line) => Some(PeerStatus {
             lead: line.lead,
-            arrivals,
+            arrivals: arrivals_of(line, late),
         }),
-        _ => None,
+        None => None,
     }
 }
 

@@ -3,7 +3,8 @@
 ghost use Rattle.std.specs.Prelude.{◌≡◌, ◌++◌, ℕ, List, replicate, nat_lt, if◌then◌else◌};
 ghost use Rattle.dn_link.specs.{Linking.linked, Pacing.pace_of};
 ghost use Rattle.dn_measure.specs.{Measure.IsMeasureOf, Measure.IsSummaryOf, declared.measure.Told.Told};
-ghost use Rattle.dn_host.specs.{Arrived.arrivals_by, Arrived.late_in, Measured.IsSomeMeasure, Summaries.IsSummaryBy};
+ghost use Rattle.dn_session.specs.Coming.{lines_in};
+ghost use Rattle.dn_host.specs.{Arrived.came_of_each, Arrived.late_in, Arrived.IsSomeMeasure, Arrived.IsSummaryBy};
 
 use crate::arrivals::{Lines, came_of_each, late_in, lines_of, standings_in};
 use dn_link::Link;
@@ -49,7 +50,7 @@ fn moved_at(ran: u32, before: u32, now: u64, moved: u64) -> u64
 
 impl Counts {
     ghost use Rattle.dn_lockstep.specs.Contents.{contents};
-    ghost use Rattle.dn_host.specs.Counted.{AreTold, IsFresh, NotesMore, status_at};
+    ghost use Rattle.dn_host.specs.Playing.{AreTold, IsFresh, NotesMore, status_at};
 
     /// Nothing, of a game that begins now.
     pub(crate) fn new(now: u64) -> Counts
@@ -114,7 +115,7 @@ impl Counts {
 
     /// What came of each player.
     fn arrivals(&self, link: &Link) -> [Option<Arrivals>; 4]
-        ensures { result ≡ arrivals_by (linked link.now) (pace_of link.now) self.now.late }
+        ensures { result ≡ came_of_each (lines_in (linked link.now) (pace_of link.now)) self.now.late }
     {
         came_of_each(&lines_of(link), self.late)
     }
@@ -122,7 +123,7 @@ impl Counts {
     /// What was measured up to now.
     pub(crate) fn summary(&self, link: &Link, now: u64, rate: u8) -> Summary
         ensures own { (start : ℕ) (told : List Told) → IsMeasureOf self.now.measure start told → IsSummaryOf start
-            told now rate (arrivals_by (linked link.now) (pace_of link.now) self.now.late) result }
+            told now rate (came_of_each (lines_in (linked link.now) (pace_of link.now)) self.now.late) result }
         ensures by { IsSummaryBy (linked link.now) (pace_of link.now) result }
     {
         self.measure.summary(now, rate, self.arrivals(link))

@@ -1,13 +1,11 @@
 //! How a session ends.
 
 ghost use Rattle.std.specs.Prelude.{◌≡◌};
-ghost use Rattle.dn_host.specs.Ends.{end_of};
-ghost use Rattle.dn_host.specs.declared.ends.HostFault.TheVariants as fault;
+ghost use Rattle.dn_host.specs.Leaving.{end_of};
 
 use dn_link::Link;
-use dn_lockstep::NodeFault;
 use dn_measure::{End, Summary};
-use dn_session::{Ending as GameEnding, Hint, LobbyFault, Refusal};
+use dn_session::{Ending as GameEnding, Hint, Refusal};
 use thiserror::Error;
 
 /// How a session ended.
@@ -37,23 +35,6 @@ pub enum HostFault {
     /// demo's limit or the seat is out of range.
     #[error("the terms are those of no game")]
     Terms,
-}
-
-/// The terms that a session has are those of a game, so what its part wants is memory.
-impl From<NodeFault> for HostFault {
-    ghost from_gives = { λ f e. e ≡ fault.Memory };
-
-    fn from(_fault: NodeFault) -> HostFault {
-        HostFault::Memory
-    }
-}
-
-impl From<LobbyFault> for HostFault {
-    ghost from_gives = { λ f e. e ≡ fault.Terms };
-
-    fn from(_fault: LobbyFault) -> HostFault {
-        HostFault::Terms
-    }
 }
 
 /// What is left of a session that ended.

@@ -1,12 +1,13 @@
 //! What a session's player does in the game, and what is counted of it.
 
-ghost use Rattle.std.specs.Prelude.{◌≡◌};
+ghost use Rattle.std.specs.Prelude.{◌≡◌, Bool};
 ghost use Rattle.dn_session.specs.Session.{can_give, meeting, HearsAny};
-ghost use Rattle.dn_host.specs.{Walks.GivesInput, Walks.RunsWalk, Playing.end_of_play, Playing.lines_in, Playing.millis, Playing.IsBegun, Playing.ComesIn, Playing.NotesIn};
+ghost use Rattle.dn_host.specs.{Playing.GivesInput, Playing.RunsWalk, Playing.come_in, Playing.end_of_play, Playing.lines_of, Playing.millis, Playing.IsBegun, Playing.NotesIn};
 
 use crate::arrivals::{Lines, lines_of};
-use crate::clock::millis;
 use crate::counts::Counts;
+use crate::plan::Plan;
+use crate::system::millis;
 use crate::walking::{begun_by, marks_of, waits_for};
 use dn_link::Link;
 use dn_machine::Ran;
@@ -48,25 +49,25 @@ fn end_of_play(now: u64, seconds: u32) -> u64
 
 /// What a session's link reports of the lines, if it has one.
 fn lines_in(session: &Session) -> Option<Lines>
-    ensures { result ≡ lines_in (meeting session.now) }
+    ensures { result ≡ lines_of (meeting session.now) }
 {
     Some(lines_of(session.link()?))
 }
 
 impl Game {
-    ghost use Rattle.dn_host.specs.{Counted.AreTold, Counted.status_at, Turns.Gives, Turns.Plays, Turns.Repeats, Turns.Runs};
+    ghost use Rattle.dn_host.specs.{Playing.AreTold, Playing.status_at, Turns.Gives, Turns.Plays, Turns.Repeats, Turns.Runs};
     ghost use Rattle.dn_link.specs.{Linking.linked, Pacing.pace_of};
 
-    /// The game of this link begins now: with keys that are drawn from a seed, and for so many seconds.
-    pub(crate) fn new(link: &Link, seed: u64, seconds: u32, now: u64) -> Game
-        ensures { IsBegun link.now seconds now result }
+    /// The game of this link begins now: with keys that are drawn from the plan's seed, and for its seconds.
+    pub(crate) fn new(link: &Link, plan: Plan, now: u64) -> Game
+        ensures { IsBegun link.now plan now result }
     {
         Game {
             walk: begun_by(link),
-            keys: Lcg64Xsh32::new(seed, u64::from(link.lockstep().me())),
+            keys: Lcg64Xsh32::new(plan.seed, u64::from(link.lockstep().me())),
             waiting: None,
             counts: Counts::new(now),
-            until: end_of_play(now, seconds),
+            until: end_of_play(now, plan.seconds),
             left: None,
             end: None,
         }
@@ -75,7 +76,7 @@ impl Game {
     /// Its session takes any bytes that came from an address.
     pub(crate) fn hear(&mut self, session: &mut Session, from: &Address, bytes: &[u8], now: u64)
         ensures hears { HearsAny from.now bytes.now (millis now) (meeting session.old) (meeting session.new) }
-        ensures comes { ComesIn (meeting session.old) (meeting session.new) self.old self.new }
+        ensures comes { self.new ≡ come_in (meeting session.old) (meeting session.new) self.old }
     {
         let before = lines_in(session);
         session.receive(from, bytes, millis(now));
@@ -93,7 +94,7 @@ impl Game {
 
     /// Gives the next keys, if a tick is due. Whether one was.
     fn give(&mut self, session: &mut Session, now: u32) -> bool
-        ensures gives { GivesInput now result (meeting session.old) (meeting session.new) }
+        ensures gives { GivesInput now result self.old.keys (meeting session.old) self.new.keys (meeting session.new) }
         ensures due { result ≡ can_give now (meeting session.old).part }
         ensures rest { self.new ≡ record self.old { keys = self.new.keys } }
     {
@@ -141,7 +142,7 @@ impl Game {
 
     /// Gives the inputs that are due.
     fn give_all(&mut self, session: &mut Session, now: u64)
-        ensures { Repeats (Gives now) 32 self.old (meeting session.old) self.new (meeting session.new) }
+        ensures { (all : Bool) × Repeats (Gives now) 32 self.old (meeting session.old) self.new (meeting session.new) all }
     {
         for given in 0..MOST {
             if !self.give_next(session, now) {
@@ -152,7 +153,7 @@ impl Game {
 
     /// Runs all tics that can be run.
     fn run_all(&mut self, session: &mut Session, now: u64)
-        ensures { Repeats (Runs now) 32 self.old (meeting session.old) self.new (meeting session.new) }
+        ensures { (all : Bool) × Repeats (Runs now) 32 self.old (meeting session.old) self.new (meeting session.new) all }
     {
         for ran in 0..MOST {
             if !self.run_next(session, now) {

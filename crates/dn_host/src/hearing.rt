@@ -1,12 +1,11 @@
 //! Taking the datagrams that are there, and sending what is owed.
 
-ghost use Rattle.std.specs.Prelude.{◌≡◌, ◌-◌, ◌==◌, ◌&&◌, ℕ, List, None, Some, false, true, not, if◌then◌else◌};
-ghost use Rattle.dn_session.specs.{Reading.is_greeting, Session.meeting, Session.HearsAny, Session.Sends};
-ghost use Rattle.dn_session.specs.declared.greeting.Address.{Address as Place};
-ghost use Rattle.dn_host.specs.{Playing.millis, Playing.ComesIn, Turns.HearsUpTo, Turns.IfGame, Turns.SendsUpTo, Turns.TakesOne, Turns.left_after};
+ghost use Rattle.std.specs.Prelude.{◌≡◌, ◌==◌, ◌&&◌, ℕ, not, option_map};
+ghost use Rattle.dn_session.specs.{Reading.is_greeting, Session.meeting, Session.HearsAny};
+ghost use Rattle.dn_host.specs.{Playing.come_in, Playing.millis, Turns.HearsNext, Turns.Repeats, Turns.SendsAll, Turns.SendsNext, Turns.TakesOne, Turns.left_after};
 
-use crate::clock::millis;
 use crate::game::Game;
+use crate::system::millis;
 use crate::wire::{MOST, Wire};
 use dn_session::{Address, Session, is_greeting};
 
@@ -34,9 +33,7 @@ fn is_taken(left: &mut u32, bytes: &[u8]) -> bool
 
 /// Sends what a session owes next: whether it owed anything.
 fn send_next<W: Wire>(session: &mut Session, wire: &mut W) -> bool
-    ensures sends { result ≡ true → (to : Place) × (bytes : List ℕ)
-        × Sends (meeting session.old) (meeting session.new) (Some (to, bytes)) × W.sends wire.old to bytes wire.new }
-    ensures none { result ≡ false → Sends (meeting session.old) (meeting session.new) None × (wire.new ≡ wire.old) }
+    ensures { SendsNext W.sends (meeting session.old) wire.old result (meeting session.new) wire.new }
 {
     match session.transmit() {
         Some(out) => {
@@ -49,7 +46,7 @@ fn send_next<W: Wire>(session: &mut Session, wire: &mut W) -> bool
 
 /// Sends what a session owes.
 pub(crate) fn send_all<W: Wire>(session: &mut Session, wire: &mut W)
-    ensures { SendsUpTo W.sends 10 (meeting session.old) wire.old (meeting session.new) wire.new }
+    ensures { SendsAll W.sends (meeting session.old) wire.old (meeting session.new) wire.new }
 {
     for sent in 0..OWED {
         if !send_next(session, wire) {
@@ -61,7 +58,7 @@ pub(crate) fn send_all<W: Wire>(session: &mut Session, wire: &mut W)
 /// A session takes any bytes that came from an address.
 fn hear(session: &mut Session, game: &mut Option<Game>, from: &Address, bytes: &[u8], now: u64)
     ensures hears { HearsAny from.now bytes.now (millis now) (meeting session.old) (meeting session.new) }
-    ensures comes { IfGame (ComesIn (meeting session.old) (meeting session.new)) game.old game.new }
+    ensures comes { game.new ≡ option_map (come_in (meeting session.old) (meeting session.new)) game.old }
 {
     match game {
         Some(game) => game.hear(session, from, bytes, now),
@@ -99,12 +96,8 @@ fn hear_next<W: Wire>(
     left: &mut u32,
     now: u64,
 ) -> bool
-    ensures took { result ≡ true → (mid : W) × (from : Place) × (bytes : List ℕ) × W.polls wire.old (Some (from, bytes)) mid
-        × TakesOne W.sends now left.old from bytes (record { session = meeting session.old; game = game.old; wire = mid })
-        (record { session = meeting session.new; game = game.new; wire = wire.new })
-        × (left.new ≡ left_after left.old bytes) }
-    ensures none { result ≡ false → W.polls wire.old None wire.new × (session.new ≡ session.old)
-        × (game.new ≡ game.old) }
+    ensures { HearsNext W.sends W.polls now (record { session = meeting session.old; game = game.old; wire = wire.old })
+        left.old result (record { session = meeting session.new; game = game.new; wire = wire.new }) left.new }
 {
     let mut room = [0; MOST];
     match wire.poll(&mut room) {
@@ -123,9 +116,9 @@ pub(crate) fn hear_all<W: Wire>(
     wire: &mut W,
     now: u64,
 ) -> bool
-    ensures { HearsUpTo W.polls W.sends now 64 2
-        (record { session = meeting session.old; game = game.old; wire = wire.old })
-        (record { session = meeting session.new; game = game.new; wire = wire.new }) result }
+    ensures { (left : ℕ) × Repeats (HearsNext W.sends W.polls now) 64
+        (record { session = meeting session.old; game = game.old; wire = wire.old }) 2
+        (record { session = meeting session.new; game = game.new; wire = wire.new }) left result }
 {
     let mut left = GREETINGS;
     for heard in 0..POLLS {

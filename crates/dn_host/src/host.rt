@@ -1,21 +1,20 @@
 //! Hosting a game.
 
 ghost use Rattle.std.specs.Prelude.{◌≡◌, ◌⊎◌, false, true, Err, IfErr, IfOk, is_some};
-ghost use Rattle.dn_host.specs.{Offers.terms_of, Offers.IsOffer, Outcomes.IsHosted, Outcomes.is_refusal};
+ghost use Rattle.dn_session.specs.Session.{IsHostSession};
+ghost use Rattle.dn_host.specs.{Offers.hosted, Offers.terms_of, Offers.IsOffer, Outcomes.IsGame, Outcomes.is_refusal};
 ghost use Rattle.dn_host.specs.declared.ends.HostFault.TheVariants as fault;
 
 use crate::ends::{HostFault, Outcome};
 use crate::plan::Plan;
-use crate::random::draw;
+use crate::play::play;
 use crate::screen::Screen;
-use crate::turns::Turns;
+use crate::system::System;
 use crate::wire::Wire;
 use dn_measure::SILENCE;
 use dn_session::{HostConfig, Policy, Session, Terms};
 use dn_setup::Settings;
 use std::alloc::Global;
-use std::random::RandomSource;
-use std::time::Clock;
 
 /// The identity of every program of this kind.
 pub(crate) const PROGRAM: [u8; 16] = *b"zirmegat netgame";
@@ -54,28 +53,42 @@ fn terms_of(hosting: &Hosting) -> Terms
     }
 }
 
+/// What the session is made of, with these random bytes.
+fn hosted(plan: &Plan, hosting: &Hosting, random: [u8; 32]) -> HostConfig
+    ensures { result ≡ hosted plan.now hosting.now random }
+{
+    HostConfig {
+        secret: plan.secret,
+        random,
+        name: [0; 16],
+        terms: terms_of(hosting),
+    }
+}
+
 /// Hosts a game: waits until all are there, plays as player 0, and leaves. Where what it offers is no game, it does
 /// nothing.
-pub fn host_game<R: Clock + RandomSource, W: Wire, S: Screen>(
-    rt: &R,
+pub fn host_game<Y: System, W: Wire, S: Screen>(
+    system: &mut Y,
     alloc: Global,
     wire: &mut W,
     screen: &mut S,
     plan: &Plan,
     hosting: &Hosting,
 ) -> Result<Outcome, HostFault>
-    ensures played { IfOk result (IsHosted W.polls W.sends plan.now hosting.now wire.old wire.new) }
+    ensures played { IsGame W.sends W.polls S.shows S.waits S.misses Y.reads Y.naps Y.draws
+        (λ random. IsHostSession (hosted plan.now hosting.now random)) plan.now
+        wire.old screen.old system.old wire.new screen.new system.new result }
     ensures seated { IfOk result (λ o. is_refusal o.ending ≡ false) }
     ensures linked { IfOk result (λ o. is_some o.link ≡ true) }
     ensures terms { IfErr result (λ f. f ≡ fault.Terms → ¬ IsOffer hosting.now) }
     ensures no_game { ¬ IsOffer hosting.now → ((result ≡ Err fault.Terms) ⊎ (result ≡ Err fault.Random))
         × (wire.new ≡ wire.old) × (screen.new ≡ screen.old) }
 {
-    let session = Session::host(&HostConfig {
-        secret: plan.secret,
-        random: draw(rt)?,
-        name: [0; 16],
-        terms: terms_of(hosting),
-    })?;
-    Turns::new(session, plan).run(rt, alloc, wire, screen)
+    let Some(random) = system.draw() else {
+        return Err(HostFault::Random);
+    };
+    match Session::host(&hosted(plan, hosting, random)) {
+        Ok(session) => play(session, plan, system, alloc, wire, screen),
+        Err(_) => Err(HostFault::Terms),
+    }
 }

@@ -2,13 +2,13 @@
 
 ghost use Rattle.std.specs.Prelude.{◌≡◌, option_map, unwrap_or};
 ghost use Rattle.dn_link.specs.Linking.{linked};
-ghost use Rattle.dn_session.specs.Session.{meeting};
-ghost use Rattle.dn_host.specs.{Ends.end_of, Leaving.end_by, Leaving.end_in, Leaving.is_playing, Leaving.Leaves, Leaving.LeavesFor};
+ghost use Rattle.dn_session.specs.Session.{link_in, meeting};
+ghost use Rattle.dn_host.specs.{Leaving.end_of, Leaving.end_by, Leaving.is_playing, Leaving.LeavesFor, Leaving.LeavesWhen};
 
-use crate::clock::millis;
 use crate::ends::end_of;
 use crate::game::Game;
 use crate::others::{have_all_left, others_end};
+use crate::system::millis;
 use dn_link::Link;
 use dn_measure::End;
 use dn_session::{Ending as GameEnding, Part, Progress, Session};
@@ -37,8 +37,8 @@ fn end_by(link: Option<&Link>, until: u64, now: u64) -> Option<End>
 impl Game {
     /// A player who plays leaves, if it is to leave now; it is noted why, since its session does not know that.
     fn stop(&mut self, session: &mut Session, now: u64)
-        ensures { LeavesFor (end_in (meeting session.old).part self.old.until now) now self.old (meeting session.old)
-            self.new (meeting session.new) }
+        ensures { LeavesFor (end_by (option_map linked (link_in (meeting session.old).part)) self.old.until now) now
+            self.old (meeting session.old) self.new (meeting session.new) }
     {
         let Some(why) = end_by(session.link(), self.until, now) else {
             return;
@@ -50,7 +50,7 @@ impl Game {
 
     /// Its player leaves, if its seconds are over or all others have left. It is noted since when it leaves.
     pub(crate) fn leave(&mut self, session: &mut Session, now: u64)
-        ensures { Leaves now self.old (meeting session.old) self.new (meeting session.new) }
+        ensures { LeavesWhen self.old.left now self.old (meeting session.old) self.new (meeting session.new) }
     {
         if self.left.is_some() {
             return;

@@ -2,7 +2,6 @@
 #![tactic(auto)]
 
 mod arrivals;
-mod clock;
 mod counts;
 mod ends;
 mod game;
@@ -12,8 +11,9 @@ mod host;
 mod leaving;
 mod others;
 mod plan;
-mod random;
+mod play;
 mod screen;
+mod system;
 mod turns;
 mod walking;
 mod wire;
@@ -23,4 +23,5 @@ pub use guest::{Guest, join_game};
 pub use host::{Hosting, host_game};
 pub use plan::Plan;
 pub use screen::Screen;
+pub use system::{Os, System};
 pub use wire::{MOST, Udp, Wire, address_of};

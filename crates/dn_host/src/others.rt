@@ -2,7 +2,7 @@
 
 ghost use Rattle.std.specs.Prelude.{◌≡◌, ◌<◌, is_some, IfSome};
 ghost use Rattle.dn_link.specs.{Linked.end_known, Linked.is_peer, Linking.linked};
-ghost use Rattle.dn_host.specs.Others.{have_all_left, is_gone, left_for, others_end};
+ghost use Rattle.dn_host.specs.Leaving.{have_all_left, is_gone, left_for, others_end};
 
 use dn_link::Link;
 use dn_measure::End;

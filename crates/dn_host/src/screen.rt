@@ -1,21 +1,35 @@
 //! What a session tells while it goes on, and what of a joiner that waits.
 
-ghost use Rattle.std.specs.Prelude.{◌≡◌, false};
-ghost use Rattle.dn_host.specs.Waiting.{has_no_seat, is_missed, misses, told_by};
+ghost use Rattle.std.specs.Prelude.{◌≡◌, ⊤};
+ghost use Rattle.dn_measure.specs.declared.status.Status.{Status as Standing};
+ghost use Rattle.dn_session.specs.declared.greeting.Refusal.{Refusal as Reason};
+ghost use Rattle.dn_host.specs.Telling.{TellsLobby, TellsMiss, TellsWait};
 
 use dn_measure::Status;
 use dn_session::{Joiner, Refusal, Side, Stage};
 
-/// Is told how a session goes on.
+/// Is told how a session goes on. What it makes of that its own relations say.
 pub trait Screen {
+    /// Its relation of how a game stands: before, how it stands, after.
+    ghost shows: { Self → Standing → Self → Type 0 } = { λ before status after. ⊤ };
+
+    /// Its relation of a wait: before, why, after.
+    ghost waits: { Self → Reason → Self → Type 0 } = { λ before refusal after. ⊤ };
+
+    /// Its relation of a silence: before and after.
+    ghost misses: { Self → Self → Type 0 } = { λ before after. ⊤ };
+
     /// A second of play is over, and the game stands so.
-    fn show(&mut self, status: &Status);
+    fn show(&mut self, status: &Status)
+        ensures { shows self.old status.now self.new };
 
     /// The host has no seat now, for this reason, and is asked again.
-    fn wait(&mut self, refusal: Refusal);
+    fn wait(&mut self, refusal: Refusal)
+        ensures { waits self.old refusal self.new };
 
     /// The host has not answered for ten seconds more.
-    fn miss(&mut self);
+    fn miss(&mut self)
+        ensures { misses self.old self.new };
 }
 
 /// Between two silences of the host that are told lie so many milliseconds at least.
@@ -31,10 +45,11 @@ pub(crate) struct Told {
 }
 
 impl Told {
+    ghost use Rattle.std.specs.Prelude.{false};
+
     /// Nothing; the session begins now.
     pub(crate) fn nothing() -> Told
-        ensures waits { result.waits ≡ false }
-        ensures missed { result.missed ≡ 0 }
+        ensures { result ≡ record { waits = false; missed = 0 } }
     {
         Told {
             waits: false,
@@ -44,8 +59,7 @@ impl Told {
 
     /// Tells that it has no seat, if that is new.
     fn wait<S: Screen>(&mut self, joiner: &Joiner, screen: &mut S)
-        ensures waits { self.new ≡ record self.old { waits = has_no_seat joiner.now } }
-        ensures still { has_no_seat joiner.now ≡ self.old.waits → screen.new ≡ screen.old }
+        ensures { TellsWait S.waits joiner.now self.old screen.old self.new screen.new }
     {
         let waits = matches!(joiner.stage(), Stage::Waiting);
         if waits && !self.waits {
@@ -56,8 +70,7 @@ impl Told {
 
     /// Tells that the host is silent, each ten seconds.
     fn miss<S: Screen>(&mut self, joiner: &Joiner, screen: &mut S, now: u32)
-        ensures missed { self.new ≡ misses now joiner.now self.old }
-        ensures still { is_missed now joiner.now self.old.missed ≡ false → screen.new ≡ screen.old }
+        ensures { TellsMiss S.misses now joiner.now self.old screen.old self.new screen.new }
     {
         if joiner.is_unanswered(now) && now.saturating_sub(self.missed) >= QUIET {
             screen.miss();
@@ -67,7 +80,7 @@ impl Told {
 
     /// Tells how a session waits in its lobby.
     pub(crate) fn tell<S: Screen>(&mut self, lobby: &Side, screen: &mut S, now: u32)
-        ensures { self.new ≡ told_by now lobby.now self.old }
+        ensures { TellsLobby S.waits S.misses now lobby.now self.old screen.old self.new screen.new }
     {
         if let Side::Joiner(joiner) = lobby {
             self.wait(joiner, screen);

@@ -1,21 +1,21 @@
 //! The turns of a session, one after another.
 
-ghost use Rattle.std.specs.Prelude.{◌≡◌, ◌⊎◌, IfErr, IfOk, Some, None};
+ghost use Rattle.std.specs.Prelude.{◌≡◌, IfErr, IfOk, Some, Err};
 ghost use Rattle.dn_host.specs.declared.ends.HostFault.TheVariants as fault;
-ghost use Rattle.dn_session.specs.Session.{begun_in, link_in, meeting};
-ghost use Rattle.dn_host.specs.{Outcomes.ended_at, Turns.MayBeTold};
+ghost use Rattle.dn_lockstep.specs.declared.config.NodeFault.{NodeFault};
+ghost use Rattle.dn_session.specs.Session.{begun_in, link_in, meeting, Begins};
+ghost use Rattle.dn_host.specs.{Outcomes.ended_at, Playing.millis, Telling.Shows};
 
-use crate::clock::{millis, nap, now};
 use crate::ends::{Ending, HostFault, Outcome};
 use crate::game::Game;
 use crate::hearing::{hear_all, send_all};
 use crate::plan::Plan;
 use crate::screen::{Screen, Told};
+use crate::system::millis;
 use crate::wire::Wire;
 use dn_measure::Summary;
 use dn_session::{Over, Session};
 use std::alloc::Global;
-use std::time::Clock;
 
 /// A second, in microseconds.
 const SECOND: u64 = 1_000_000;
@@ -31,9 +31,9 @@ pub(crate) struct Turns {
     second: u64,
 }
 
-/// Tells the screen how a game stands, whose session has a link.
+/// Tells the screen how a game stands, if its session has a link.
 fn show_game<S: Screen>(game: &mut Game, session: &Session, screen: &mut S, now: u64)
-    ensures { MayBeTold now game.old game.new }
+    ensures { Shows S.shows now (link_in (meeting session.now).part) game.old screen.old game.new screen.new }
 {
     if let Some(link) = session.link() {
         screen.show(&game.status(link, now));
@@ -41,13 +41,11 @@ fn show_game<S: Screen>(game: &mut Game, session: &Session, screen: &mut S, now:
 }
 
 impl Turns {
-    ghost use Rattle.dn_host.specs.{Outcomes.IsLeftOf, Outcomes.IsPlayed, Outcomes.SumsUp, Turns.IfGame, Turns.IsTurn, Turns.PlaysIn, Turns.Starts, Turns.TakesTurns, Turns.scene_of};
+    ghost use Rattle.dn_host.specs.{Outcomes.IsLeftOf, Outcomes.SumsUp, Playing.InGame, Telling.ShowsEach, Telling.Tells, Turns.IsTurn, Turns.Plays, Turns.Starts, Turns.new_turns, Turns.stage_of};
 
     /// Of a session that begins now.
     pub(crate) fn new(session: Session, plan: &Plan) -> Turns
-        ensures session { result.session ≡ session }
-        ensures plan { result.plan ≡ plan.now }
-        ensures game { result.game ≡ None }
+        ensures { result ≡ new_turns session plan.now }
     {
         Turns {
             session,
@@ -60,23 +58,28 @@ impl Turns {
 
     /// Its player's part in the game begins, if the game has.
     fn begin(&mut self, alloc: Global, now: u64) -> Result<(), HostFault>
-        ensures starts { IfOk result (λ done. Starts self.old.plan.seconds now (meeting self.old.session) self.old.game
+        ensures starts { IfOk result (λ done. Starts self.old.plan now (meeting self.old.session) self.old.game
             (meeting self.new.session) self.new.game) }
         ensures rest { self.new ≡ record self.old { session = self.new.session; game = self.new.game } }
-        ensures fault { IfErr result (λ f. f ≡ fault.Memory) }
+        ensures fault { IfErr result (λ f. (f ≡ fault.Memory) × (self.new.game ≡ self.old.game)
+            × ((lacks : NodeFault) × Begins (millis now) (meeting self.old.session) (meeting self.new.session)
+            (Err lacks))) }
     {
-        if self.session.begin(alloc, millis(now))? {
-            if let Some(link) = self.session.link() {
-                let Plan { seed, seconds, .. } = self.plan;
-                self.game = Some(Game::new(link, seed, seconds, now));
+        match self.session.begin(alloc, millis(now)) {
+            Ok(true) => {
+                if let Some(link) = self.session.link() {
+                    self.game = Some(Game::new(link, self.plan, now));
+                }
+                Ok(())
             }
+            Ok(false) => Ok(()),
+            Err(_) => Err(HostFault::Memory),
         }
-        Ok(())
     }
 
     /// Plays on, if its game has begun.
-    fn play(&mut self, now: u64)
-        ensures plays { PlaysIn now self.old.game (meeting self.old.session) self.new.game (meeting self.new.session) }
+    fn play_on(&mut self, now: u64)
+        ensures plays { InGame (Plays now) self.old.game (meeting self.old.session) self.new.game (meeting self.new.session) }
         ensures rest { self.new ≡ record self.old { session = self.new.session; game = self.new.game } }
     {
         if let Some(game) = &mut self.game {
@@ -86,7 +89,8 @@ impl Turns {
 
     /// Tells the screen how the game stands, if it has begun.
     fn show<S: Screen>(&mut self, screen: &mut S, now: u64)
-        ensures shows { IfGame (MayBeTold now) self.old.game self.new.game }
+        ensures shows { InGame (Shows S.shows now (link_in (meeting self.old.session).part)) self.old.game screen.old
+            self.new.game screen.new }
         ensures rest { self.new ≡ record self.old { game = self.new.game } }
     {
         if let Some(game) = &mut self.game {
@@ -94,17 +98,28 @@ impl Turns {
         }
     }
 
-    /// Tells the screen how it waits, and each second how the game stands.
-    fn tell<S: Screen>(&mut self, screen: &mut S, now: u64)
-        ensures shows { IfGame (MayBeTold now) self.old.game self.new.game }
-        ensures session { self.new.session ≡ self.old.session }
-        ensures plan { self.new.plan ≡ self.old.plan }
+    /// Tells it each second.
+    fn show_each<S: Screen>(&mut self, screen: &mut S, now: u64)
+        ensures shows { ShowsEach S.shows now (meeting self.old.session) self.old.game screen.old self.old.second
+            self.new.game screen.new self.new.second }
+        ensures rest { self.new ≡ record self.old { game = self.new.game; second = self.new.second } }
     {
-        self.told.tell(self.session.lobby(), screen, millis(now));
         if now >= self.second {
             self.second = now.saturating_add(SECOND);
             self.show(screen, now);
         }
+    }
+
+    /// Tells the screen how it waits, and each second how the game stands.
+    fn tell<S: Screen>(&mut self, screen: &mut S, now: u64)
+        ensures tells { Tells S.shows S.waits S.misses now (meeting self.old.session) self.old.game
+            (record { screen = screen.old; told = self.old.told; second = self.old.second }) self.new.game
+            (record { screen = screen.new; told = self.new.told; second = self.new.second }) }
+        ensures session { self.new.session ≡ self.old.session }
+        ensures plan { self.new.plan ≡ self.old.plan }
+    {
+        self.told.tell(self.session.lobby(), screen, millis(now));
+        self.show_each(screen, now);
     }
 
     /// How it ends, if it does.
@@ -127,15 +142,15 @@ impl Turns {
         screen: &mut S,
         now: u64,
     ) -> Result<bool, HostFault>
-        ensures turn { IfOk result (λ busy. IsTurn W.polls W.sends self.old.plan.seconds now (scene_of self.old wire.old)
-            (scene_of self.new wire.new) busy) }
+        ensures turn { IsTurn W.sends W.polls S.shows S.waits S.misses self.old.plan now
+            (stage_of self.old wire.old screen.old) (stage_of self.new wire.new screen.new) result }
         ensures plan { self.new.plan ≡ self.old.plan }
         ensures fault { IfErr result (λ f. f ≡ fault.Memory) }
     {
         let is_busy = hear_all(&mut self.session, &mut self.game, wire, now);
         self.session.poll(millis(now));
         self.begin(alloc, now)?;
-        self.play(now);
+        self.play_on(now);
         send_all(&mut self.session, wire);
         self.tell(screen, now);
         Ok(is_busy)
@@ -169,30 +184,5 @@ impl Turns {
             link: session.into_link(),
             summary,
         }
-    }
-
-    /// Goes on until the session ends.
-    pub(crate) fn run<C: Clock, W: Wire, S: Screen>(
-        mut self,
-        clock: &C,
-        alloc: Global,
-        wire: &mut W,
-        screen: &mut S,
-    ) -> Result<Outcome, HostFault>
-        ensures played { IfOk result (IsPlayed W.polls W.sends self.plan.seconds (scene_of self wire.old) wire.new) }
-        ensures fault { IfErr result (λ f. (f ≡ fault.Memory) ⊎ (f ≡ fault.Clock)) }
-    {
-        let start = now(clock)?;
-        for _ in 0..u64::MAX {
-            let time = now(clock)?.saturating_sub(start);
-            let is_busy = self.turn(alloc, wire, screen, time)?;
-            if let Some(ending) = self.ending() {
-                return Ok(self.outcome(ending, time));
-            }
-            if !is_busy {
-                nap(clock);
-            }
-        }
-        Err(HostFault::Clock)
     }
 }

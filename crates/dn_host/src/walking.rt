@@ -2,7 +2,7 @@
 
 ghost use Rattle.std.specs.Prelude.{◌≡◌};
 ghost use Rattle.dn_link.specs.Linking.{linked};
-ghost use Rattle.dn_host.specs.Walks.{begun_by, marks_of, waited_for};
+ghost use Rattle.dn_host.specs.Playing.{begun_by, marks_of, waited_for};
 
 use dn_link::Link;
 use dn_machine::Ran;

@@ -12,7 +12,7 @@ use crate::say::say_line;
 use crate::screen::ErrorScreen;
 use clap::ArgMatches;
 use dn_game::GameConfig;
-use dn_host::{Guest, Hosting, Plan, Udp, address_of, host_game, join_game};
+use dn_host::{Guest, Hosting, Os, Plan, Udp, address_of, host_game, join_game};
 use dn_netgame::RunFault;
 use dn_session::Address;
 use std::net::{Net, ToSocketAddrs};
@@ -129,7 +129,15 @@ pub(crate) fn run_host<R: Print + Eprint + AllocGlobal + Net + Files + RandomSou
     };
     let hosting = hosting_of(game, players, rate);
     let mut screen = ErrorScreen::new(rt, each_second, "");
-    let session = host_game(rt, rt.alloc(), &mut wire, &mut screen, &plan, &hosting);
+    let mut system = Os::new(rt);
+    let session = host_game(
+        &mut system,
+        rt.alloc(),
+        &mut wire,
+        &mut screen,
+        &plan,
+        &hosting,
+    );
     print_session(rt, session, raw)
 }
 
@@ -179,6 +187,14 @@ pub(crate) fn run_join<R: Print + Eprint + AllocGlobal + Net + Files + RandomSou
     };
     let guest = guest_of(host, matches);
     let mut screen = ErrorScreen::new(rt, each_second, address);
-    let session = join_game(rt, rt.alloc(), &mut wire, &mut screen, &plan, &guest);
+    let mut system = Os::new(rt);
+    let session = join_game(
+        &mut system,
+        rt.alloc(),
+        &mut wire,
+        &mut screen,
+        &plan,
+        &guest,
+    );
     print_session(rt, session, raw)
 }

@@ -3,8 +3,8 @@ use Rattle.std.specs.Prelude.{List, ℕ, Option, option_map}
 use Rattle.dn_session.specs.{declared.part.sending.Transmit.Transmit, Passing.sent_of, Session.meeting, Session.Sends}
 use Rattle.dn_host.proofs.hearing.send_next.Goals as goal
 
-pub returns-in-Some-clause-sends : goal.returns-in-Some-clause-sends
-returns-in-Some-clause-sends g c = λ is.
+pub returns-in-Some : goal.returns-in-Some
+returns-in-Some g c =
     let k = meeting c.args.session.now in
     let m = meeting c.transmit.new.self in (
       c.in-Some.out.to,
@@ -14,8 +14,8 @@ returns-in-Some-clause-sends g c = λ is.
           c.as_slice.ensures.value c.send.ensures,
     )
 
-pub returns-in-None-clause-none : goal.returns-in-None-clause-none
-returns-in-None-clause-none g c = λ is.
+pub returns-in-None : goal.returns-in-None
+returns-in-None g c =
     let k = meeting c.args.session.now in
     let m = meeting c.transmit.new.self in (
       subst (λ (sent : Option Transmit). Sends k m (option_map sent_of sent)) c.in-None.is c.transmit.ensures,

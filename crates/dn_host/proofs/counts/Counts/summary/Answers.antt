@@ -9,7 +9,8 @@ use Rattle.dn_measure.specs.Runs.{as_count, gaps_in, is_gap, longest_of, times_b
 use Rattle.dn_measure.specs.{declared.arrivals.Arrivals.Arrivals, declared.felt.Felt.Felt, declared.felt.Felt.TheVariants.Never, declared.felt.Felt.TheVariants.Within}
 use Rattle.dn_measure.specs.{declared.felt.Felt.TheVariants.Longer, Histogram.IsFelt, Histogram.AreCountsOf, Histogram.IsPercentile, Measure.IsSummaryOf}
 use Rattle.dn_measure.specs.{Measure.samples_of, Measure.waits_of, Told.runs_of, declared.measure.Summary.Summary, declared.measure.Told.Told}
-use Rattle.dn_host.specs.{Arrived.arrivals_by, Arrived.arrivals_in, Arrived.figures_by_link, Summaries.IsNoLater, Summaries.IsWithin}
+use Rattle.dn_session.specs.Coming.{figures_in, lines_in}
+use Rattle.dn_host.specs.{Arrived.arrivals_in, Arrived.came_of_each, Arrived.IsNoLater, Arrived.IsWithin}
 use Rattle.dn_host.proofs.counts.Counts.summary.Goals as goal
 
 -- as many times as tics, with the one before the end
@@ -112,20 +113,20 @@ within None late = tt {0}
 within (Some figures) late = (omega arith, (omega arith, (omega arith, omega arith)))
 
 all_within : (link : Linked) (pace : PaceState) (late : List ℕ) (peers : List (Option Arrivals))
-    → peers ≡ arrivals_by link pace late → (player : ℕ) → player < 4
-    → IsWithin (figures_by_link link pace player) (slice_index_or peers player None)
+    → peers ≡ came_of_each (lines_in link pace) late → (player : ℕ) → player < 4
+    → IsWithin (figures_in link pace player) (slice_index_or peers player None)
 all_within link pace late peers is zero below =
-    subst (λ (p : List (Option Arrivals)). IsWithin (figures_by_link link pace 0) (slice_index_or p 0 None)) (sym is)
-    (within (figures_by_link link pace 0) _)
+    subst (λ (p : List (Option Arrivals)). IsWithin (figures_in link pace 0) (slice_index_or p 0 None)) (sym is)
+    (within (figures_in link pace 0) _)
 all_within link pace late peers is (suc zero) below =
-    subst (λ (p : List (Option Arrivals)). IsWithin (figures_by_link link pace 1) (slice_index_or p 1 None)) (sym is)
-    (within (figures_by_link link pace 1) _)
+    subst (λ (p : List (Option Arrivals)). IsWithin (figures_in link pace 1) (slice_index_or p 1 None)) (sym is)
+    (within (figures_in link pace 1) _)
 all_within link pace late peers is (suc (suc zero)) below =
-    subst (λ (p : List (Option Arrivals)). IsWithin (figures_by_link link pace 2) (slice_index_or p 2 None)) (sym is)
-    (within (figures_by_link link pace 2) _)
+    subst (λ (p : List (Option Arrivals)). IsWithin (figures_in link pace 2) (slice_index_or p 2 None)) (sym is)
+    (within (figures_in link pace 2) _)
 all_within link pace late peers is (suc (suc (suc zero))) below =
-    subst (λ (p : List (Option Arrivals)). IsWithin (figures_by_link link pace 3) (slice_index_or p 3 None)) (sym is)
-    (within (figures_by_link link pace 3) _)
+    subst (λ (p : List (Option Arrivals)). IsWithin (figures_in link pace 3) (slice_index_or p 3 None)) (sym is)
+    (within (figures_in link pace 3) _)
 all_within link pace late peers is (suc (suc (suc (suc player)))) below = absurd (omega arith)
 
 -- the facts have one proof at most

@@ -1,12 +1,14 @@
 use Rattle.std.proofs.Common.{◌≡◌, ℕ, Bool, true, false, Option, Some, None, is_some, sym, ap, ◌∙◌, subst}
-use Rattle.dn_session.specs.Session.{meeting, Meeting}
+use Rattle.std.specs.Option.{option_map}
+use Rattle.dn_link.specs.Linking.{linked}
+use Rattle.dn_session.specs.Session.{link_in, meeting, Meeting}
 use Rattle.dn_host.specs.declared.game.Game.{Game}
-use Rattle.dn_host.specs.Leaving.{end_in, is_playing, LeavesFor, LeavesIf, LeavesWhen}
+use Rattle.dn_host.specs.Leaving.{end_by, is_playing, LeavesFor, LeavesIf, LeavesWhen}
 use Rattle.dn_host.proofs.game.Game.leave.Goals as goal
 
 -- who plays may leave
 may_leave : (left : Option ℕ) (now : ℕ) (old : Game) (from : Meeting) (new : Game) (to : Meeting)
-    → is_some left ≡ false → is_playing from.part ≡ true → LeavesFor (end_in from.part old.until now) now old from new to
+    → is_some left ≡ false → is_playing from.part ≡ true → LeavesFor (end_by (option_map linked (link_in from.part)) old.until now) now old from new to
     → LeavesWhen left now old from new to
 may_leave None now old from new to here plays leaves =
     subst (λ (playing : Bool). LeavesIf playing now old from new to) (sym plays) leaves

@@ -1,0 +1,93 @@
+//! The system that a session runs on: its clock, and its random bytes.
+
+ghost use Rattle.std.specs.Prelude.{◌≡◌, ⊤, ℕ, List, Option};
+ghost use Rattle.dn_link.specs.Hearing.{ByTest};
+ghost use Rattle.dn_host.specs.Playing.{millis};
+
+use std::random::RandomSource;
+use std::thread;
+use std::time::{Clock, Duration};
+
+/// For how long a session sleeps before it looks at its socket again, in microseconds.
+const NAP: u64 = 500;
+
+/// A clock and random bytes, as their own relations say.
+pub trait System {
+    /// Its relation of a look at the clock: before, the time, if the clock can be read, after.
+    ghost reads: { Self → Option ℕ → Self → Type 0 };
+
+    /// Its relation of random bytes: before, the bytes, if there are any, after.
+    ghost draws: { Self → Option (List ℕ) → Self → Type 0 };
+
+    /// Its relation of a nap: before and after.
+    ghost naps: { Self → Self → Type 0 };
+
+    /// What the clock shows, in microseconds, if it can be read.
+    fn time(&mut self) -> Option<u64>
+        ensures { reads self.old result self.new };
+
+    /// Random bytes, if the system has any.
+    fn draw(&mut self) -> Option<[u8; 32]>
+        ensures { draws self.old result self.new };
+
+    /// Sleeps for a nap.
+    fn nap(&mut self)
+        ensures { naps self.old self.new };
+}
+
+/// The system that runs the program.
+#[derive(Drop)]
+pub struct Os<'a, R> {
+    rt: &'a R,
+}
+
+impl<'a, R> Os<'a, R> {
+    /// The system of a runtime.
+    pub fn new(rt: &'a R) -> Self {
+        Os { rt }
+    }
+}
+
+/// Nothing is said of it, since `std` promises nothing of a clock and of random bytes.
+impl<R: Clock + RandomSource> System for Os<'_, R> {
+    ghost reads = { λ before time after. ⊤ };
+
+    ghost draws = { λ before bytes after. ⊤ };
+
+    ghost naps = { λ before after. ⊤ };
+
+    fn time(&mut self) -> Option<u64> {
+        match self.rt.monotonic() {
+            Ok(time) => Some(u64::try_from(time.as_micros()).unwrap_or(u64::MAX)),
+            Err(_) => None,
+        }
+    }
+
+    fn draw(&mut self) -> Option<[u8; 32]> {
+        let mut bytes = [0; 32];
+        match self.rt.fill_bytes(&mut bytes) {
+            Ok(()) => Some(bytes),
+            Err(_) => None,
+        }
+    }
+
+    fn nap(&mut self) {
+        thread::sleep(self.rt, Duration::from_micros(NAP));
+    }
+}
+
+/// A nap, unless there may be more to hear.
+pub(crate) fn rest<Y: System>(system: &mut Y, is_busy: bool)
+    ensures { ByTest is_busy (system.new ≡ system.old) (Y.naps system.old system.new) }
+{
+    if !is_busy {
+        system.nap();
+    }
+}
+
+/// The milliseconds of a time. After 49 days it is the same time for ever.
+pub(crate) fn millis(time: u64) -> u32
+    ensures { result ≡ millis time }
+{
+    u32::try_from(time / 1000).unwrap_or(u32::MAX)
+}
