@@ -1,9 +1,7 @@
 //! What a lockstep gives to a peer.
 
 ghost use Rattle.std.specs.Prelude.{◌≡◌, None, IfSome};
-ghost use Rattle.dn_lockstep.specs.Contents.{contents};
-ghost use Rattle.dn_lockstep.specs.Sent.{IsFair, sent_to};
-ghost use Rattle.dn_lockstep.specs.Steps.{Tells};
+ghost use Rattle.dn_lockstep.specs.{Contents.contents, Sent.IsFair, Sent.sent_to, Steps.Tells};
 ghost use Rattle.dn_link.specs.Hearing.{SendsCarried};
 
 use crate::bundle::Carried;

@@ -42,13 +42,10 @@ pub struct Link {
 }
 
 impl Link {
-    ghost use Rattle.dn_machine.specs.Started.{started_node};
-    ghost use Rattle.dn_lockstep.specs.Opening.{keyed};
+    ghost use Rattle.dn_machine.specs.{Started.started_node, Sending.on_build, Running.on_quit};
+    ghost use Rattle.dn_lockstep.specs.{Opening.keyed, Opening.IsAdmittedWithin, Opening.limits_within, Opening.whose_within, Steps.Steps, Contents.whose, Represents.Represents};
     ghost use Rattle.std.specs.Prelude.{ℕ, false, IfOk};
     ghost use Rattle.dn_tic.specs.declared.input.Input.TheVariants.{Pressed, Given};
-    ghost use Rattle.dn_machine.specs.Sending.{on_build};
-    ghost use Rattle.dn_machine.specs.Running.{on_quit};
-    ghost use Rattle.dn_lockstep.specs.{Steps.Steps, Contents.whose, Opening.IsAdmittedWithin, Opening.limits_within, Opening.whose_within, Represents.Represents};
     ghost use Rattle.dn_survivor.specs.OfOthers.{nothing_kept};
     ghost use Rattle.dn_link.specs.{Linking.linked, Linking.new_peer, Linking.seal_of, Pace.after_input, Pacing.new_pace, Pacing.pace_of};
     ghost use Rattle.dn_machine.specs.declared.answers.Made.TheVariants as made;

@@ -1,30 +1,20 @@
 //! What holds of links of which players may be given up.
 
-ghost use Rattle.dn_setup.specs.Settings.{IsSettings};
-ghost use Rattle.dn_machine.specs.Started.{started_node};
-ghost use Rattle.dn_lockstep.specs.Opening.{IsGame};
-ghost use Rattle.dn_survivor.specs.OneGame.{started_session};
+ghost use Rattle.dn_setup.specs.Settings.{IsSettings, Settings};
+ghost use Rattle.dn_machine.specs.{Started.started_node, declared.answers.Made.Made, declared.answers.Ran.Ran, Flight.Flight, Limits.Limits, Limits.IsWindow, Running.is_over};
+ghost use Rattle.dn_machine.specs.Running.{on_quit, on_run_but};
+ghost use Rattle.dn_lockstep.specs.{Opening.IsGame, Told.Builds, Contents.end_in, Marking.Marking, Sent.IsFair, Sent.sent_to, OneGame.world_told, Represents.Represents};
+ghost use Rattle.dn_lockstep.specs.Steps.{RunsBy, Steps, Tells};
+ghost use Rattle.dn_survivor.specs.OneGame.{started_session, Session, after_build, after_run, with_survivor};
+ghost use Rattle.dn_survivor.specs.{OfOthers.nothing_kept, Agreed.AreAgreedInPairs, Agreed.FitInPairs, Agreed.DemosAgreeInPairs, declared.answers.GivenUp.GivenUp};
 ghost use Rattle.std.specs.Prelude.{◌≡◌, ◌<◌, ◌≤◌, ℕ, ℤ, pos, Bool, true, false, List, [], get_or, Option, IfSome, Err};
 ghost use Rattle.dn_tic.specs.{declared.command.Move.Move, declared.input.Input.Input};
-ghost use Rattle.dn_setup.specs.Settings.{Settings};
-ghost use Rattle.dn_machine.specs.{declared.answers.Made.Made, declared.answers.Ran.Ran, Flight.Flight, Limits.Limits, Limits.IsWindow, Running.is_over};
-ghost use Rattle.dn_machine.specs.{Running.on_quit, Running.on_run_but};
-ghost use Rattle.dn_lockstep.specs.Told.{Builds};
-ghost use Rattle.dn_lockstep.specs.Contents.{end_in};
-ghost use Rattle.dn_lockstep.specs.Marking.{Marking};
-ghost use Rattle.dn_lockstep.specs.Sent.{IsFair, sent_to};
-ghost use Rattle.dn_lockstep.specs.OneGame.{world_told};
-ghost use Rattle.dn_lockstep.specs.Represents.{Represents};
-ghost use Rattle.dn_lockstep.specs.Steps.{RunsBy, Steps, Tells};
-ghost use Rattle.dn_survivor.specs.OfOthers.{nothing_kept};
-ghost use Rattle.dn_survivor.specs.{Agreed.AreAgreedInPairs, Agreed.FitInPairs, Agreed.DemosAgreeInPairs, OneGame.Session, OneGame.after_build};
-ghost use Rattle.dn_survivor.specs.{OneGame.after_run, OneGame.with_survivor, declared.answers.GivenUp.GivenUp};
 ghost use Rattle.dn_seal.specs.declared.seal.Seal.{Seal};
 ghost use Rattle.dn_open.specs.Sealed.{sealing_of};
-ghost use Rattle.dn_link.specs.{declared.bundle.Bundle.Bundle, declared.bundle.BundleFault.BundleFault, declared.received.Received.Received, Linked.Gives};
-ghost use Rattle.dn_link.specs.{Linked.Linked, Linked.Receives, Linked.has_given_up, Linked.probed, Linked.remains, Linked.surviving_of, Linking.new_peer};
-ghost use Rattle.dn_link.specs.{Pacing.PaceState, Reading.IsBundledAs, RemainingLinks.AreRemainingLinks, RemainingLinks.IsGenuineIn, RemainingLinks.KeepsGiven, RemainingLinks.after_datagram};
-ghost use Rattle.dn_link.specs.{RemainingLinks.StayRemaining, RemainingLinks.WasSealedIn, Surviving.GivesUpPeer, Text.IsBundle, Text.sealed_bytes};
+ghost use Rattle.dn_link.specs.Linked.{Gives, Linked, Receives, has_given_up, probed, remains, surviving_of};
+ghost use Rattle.dn_link.specs.RemainingLinks.{AreRemainingLinks, IsGenuineIn, KeepsGiven, after_datagram, StayRemaining, WasSealedIn};
+ghost use Rattle.dn_link.specs.{declared.bundle.Bundle.Bundle, declared.bundle.BundleFault.BundleFault, declared.received.Received.Received, Linking.new_peer, Pacing.PaceState};
+ghost use Rattle.dn_link.specs.{Reading.IsBundledAs, Surviving.GivesUpPeer, Text.IsBundle, Text.sealed_bytes};
 
 use dn_survivor::{remaining_game_starts, survivors_agree};
 

@@ -67,8 +67,7 @@ pub struct Part {
 
 impl Part {
     ghost use Rattle.std.specs.Prelude.{◌<◌, ◌^◌, ℕ};
-    ghost use Rattle.dn_session.specs.{Events.part_due, Joining.has_come};
-    ghost use Rattle.dn_session.specs.{Playing.ended_as, Playing.owes_nobody, Playing.playing, Ticks.new_ticks, Watch.new_watch};
+    ghost use Rattle.dn_session.specs.{Events.part_due, Joining.has_come, Playing.ended_as, Playing.owes_nobody, Playing.playing, Ticks.new_ticks, Watch.new_watch};
     ghost use Rattle.dn_session.specs.declared.ending.Progress.TheVariants as progress;
 
     /// The part that plays by this link from now on, in a game of this rate and policy, with the others at

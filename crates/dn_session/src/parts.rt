@@ -8,10 +8,8 @@ ghost use Rattle.dn_lockstep.specs.Marking.{Marking};
 ghost use Rattle.dn_seal.specs.declared.seal.Seal.{Seal};
 ghost use Rattle.dn_survivor.specs.OneGame.{Session};
 ghost use Rattle.dn_link.specs.{Linking.linked, RemainingLinks.IsGenuineIn, RemainingLinks.WasSealedIn};
-ghost use Rattle.dn_session.specs.declared.greeting.Address.{Address};
-ghost use Rattle.dn_session.specs.Parts.{links_of, AreMarksOf, AreParts, GoOn};
 ghost use Rattle.dn_session.specs.Playing.{Playing, GivesUpBy, GivesWhen, HearsBytes, Polls, QuitsBy, RunsNext};
-ghost use Rattle.dn_session.specs.Sent.{SendsNext};
+ghost use Rattle.dn_session.specs.{declared.greeting.Address.Address, Parts.links_of, Parts.AreMarksOf, Parts.AreParts, Parts.GoOn, Sent.SendsNext};
 
 use dn_link::{remaining_bytes_are_genuine, remaining_links_go_on};
 

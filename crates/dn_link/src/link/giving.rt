@@ -10,8 +10,7 @@ use arrayvec::ArrayVec;
 
 impl Link {
     ghost use Rattle.std.specs.Prelude.{None, IfSome, is_some, ◌≡◌};
-    ghost use Rattle.dn_lockstep.specs.Sent.{IsFair, sent_to};
-    ghost use Rattle.dn_lockstep.specs.Steps.{Tells};
+    ghost use Rattle.dn_lockstep.specs.{Sent.IsFair, Sent.sent_to, Steps.Tells};
     ghost use Rattle.dn_link.specs.{Linked.Gives, Linked.remains, Linking.linked, Linking.seal_of, Pacing.pace_of};
 
     /// The datagram to a peer, for each tick: the packets that are kept until it acknowledges their commands

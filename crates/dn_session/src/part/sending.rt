@@ -37,9 +37,8 @@ pub(crate) fn widened<const ROOM: usize>(bytes: &ArrayVec<u8, ROOM>) -> ArrayVec
 
 impl Part {
     ghost use Rattle.std.specs.Prelude.{option_map, true, false, Some};
-    ghost use Rattle.dn_session.specs.Passing.{sent_of};
     ghost use Rattle.dn_session.specs.Sent.{first_owed, first_owed_exclusion, is_owed, is_owed_exclusion, is_probed, place_to, Excludes, SendsFirst, SendsNext, SendsTo, SendsWhen};
-    ghost use Rattle.dn_session.specs.Playing.{playing};
+    ghost use Rattle.dn_session.specs.{Passing.sent_of, Playing.playing};
 
     /// Whether it is known where a datagram to a player goes, and one may go there now.
     fn is_open(&self, player: u8) -> bool
