@@ -1,5 +1,5 @@
 -- What a part of a game sends.
-use Rattle.std.proofs.Common.{◌≡◌, ℕ, Some, None, Bool, true, false, sym}
+use Rattle.std.proofs.Common.{◌≡◌, ℕ, Option, Some, None, Bool, true, false, sym}
 use Rattle.std.proofs.{lemmas.Bool.and_parts, lemmas.Option.none-some, lemmas.Option.same_Some}
 use Rattle.std.specs.Prelude.{if◌then◌else◌, is_none, slice_index_or}
 use Rattle.dn_link.specs.{Linked.remains, Linking.linked}
