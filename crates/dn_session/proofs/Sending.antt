@@ -3,14 +3,11 @@ use Rattle.std.proofs.Common.{◌≡◌, ℕ, Option, Some, None, Bool, true, fa
 use Rattle.std.proofs.{lemmas.Bool.and_parts, lemmas.Option.none-some, lemmas.Option.same_Some}
 use Rattle.std.specs.Prelude.{if◌then◌else◌, is_none, slice_index_or}
 use Rattle.dn_link.specs.{Linked.remains, Linking.linked}
-use Rattle.dn_session.specs.{Playing.Playing, Playing.ended_as, Sent.first_owed, Sent.is_owed}
-use Rattle.dn_session.proofs.Firsts.{first_passes}
+use Rattle.dn_session.specs.{Playing.Playing, Playing.ended_as, Sent.is_owed}
 
 -- a datagram goes to one who remains
-pub owed_remains : (part : Playing) (player : ℕ) → first_owed part ≡ Some player
-    → remains (linked part.link) player ≡ true
-owed_remains part player first =
-    let owed = first_passes (is_owed part) player first in
+pub owed_remains : (part : Playing) (player : ℕ) → is_owed part player ≡ true → remains (linked part.link) player ≡ true
+owed_remains part player owed =
     (and_parts (remains (linked part.link) player) _
     (and_parts (is_none (ended_as part.progress)) _ (and_parts (slice_index_or part.owed player false) _ owed).1).1).0
 

@@ -9,9 +9,9 @@ use Rattle.dn_link.specs.{Linked.Receives, Linked.exclusion, Linked.has_given_up
 use Rattle.dn_link.specs.{RemainingLinks.WasSealedIn, RemainingLinks.after_datagram, Text.IsBundle, Text.sealed_bytes, declared.bundle.Bundle.Bundle}
 use Rattle.dn_session.specs.declared.ending.Ending.TheVariants as ending
 use Rattle.dn_session.specs.{Parts.GoOn, Parts.links_of, Playing.Playing, Playing.given_up_at, Playing.is_giving, Playing.looks, Sent.Excludes, Sent.SendsFirst, Sent.SendsOn, Sent.SendsWhen}
-use Rattle.dn_session.specs.{Sent.first_owed, Sent.first_owed_exclusion, Sent.place_to, declared.greeting.Address.Address}
+use Rattle.dn_session.specs.{Sent.first_owed, Sent.first_owed_exclusion, Sent.is_owed, Sent.place_to, declared.greeting.Address.Address}
 use Rattle.dn_session.proofs.{Going.ends, Going.gives, Going.gives_up, Going.kept, Going.polls, Going.runs_next, Going.silently, Going.silently_and, Going.then_catches}
-use Rattle.dn_session.proofs.{Sending.given_if, Sending.owed_remains}
+use Rattle.dn_session.proofs.{Firsts.first_passes, Sending.given_if, Sending.owed_remains}
 use Rattle.dn_session.proofs.parts.sessions_play_on.Goals as goal
 
 pub returns-clause-hears : goal.returns-clause-hears
@@ -108,7 +108,7 @@ returns-clause-sends c = λ marking limits settings seal session parts p new sen
     let datagrams : (first : Option ℕ) → first_owed (parts p) ≡ first → SendsFirst first (parts p) new sent → Goal =
     λ first. elim first as (λ k. first_owed (parts p) ≡ k → SendsFirst k (parts p) new sent → Goal) [
       | None ↦ λ none. excludes (first_owed_exclusion (parts p))
-      | Some player ↦ λ some. sends_to player (owed_remains (parts p) player some) (place_to (parts p) player).is_confirmed
+      | Some player ↦ λ some. sends_to player (owed_remains (parts p) player (first_passes (is_owed (parts p)) player some)) (place_to (parts p) player).is_confirmed
     ] in
     let passes : (passing : Option (Address × List ℕ)) → (parts p).passing ≡ passing
     → SendsOn passing (parts p) new sent → Goal =
