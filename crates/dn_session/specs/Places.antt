@@ -51,11 +51,11 @@ abbrev pub is_since : ℕ → ℕ → Option ℕ → Bool
 is_since time now None = false
 is_since time now (Some done) = nat_lt now (done + time)
 
--- a new datagram that another passed on says that its sender may not hear this player. That is noted, but not within
--- two seconds again: it holds for one, so two who hear each other again do not keep each other at it
+-- one of the last datagrams that another passed on says that its sender may not hear this player. That is noted, but
+-- not within two seconds again: it holds for one, so two who hear each other again do not keep each other at it
 abbrev pub passed_by : ℕ → Bool → Place → Place
-passed_by now is_new place =
-    if is_new && not (is_since 2000 now place.passed) then record place { passed = Some now } else place
+passed_by now is_recent place =
+    if is_recent && not (is_since 2000 now place.passed) then record place { passed = Some now } else place
 
 -- the player was heard where it is in the second before, and no other passed a datagram of it on
 abbrev pub is_near_at : ℕ → Place → Bool
@@ -66,7 +66,7 @@ is_near_at now place =
 abbrev pub heard_at : ℕ → Address → ℕ → Bool → Bool → Places → Places
 heard_at player from now is_new is_recent places = record {
   at = slice_set places.at player
-      (if is_anothers player from places then passed_by now is_new (place_of player places)
+      (if is_anothers player from places then passed_by now is_recent (place_of player places)
       else heard_from from now is_new is_recent (place_of player places));
 }
 

@@ -18,8 +18,8 @@ use Rattle.dn_session.specs.declared.ending.Ending.TheVariants as ending
 use Rattle.dn_session.specs.declared.ending.Progress.TheVariants as progress
 
 -- its link; when ticks are due; for how long others were silent; where they are; who has told that it has given up
--- this player; whom it is to tell so; to whom a datagram is owed; whose turn it is to pass one on; what is to be passed
--- on; how far it is; and what becomes of a player who vanishes
+-- this player; whom it is to tell so; to whom a datagram is owed; who carries one to a player that is not near; what is
+-- to be passed on; how far it is; and what becomes of a player who vanishes
 pub record Playing : Type 0 where
   pub link : Link
   pub ticks : Ticks
@@ -28,7 +28,7 @@ pub record Playing : Type 0 where
   pub excluders : List Bool
   pub exclusions : List Exclusion
   pub owed : List Bool
-  pub turn : ℕ
+  pub carrier : ℕ
   pub passing : Option (Address × List ℕ)
   pub progress : Progress
   pub policy : Policy
@@ -43,7 +43,7 @@ playing part =
       excluders = part.excluders;
       exclusions = part.exclusions;
       owed = part.owed;
-      turn = part.turn;
+      carrier = part.carrier;
       passing = option_map sent_of part.passing;
       progress = part.progress;
       policy = part.policy;
@@ -147,15 +147,15 @@ Leans old new by =
     KeepsGame old new × (linked new ≡ linked old) × (pace_of new ≡ after_tick (linked old) (pace_of old))
     × (by ≡ lean (linked old) (pace_of old))
 
--- the next player's turn
-abbrev pub turn_after : ℕ → ℕ
-turn_after turn = if nat_lt turn 3 then turn + 1 else 0
+-- the next player, around
+abbrev pub carrier_after : ℕ → ℕ
+carrier_after carrier = if nat_lt carrier 3 then carrier + 1 else 0
 
 -- the tick that is due goes by: all are owed a datagram
 abbrev pub PassesTick : Playing → Playing → Type 0
 PassesTick old new =
     (by : ℤ) × Leans old.link new.link by
-    × (new ≡ record old { link = new.link; ticks = passed by old.ticks; owed = owes_all; turn = turn_after old.turn })
+    × (new ≡ record old { link = new.link; ticks = passed by old.ticks; owed = owes_all; carrier = carrier_after old.carrier })
 
 -- the input of a tick is built, and what was owed before is dropped
 abbrev pub Builds : Input → Link → Link → Type 0

@@ -13,9 +13,9 @@ is_near p player = is_near_at p.watch.looked (place_of player p.places)
 abbrev pub can_pass : Playing → (other player : ℕ) → Bool
 can_pass p other player = not (other == player) && (remains (linked p.link) other && is_near p other)
 
--- who gets the datagram to a player: that one; or while it is not near, another one at each of its turns
+-- who gets the datagram to a player: that one; or while it is not near, the carrier, if that one can pass it on
 abbrev pub way_to : Playing → ℕ → ℕ
-way_to p player = if not (is_near p player) && can_pass p p.turn player then p.turn else player
+way_to p player = if not (is_near p player) && can_pass p p.carrier player then p.carrier else player
 
 -- where that is, as far as it is known
 abbrev pub place_to : Playing → ℕ → Place

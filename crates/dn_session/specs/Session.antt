@@ -96,7 +96,7 @@ pub record IsPartOf (secret : Option (List ℕ)) (b : Begun) (now : ℕ) (p : Pl
   pub excluders : p.excluders ≡ replicate 4 false
   pub exclusions : p.exclusions ≡ replicate 4 (record { to = None; told = None })
   pub owed : p.owed ≡ owes_nobody
-  pub turn : p.turn ≡ 0
+  pub carrier : p.carrier ≡ 0
   pub passing : p.passing ≡ None
   pub progress : p.progress ≡ progress.Playing
   pub policy : p.policy ≡ b.terms.policy

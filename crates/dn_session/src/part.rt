@@ -59,7 +59,7 @@ pub struct Part {
     excluders: [bool; 4],
     exclusions: [Exclusion; 4],
     owed: [bool; 4],
-    turn: u8,
+    carrier: u8,
     passing: Option<Transmit>,
     progress: Progress,
     policy: Policy,
@@ -81,7 +81,7 @@ impl Part {
           excluders = replicate 4 false;
           exclusions = replicate 4 (record { to = None; told = None });
           owed = owes_nobody;
-          turn = 0;
+          carrier = 0;
           passing = None;
           progress = progress.Playing;
           policy = policy;
@@ -95,7 +95,7 @@ impl Part {
             excluders: [false; 4],
             exclusions: [NO_EXCLUSION; 4],
             owed: [false; 4],
-            turn: 0,
+            carrier: 0,
             passing: None,
             progress: Progress::Playing,
             policy,

@@ -84,11 +84,11 @@ impl Place {
         }
     }
 
-    /// Another passed on a datagram of the player, which may be a new one.
-    fn pass(&mut self, now: u32, is_new: bool)
-        ensures { self.new ≡ passed_by now is_new self.old }
+    /// Another passed on a datagram of the player, which may be one of the last that it sent.
+    fn pass(&mut self, now: u32, is_recent: bool)
+        ensures { self.new ≡ passed_by now is_recent self.old }
     {
-        if is_new && !is_since(2 * AWAY, now, self.passed) {
+        if is_recent && !is_since(2 * AWAY, now, self.passed) {
             self.passed = Some(now);
         }
     }
@@ -165,7 +165,7 @@ impl Places {
         let is_passed = self.is_anothers(player, from);
         let place = &mut self.at[usize::from(player)];
         if is_passed {
-            place.pass(now, is_new);
+            place.pass(now, is_recent);
         } else {
             place.hear(from, now, is_new, is_recent);
         }

@@ -1,7 +1,7 @@
 //! Ticks: the commands that its player gives.
 
 ghost use Rattle.std.specs.Prelude.{◌≡◌};
-ghost use Rattle.dn_session.specs.Playing.{is_giving, turn_after, Builds};
+ghost use Rattle.dn_session.specs.Playing.{carrier_after, is_giving, Builds};
 
 use super::Part;
 use crate::ending::Progress;
@@ -29,11 +29,11 @@ fn build(link: &mut Link, input: Input)
     }
 }
 
-/// The next player's turn.
-fn turn_after(turn: u8) -> u8
-    ensures { result ≡ turn_after turn }
+/// The next player, around.
+fn carrier_after(carrier: u8) -> u8
+    ensures { result ≡ carrier_after carrier }
 {
-    if turn < 3 { turn + 1 } else { 0 }
+    if carrier < 3 { carrier + 1 } else { 0 }
 }
 
 impl Part {
@@ -47,7 +47,7 @@ impl Part {
         let lean = self.link.lean();
         self.ticks.pass(lean);
         self.owed = [true; 4];
-        self.turn = turn_after(self.turn);
+        self.carrier = carrier_after(self.carrier);
     }
 
     /// Whether its player is to give a command now.

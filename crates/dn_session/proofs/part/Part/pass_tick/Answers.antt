@@ -13,6 +13,6 @@ returns c =
         link = c.lean-lean.new.self;
         ticks = ticks i;
         owed = owes_all;
-        turn = c.turn_after-self.ensures i;
+        carrier = c.carrier_after-self.ensures i;
       },
     )
