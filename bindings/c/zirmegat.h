@@ -232,7 +232,7 @@ zmg_status zmg_session_join(zmg_session *session, const zmg_join_config *config,
 void zmg_session_free(zmg_session *session);
 
 /* Takes in any bytes that came from an address. Send what zmg_session_transmit returns before the next one: a
- * reply takes the place of one that was not sent. */
+ * reply, or a datagram that goes on to another player, takes the place of one that was not sent. */
 void zmg_session_receive(zmg_session *session, const zmg_address *from, const uint8_t *bytes, size_t length,
                          uint32_t now);
 

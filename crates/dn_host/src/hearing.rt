@@ -15,7 +15,7 @@ const POLLS: u32 = 64;
 /// The most greetings that are opened between two looks at the clock: each may cost the time of three tags.
 const GREETINGS: u32 = 2;
 
-/// The most datagrams that a session owes at once: two to each player, a reply and a call.
+/// More datagrams than a session owes at once: one to each other player, a reply, a call, and one that is passed on.
 const OWED: u32 = 10;
 
 /// Whether bytes are taken, if so many greetings still are.

@@ -186,9 +186,10 @@ module _ (marking : Marking) (limits : Limits) (settings : Settings) (seal : Sea
     plays_on None now before new own g =
         gives_up (due (patience before.policy) (view now before)) before new own g
 
-    pub ticks : (test : Bool) (now : ℕ) (new : Playing) → TicksWhen test now (parts p) new → On session parts p new None
-    ticks false now new same = kept new (ap (λ (q : Playing). linked q.link) same) (ap (λ (q : Playing). seal_of q.link) same)
-    ticks true now new t = kept new t.1.1 t.1.0
+    pub ticks : (test : Bool) (now : ℕ) (before new : Playing) → before.link ≡ (parts p).link
+        → TicksWhen test now before new → On session parts p new None
+    ticks false now before new own same = gives_up None before new own same
+    ticks true now before new own t = kept new (t.1.1 ∙ ap linked own) (t.1.0 ∙ ap seal_of own)
 
     passes : (progress : Progress) (now : ℕ) (new : Playing) → PassesTime progress now (parts p) new
         → On session parts p new None
@@ -197,7 +198,7 @@ module _ (marking : Marking) (limits : Limits) (settings : Settings) (seal : Sea
         (looks now (parts p)) new refl plays
     passes (progress.Leaving end since free) now new (mid, t, is) =
         alike mid new None (ap (λ (q : Playing). linked q.link) is) (ap (λ (q : Playing). seal_of q.link) is)
-        (ticks (is_due now (parts p).ticks) now mid t)
+        (ticks (is_due now (parts p).ticks) now (looks now (parts p)) mid refl t)
     passes (progress.Over end) now new same =
         kept new (ap (λ (q : Playing). linked q.link) same) (ap (λ (q : Playing). seal_of q.link) same)
 

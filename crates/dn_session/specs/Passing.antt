@@ -1,5 +1,5 @@
 -- Datagrams that a player passes on, between two others.
-use Rattle.std.specs.Prelude.{ℕ, ◌&&◌, if◌then◌else◌, slice_index, List, Option, None}
+use Rattle.std.specs.Prelude.{ℕ, ◌==◌, ◌&&◌, not, if◌then◌else◌, slice_index, List, Option, None}
 use Rattle.std.specs.Option.{option_map}
 use Rattle.dn_link.specs.{Linked.Linked, Linked.remains, declared.received.Received.Received}
 use Rattle.dn_link.specs.declared.bundle.BundleFault.TheVariants as fault
@@ -10,11 +10,12 @@ use Rattle.dn_session.specs.{Places.is_at, Places.place_of, declared.greeting.Ad
 abbrev pub sent_of : Transmit → Address × List ℕ
 sent_of transmit = (transmit.to, transmit.bytes.items)
 
--- where it goes on to, if two players remain: it came from where its sender is, and its receiver was heard where it is
+-- where it goes on to, if two other players remain: it came from where its sender is, and its receiver was heard where
+-- that one is
 abbrev pub next_hop : Linked → Places → Address → (from to : ℕ) → Option Address
 next_hop link places here from to =
-    if remains link from && is_at here (place_of from places)
-    && (remains link to && (place_of to places).is_confirmed)
+    if not (from == to) && (remains link from && is_at here (place_of from places)
+    && (remains link to && (place_of to places).is_confirmed))
     then (place_of to places).address else None
 
 -- a datagram of this game that is sealed to another player goes on as it came

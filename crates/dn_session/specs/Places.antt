@@ -62,11 +62,11 @@ abbrev pub is_near_at : ℕ → Place → Bool
 is_near_at now place =
     place.is_confirmed && (is_since 1000 now (Some place.heard) && not (is_since 1000 now place.passed))
 
--- a datagram of a player came from this address
+-- a datagram of a player came from this address: from its own, through another, or from a new one
 abbrev pub heard_at : ℕ → Address → ℕ → Bool → Bool → Places → Places
 heard_at player from now is_new is_recent places = record {
   at = slice_set places.at player
-      (if is_anothers player from places then passed_by now is_recent (place_of player places)
+      (if not (is_at from (place_of player places)) && is_anothers player from places then passed_by now is_recent (place_of player places)
       else heard_from from now is_new is_recent (place_of player places));
 }
 

@@ -258,13 +258,13 @@ abbrev pub PlaysOn : Option Ending → ℕ → Playing → Playing → Type 0
 PlaysOn (Some end) now old new = EndsNow (Some end) now old new
 PlaysOn None now old new = GivesUpNow (due (patience old.policy) (view now old)) old new
 
--- what a part does as time goes, by how far it is: one that plays looks, and ends or plays on; one that leaves does
--- its ticks by itself, and waits
+-- what a part does as time goes, by how far it is: one that plays looks, and ends or plays on; one that leaves looks,
+-- does its ticks by itself, and waits
 abbrev pub PassesTime : Progress → ℕ → Playing → Playing → Type 0
 PassesTime progress.Playing now old new =
     PlaysOn (ending_of old.policy (view now (looks now old)) (linked old.link)) now (looks now old) new
 PassesTime (progress.Leaving end since free) now old new =
-    (mid : Playing) × TicksWhen (is_due now old.ticks) now old mid
+    (mid : Playing) × TicksWhen (is_due now old.ticks) now (looks now old) mid
     × (new ≡ record mid { progress = waits (is_unneeded end (linked mid.link)) end since free now })
 PassesTime (progress.Over end) now old new = new ≡ old
 

@@ -36,9 +36,10 @@ pub fn sessions_play()
     windows_hold();
 }
 
-/// And so they stay after each call on one of them, as long as what a part opens was sealed in this game before:
-/// what a part sends was, but for what it passes on, which came so. A session that begins plays this game, in this place. At a run the caller hands in the
-/// marks of a world that moved on by the rows that it was told. What else a session does changes no part.
+/// And so they stay after each call on one of them, as long as what a part opens was sealed in this game before. What
+/// a part sends was sealed in this game, or it is the bytes of another player that it passes on as they came. A
+/// session that begins plays this game, in this place. At a run the caller hands in the marks of a world that moved
+/// on by the rows that it was told. What else a session does changes no part.
 pub fn sessions_stay()
     ensures begins { (marking : Marking) (secret : Option (List ℕ)) (b : Begun) (session : Session)
         (meetings : ℕ → Meeting) (player : ℕ) (new : Meeting) (one : Side) (now : ℕ) (result : Result Bool NodeFault)

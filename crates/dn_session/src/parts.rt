@@ -15,7 +15,8 @@ use dn_link::{remaining_bytes_are_genuine, remaining_links_go_on};
 
 /// Parts that have links of one game keep them after each call on one of them, as long as what it opens was sealed
 /// in this game before. At a run the caller hands in the marks of a world that moved on by the rows that it was
-/// told. Whom a part gives up, and when, is not asked. What is sent came so and is passed on, or was sealed in the game.
+/// told. Whom a part gives up, and when, is not asked. What it sends was sealed in this game, or it is the bytes of
+/// another player that it passes on as they came.
 pub fn sessions_play_on()
     ensures hears { (marking : Marking) (limits : Limits) (settings : Settings) (seal : Seal) (session : Session)
         (parts : ℕ → Playing) (p now : ℕ) (from : Address) (bytes : List ℕ) (new : Playing)

@@ -162,7 +162,7 @@ impl Places {
         if player >= 4 {
             return;
         }
-        let is_passed = self.is_anothers(player, from);
+        let is_passed = !self.place(player).is_at(from) && self.is_anothers(player, from);
         let place = &mut self.at[usize::from(player)];
         if is_passed {
             place.pass(now, is_recent);

@@ -158,7 +158,7 @@ impl Part {
     {
         let sender = self.places.place(from);
         let receiver = self.places.place(to);
-        if is_gone_from(&self.link, from) || !sender.is_at(here) {
+        if from == to || is_gone_from(&self.link, from) || !sender.is_at(here) {
             return None;
         }
         if is_gone_from(&self.link, to) || !receiver.is_confirmed {

@@ -88,6 +88,7 @@ impl Part {
     fn wait(&mut self, ending: Ending, since: u32, free: Option<u32>, now: u32)
         ensures { PassesTime (progress.Leaving ending since free) now (playing self.old) (playing self.new) }
     {
+        self.look(now);
         self.tick_if_due(now);
         self.progress = waits(is_unneeded(ending, &self.link), ending, since, free, now);
     }
