@@ -23,7 +23,7 @@ static uint64_t drawn(void) {
 }
 
 /* The suite, the kind, the name and the version of greetings, and that it is a call. */
-static const uint8_t call[12] = {1, 4, 'z', 'i', 'r', 'm', 'e', 'g', 'a', 't', 1, 1};
+static const uint8_t call[12] = {1, 4, 'z', 'i', 'r', 'm', 'e', 'g', 'a', 't', 2, 1};
 
 static double now(void) {
     struct timespec time;
