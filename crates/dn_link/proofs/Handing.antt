@@ -10,7 +10,7 @@ use Rattle.dn_lockstep.specs.{Contents.Contents, Sent.IsFair, Told.command_told}
 use Rattle.dn_lockstep.proofs.Keeping.{none_stops}
 use Rattle.dn_survivor.specs.{declared.report.Report.Report, OfOthers.newest_of, Telling.MayRelay, Telling.told_gone}
 use Rattle.dn_open.specs.Sealed.{opened_of}
-use Rattle.dn_link.specs.Surviving.{names, reports_gone, HasTwoBehind, IsHandedFor, may_hand, shares_gone}
+use Rattle.dn_link.specs.Surviving.{names, reports_gone, IsHandedFor, may_hand, shares_gone}
 use Rattle.dn_link.specs.Relays.{AreTold, AreHandedOn, AreLacked, Handed, handed_part, flights_of, run_flights}
 use Rattle.dn_link.specs.{declared.bundle.Part.Part, declared.bundle.Part.TheVariants.Relay, Linked.HasBehind, Linked.Linked, Linked.has_given_up, Linked.surviving_of, LinkedGame.WasGiven}
 use Rattle.dn_link.specs.Packets.{opened_from, packets_of, short_packet, short_packets}
@@ -68,7 +68,8 @@ none_behind link to low own = record {
   may = λ some. absurd (some refl);
 }
 
-pub nothing_behind : (link : Linked) (to : ℕ) (own : List Part) → HasTwoBehind link to own own
+pub nothing_behind : (link : Linked) (to : ℕ) (own : List Part)
+    → (behind : HasBehind link to 0 own own) × (length behind.handed ≤ 2)
 unfolding none_behind
 nothing_behind link to own = (none_behind link to 0 own, few)
   where

@@ -13,9 +13,7 @@ use dn_lockstep::Lockstep;
 fn has_of(lockstep: &Lockstep, player: u8) -> u32
     ensures { result ≡ has_of (contents lockstep.now) player }
 {
-    let Some(got) = lockstep.got(player) else {
-        return 0;
-    };
+    let got = held(lockstep, player);
     match lockstep.end(player) {
         Some(_) => got + 1,
         None => got,
@@ -42,10 +40,7 @@ pub(crate) fn counts_of(lockstep: &Lockstep) -> Counts
 fn held(lockstep: &Lockstep, player: u8) -> u32
     ensures { result ≡ held (contents lockstep.now) player }
 {
-    match lockstep.got(player) {
-        Some(got) => got,
-        None => 0,
-    }
+    lockstep.got(player).unwrap_or(0)
 }
 
 /// How many commands a lockstep has of each player.

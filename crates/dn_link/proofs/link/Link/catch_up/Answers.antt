@@ -9,7 +9,7 @@ use Rattle.dn_link.proofs.link.Link.catch_up.Goals as goal
 pub returns-clause-owed : goal.returns-clause-owed
 returns-clause-owed c = λ input owed.
     let made = c.make-made.result in
-    let same = same_Some c.in-Some.input input (sym c.in-Some.is ∙ c.owed.ensures ∙ owed) in (
+    let same = same_Some c.in_ok-input.input input (sym c.in_ok-input.was ∙ owed) in (
       made,
       refl,
       subst (λ (x : Input). Steps (linked c.args.self.now).node (linked c.make-made.new.self).node

@@ -16,13 +16,13 @@ returns c =
     let remains = and_parts (is_peer link.node c.args.player) (not (has_given_up link c.args.player))
     (sym c.remains.ensures.value ∙ c.if-not-remains.false) in
     let peer = and_parts (nat_lt c.args.player link.node.players) (not (c.args.player == link.node.me)) remains.0 in
-    let start : c.in-Some.start < 4294967296 = search rules in
-    let known : slice_index (link.peers c.args.to).reported c.args.player ≤ c.in-Some.start = search rules in
+    let start : c.in_ok-start.start < 4294967296 = search rules in
+    let known : slice_index (link.peers c.args.to).reported c.args.player ≤ c.in_ok-start.start = search rules in
     let some : 1 ≤ length c.relay_of-relay.result.run.commands.items = search rules in
     let small = c.remains.ensures.few c.if-not-remains.false in
     let apart : c.args.player ≢ c.args.to = search rules in
     record {
-      handed = record { player = c.args.player; start = c.in-Some.start; commands = told.0 };
+      handed = record { player = c.args.player; start = c.in_ok-start.start; commands = told.0 };
       is = λ i. Relay (record {
         player = c.relay_of-relay.ensures.player i;
         run = record { start = c.relay_of-relay.ensures.start i; commands = record { items = told.1 i } };
@@ -35,7 +35,7 @@ returns c =
         other = λ e. both_ways (c.args.player == link.node.me) (not-true (c.args.player == link.node.me) peer.1)
             (eq-eqb c.args.player link.node.me e);
         low = told.3;
-        told = subst (λ (n : Contents). AreTold n c.args.player c.in-Some.start told.0) c.lockstep.ensures
+        told = subst (λ (n : Contents). AreTold n c.args.player c.in_ok-start.start told.0) c.lockstep.ensures
             told.2;
       };
       its = refl;
