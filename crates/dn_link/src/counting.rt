@@ -1,8 +1,7 @@
 //! How far a lockstep is.
 
-ghost use Rattle.std.specs.Prelude.{◌≡◌, ◌≢◌, ◌<◌, ℕ, ◌+◌, nat_lt, nat_le, false, None, Some, IfOk, IfSome, Option};
-ghost use Rattle.dn_lockstep.specs.{Contents.contents, Contents.end_in, Tables.count_of};
-ghost use Rattle.dn_seal.specs.Sealing.{sealing};
+ghost use Rattle.std.specs.Prelude.{◌≡◌, ◌+◌, None, Some};
+ghost use Rattle.dn_lockstep.specs.Contents.{contents};
 ghost use Rattle.dn_link.specs.Counting.{counts_of, has_of, held, held_of, reached};
 
 use crate::bundle::Counts;

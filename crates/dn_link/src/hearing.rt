@@ -1,6 +1,6 @@
 //! Hearing what a datagram carries.
 
-ghost use Rattle.std.specs.{Prelude.◌≡◌, Prelude.slice_index, List.flat_map};
+ghost use Rattle.std.specs.{Prelude.◌≡◌, List.flat_map};
 ghost use Rattle.dn_lockstep.specs.Contents.{contents};
 ghost use Rattle.dn_survivor.specs.OfOthers.{has};
 ghost use Rattle.dn_open.specs.{Arrivals.HearsOpened, Arrivals.SparesSealed, declared.hearing.Arrived.Arrived};

@@ -1,6 +1,6 @@
 //! The packets that a peer has not acknowledged.
 
-ghost use Rattle.std.specs.{Prelude.{◌≡◌, ◌≤◌, ◌<◌, ◌+◌, ◌∷◌, [], ℕ, All, length, nat_le, slice_index, Option}, Option.option_map};
+ghost use Rattle.std.specs.Prelude.{◌≡◌, ◌≤◌, ◌<◌, ◌+◌, [], All, length, Option};
 ghost use Rattle.dn_link.specs.{Kept.{IsCovering, IsRising, IsRising-prop, acknowledged, commands_in, end_of, going, is_idle, is_news, kept_after, takes_packet, without}, Packing.ArePacked};
 ghost use Rattle.dn_link.specs.Text.{IsPart, parts_bytes};
 

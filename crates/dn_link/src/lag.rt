@@ -1,6 +1,6 @@
 //! How many commands of each player this one had at its last ticks, and how far a peer lags behind.
 
-ghost use Rattle.std.specs.Prelude.{◌≡◌, ◌<◌, ◌≤◌, nat_lt, [], ◌∷◌, slice_index, take};
+ghost use Rattle.std.specs.Prelude.{◌≡◌, ◌<◌, ◌≤◌, [], ◌∷◌, slice_index, take};
 ghost use Rattle.dn_link.specs.Relays.{counted_down, handed, handed_from, is_overdue, is_slow, learned, moved, had};
 
 use crate::bundle::Run;

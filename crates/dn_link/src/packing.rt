@@ -1,7 +1,7 @@
 //! Writing packets compactly, as parts of a datagram.
 
-ghost use Rattle.std.specs.{Prelude.{◌≡◌, ◌≤◌, ◌<◌, ◌+◌, ◌/◌, ◌%◌, ◌^◌, ◌++◌, ◌∷◌, [], ℕ, All, length, false, true}, List.flat_map};
-ghost use Rattle.dn_link.specs.{Packets.{opened_from, packets_of, short_packet}, declared.bundle.Part.TheVariants.Whole, Text.{IsPart, parts_bytes}};
+ghost use Rattle.std.specs.Prelude.{◌≡◌, ◌≤◌, ◌<◌, ◌+◌, ◌/◌, ◌%◌, ◌^◌, ◌++◌, ◌∷◌, [], ℕ, All, length, false, true};
+ghost use Rattle.dn_link.specs.{Packets.{opened_from, short_packet}, declared.bundle.Part.TheVariants.Whole, Text.{IsPart, parts_bytes}};
 ghost use Rattle.dn_link.specs.Packing.{HasRoom, IsOpen, IsPacking, IsTight, MayFollow, packed, part_of, ArePacked, IsNeeded};
 
 use crate::bundle::{Carried, Part, Run};

@@ -34,7 +34,7 @@ fn larger(one: &[u32; 4], other: &[u32; 4]) -> [u32; 4]
 }
 
 impl Peer {
-    ghost use Rattle.std.specs.Prelude.{All, length, ◌≤◌, ◌<◌, ◌+◌, ◌%◌, ◌^◌, slice_index};
+    ghost use Rattle.std.specs.Prelude.{All, length, ◌≤◌, ◌<◌, ◌+◌, ◌%◌, ◌^◌};
     ghost use Rattle.dn_link.specs.{Kept.{acknowledged, going, kept_after, taken_by}, Linking.{new_peer, state_of}, Packing.ArePacked, Text.{IsPart, parts_bytes}};
 
     /// Of which nothing is known.

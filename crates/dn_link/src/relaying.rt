@@ -1,6 +1,6 @@
 //! The commands of third players that are handed on.
 
-ghost use Rattle.std.specs.{Prelude.{◌≡◌, ◌≢◌, ◌≤◌, ◌<◌, ◌+◌, ◌^◌, List, length, negsuc, ◌++◌, ◌∷◌, ◌⊎◌, [], All, IfSome, Some}, List.flat_map};
+ghost use Rattle.std.specs.{Prelude.{◌≡◌, ◌≤◌, ◌<◌, ◌+◌, ◌^◌, List, length, ◌++◌, ◌∷◌, ◌⊎◌, [], All, IfSome, Some}, List.flat_map};
 ghost use Rattle.dn_tic.specs.{declared.command.TicCmd.TicCmd, Command.command_bytes};
 ghost use Rattle.dn_lockstep.specs.Contents.{contents};
 ghost use Rattle.dn_link.specs.{declared.bundle.{Relay.Relay as Handing, Part.TheVariants.Relay as of_relay}, Relays.AreTold, Text.{IsPart, IsRelay, parts_bytes}};

@@ -4,7 +4,7 @@ use super::Link;
 use crate::line::{apart, lead_over, total};
 
 impl Link {
-    ghost use Rattle.std.specs.Prelude.{◌<◌, ◌≤◌, ◌+◌, ◌&&◌, nat_abs, nat_lt, ◌≡◌};
+    ghost use Rattle.std.specs.Prelude.{◌<◌, ◌≤◌, ◌+◌, ◌&&◌, nat_abs, ◌≡◌};
     ghost use Rattle.dn_link.specs.{Linking.{linked, seal_of}, Pace.{after_tick, difference, is_paced, lean, playing, differences, is_lossy, is_lossy_to, wants_second}, Pacing.pace_of};
 
     /// Whether a player is a peer that was heard, and has not left as far as it was.
