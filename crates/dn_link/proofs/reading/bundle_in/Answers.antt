@@ -1,9 +1,7 @@
-use Rattle.std.proofs.Common.{◌≡◌, ◌≤◌, ◌+◌, ◌-◌, ◌++◌, ℕ, drop, take, ap, sym, ◌∙◌, refl, arith, rules}
-use Rattle.std.specs.Prelude.{slice_index}
-use Rattle.std.specs.Option.{option_map}
-use Rattle.std.proofs.lemmas.List.{take_rest}
+use Rattle.std.proofs.{Common.{◌≡◌, ◌≤◌, ◌+◌, ◌-◌, ◌++◌, ℕ, drop, take, ap, sym, ◌∙◌, refl, arith, rules}, lemmas.List.take_rest}
+use Rattle.std.specs.{Prelude.slice_index, Option.option_map}
 use Rattle.arrayvec.specs.ArrayVec.{ArrayVec}
-use Rattle.dn_link.specs.{declared.bundle.Part.Part, Told.report_size, Told.told_counts, Told.told_parts}
+use Rattle.dn_link.specs.{declared.bundle.Part.Part, Told.{report_size, told_counts, told_parts}}
 use Rattle.dn_link.proofs.Wholes.{no_cause, all_told, signed}
 use Rattle.dn_link.proofs.reading.bundle_in.Goals as goal
 

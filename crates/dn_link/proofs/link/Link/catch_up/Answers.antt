@@ -1,5 +1,4 @@
-use Rattle.std.proofs.Common.{◌≡◌, refl, ap, sym, ◌∙◌, subst}
-use Rattle.std.proofs.lemmas.Option.{same_Some}
+use Rattle.std.proofs.{Common.{◌≡◌, refl, ap, sym, ◌∙◌, subst}, lemmas.Option.same_Some}
 use Rattle.dn_tic.specs.declared.input.Input.{Input}
 use Rattle.dn_machine.specs.Sending.{on_build}
 use Rattle.dn_lockstep.specs.Steps.{Steps}

@@ -1,12 +1,11 @@
 use Rattle.std.proofs.Common.{rules, ◌≡◌, ◌<◌, ◌+◌, List, ◌%◌, ◌^◌, ℕ, length, get_or, w8, to_z, of_z, refl, ap, ◌∙◌, subst, arith}
 use Rattle.std.specs.Prelude.{IfSome}
 use Rattle.dn_survivor.specs.{ReportBytes.IsReport, Surviving.Surviving}
-use Rattle.dn_link.specs.{Linked.report_beside, Linked.written, declared.bundle.Part.Part}
+use Rattle.dn_link.specs.{Linked.{report_beside, written, PeerState}, declared.{bundle.Part.Part, line.Line.Line}, Counting.counts_of, Ends.told_cause, Hearing.SendsCarried, Line.missing}
+use Rattle.dn_link.specs.{Kept.{going, kept_after, taken_by}, Linking.{linked, peers_of, state_of}, Packing.ArePacked}
 use Rattle.dn_machine.specs.Node.{put}
 use Rattle.dn_lockstep.specs.Contents.{Contents, contents}
-use Rattle.dn_link.specs.{Counting.counts_of, Ends.told_cause, Hearing.SendsCarried, declared.line.Line.Line, Line.missing, Kept.going, Kept.kept_after, Kept.taken_by, Linked.PeerState}
-use Rattle.dn_link.specs.{Linking.linked, Linking.peers_of, Linking.state_of, Packing.ArePacked}
-use Rattle.dn_link.proofs.{Places.peer_at, Places.peers_put}
+use Rattle.dn_link.proofs.Places.{peer_at, peers_put}
 use Rattle.dn_link.proofs.link.Link.datagram.Goals as goal
 
 pub returns-clause-gives : goal.returns-clause-gives

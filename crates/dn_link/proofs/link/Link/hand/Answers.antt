@@ -1,8 +1,7 @@
-use Rattle.std.proofs.Common.{rules, ◌≢◌, ◌<◌, ◌≤◌, ℕ, length, refl, ap, sym, ◌∙◌, subst, arith}
+use Rattle.std.proofs.{Common.{rules, ◌≢◌, ◌<◌, ◌≤◌, ℕ, length, refl, ap, sym, ◌∙◌, subst, arith}, lemmas.Bool.{and_parts, ltb-true, not-true, eq-eqb, both_ways}}
 use Rattle.std.specs.Prelude.{slice_index, nat_lt, not, ◌==◌}
-use Rattle.std.proofs.lemmas.Bool.{and_parts, ltb-true, not-true, eq-eqb, both_ways}
 use Rattle.dn_lockstep.specs.Contents.{Contents}
-use Rattle.dn_link.specs.{declared.bundle.Part.TheVariants.Relay, Linked.has_given_up, Linked.is_peer, Linking.linked, Relays.AreTold}
+use Rattle.dn_link.specs.{declared.bundle.Part.TheVariants.Relay, Linked.{has_given_up, is_peer}, Linking.linked, Relays.AreTold}
 use Rattle.dn_link.proofs.Handing.{length_commands}
 use Rattle.dn_link.proofs.link.Link.hand.Goals as goal
 
