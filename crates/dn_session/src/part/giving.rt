@@ -1,7 +1,7 @@
 //! Ticks: the commands that its player gives.
 
-ghost use Rattle.std.specs.Prelude.{◌≡◌};
-ghost use Rattle.dn_session.specs.Playing.{carrier_after, is_giving, Builds};
+ghost use Rattle.std.specs.Prelude.{◌≡◌, true};
+ghost use Rattle.dn_session.specs.Playing.{carrier_after, is_giving, Builds, playing, may_give, GivesWhen, PassesTick};
 
 use super::Part;
 use crate::ending::Progress;
@@ -37,9 +37,6 @@ fn carrier_after(carrier: u8) -> u8
 }
 
 impl Part {
-    ghost use Rattle.std.specs.Prelude.{true};
-    ghost use Rattle.dn_session.specs.Playing.{playing, may_give, GivesWhen, PassesTick};
-
     /// The tick that is due goes by.
     pub(super) fn pass_tick(&mut self)
         ensures { PassesTick (playing self.old) (playing self.new) }

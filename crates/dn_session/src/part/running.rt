@@ -1,32 +1,25 @@
 //! How tics are run.
 
-ghost use Rattle.std.specs.Prelude.{◌≡◌};
-ghost use Rattle.dn_session.specs.Playing.{is_made, owed_by};
+ghost use Rattle.std.specs.Prelude.{◌≡◌, ℕ, ℤ};
+ghost use Rattle.dn_lockstep.specs.Steps.{told_by};
+ghost use Rattle.dn_session.specs.Playing.{owed_by, playing, RunsNext, WritesRow};
+ghost use Rattle.dn_machine.specs.declared.answers.Ran.TheVariants as ran;
 
 use super::Part;
 use dn_machine::{Made, Ran};
 use dn_tic::Move;
 
-/// Whether a command was built.
-fn is_made(made: Option<Made>) -> bool
-    ensures { result ≡ is_made made }
-{
-    matches!(made, Some(Made::Made(_)))
-}
-
 /// To whom a datagram is owed, where this command was built.
 fn owed_by(made: Option<Made>, owed: [bool; 4]) -> [bool; 4]
     ensures { result ≡ owed_by made owed }
 {
-    if is_made(made) { [true; 4] } else { owed }
+    match made {
+        Some(Made::Made(_)) => [true; 4],
+        _ => owed,
+    }
 }
 
 impl Part {
-    ghost use Rattle.std.specs.Prelude.{ℕ, ℤ};
-    ghost use Rattle.dn_machine.specs.declared.answers.Ran.TheVariants as ran;
-    ghost use Rattle.dn_lockstep.specs.Steps.{told_by};
-    ghost use Rattle.dn_session.specs.Playing.{playing, RunsNext, WritesRow};
-
     /// Runs the next tic, if it can be run, with the marks of the world; and builds the command that was owed,
     /// if there is room for it now. Call it again while it runs.
     pub(crate) fn run(&mut self, marks: &[i16; 4], row: &mut [Option<Move>; 4]) -> Ran
