@@ -1,5 +1,5 @@
 -- What a player sees of the others in its game: by its link, and by how long it was silent there.
-use Rattle.std.specs.Prelude.{ℕ, ◌==◌, ◌&&◌, ◌||◌, Bool, not, true, false, nat_le, nat_lt, if◌then◌else◌, List, [], ◌∷◌, map, slice_index_or, Option, Some, None}
+use Rattle.std.specs.Prelude.{ℕ, ◌+◌, ◌==◌, ◌&&◌, ◌||◌, Bool, not, true, false, nat_le, nat_lt, if◌then◌else◌, List, [], ◌∷◌, map, slice_index_or, Option, Some, None}
 use Rattle.std.specs.List.{list_any, list_all}
 use Rattle.dn_machine.specs.declared.answers.Phase.{Phase}
 use Rattle.dn_lockstep.specs.{Contents.Contents, Told.got, Told.made}
@@ -49,6 +49,15 @@ standing_of link player =
 -- the own command of the next tic is there, and this player's is not
 abbrev pub lacks : Contents → ℕ → Bool
 lacks n player = nat_lt n.ran (made n) && nat_le (count_in n player) n.ran
+
+-- a player's command of the tic after the next is there, or it gives none
+abbrev pub is_behind : Linked → ℕ → Bool
+is_behind link player =
+    is_gone_from link player || (is_whole link player || nat_lt (link.node.ran + 1) (count_in link.node player))
+
+-- the row of the tic after the next is there
+abbrev pub has_row_behind : Linked → Bool
+has_row_behind link = nat_lt (link.node.ran + 1) (made link.node) && list_all (is_behind link) four
 
 -- somebody is given up
 abbrev pub has_gone : Linked → Bool

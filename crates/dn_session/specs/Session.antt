@@ -10,8 +10,8 @@ use Rattle.dn_survivor.specs.OfOthers.{nothing_kept}
 use Rattle.dn_link.specs.{Linking.linked, Linking.new_peer, Linking.seal_of, Pacing.new_pace, Pacing.pace_of, declared.link.Link.Link}
 use Rattle.dn_session.specs.{Events.none_announced, Hosting.HearsCall, Hosting.IsHostOf, Hosting.Lobby, Hosting.game_told, Hosting.holder_of, Hosting.kicked, Hosting.lobby, Joining.HearsHost}
 use Rattle.dn_session.specs.{Joining.IsJoinerOf, Joining.Joining, Joining.game_now, Joining.is_heard, Joining.joining, Joining.on_time, Places.places_of, Playing.GivesUpBy, Playing.GivesWhen}
-use Rattle.dn_session.specs.{Playing.HearsBytes, Playing.Playing, Playing.Polls, Playing.QuitsBy, Playing.RunsNext, Playing.WritesRow, Playing.given_up_at, Playing.may_give, Playing.owes_nobody, Playing.playing}
-use Rattle.dn_session.specs.{Reading.is_greeting, Sent.SendsNext, Passing.sent_of, Ticks.new_ticks, Watch.new_watch}
+use Rattle.dn_session.specs.{Playing.HearsBytes, Playing.Playing, Playing.Polls, Playing.QuitsBy, Playing.RunsNext, Playing.WritesRow, Playing.given_up_at, Playing.holds_back, Playing.may_give, Playing.owes_nobody, Playing.playing}
+use Rattle.dn_session.specs.{Reading.is_greeting, Sent.SendsNext, Passing.sent_of, Steady.new_steady, Ticks.new_ticks, Watch.new_watch}
 use Rattle.dn_session.specs.declared.{event.Announced.Announced, greeting.Address.Address, greeting.Seating.Seating, greeting.Shown.Shown, host.Host.Host, host.HostConfig.HostConfig}
 use Rattle.dn_session.specs.declared.{joiner.JoinConfig.JoinConfig, joiner.Joiner.Joiner, part.Part.Part, seats.Seat.Seat, session.Session.Session, side.Begun.Begun, side.Side.Side}
 use Rattle.dn_session.specs.declared.{terms.LobbyFault.LobbyFault}
@@ -96,7 +96,9 @@ pub record IsPartOf (secret : Option (List ℕ)) (b : Begun) (now : ℕ) (p : Pl
   pub excluders : p.excluders ≡ replicate 4 false
   pub exclusions : p.exclusions ≡ replicate 4 (record { to = None; told = None })
   pub owed : p.owed ≡ owes_nobody
-  pub carrier : p.carrier ≡ 0
+  pub held : p.is_held ≡ false
+  pub turn : p.turn ≡ 0
+  pub steady : p.steady ≡ new_steady
   pub passing : p.passing ≡ None
   pub progress : p.progress ≡ progress.Playing
   pub policy : p.policy ≡ b.terms.policy
@@ -239,6 +241,11 @@ abbrev pub RunsPart : List ℤ → Option Part → Option Part → Ran → Optio
 RunsPart marks None new answer row = (new ≡ None) × (answer ≡ ran.NotPlaying) × (row ≡ None)
 RunsPart marks (Some old) None answer row = ⊥
 RunsPart marks (Some old) (Some new) answer row = RunsNext marks (playing old) (playing new) answer row
+
+-- the next tic should wait for the next tick
+abbrev pub holds_back_in : Option Part → Bool
+holds_back_in None = false
+holds_back_in (Some part) = holds_back (playing part)
 
 -- a part that was to run has the row of the next tic
 abbrev pub HasRow : List (Option Move) → Option Part → Type 0

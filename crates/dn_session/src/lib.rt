@@ -27,6 +27,7 @@ mod seats;
 mod session;
 mod side;
 mod sorts;
+mod steady;
 mod terms;
 mod ticks;
 mod watch;

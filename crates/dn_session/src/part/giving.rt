@@ -1,11 +1,12 @@
 //! Ticks: the commands that its player gives.
 
 ghost use Rattle.std.specs.Prelude.{◌≡◌};
-ghost use Rattle.dn_session.specs.Playing.{carrier_after, is_giving, Builds};
+ghost use Rattle.dn_session.specs.Playing.{from_turn, is_full, is_giving, owed_at, Builds};
 
 use super::Part;
 use crate::ending::Progress;
 use dn_link::Link;
+use dn_machine::Made;
 use dn_tic::Input;
 
 /// Whether it plays.
@@ -16,38 +17,50 @@ pub(super) fn is_giving(progress: Progress) -> bool
 }
 
 /// The input of a tick is built.
-fn build(link: &mut Link, input: Input)
-    ensures { Builds input link.old link.new }
+fn build(link: &mut Link, input: Input) -> Made
+    ensures { Builds input link.old link.new result }
 {
     match input {
-        Input::Pressed(keys) => {
-            let _ = link.build(keys);
-        }
-        Input::Given(command) => {
-            let _ = link.give(command);
-        }
+        Input::Pressed(keys) => link.build(keys),
+        Input::Given(command) => link.give(command),
     }
 }
 
-/// The next player, around.
-fn carrier_after(carrier: u8) -> u8
-    ensures { result ≡ carrier_after carrier }
+/// Whether there was no room for it.
+fn is_full(made: Made) -> bool
+    ensures { result ≡ is_full made }
 {
-    if carrier < 3 { carrier + 1 } else { 0 }
+    matches!(made, Made::Full)
+}
+
+/// To whom a datagram is owed at a tick whose datagrams are held or not.
+fn owed_at(is_held: bool, owed: [bool; 4]) -> [bool; 4]
+    ensures { result ≡ owed_at is_held owed }
+{
+    if is_held { owed } else { [true; 4] }
+}
+
+/// The player so many places behind one, around.
+pub(super) fn from_turn(turn: u8, place: u8) -> u8
+    ensures { result ≡ from_turn turn place }
+{
+    ((u16::from(turn) + u16::from(place)) % 4) as u8
 }
 
 impl Part {
     ghost use Rattle.std.specs.Prelude.{true};
     ghost use Rattle.dn_session.specs.Playing.{playing, may_give, GivesWhen, PassesTick};
 
-    /// The tick that is due goes by.
-    pub(super) fn pass_tick(&mut self)
-        ensures { PassesTick (playing self.old) (playing self.new) }
+    /// The tick that is due goes by, and its datagrams are held or not.
+    pub(super) fn pass_tick(&mut self, is_held: bool)
+        ensures { PassesTick is_held (playing self.old) (playing self.new) }
     {
         let lean = self.link.lean();
         self.ticks.pass(lean);
-        self.owed = [true; 4];
-        self.carrier = carrier_after(self.carrier);
+        self.owed = owed_at(is_held, self.owed);
+        self.is_held = is_held;
+        self.turn = from_turn(self.turn, 1);
+        self.steady.tick();
     }
 
     /// Whether its player is to give a command now.
@@ -62,8 +75,8 @@ impl Part {
         ensures { GivesWhen true now input (playing self.old) (playing self.new) }
     {
         self.ticks.resume(now);
-        build(&mut self.link, input);
-        self.pass_tick();
+        let made = build(&mut self.link, input);
+        self.pass_tick(is_full(made));
     }
 
     /// The same where it is wanted.

@@ -1,9 +1,11 @@
 //! How tics are run.
 
 ghost use Rattle.std.specs.Prelude.{◌≡◌};
-ghost use Rattle.dn_session.specs.Playing.{is_made, owed_by};
+ghost use Rattle.dn_session.specs.Playing.{after_answer, is_made};
 
 use super::Part;
+use crate::players::has_row_behind;
+use crate::steady::Steady;
 use dn_machine::{Made, Ran};
 use dn_tic::Move;
 
@@ -14,18 +16,42 @@ fn is_made(made: Option<Made>) -> bool
     matches!(made, Some(Made::Made(_)))
 }
 
-/// To whom a datagram is owed, where this command was built.
-fn owed_by(made: Option<Made>, owed: [bool; 4]) -> [bool; 4]
-    ensures { result ≡ owed_by made owed }
+/// How evenly tics come after this answer.
+fn after_answer(ran: Ran, steady: Steady) -> Steady
+    ensures { result ≡ after_answer ran steady }
 {
-    if is_made(made) { [true; 4] } else { owed }
+    let mut steady = steady;
+    if let Ran::Ran(_) = ran {
+        steady.run();
+    }
+    steady
 }
 
 impl Part {
-    ghost use Rattle.std.specs.Prelude.{ℕ, ℤ};
+    ghost use Rattle.std.specs.Prelude.{ℕ, ℤ, Option};
+    ghost use Rattle.dn_machine.specs.declared.answers.Made.{Made as AnyMade};
     ghost use Rattle.dn_machine.specs.declared.answers.Ran.TheVariants as ran;
     ghost use Rattle.dn_lockstep.specs.Steps.{told_by};
-    ghost use Rattle.dn_session.specs.Playing.{playing, RunsNext, WritesRow};
+    ghost use Rattle.dn_link.specs.{Linking.linked};
+    ghost use Rattle.dn_session.specs.Playing.{after_catching_up, holds_back, playing, CatchesUp, RunsNext, WritesRow};
+
+    /// Whether the next tic should wait for the next tick.
+    pub(crate) fn holds_back(&self) -> bool
+        ensures { result ≡ holds_back (playing self.now) }
+    {
+        self.steady.holds(has_row_behind(&self.link))
+    }
+
+    /// Builds the command that was owed, if there is room for it now: then all are owed a datagram.
+    fn catch_up(&mut self)
+        ensures { (made : Option AnyMade) × CatchesUp (playing self.old).link (playing self.new).link made
+            × (playing self.new ≡ after_catching_up made (record (playing self.old) { link = (playing self.new).link })) }
+    {
+        if is_made(self.link.catch_up()) {
+            self.owed = [true; 4];
+            self.is_held = false;
+        }
+    }
 
     /// Runs the next tic, if it can be run, with the marks of the world; and builds the command that was owed,
     /// if there is room for it now. Call it again while it runs.
@@ -38,7 +64,8 @@ impl Part {
         ensures full { result ≡ ran.DemoFull → WritesRow row.new (playing self.old) }
     {
         let ran = self.link.run_into(marks, row);
-        self.owed = owed_by(self.link.catch_up(), self.owed);
+        self.steady = after_answer(ran, self.steady);
+        self.catch_up();
         ran
     }
 }
