@@ -1,30 +1,25 @@
 -- What packets leave that ask for nothing, where there is no gap behind what was there of the maker of any.
 use Rattle.std.proofs.Common.{◌≡◌, ◌≢◌, ◌<◌, ◌≤◌, ◌+◌, ◌-◌, ◌/◌, ◌⊎◌, ◌&&◌, ℕ, Bool, true, false, List, [], ◌∷◌, length, refl, ap, sym, ◌∙◌, subst, arith, Option, Some, None, All, inl, inr}
-use Rattle.std.proofs.{lemmas.Bool.cases_eq, lemmas.Bool.ltb-true, lemmas.Bool.not-false, lemmas.Bool.true≢false, lemmas.List.Elements.All-head}
-use Rattle.std.proofs.lemmas.List.Elements.{All-tail}
+use Rattle.std.proofs.lemmas.{Bool.{cases_eq, ltb-true, not-false, true≢false}, List.Elements.{All-head, All-tail}}
 use Rattle.std.specs.Prelude.{Ok, max, nat_lt, slice_get}
 use Rattle.dn_packet.proofs.Texts.{length-commands}
 use Rattle.dn_packet.specs.Text.{text}
 use Rattle.dn_tic.specs.declared.command.Move.{Move}
 use Rattle.dn_setup.specs.Settings.{Settings}
-use Rattle.dn_machine.specs.Flight.{Kind, SetUp, Play, Exit, Flight, packet_of, packet_of_kind, is_close, is_request_close, distance, end_of}
-use Rattle.dn_machine.specs.{declared.answers.Heard.Heard, declared.answers.Phase.Phase, declared.answers.Phase.TheVariants.Listening, declared.answers.Phase.TheVariants.Gathering, declared.answers.Phase.TheVariants.Playing, declared.answers.Phase.TheVariants.Ended, declared.peer.Peer.Peer, Game.Game, Hearing.on_packet}
-use Rattle.dn_machine.specs.{Limits.Limits, Node.is_ended, Worlds.Rules}
+use Rattle.dn_machine.specs.{Flight.{Kind, SetUp, Play, Exit, Flight, packet_of, packet_of_kind, is_close, is_request_close, distance, end_of}, Game.Game, Hearing.on_packet, Limits.Limits}
+use Rattle.dn_machine.specs.{declared.{answers.{Heard.Heard, Phase.{Phase, TheVariants.{Listening, Gathering, Playing, Ended}}}, peer.Peer.Peer}, Node.is_ended, Worlds.Rules}
+use Rattle.dn_machine.proofs.{Invariant.{IsKept, history_of}, Put.{put_at, put_off}}
+use Rattle.dn_lockstep.specs.{Contents.Contents, Marking.Marking, Sent.IsFair, OneGame.{AreOneGame, beside, Session, with_lockstep}, Phases.is_waiting, Represents.Represents, Told.got}
+use Rattle.dn_lockstep.proofs.{OneGame.hear_quiet, Receiving.{told_by, told_is, near_received}, Shown.has}
+use Rattle.dn_seal.specs.declared.opened.Opened.{Opened}
+use Rattle.dn_open.specs.{Arrivals.{HearsOpened, IsRead, SparesSealed, heard, on_opened}, declared.hearing.Arrived.Arrived, Sealed.opened_of}
+use Rattle.dn_open.proofs.{Sealables.alike, Deliveries.near_if}
+use Rattle.dn_link.specs.{LinkedGame.WasGiven, CaughtUp.{told_end, next_to}, Hearing.HearsAll}
+use Rattle.dn_link.proofs.{Hearer.{IsSpared, Leaves, settings_leave, word_leaves, word_reaches}, Keeping.{LettersKeep, keeps_one}, Makers.{HaveNoGaps, ends_of, then_end}}
 use Rattle.dn_machine.specs.Node as machine
 use Rattle.dn_machine.proofs.Asking
 use Rattle.dn_machine.proofs.Invariant
 use Rattle.dn_machine.proofs.Promises
-use Rattle.dn_machine.proofs.{Invariant.IsKept, Invariant.history_of, Put.put_at, Put.put_off}
-use Rattle.dn_lockstep.specs.{Contents.Contents, Marking.Marking, Sent.IsFair, OneGame.AreOneGame, OneGame.beside, OneGame.Session, OneGame.with_lockstep, Phases.is_waiting}
-use Rattle.dn_lockstep.specs.{Represents.Represents, Told.got}
-use Rattle.dn_lockstep.proofs.{OneGame.hear_quiet, Receiving.told_by, Receiving.told_is, Receiving.near_received, Shown.has}
-use Rattle.dn_seal.specs.declared.opened.Opened.{Opened}
-use Rattle.dn_open.specs.Arrivals.{HearsOpened, IsRead, SparesSealed, heard, on_opened}
-use Rattle.dn_open.specs.{declared.hearing.Arrived.Arrived, Sealed.opened_of}
-use Rattle.dn_open.proofs.{Sealables.alike, Deliveries.near_if}
-use Rattle.dn_link.specs.{LinkedGame.WasGiven, CaughtUp.told_end, CaughtUp.next_to, Hearing.HearsAll}
-use Rattle.dn_link.proofs.Hearer.{IsSpared, Leaves, settings_leave, word_leaves, word_reaches}
-use Rattle.dn_link.proofs.{Keeping.LettersKeep, Keeping.keeps_one, Makers.HaveNoGaps, Makers.ends_of, Makers.then_end}
 
 -- who has started, and has not ended, plays
 plays_of : (phase : Phase) → is_waiting phase ≡ false → is_ended phase ≡ false → phase ≡ Playing

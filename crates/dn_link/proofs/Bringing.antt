@@ -1,22 +1,17 @@
 -- A datagram brings all that its sender made by then.
 use Rattle.std.proofs.Common.{◌≡◌, ℕ, List, [], ◌∷◌, ◌++◌, map, append-nil, refl, ap, ◌∙◌, All, ◌≢◌, ◌<◌, ◌≤◌, ◌+◌, Bool, true, false, length, take, sym, arith, Option, Some, None, inl, inr}
-use Rattle.std.proofs.{lemmas.Grind.flat_map-append, lemmas.List.Elements.All-head, lemmas.List.Elements.All-tail, lemmas.Bool.cases_lt, lemmas.Bool.lt-ltb}
-use Rattle.std.proofs.{lemmas.Bool.ne_eqb, lemmas.Bool.true≢false, lemmas.List.length-map, Math.Seq.take-append_seam}
-use Rattle.std.specs.Prelude.{if◌then◌else◌}
-use Rattle.std.specs.List.{flat_map}
-use Rattle.dn_seal.specs.{declared.opened.Opened.Opened, declared.seal.Seal.Seal}
-use Rattle.dn_link.specs.CaughtUp.{next_to, AreCaughtUp, Brings, HasGrown, IsInStep, last_end}
-use Rattle.dn_link.specs.{declared.bundle.Part.Part, declared.bundle.Part.TheVariants.Whole, declared.bundle.Part.TheVariants.Run, declared.bundle.Part.TheVariants.Relay}
-use Rattle.dn_link.specs.{Linked.Gives, Linked.Linked, Pacing.PaceState, Packets.own_in, Packets.packets_of, Packets.opened_from, Packing.IsNeeded}
-use Rattle.dn_link.specs.{Relays.Handed, Relays.handed_part, declared.bundle.Bundle.Bundle, declared.bundle.Carried.Carried, Counting.has_ended, Hearing.carried_of}
-use Rattle.dn_link.specs.{Kept.going, Kept.taken_by, Kept.takes_packet, LinkedGame.AreLinked, Text.parts_bytes}
+use Rattle.std.proofs.{lemmas.{Grind.flat_map-append, List.{Elements.{All-head, All-tail}, length-map}, Bool.{cases_lt, lt-ltb, ne_eqb, true≢false}}, Math.Seq.take-append_seam}
+use Rattle.std.specs.{Prelude.if◌then◌else◌, List.flat_map}
+use Rattle.dn_seal.specs.declared.{opened.Opened.Opened, seal.Seal.Seal}
+use Rattle.dn_link.specs.{CaughtUp.{next_to, AreCaughtUp, Brings, HasGrown, IsInStep, last_end}, declared.bundle.{Part.{Part, TheVariants.{Whole, Run, Relay}}, Bundle.Bundle, Carried.Carried}}
+use Rattle.dn_link.specs.{Linked.{Gives, Linked}, Pacing.PaceState, Packets.{own_in, packets_of, opened_from}, Packing.IsNeeded, Relays.{Handed, handed_part}, Counting.has_ended, Hearing.carried_of}
+use Rattle.dn_link.specs.{Kept.{going, taken_by, takes_packet}, LinkedGame.AreLinked, Text.parts_bytes}
 use Rattle.dn_setup.specs.Settings.{Settings}
-use Rattle.dn_machine.specs.{declared.answers.Phase.TheVariants.Playing, declared.peer.Peer.Peer, Flight.Play, Limits.Limits, Node.put, Sending.after_sent}
-use Rattle.dn_machine.specs.Sending.{commands_flight, on_send, request_to}
+use Rattle.dn_machine.specs.{declared.{answers.Phase.TheVariants.Playing, peer.Peer.Peer}, Flight.Play, Limits.Limits, Node.put, Sending.{after_sent, commands_flight, on_send, request_to}}
 use Rattle.dn_machine.proofs.Put.{put_off}
-use Rattle.dn_lockstep.specs.{Marking.Marking, Represents.Represents, Sent.sent_to, OneGame.Session, Told.got, Told.made}
+use Rattle.dn_lockstep.specs.{Marking.Marking, Represents.Represents, Sent.sent_to, OneGame.Session, Told.{got, made}}
 use Rattle.dn_lockstep.proofs.Shown.{made_is}
-use Rattle.dn_link.proofs.{Catching.not_yet, Makers.chain_goes, Makers.later_goes, Makers.own_of, Following.gone_or_idle, Sending.Follows, Sending.follows}
+use Rattle.dn_link.proofs.{Catching.not_yet, Makers.{chain_goes, later_goes, own_of}, Following.gone_or_idle, Sending.{Follows, follows}}
 use Rattle.dn_machine.specs.Node as machine
 use Rattle.dn_link.specs.Kept as keep
 use Rattle.dn_link.proofs.Linking as base

@@ -1,15 +1,14 @@
 -- The links of a game stay caught up where one is another now.
 use Rattle.std.proofs.Common.{ℤ, ◌≡◌, ◌≢◌, ◌<◌, ◌≤◌, ◌++◌, [], ◌∷◌, ℕ, Bool, true, false, List, length, refl, ap, sym, ◌∙◌, subst, arith, inl, inr}
-use Rattle.std.proofs.{lemmas.Bool.cases_eq, lemmas.Bool.true≢false, lemmas.List.length-append}
-use Rattle.dn_tic.specs.{declared.command.TicCmd.TicCmd, declared.input.Input.Input}
-use Rattle.dn_machine.specs.{Sending.on_build, Limits.Limits, Node.put, Running.on_run, Running.on_quit, Running.row_held}
-use Rattle.dn_machine.specs.Node as machine
-use Rattle.dn_machine.proofs.{Calls.build_cases, Calls.run_cases, Calls.quit_cases, Put.put_at, Put.put_off}
+use Rattle.std.proofs.lemmas.{Bool.{cases_eq, true≢false}, List.length-append}
+use Rattle.dn_tic.specs.declared.{command.TicCmd.TicCmd, input.Input.Input}
+use Rattle.dn_machine.specs.{Sending.on_build, Limits.Limits, Node.put, Running.{on_run, on_quit, row_held}}
+use Rattle.dn_machine.proofs.{Calls.{build_cases, run_cases, quit_cases}, Put.{put_at, put_off}}
 use Rattle.dn_remain.proofs.Vanished.Put.{at_put}
 use Rattle.dn_lockstep.specs.{Contents.Contents, Represents.Represents, OneGame.Session, Told.got}
 use Rattle.dn_lockstep.proofs.Shown.{has}
-use Rattle.dn_link.specs.CaughtUp.{AreCaughtUp, IsCaughtUp, IsKeptChain, StayCaughtUp, next_to}
-use Rattle.dn_link.specs.{Counting.has_ended, Kept.IsKeptRising, Kept.Unacknowledged, Linked.Linked, LinkedGame.IsLater}
+use Rattle.dn_link.specs.{CaughtUp.{AreCaughtUp, IsCaughtUp, IsKeptChain, StayCaughtUp, next_to}, Counting.has_ended, Kept.{IsKeptRising, Unacknowledged}, Linked.Linked, LinkedGame.IsLater}
+use Rattle.dn_machine.specs.Node as machine
 
 -- one who has not ended had not
 pub not_yet : {old new : Bool} → (old ≡ true → new ≡ true) → new ≡ false → old ≡ false

@@ -3,24 +3,18 @@ use Rattle.std.proofs.Common.{◌≡◌, ◌≢◌, ◌<◌, ◌≤◌, ◌+◌,
 use Rattle.std.proofs.lemmas.Bool.{and_from, and_parts, and_right, cases_eq, eq-eqb, ne_eqb, leb-true, lt-ltb, ltb-true, true≢false}
 use Rattle.std.specs.Prelude.{◌==◌, if◌then◌else◌, is_some, min, nat_le, nat_lt, not, slice_index, unwrap_or, Result, Ok, Err}
 use Rattle.dn_setup.specs.Settings.{Settings}
-use Rattle.dn_machine.specs.{Limits.Limits, Node.is_ended, Node.put}
+use Rattle.dn_machine.specs.{Limits.Limits, Node.{is_ended, put}}
 use Rattle.dn_machine.proofs.Put.{put_at, put_off}
-use Rattle.dn_lockstep.specs.{Agreed.AreAgreed, Contents.Contents, Contents.end_in, Marking.Marking, OneGame.AreOneGame, OneGame.Session, OneGame.with_lockstep}
-use Rattle.dn_lockstep.specs.{Tables.count_of, Told.got, Told.made}
+use Rattle.dn_lockstep.specs.{Agreed.AreAgreed, Contents.{Contents, end_in}, Marking.Marking, OneGame.{AreOneGame, Session, with_lockstep}, Tables.count_of, Told.{got, made}}
 use Rattle.dn_seal.specs.{declared.seal.Seal.Seal, Opening.Sealing}
 use Rattle.dn_open.specs.Sealed.{sealing_of}
-use Rattle.dn_link.specs.Linked.{HearsPeer, Linked, PeerState, Receives, ReceivesAs, TakesIn, after_report, certain, done_with, has_given_up, is_peer, met, takes}
-use Rattle.dn_link.specs.LinkedGame.{HasReached, IsGenuineDatagram, WasGiven, AreLinked, IsLater}
-use Rattle.dn_link.specs.CaughtUp.{next_to, AreCaughtUp, Brings, HasNoGap, IsCaughtUp, IsInStep, IsInStepTo, IsKeptChain, StayCaughtUp, last_end}
-use Rattle.dn_link.specs.Counting.{has_ended, has_of, held_of, reached, with_end}
-use Rattle.dn_link.specs.{declared.bundle.Bundle.Bundle, declared.bundle.BundleFault.BundleFault, declared.received.Received.Received}
-use Rattle.dn_link.specs.declared.received.Received.TheVariants.{Excluded, GivenUp, Heard}
-use Rattle.dn_link.specs.{declared.received.Received.TheVariants.Stranger, Ends.excludes, Ends.left_by, Hearing.ByTest, Hearing.HearsAll, Kept.IsKeptRising}
-use Rattle.dn_link.specs.{Kept.Unacknowledged, Kept.acknowledged, Packets.heard_in, Packets.own_in, Packets.packets_in, Reading.IsBundledAs, Reading.IsDatagramOf}
-use Rattle.dn_link.specs.Text.{IsBundle, sealed_bytes}
-use Rattle.dn_link.proofs.Makers.{chain_past, HaveNoGaps, ends_of, parts_ask, parts_go}
-use Rattle.dn_link.proofs.{Reporting.AreTakenIn, Reporting.taken_whole, Arriving.all_hears, Catching.ends_on, Catching.not_yet, Catching.relinked, Catching.still}
-use Rattle.dn_link.proofs.{Linking.same_bundle, Keeping.LettersKeep, Keeping.as_it_is, Leaving.at_most_there, Leaving.unended, Leaving.parts_heard, Covered.rises_past}
+use Rattle.dn_link.specs.{Linked.{HearsPeer, Linked, PeerState, Receives, ReceivesAs, TakesIn, after_report, certain, done_with, has_given_up, is_peer, met, takes}, Ends.{excludes, left_by}}
+use Rattle.dn_link.specs.{LinkedGame.{HasReached, IsGenuineDatagram, WasGiven, AreLinked, IsLater}, Counting.{has_ended, has_of, held_of, reached, with_end}, Hearing.{ByTest, HearsAll}}
+use Rattle.dn_link.specs.{CaughtUp.{next_to, AreCaughtUp, Brings, HasNoGap, IsCaughtUp, IsInStep, IsInStepTo, IsKeptChain, StayCaughtUp, last_end}, Kept.{IsKeptRising, Unacknowledged, acknowledged}}
+use Rattle.dn_link.specs.{declared.{bundle.{Bundle.Bundle, BundleFault.BundleFault}, received.Received.{Received, TheVariants.{Excluded, GivenUp, Heard, Stranger}}}, Text.{IsBundle, sealed_bytes}}
+use Rattle.dn_link.specs.{Packets.{heard_in, own_in, packets_in}, Reading.{IsBundledAs, IsDatagramOf}}
+use Rattle.dn_link.proofs.{Makers.{chain_past, HaveNoGaps, ends_of, parts_ask, parts_go}, Reporting.{AreTakenIn, taken_whole}, Arriving.all_hears, Catching.{ends_on, not_yet, relinked, still}}
+use Rattle.dn_link.proofs.{Linking.same_bundle, Keeping.{LettersKeep, as_it_is}, Leaving.{at_most_there, unended, parts_heard}, Covered.rises_past}
 use Rattle.dn_machine.specs.declared.answers.Phase.TheVariants as phase
 use Rattle.dn_link.specs.declared.bundle.Relay as relay
 use Rattle.dn_link.proofs.Linking as base

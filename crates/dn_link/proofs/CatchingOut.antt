@@ -1,24 +1,19 @@
 -- The links of a game stay caught up where one gives a datagram, which is in step.
 use Rattle.std.proofs.Common.{◌≡◌, ◌≢◌, ◌<◌, ◌≤◌, ◌+◌, ◌-◌, ◌%◌, ◌^◌, ℕ, Bool, true, false, List, [], ◌∷◌, ◌++◌, length, map, take, refl, ap, sym, ◌∙◌, subst, arith, Option, Some, None, All, inl, inr}
-use Rattle.std.proofs.{lemmas.Bool.cases_eq, lemmas.Bool.cond_both, lemmas.Bool.true≢false, lemmas.List.Elements.All-take, lemmas.Option.none-some}
-use Rattle.std.proofs.lemmas.Option.{same_Some}
-use Rattle.std.specs.Prelude.{◌==◌, if◌then◌else◌, min, nat_lt, unwrap_or}
-use Rattle.std.specs.Option.{option_map}
-use Rattle.dn_tic.specs.{declared.command.TicCmd.TicCmd, declared.command.Move.Move}
+use Rattle.std.proofs.lemmas.{Bool.{cases_eq, cond_both, true≢false}, List.Elements.All-take, Option.{none-some, same_Some}}
+use Rattle.std.specs.{Prelude.{◌==◌, if◌then◌else◌, min, nat_lt, unwrap_or}, Option.option_map}
+use Rattle.dn_tic.specs.declared.command.{TicCmd.TicCmd, Move.Move}
 use Rattle.dn_setup.specs.Settings.{Settings}
-use Rattle.dn_machine.specs.{declared.peer.Peer.Peer, Flight.Flight, Limits.Limits, Node.put, Sending.lag, Sending.after_sent, Sending.set_up_flight}
-use Rattle.dn_machine.proofs.{Calls.send_cases, Put.put_at, Put.put_off}
-use Rattle.dn_lockstep.specs.{Agreed.AreAgreed, Contents.Contents, Contents.end_in, Marking.Marking, Represents.Represents, Sent.sent_to, OneGame.Session, Told.got}
-use Rattle.dn_lockstep.specs.Told.{made}
+use Rattle.dn_machine.specs.{declared.peer.Peer.Peer, Flight.Flight, Limits.Limits, Node.put, Sending.{lag, after_sent, set_up_flight}}
+use Rattle.dn_machine.proofs.{Calls.send_cases, Put.{put_at, put_off}}
+use Rattle.dn_lockstep.specs.{Agreed.AreAgreed, Contents.{Contents, end_in}, Marking.Marking, Represents.Represents, Sent.sent_to, OneGame.Session, Told.{got, made}}
 use Rattle.dn_lockstep.proofs.Shown.{made_is, has}
 use Rattle.dn_seal.specs.declared.seal.Seal.{Seal}
-use Rattle.dn_link.specs.Kept.{IsKeptRising, Unacknowledged, going, is_news, kept_after, taken_by}
-use Rattle.dn_link.specs.CaughtUp.{GoesOn, IsInTime, StillGoesOn, next_to, AreCaughtUp, HasNoGap, IsCaughtUp, IsInStep, IsKeptChain, StayCaughtUp, WasInStep}
-use Rattle.dn_link.specs.{declared.bundle.Carried.Carried, Counting.has_ended, Hearing.carried_of, Linked.Gives, Linked.Linked}
-use Rattle.dn_link.specs.{Linked.PeerState, LinkedGame.AreLinked, Pacing.PaceState, Packets.opened_from, Packets.own_in}
-use Rattle.dn_link.proofs.Makers.{IsQuiet, first_goes, going_asks, going_goes, keeps_chain, later_goes}
-use Rattle.dn_link.proofs.{Catching.relinked, Bringing.gives_own, Following.covers, Following.kept_rises, Leaving.unended, Linking.taken_given, Sending.Sends}
-use Rattle.dn_link.proofs.{Sending.sends, Reporting.told_plain}
+use Rattle.dn_link.specs.{Kept.{IsKeptRising, Unacknowledged, going, is_news, kept_after, taken_by}, declared.bundle.Carried.Carried, Counting.has_ended, Hearing.carried_of, LinkedGame.AreLinked}
+use Rattle.dn_link.specs.{CaughtUp.{GoesOn, IsInTime, StillGoesOn, next_to, AreCaughtUp, HasNoGap, IsCaughtUp, IsInStep, IsKeptChain, StayCaughtUp, WasInStep}, Linked.{Gives, Linked, PeerState}}
+use Rattle.dn_link.specs.{Pacing.PaceState, Packets.{opened_from, own_in}}
+use Rattle.dn_link.proofs.{Makers.{IsQuiet, first_goes, going_asks, going_goes, keeps_chain, later_goes}, Catching.relinked, Bringing.gives_own, Following.{covers, kept_rises}, Leaving.unended}
+use Rattle.dn_link.proofs.{Linking.taken_given, Sending.{Sends, sends}, Reporting.told_plain}
 use Rattle.dn_machine.specs.Node as machine
 use Rattle.dn_link.specs.Kept as keep
 use Rattle.dn_link.proofs.Linking as base

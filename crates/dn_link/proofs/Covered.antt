@@ -1,15 +1,14 @@
 -- The packets that are kept for a peer: each ends past those before it, and they have each command that it
 -- still needs, of those that they cover.
 use Rattle.std.proofs.Common.{◌≡◌, ◌<◌, ◌≤◌, ℕ, zero, suc, Bool, true, false, List, [], ◌∷◌, ◌++◌, length, map, take, append-nil, refl, ap, sym, ◌∙◌, subst, arith, inl, inr, Option, Some, None, ◌+◌}
-use Rattle.std.proofs.lemmas.Bool.{and_from, and_parts, and_right, cases_lt, le-ltb, le-leb, leb-true, lt-ltb, ltb-true, or_cases, or_left, or_right, true≢false, leb-false}
-use Rattle.std.proofs.{Math.Seq.take-append_seam, lemmas.List.length-map}
-use Rattle.std.specs.Prelude.{if◌then◌else◌, ◌&&◌, ◌↔◌, nat_le, nat_lt, max}
-use Rattle.std.specs.List.{flat_map}
-use Rattle.dn_seal.specs.{declared.opened.Opened.Opened, declared.seal.Seal.Seal}
+use Rattle.std.proofs.lemmas.{Bool.{and_from, and_parts, and_right, cases_lt, le-ltb, le-leb, leb-true, lt-ltb, ltb-true, or_cases, or_left, or_right, true≢false, leb-false}, List.length-map}
+use Rattle.std.proofs.Math.Seq.{take-append_seam}
+use Rattle.std.specs.{Prelude.{if◌then◌else◌, ◌&&◌, ◌↔◌, nat_le, nat_lt, max}, List.flat_map}
+use Rattle.dn_seal.specs.declared.{opened.Opened.Opened, seal.Seal.Seal}
 use Rattle.dn_machine.proofs.Put.{put_at}
-use Rattle.dn_link.specs.Kept.{IsCovering, Reaches, Unacknowledged, acknowledged, end_of, going, has_tic, is_news, kept_after, taken_by, without, IsKeptRising, IsRising}
-use Rattle.dn_link.specs.{declared.bundle.Carried.Carried, declared.peer.Peer.Peer, Linked.Gives, Linked.Linked, Linked.PeerState, Linking.peers_of, Pacing.PaceState}
-use Rattle.dn_link.specs.{Packets.opened_from, Packets.packets_of, Packing.ArePacked, Text.parts_bytes}
+use Rattle.dn_link.specs.{Kept.{IsCovering, Reaches, Unacknowledged, acknowledged, end_of, going, has_tic, is_news, kept_after, taken_by, without, IsKeptRising, IsRising}, Linking.peers_of}
+use Rattle.dn_link.specs.{declared.{bundle.Carried.Carried, peer.Peer.Peer}, Linked.{Gives, Linked, PeerState}, Pacing.PaceState, Packets.{opened_from, packets_of}, Packing.ArePacked}
+use Rattle.dn_link.specs.Text.{parts_bytes}
 
 -- Each packet that is kept for a peer ends past those before it.
 

@@ -1,22 +1,17 @@
 -- The packets to a peer go on from those that are kept for it, or from earlier ones.
 use Rattle.std.proofs.Common.{ℤ, ◌≡◌, ◌≢◌, ◌≤◌, ◌+◌, ◌⊎◌, ℕ, Bool, true, false, List, refl, ap, sym, ◌∙◌, subst, arith, Option, Some, None, inl, inr}
-use Rattle.std.proofs.lemmas.Bool.{and_parts, cond_both, eqb-true, lt-ltb, ltb-true, not-false, true≢false}
-use Rattle.std.proofs.lemmas.Option.{none-some, same_Some}
-use Rattle.std.specs.Prelude.{if◌then◌else◌, nat_lt, not, ◌%◌, ◌^◌}
-use Rattle.std.specs.Option.{option_map}
-use Rattle.dn_tic.specs.{declared.command.Move.Move, declared.input.Input.Input}
-use Rattle.dn_machine.specs.{declared.answers.Made.Made, declared.answers.Ran.Ran, declared.peer.Peer.Peer, Sending.on_build, Sending.on_send, Flight.Flight}
-use Rattle.dn_machine.specs.{Limits.Limits, Node.put, Running.on_run, Running.on_quit}
-use Rattle.dn_machine.specs.Node as machine
+use Rattle.std.proofs.lemmas.{Bool.{and_parts, cond_both, eqb-true, lt-ltb, ltb-true, not-false, true≢false}, Option.{none-some, same_Some}}
+use Rattle.std.specs.{Prelude.{if◌then◌else◌, nat_lt, not, ◌%◌, ◌^◌}, Option.option_map}
+use Rattle.dn_tic.specs.declared.{command.Move.Move, input.Input.Input}
+use Rattle.dn_machine.specs.{declared.{answers.{Made.Made, Ran.Ran}, peer.Peer.Peer}, Sending.{on_build, on_send}, Flight.Flight, Limits.Limits, Node.put, Running.{on_run, on_quit}}
 use Rattle.dn_machine.proofs.Put.{put_at, put_off}
-use Rattle.dn_lockstep.specs.{Represents.Represents, Steps.RunsBy, Steps.marks_in, Steps.Steps, Sent.sent_to, Told.made}
+use Rattle.dn_lockstep.specs.{Represents.Represents, Steps.{RunsBy, marks_in, Steps}, Sent.sent_to, Told.made}
 use Rattle.dn_lockstep.proofs.Shown.{made_is}
 use Rattle.dn_seal.specs.declared.seal.Seal.{Seal}
-use Rattle.dn_link.specs.CaughtUp.{GoesOn, IsGone, IsInTime, StillGoesOn, next_to}
-use Rattle.dn_link.specs.Kept.{IsKeptRising, Reaches, Unacknowledged, commands_in, end_of, is_idle, kept_after, taken_by, takes_packet}
-use Rattle.dn_link.specs.{declared.bundle.Carried.Carried, Hearing.carried_of, Pacing.PaceState, Linked.Gives, Linked.Linked, Linked.PeerState}
-use Rattle.dn_link.proofs.Sending.{Follows, Silent, resend_of, build_same, quit_same, run_same, send_same, sends}
-use Rattle.dn_link.proofs.{Covered.reached, Covered.few, Covered.news_rises, Linking.taken_given}
+use Rattle.dn_link.specs.{CaughtUp.{GoesOn, IsGone, IsInTime, StillGoesOn, next_to}, Kept.{IsKeptRising, Reaches, Unacknowledged, commands_in, end_of, is_idle, kept_after, taken_by, takes_packet}}
+use Rattle.dn_link.specs.{declared.bundle.Carried.Carried, Hearing.carried_of, Pacing.PaceState, Linked.{Gives, Linked, PeerState}}
+use Rattle.dn_link.proofs.{Sending.{Follows, Silent, resend_of, build_same, quit_same, run_same, send_same, sends}, Covered.{reached, few, news_rises}, Linking.taken_given}
+use Rattle.dn_machine.specs.Node as machine
 
 -- a packet that is kept, or is not
 pub kept_rises : (kept : Unacknowledged) (packet : Option Carried) → IsKeptRising kept

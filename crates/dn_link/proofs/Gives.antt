@@ -1,23 +1,17 @@
 -- What a link gives to a peer, within one game.
-use Rattle.std.proofs.Common.{◌≡◌, ◌<◌, ◌≤◌, ◌≢◌, ◌+◌, ◌%◌, ◌^◌, ℕ, true, List, refl, ap, sym, ◌∙◌, arith, Option, Some}
-use Rattle.std.proofs.lemmas.Bool.{cond_both}
-use Rattle.std.specs.Prelude.{IfSome, nat_lt, slice_index}
-use Rattle.std.specs.Option.{option_map}
+use Rattle.std.proofs.{Common.{◌≡◌, ◌<◌, ◌≤◌, ◌≢◌, ◌+◌, ◌%◌, ◌^◌, ℕ, true, List, refl, ap, sym, ◌∙◌, arith, Option, Some}, lemmas.Bool.cond_both}
+use Rattle.std.specs.{Prelude.{IfSome, nat_lt, slice_index}, Option.option_map}
 use Rattle.dn_setup.specs.Settings.{Settings}
 use Rattle.dn_machine.specs.{Flight.Flight, Limits.Limits, Node.put}
 use Rattle.dn_machine.proofs.Put.{put_at}
-use Rattle.dn_lockstep.specs.OneGame.{AreOneGame, Session, after_packet, after_relays, given_on}
-use Rattle.dn_lockstep.specs.{Contents.Contents, Marking.Marking, Represents.Represents, Sent.sent_to, Sent.IsFair, Steps.Tells, Told.command_told}
+use Rattle.dn_lockstep.specs.{OneGame.{AreOneGame, Session, after_packet, after_relays, given_on}, Contents.Contents, Marking.Marking, Represents.Represents, Sent.{sent_to, IsFair}, Steps.Tells}
+use Rattle.dn_lockstep.specs.Told.{command_told}
 use Rattle.dn_lockstep.proofs.OneGame.{GoesBetween, sent_between, gave, relays}
 use Rattle.dn_seal.specs.declared.seal.Seal.{Seal}
-use Rattle.dn_link.specs.{declared.bundle.Bundle.Bundle, declared.bundle.Carried.Carried, declared.bundle.Counts.Counts, Counting.counts_of, Counting.has_ended}
-use Rattle.dn_link.specs.{Counting.has_of, Ends.tells_end, LinkedGame.WasBundled, LinkedGame.AreLinked, LinkedGame.IsLater}
-use Rattle.dn_link.specs.{Hearing.carried_of, Kept.kept_after, Kept.taken_by, Linked.Linked, Linked.Gives, Linked.PeerState, Pacing.PaceState, Relays.AreHandedOn}
-use Rattle.dn_link.specs.Relays.{Handed, flights_of}
-use Rattle.dn_link.proofs.Growing.{HasAsMuch, grows, Holds, holds_same, send_holds}
-use Rattle.dn_link.proofs.Linking.{goes_given, stays_kept, at_most, same_reported, same_left}
-use Rattle.dn_link.proofs.Relinking.{AreKept, found_later, found_on, later_by, relinked}
-use Rattle.dn_link.proofs.{Leaving.counts_reach, Leaving.tells_own, Handing.gives_all}
+use Rattle.dn_link.specs.{declared.bundle.{Bundle.Bundle, Carried.Carried, Counts.Counts}, Counting.{counts_of, has_ended, has_of}, Ends.tells_end, LinkedGame.{WasBundled, AreLinked, IsLater}}
+use Rattle.dn_link.specs.{Hearing.carried_of, Kept.{kept_after, taken_by}, Linked.{Linked, Gives, PeerState}, Pacing.PaceState, Relays.{AreHandedOn, Handed, flights_of}}
+use Rattle.dn_link.proofs.{Growing.{HasAsMuch, grows, Holds, holds_same, send_holds}, Linking.{goes_given, stays_kept, at_most, same_reported, same_left}, Leaving.{counts_reach, tells_own}}
+use Rattle.dn_link.proofs.{Relinking.{AreKept, found_later, found_on, later_by, relinked}, Handing.gives_all}
 use Rattle.dn_survivor.specs.declared.others.Others.{Others}
 use Rattle.dn_machine.specs.Node as machine
 use Rattle.dn_link.proofs.Linking as base

@@ -1,25 +1,22 @@
 -- What a node and a lockstep have of a player, with the player's end, never grows less; and one that has
 -- left, or ended, or started, stays so.
 use Rattle.std.proofs.Common.{◌≡◌, ◌≢◌, ◌<◌, ◌≤◌, ℕ, Bool, true, false, List, refl, ap, sym, ◌∙◌, subst, arith, Some, All, ◌&&◌, ℤ, eqb, ◌++◌, length, Option, None}
-use Rattle.std.proofs.lemmas.Bool.{cond-false, lt-ltb, le-ltb, ne_eqb, cond_both}
-use Rattle.std.proofs.lemmas.List.{length-append}
+use Rattle.std.proofs.lemmas.{Bool.{cond-false, lt-ltb, le-ltb, ne_eqb, cond_both}, List.length-append}
 use Rattle.std.specs.Prelude.{Ok, slice_get}
-use Rattle.dn_tic.specs.{declared.command.TicCmd.TicCmd, declared.input.Input.Input}
+use Rattle.dn_tic.specs.declared.{command.TicCmd.TicCmd, input.Input.Input}
 use Rattle.dn_setup.specs.Settings.{Settings}
 use Rattle.dn_seal.specs.declared.opened.Opened.{Opened}
-use Rattle.dn_machine.specs.Flight.{Flight, packet_of, is_close, is_request_close, is_exit, end_of}
-use Rattle.dn_machine.specs.Node.{has_left, is_ended, Node, put, with_peer, made, ends_of}
-use Rattle.dn_machine.specs.{Limits.Limits, Hearing.on_packet, Hearing.is_within, Hearing.after_request, Hearing.after_exit, declared.answers.Heard.Heard}
-use Rattle.dn_machine.specs.{declared.peer.Peer.Peer, Sending.on_build, Sending.after_sent, Sending.on_send, Running.on_run, Running.on_quit}
-use Rattle.dn_machine.proofs.Calls.{build_cases, send_cases, run_cases, quit_cases, packet_cases, sender_after}
-use Rattle.dn_machine.proofs.Put.{put_at, put_off}
-use Rattle.dn_machine.specs.Node as machine
-use Rattle.dn_lockstep.specs.{Contents.Contents, Marking.Marking, Sent.IsFair, OneGame.AreOneGame, OneGame.Session, OneGame.with_lockstep, Phases.is_waiting, Represents.Represents}
-use Rattle.dn_lockstep.proofs.{Shown.got_is, Shown.end_is, Receiving.told_by, Receiving.told_is, Receiving.near_received}
-use Rattle.dn_open.specs.{Arrivals.HearsOpened, Arrivals.IsRead, Arrivals.heard, Arrivals.on_opened, declared.hearing.Arrived.Arrived, Sealed.IsSmall, Sealed.opened_of}
+use Rattle.dn_machine.specs.{Flight.{Flight, packet_of, is_close, is_request_close, is_exit, end_of}, Node.{has_left, is_ended, Node, put, with_peer, made, ends_of}, Limits.Limits}
+use Rattle.dn_machine.specs.{Hearing.{on_packet, is_within, after_request, after_exit}, declared.{answers.Heard.Heard, peer.Peer.Peer}, Sending.{on_build, after_sent, on_send}}
+use Rattle.dn_machine.specs.Running.{on_run, on_quit}
+use Rattle.dn_machine.proofs.{Calls.{build_cases, send_cases, run_cases, quit_cases, packet_cases, sender_after}, Put.{put_at, put_off}}
+use Rattle.dn_lockstep.specs.{Contents.Contents, Marking.Marking, Sent.IsFair, OneGame.{AreOneGame, Session, with_lockstep}, Phases.is_waiting, Represents.Represents}
+use Rattle.dn_lockstep.proofs.{Shown.{got_is, end_is}, Receiving.{told_by, told_is, near_received}}
+use Rattle.dn_open.specs.{Arrivals.{HearsOpened, IsRead, heard, on_opened}, declared.hearing.Arrived.Arrived, Sealed.{IsSmall, opened_of}}
 use Rattle.dn_open.proofs.{Sealables.alike, Deliveries.near_if, Fairness.are_sealable}
-use Rattle.dn_link.specs.{LinkedGame.WasGiven, Hearing.HearsAll, Counting.with_end, Counting.has_ended, Counting.has_of}
+use Rattle.dn_link.specs.{LinkedGame.WasGiven, Hearing.HearsAll, Counting.{with_end, has_ended, has_of}}
 use Rattle.dn_link.proofs.Keeping.{KeepsOne, all_along, LettersKeep, as_it_is, keeps_one}
+use Rattle.dn_machine.specs.Node as machine
 
 -- What a node has of a player, with the player's end, never grows less; and one that has left stays so.
 

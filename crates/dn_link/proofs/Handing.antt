@@ -1,18 +1,15 @@
 -- What a link may hand on, and to whom; and the commands of third players that are handed on were given.
 use Rattle.std.proofs.Common.{◌≡◌, ◌<◌, ◌≤◌, ◌+◌, ◌||◌, ℕ, length, append_assoc, zero, suc, Bool, true, false, List, [], ◌∷◌, ◌++◌, append-nil, refl, ap, sym, subst, ◌∙◌, arith, Option, Some, None, inl, inr, ◌≢◌, ◌*◌, ◌/◌, ◌%◌, ◌^◌, negsuc, map, All}
-use Rattle.std.proofs.{lemmas.List.Elements.All-nil, lemmas.List.Elements.All-cons, lemmas.List.Elements.All-append, lemmas.Bool.and_parts, lemmas.Bool.not-true}
-use Rattle.std.proofs.{lemmas.List.length-append, lemmas.Grind.flat_map-append, Math.Nat.mod-lt}
-use Rattle.std.specs.Prelude.{◌⊎◌, IfSome, not, slice_get}
-use Rattle.std.specs.List.{flat_map}
-use Rattle.dn_tic.specs.{Command.IsCommand, Command.command_bytes, declared.command.TicCmd.TicCmd}
+use Rattle.std.proofs.{lemmas.{List.{Elements.{All-nil, All-cons, All-append}, length-append}, Bool.{and_parts, not-true}, Grind.flat_map-append}, Math.Nat.mod-lt}
+use Rattle.std.specs.{Prelude.{◌⊎◌, IfSome, not, slice_get}, List.flat_map}
+use Rattle.dn_tic.specs.{Command.{IsCommand, command_bytes}, declared.command.TicCmd.TicCmd}
 use Rattle.dn_machine.specs.{Flight.Flight, Relaying.packet_of_one}
 use Rattle.dn_lockstep.specs.{Contents.Contents, Sent.IsFair, Told.command_told}
 use Rattle.dn_lockstep.proofs.Keeping.{none_stops}
-use Rattle.dn_survivor.specs.{declared.report.Report.Report, OfOthers.newest_of, Telling.MayRelay, Telling.told_gone}
+use Rattle.dn_survivor.specs.{declared.report.Report.Report, OfOthers.newest_of, Telling.{MayRelay, told_gone}}
 use Rattle.dn_open.specs.Sealed.{opened_of}
-use Rattle.dn_link.specs.Surviving.{names, reports_gone, HasTwoBehind, IsHandedFor, may_hand, shares_gone}
-use Rattle.dn_link.specs.Relays.{AreTold, AreHandedOn, AreLacked, Handed, handed_part, flights_of, run_flights}
-use Rattle.dn_link.specs.{declared.bundle.Part.Part, declared.bundle.Part.TheVariants.Relay, Linked.HasBehind, Linked.Linked, Linked.has_given_up, Linked.surviving_of, LinkedGame.WasGiven}
+use Rattle.dn_link.specs.{Surviving.{names, reports_gone, IsHandedFor, may_hand, shares_gone}, Relays.{AreTold, AreHandedOn, AreLacked, Handed, handed_part, flights_of, run_flights}}
+use Rattle.dn_link.specs.{declared.bundle.Part.{Part, TheVariants.Relay}, Linked.{HasBehind, Linked, has_given_up, surviving_of}, LinkedGame.WasGiven}
 use Rattle.dn_link.specs.Packets.{opened_from, packets_of, short_packet, short_packets}
 use Rattle.dn_link.specs.declared.bundle.Relay as relay
 
@@ -68,7 +65,8 @@ none_behind link to low own = record {
   may = λ some. absurd (some refl);
 }
 
-pub nothing_behind : (link : Linked) (to : ℕ) (own : List Part) → HasTwoBehind link to own own
+pub nothing_behind : (link : Linked) (to : ℕ) (own : List Part)
+    → (behind : HasBehind link to 0 own own) × (length behind.handed ≤ 2)
 unfolding none_behind
 nothing_behind link to own = (none_behind link to 0 own, few)
   where

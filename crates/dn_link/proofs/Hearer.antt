@@ -1,15 +1,13 @@
 -- What one packet that asks for nothing does to the node that hears it.
 use Rattle.std.proofs.Common.{◌≡◌, ◌≢◌, ◌<◌, ◌≤◌, ◌+◌, ◌-◌, ◌⊎◌, ◌++◌, ℕ, Bool, true, false, List, length, drop, refl, ap, sym, ◌∙◌, subst, arith, Option, None, inl, inr}
+use Rattle.std.proofs.lemmas.{Bool.cases_eq, List.{length-append, length-drop}}
 use Rattle.std.specs.Prelude.{max}
-use Rattle.std.proofs.lemmas.{Bool.cases_eq, List.length-append, List.length-drop}
 use Rattle.dn_tic.specs.declared.command.TicCmd.{TicCmd}
 use Rattle.dn_setup.specs.Settings.{Settings}
-use Rattle.dn_machine.specs.{declared.answers.Heard.Heard, declared.answers.Phase.Phase, declared.peer.Peer.Peer, Limits.Limits, Node.Node, Node.put, Node.made, Node.is_ended}
-use Rattle.dn_machine.specs.declared.answers.Phase.TheVariants.{Listening, Gathering, Playing, Ended}
+use Rattle.dn_machine.specs.{declared.{answers.{Heard.Heard, Phase.{Phase, TheVariants.{Listening, Gathering, Playing, Ended}}}, peer.Peer.Peer}, Limits.Limits, Node.{Node, put, made, is_ended}}
+use Rattle.dn_machine.specs.{Flight.{SetUp, Play, Exit, Flight, is_exit, end_of}, Hearing.{after_request, after_exit, on_commands, on_ended, on_packet, on_packet_in}}
+use Rattle.dn_machine.proofs.{Put.{put_at, put_off}, Calls.{Refused, commands_cases, packet_cases, sender_after}}
 use Rattle.dn_machine.specs.Drops as drops
-use Rattle.dn_machine.specs.Flight.{SetUp, Play, Exit, Flight, is_exit, end_of}
-use Rattle.dn_machine.specs.Hearing.{after_request, after_exit, on_commands, on_ended, on_packet, on_packet_in}
-use Rattle.dn_machine.proofs.{Put.put_at, Put.put_off, Calls.Refused, Calls.commands_cases, Calls.packet_cases, Calls.sender_after}
 
 -- a packet that is asked for nothing leaves what is sent next, and what is wanted
 module _ (limits : Limits) (me : ℕ) (node : Node) (flight : Flight) (silent : flight.request ≡ None)

@@ -1,11 +1,10 @@
 -- The packets of a datagram are heard one after the other.
-use Rattle.std.proofs.Common.{◌≡◌, ◌<◌, ◌≤◌, ◌+◌, ◌*◌, ◌/◌, ◌%◌, ◌^◌, ℕ, zero, suc, List, [], ◌∷◌, ◌++◌, length, take, drop, refl, ◌∙◌, subst, arith, ap}
-use Rattle.std.proofs.lemmas.List.{length-drop}
+use Rattle.std.proofs.{Common.{◌≡◌, ◌<◌, ◌≤◌, ◌+◌, ◌*◌, ◌/◌, ◌%◌, ◌^◌, ℕ, zero, suc, List, [], ◌∷◌, ◌++◌, length, take, drop, refl, ◌∙◌, subst, arith, ap}, lemmas.List.length-drop}
 use Rattle.dn_lockstep.specs.Contents.{Contents, whose}
 use Rattle.dn_seal.specs.declared.opened.Opened.{Opened}
-use Rattle.dn_open.specs.{Arrivals.HearsOpened, Arrivals.SparesSealed, declared.hearing.Arrived.Arrived}
+use Rattle.dn_open.specs.{Arrivals.{HearsOpened, SparesSealed}, declared.hearing.Arrived.Arrived}
+use Rattle.dn_link.specs.{declared.bundle.Part.TheVariants.Run, Hearing.HearsAll, Packets.{opened_from, packets_of, short_packet, short_packets}}
 use Rattle.dn_link.specs.declared.bundle.Run as run
-use Rattle.dn_link.specs.{declared.bundle.Part.TheVariants.Run, Hearing.HearsAll, Packets.opened_from, Packets.packets_of, Packets.short_packet, Packets.short_packets}
 
 -- whatever comes of the rest comes of all
 abbrev pub LeadsOn : List Opened → Contents → List Opened → Contents → Type 0

@@ -1,10 +1,9 @@
 -- The locksteps of one game stay those of one game where one hears a datagram.
-use Rattle.std.proofs.Common.{arith, ◌≡◌, List, [], ◌∷◌, sym, subst, All, ℕ, ap, ◌∙◌, Some}
-use Rattle.std.proofs.lemmas.List.Elements.{All-head, All-tail}
+use Rattle.std.proofs.{Common.{arith, ◌≡◌, List, [], ◌∷◌, sym, subst, All, ℕ, ap, ◌∙◌, Some}, lemmas.List.Elements.{All-head, All-tail}}
 use Rattle.std.specs.Prelude.{slice_get}
-use Rattle.dn_lockstep.specs.{Contents.Contents, Marking.Marking, OneGame.AreOneGame, OneGame.Session, OneGame.with_lockstep}
+use Rattle.dn_lockstep.specs.{Contents.Contents, Marking.Marking, OneGame.{AreOneGame, Session, with_lockstep}}
 use Rattle.dn_seal.specs.declared.opened.Opened.{Opened}
-use Rattle.dn_open.specs.{Arrivals.HearsOpened, Arrivals.SparesSealed, declared.hearing.Arrived.Arrived, Sealed.opened_of}
+use Rattle.dn_open.specs.{Arrivals.{HearsOpened, SparesSealed}, declared.hearing.Arrived.Arrived, Sealed.opened_of}
 use Rattle.dn_link.specs.{Hearing.HearsAll, LinkedGame.WasGiven}
 use Rattle.dn_setup.specs.Settings.{Settings}
 use Rattle.dn_machine.specs.{Flight.Flight, Limits.Limits, Node.put}

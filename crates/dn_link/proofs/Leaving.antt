@@ -1,20 +1,15 @@
 -- Who is known to have left; and who may leave is needed by nobody who has not left, and what is
 -- acknowledged is there.
 use Rattle.std.proofs.Common.{◌≡◌, ◌≢◌, ◌<◌, ◌≤◌, ◌+◌, ◌-◌, ℕ, zero, suc, Bool, true, false, refl, ap, sym, ◌∙◌, arith, Option, Some, None, ◌&&◌, ◌/◌, ◌%◌, ◌^◌, List, [], ◌∷◌, ◌++◌, length, take, drop, All, inl, inr}
-use Rattle.std.proofs.lemmas.Bool.{lt-ltb, ltb-true, ne_eqb, and_parts, not-true, eq-eqb}
-use Rattle.std.proofs.lemmas.List.Elements.{All-append, All-cons, All-nil, All-head, All-tail}
-use Rattle.std.proofs.lemmas.Option.{none-some}
-use Rattle.std.specs.Prelude.{◌==◌, if◌then◌else◌, is_some, min, nat_lt, slice_index, ◌⊎◌}
-use Rattle.std.specs.List.{flat_map}
+use Rattle.std.proofs.lemmas.{Bool.{lt-ltb, ltb-true, ne_eqb, and_parts, not-true, eq-eqb}, List.Elements.{All-append, All-cons, All-nil, All-head, All-tail}, Option.none-some}
+use Rattle.std.specs.{Prelude.{◌==◌, if◌then◌else◌, is_some, min, nat_lt, slice_index, ◌⊎◌}, List.flat_map}
 use Rattle.dn_setup.specs.Settings.{Settings}
 use Rattle.dn_seal.specs.declared.opened.Opened.{Opened}
 use Rattle.dn_machine.specs.Limits.{Limits}
-use Rattle.dn_lockstep.specs.{Agreed.AreAgreed, Contents.Contents, Contents.end_in, Marking.Marking, Tables.count_of, OneGame.Session, Told.got, Told.made}
-use Rattle.dn_link.specs.Packets.{heard_of, opened_from, packets_of, short_packet, short_packets, takes_relay}
-use Rattle.dn_link.specs.Linked.{Linked, certain, has_given_up, may_leave, needs_nothing}
-use Rattle.dn_link.specs.{Counting.counts_of, Counting.has_ended, Counting.has_of, Counting.with_end, CaughtUp.IsGone, LinkedGame.AreLinked, Ends.left_by, Ends.tells_end}
-use Rattle.dn_link.specs.{declared.bundle.Bundle.Bundle, declared.bundle.Part.Part, declared.bundle.Part.TheVariants.Whole, declared.bundle.Part.TheVariants.Run}
-use Rattle.dn_link.specs.declared.bundle.Part.TheVariants.{Relay}
+use Rattle.dn_lockstep.specs.{Agreed.AreAgreed, Contents.{Contents, end_in}, Marking.Marking, Tables.count_of, OneGame.Session, Told.{got, made}}
+use Rattle.dn_link.specs.{Packets.{heard_of, opened_from, packets_of, short_packet, short_packets, takes_relay}, Linked.{Linked, certain, has_given_up, may_leave, needs_nothing}, CaughtUp.IsGone}
+use Rattle.dn_link.specs.{Counting.{counts_of, has_ended, has_of, with_end}, LinkedGame.AreLinked, Ends.{left_by, tells_end}}
+use Rattle.dn_link.specs.declared.bundle.{Bundle.Bundle, Part.{Part, TheVariants.{Whole, Run, Relay}}}
 
 -- Who is known to have left.
 

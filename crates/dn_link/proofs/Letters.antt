@@ -1,17 +1,15 @@
 -- A packet that was given is heard within one game of survivors.
-use Rattle.std.proofs.Common.{◌≡◌, ◌<◌, ◌&&◌, ℕ, Bool, true, false, refl, ap, sym, ◌∙◌, subst, arith, Some}
+use Rattle.std.proofs.{Common.{◌≡◌, ◌<◌, ◌&&◌, ℕ, Bool, true, false, refl, ap, sym, ◌∙◌, subst, arith, Some}, lemmas.Bool.both_ways}
 use Rattle.std.specs.Prelude.{Result, Ok, slice_get}
-use Rattle.std.proofs.lemmas.Bool.{both_ways}
-use Rattle.dn_packet.specs.{declared.packet.Packet.Packet, declared.packet.PacketFault.PacketFault}
+use Rattle.dn_packet.specs.declared.packet.{Packet.Packet, PacketFault.PacketFault}
 use Rattle.dn_setup.specs.{Settings.Settings, declared.setup.SetupFault.SetupFault}
-use Rattle.dn_machine.specs.{declared.answers.Heard.Heard, Flight.Flight, Flight.packet_of, Flight.is_close, Flight.is_request_close, Limits.Limits, Node.put}
+use Rattle.dn_machine.specs.{declared.answers.Heard.Heard, Flight.{Flight, packet_of, is_close, is_request_close}, Limits.Limits, Node.put}
 use Rattle.dn_machine.proofs.Put.{put_at}
-use Rattle.dn_lockstep.specs.{Contents.Contents, Hearing.HearsAny, Hearing.Spares, Marking.Marking, Received.received, Represents.Represents, Sent.bytes_of, Steps.IsAfter, Told.made}
-use Rattle.dn_lockstep.proofs.Shown.{made_is}
-use Rattle.dn_lockstep.proofs.Receiving.{near_from_any, told_by, told_is}
-use Rattle.dn_survivor.specs.{declared.others.Others.Others, OfOthers.has, OneGame.AreRemaining, OneGame.Session, OneGame.with_survivor, Surviving.Surviving, Surviving.has_given_up}
+use Rattle.dn_lockstep.specs.{Contents.Contents, Hearing.{HearsAny, Spares}, Marking.Marking, Received.received, Represents.Represents, Sent.bytes_of, Steps.IsAfter, Told.made}
+use Rattle.dn_lockstep.proofs.{Shown.made_is, Receiving.{near_from_any, told_by, told_is}}
+use Rattle.dn_survivor.specs.{declared.others.Others.Others, OfOthers.has, OneGame.{AreRemaining, Session, with_survivor}, Surviving.{Surviving, has_given_up}}
 use Rattle.dn_seal.specs.declared.opened.Opened.{Opened}
-use Rattle.dn_open.specs.{Arrivals.HearsOpened, Arrivals.IsRead, Arrivals.SparesSealed, Arrivals.heard, Arrivals.on_opened, declared.hearing.Arrived.Arrived, Sealed.opened_of}
+use Rattle.dn_open.specs.{Arrivals.{HearsOpened, IsRead, SparesSealed, heard, on_opened}, declared.hearing.Arrived.Arrived, Sealed.opened_of}
 use Rattle.dn_open.proofs.{Sealables.alike, Deliveries.near_if}
 use Rattle.dn_link.specs.LinkedGame.{WasGiven}
 use Rattle.dn_link.proofs.Keeping.{KeepsOne, put_twice}

@@ -1,24 +1,20 @@
 -- A link of one game, and what calls leave that keep what it knows of its peers.
 use Rattle.std.proofs.Common.{◌≡◌, ℕ, true, refl, ap, sym, ◌∙◌, ◌≤◌, List, arith, ◌<◌, subst, [], ◌∷◌, Some, All, ◌++◌, Option, None}
-use Rattle.std.proofs.lemmas.List.Elements.{All-nil, All-cons, All-head, All-tail, All-append}
-use Rattle.std.proofs.{lemmas.Option.same_Some, lemmas.Option.none-some, lemmas.Grind.flat_map-append}
-use Rattle.std.specs.Prelude.{max, slice_index, slice_get, map}
-use Rattle.std.specs.{List.flat_map, Option.option_map}
+use Rattle.std.proofs.lemmas.{List.Elements.{All-nil, All-cons, All-head, All-tail, All-append}, Option.{same_Some, none-some}, Grind.flat_map-append}
+use Rattle.std.specs.{Prelude.{max, slice_index, slice_get, map}, List.flat_map, Option.option_map}
 use Rattle.dn_setup.specs.Settings.{Settings}
-use Rattle.dn_seal.specs.{declared.opened.Opened.Opened, declared.seal.Seal.Seal}
+use Rattle.dn_seal.specs.declared.{opened.Opened.Opened, seal.Seal.Seal}
 use Rattle.dn_machine.specs.{Node.put, Flight.Flight, Limits.Limits}
 use Rattle.dn_machine.proofs.Put.{put_at, put_off}
-use Rattle.dn_machine.specs.Node as machine
 use Rattle.dn_lockstep.proofs.OneGame.{GoesBetween}
-use Rattle.dn_lockstep.specs.{Contents.Contents, Marking.Marking, OneGame.AreOneGame, OneGame.given_on, OneGame.Session, OneGame.with_lockstep, Represents.Represents}
-use Rattle.dn_lockstep.specs.Steps.{Simulates}
+use Rattle.dn_lockstep.specs.{Contents.Contents, Marking.Marking, OneGame.{AreOneGame, given_on, Session, with_lockstep}, Represents.Represents, Steps.Simulates}
 use Rattle.dn_open.specs.Sealed.{sealing_of}
-use Rattle.dn_link.specs.{Linked.Linked, Linked.PeerState, Linked.larger, Linked.Gives, Kept.Unacknowledged, Kept.going, Kept.taken_by, Counting.has_ended}
-use Rattle.dn_link.specs.{LinkedGame.AreLinked, LinkedGame.IsLater, LinkedGame.WasGiven, LinkedGame.WasBundled, declared.bundle.Bundle.Bundle, Packets.packets_in}
-use Rattle.dn_link.specs.{Packets.packets_of, Reading.IsDatagramOf, Text.IsBundle, Text.sealed_bytes, declared.bundle.Carried.Carried, Hearing.carried_of}
-use Rattle.dn_link.specs.{Pacing.PaceState, Relays.flights_of, Relays.handed_part, declared.bundle.Part.Part, Packing.ArePacked}
-use Rattle.dn_link.proofs.Relinking.{AreGiven, all_later, later_by, relinked, AreKept, put_kept, all_stay, found_on, keeps_given, packs_given}
-use Rattle.dn_link.proofs.{Growing.HasAsMuch, Growing.as_much, Growing.grows, Growing.Holds, Wholes.its_bundle, Handing.all_given}
+use Rattle.dn_link.specs.{Linked.{Linked, PeerState, larger, Gives}, Kept.{Unacknowledged, going, taken_by}, Counting.has_ended, LinkedGame.{AreLinked, IsLater, WasGiven, WasBundled}}
+use Rattle.dn_link.specs.{declared.bundle.{Bundle.Bundle, Carried.Carried, Part.Part}, Packets.{packets_in, packets_of}, Reading.IsDatagramOf, Text.{IsBundle, sealed_bytes}, Hearing.carried_of}
+use Rattle.dn_link.specs.{Pacing.PaceState, Relays.{flights_of, handed_part}, Packing.ArePacked}
+use Rattle.dn_link.proofs.{Relinking.{AreGiven, all_later, later_by, relinked, AreKept, put_kept, all_stay, found_on, keeps_given, packs_given}, Growing.{HasAsMuch, as_much, grows, Holds}}
+use Rattle.dn_link.proofs.{Wholes.its_bundle, Handing.all_given}
+use Rattle.dn_machine.specs.Node as machine
 
 -- What peers reported, and who they are, where other things are kept of them.
 

@@ -1,19 +1,14 @@
 -- Packets without a gap, that are kept and that go to a peer; and of several makers, of none of whom there
 -- is a gap.
 use Rattle.std.proofs.Common.{◌≡◌, ◌≤◌, ◌+◌, ◌*◌, ◌/◌, ◌%◌, ◌^◌, ℕ, zero, suc, Bool, true, false, List, [], ◌∷◌, ◌++◌, length, take, drop, refl, ap, sym, arith, All, inl, inr, ◌&&◌, map, subst, Option, Some, None}
-use Rattle.std.proofs.lemmas.List.Elements.{All-append, All-cons, All-head, All-nil, All-tail}
-use Rattle.std.proofs.{lemmas.Bool.cases_eq, lemmas.Bool.and_parts, lemmas.Bool.leb-true, lemmas.Bool.leb-false, lemmas.List.length-drop, lemmas.List.length-take-le}
-use Rattle.std.specs.Prelude.{if◌then◌else◌, max, nat_le, nat_lt}
-use Rattle.std.specs.List.{flat_map}
+use Rattle.std.proofs.lemmas.{List.{Elements.{All-append, All-cons, All-head, All-nil, All-tail}, length-drop, length-take-le}, Bool.{cases_eq, and_parts, leb-true, leb-false}}
+use Rattle.std.specs.{Prelude.{if◌then◌else◌, max, nat_le, nat_lt}, List.flat_map}
 use Rattle.dn_seal.specs.declared.opened.Opened.{Opened}
 use Rattle.dn_machine.specs.Node.{put}
 use Rattle.dn_machine.proofs.Put.{put_at, put_off}
-use Rattle.dn_link.specs.Packets.{heard_of, opened_from, packets_of, short_packet, short_packets}
-use Rattle.dn_link.specs.CaughtUp.{IsChain, HasNoGap, last_end, told_end, IsKeptChain}
-use Rattle.dn_link.specs.Kept.{IsRising, Unacknowledged, end_of, going, is_news, kept_after, without}
-use Rattle.dn_link.specs.{declared.bundle.Part.Part, declared.bundle.Part.TheVariants.Whole, declared.bundle.Part.TheVariants.Run, declared.bundle.Part.TheVariants.Relay}
-use Rattle.dn_link.specs.declared.bundle.Carried.{Carried}
-use Rattle.dn_link.proofs.{Leaving.All-back, Leaving.All-front, Covered.few}
+use Rattle.dn_link.specs.{Packets.{heard_of, opened_from, packets_of, short_packet, short_packets}, CaughtUp.{IsChain, HasNoGap, last_end, told_end, IsKeptChain}}
+use Rattle.dn_link.specs.{Kept.{IsRising, Unacknowledged, end_of, going, is_news, kept_after, without}, declared.bundle.{Part.{Part, TheVariants.{Whole, Run, Relay}}, Carried.Carried}}
+use Rattle.dn_link.proofs.{Leaving.{All-back, All-front}, Covered.few}
 use Rattle.dn_link.specs.declared.bundle.Relay as relay
 
 -- Packets without a gap, that are kept and that go to a peer.

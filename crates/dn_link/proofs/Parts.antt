@@ -1,10 +1,9 @@
 -- Counts are read back, and what is read is what stands there.
 use Rattle.std.proofs.Common.{◌≡◌, ◌<◌, ◌≤◌, ◌+◌, ◌^◌, ℕ, List, [], ◌∷◌, ◌++◌, length, take, drop, get_or, refl, arith, All}
-use Rattle.std.proofs.{lemmas.List.get_or-drop, lemmas.Nat.from_le_bytes-to_le_bytes_4, lemmas.List.Elements.All-nil, lemmas.List.Elements.All-cons}
-use Rattle.std.proofs.lemmas.List.Elements.{All-head, All-tail}
+use Rattle.std.proofs.lemmas.{List.{get_or-drop, Elements.{All-nil, All-cons, All-head, All-tail}}, Nat.from_le_bytes-to_le_bytes_4}
 use Rattle.std.specs.Int.{w32, from_le_bytes}
 use Rattle.dn_seal.proofs.Openings.{four_bytes}
-use Rattle.dn_link.specs.{declared.bundle.Counts.Counts, Told.told_counts, Text.counts_bytes, Text.AreCounts}
+use Rattle.dn_link.specs.{declared.bundle.Counts.Counts, Told.told_counts, Text.{counts_bytes, AreCounts}}
 
 -- each number of the list is a byte
 abbrev pub Fit : List ℕ → Type 0

@@ -1,9 +1,8 @@
 -- Things by their place.
 use Rattle.std.proofs.Common.{◌≡◌, ◌<◌, ℕ, List, length, map, set, get_or, sym, ◌∙◌, ap, arith, inl, inr}
-use Rattle.std.proofs.lemmas.Bool.{cases_eq}
-use Rattle.std.proofs.lemmas.List.{get_or-map, get_or-set_same, get_or-set_other, length-map, map-set}
+use Rattle.std.proofs.lemmas.{Bool.cases_eq, List.{get_or-map, get_or-set_same, get_or-set_other, length-map, map-set}}
 use Rattle.dn_machine.specs.Node.{put}
-use Rattle.dn_link.specs.{declared.peer.Peer.Peer, Linking.new_peer, Linking.peers_of, Linking.state_of}
+use Rattle.dn_link.specs.{declared.peer.Peer.Peer, Linking.{new_peer, peers_of, state_of}}
 use Rattle.dn_machine.proofs.Put.{put_at, put_off, same_functions}
 
 -- one of them is another now

@@ -1,23 +1,17 @@
 -- What a link takes in, within one game.
-use Rattle.std.proofs.Common.{◌≡◌, ◌<◌, ◌≤◌, ◌≢◌, ℕ, Bool, true, false, List, refl, ap, sym, ◌∙◌, subst, arith, All, inl, inr, Some}
+use Rattle.std.proofs.{Common.{◌≡◌, ◌<◌, ◌≤◌, ◌≢◌, ℕ, Bool, true, false, List, refl, ap, sym, ◌∙◌, subst, arith, All, inl, inr, Some}, lemmas.Bool.cases_eq}
 use Rattle.std.specs.Prelude.{Result, Ok, Err, slice_index}
-use Rattle.std.proofs.lemmas.Bool.{cases_eq}
 use Rattle.dn_setup.specs.Settings.{Settings}
 use Rattle.dn_machine.specs.{Limits.Limits, Node.put}
 use Rattle.dn_machine.proofs.Put.{put_at, put_off}
-use Rattle.dn_lockstep.specs.Contents.{Contents}
-use Rattle.dn_lockstep.specs.Marking.{Marking}
-use Rattle.dn_lockstep.specs.OneGame.{AreOneGame, Session, with_lockstep}
+use Rattle.dn_lockstep.specs.{Contents.Contents, Marking.Marking, OneGame.{AreOneGame, Session, with_lockstep}}
 use Rattle.dn_seal.specs.declared.seal.Seal.{Seal}
 use Rattle.dn_open.specs.Sealed.{sealing_of}
-use Rattle.dn_link.specs.{declared.bundle.Bundle.Bundle, declared.bundle.BundleFault.BundleFault, Counting.has_ended, Counting.has_of}
-use Rattle.dn_link.specs.{Counting.held_of, declared.received.Received.Received, declared.received.Received.TheVariants.Excluded, declared.received.Received.TheVariants.GivenUp, declared.received.Received.TheVariants.Heard, Ends.excludes, Linked.HearsPeer}
-use Rattle.dn_link.specs.{declared.received.Received.TheVariants.Stranger, LinkedGame.HasReached, LinkedGame.WasGiven, LinkedGame.IsGenuineDatagram, Hearing.ByTest, Hearing.HearsAll, LinkedGame.AreLinked, LinkedGame.IsLater}
-use Rattle.dn_link.specs.{Packets.heard_in, Packets.packets_in, Reading.IsBundledAs, Linked.Linked, Linked.Receives, Linked.ReceivesAs, Linked.TakesIn, Linked.PeerState}
-use Rattle.dn_link.specs.{Linked.has_given_up, Linked.is_peer, Linked.met, Linked.takes as takes_of}
-use Rattle.dn_link.proofs.{Leaving.has_left, Leaving.parts_heard, Keeping.LettersKeep, Keeping.all_keeps, Growing.all_grows, Relinking.AreKept, Relinking.met_kept, Relinking.reached_kept}
-use Rattle.dn_link.proofs.{Relinking.later_by, Relinking.relinked, Linking.at_most, Linking.larger_most, Linking.same_bundle}
-use Rattle.dn_link.proofs.Reporting.{AreTakenIn, taken_whole}
+use Rattle.dn_link.specs.{declared.{bundle.{Bundle.Bundle, BundleFault.BundleFault}, received.Received.{Received, TheVariants.{Excluded, GivenUp, Heard, Stranger}}}, Ends.excludes}
+use Rattle.dn_link.specs.{Counting.{has_ended, has_of, held_of}, Linked.{HearsPeer, Linked, Receives, ReceivesAs, TakesIn, PeerState, has_given_up, is_peer, met, takes as takes_of}}
+use Rattle.dn_link.specs.{LinkedGame.{HasReached, WasGiven, IsGenuineDatagram, AreLinked, IsLater}, Hearing.{ByTest, HearsAll}, Packets.{heard_in, packets_in}, Reading.IsBundledAs}
+use Rattle.dn_link.proofs.{Leaving.{has_left, parts_heard}, Keeping.{LettersKeep, all_keeps}, Growing.all_grows, Relinking.{AreKept, met_kept, reached_kept, later_by, relinked}}
+use Rattle.dn_link.proofs.{Linking.{at_most, larger_most, same_bundle}, Reporting.{AreTakenIn, taken_whole}}
 use Rattle.dn_link.proofs.Linking as base
 
 module _ (marking : Marking) (limits : Limits) (settings : Settings) (session : Session) (links : ℕ → Linked)

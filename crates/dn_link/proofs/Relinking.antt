@@ -1,18 +1,14 @@
 -- The links of one game stay those of one game.
 use Rattle.std.proofs.Common.{arith, ℕ, Bool, true, false, List, ◌≡◌, ap, ◌∙◌, ◌≢◌, ◌<◌, ◌≤◌, zero, suc, [], ◌∷◌, ◌++◌, length, map, refl, sym, subst, Option, Some, None, All}
-use Rattle.std.proofs.lemmas.List.Elements.{All-nil, All-cons, All-head, All-tail, All-append, All-take, All-map}
-use Rattle.std.proofs.lemmas.Option.{none-some, same_Some}
-use Rattle.std.specs.Prelude.{if◌then◌else◌, nat_le, slice_get, slice_index}
-use Rattle.std.specs.{List.flat_map, Option.option_map}
+use Rattle.std.proofs.lemmas.{List.Elements.{All-nil, All-cons, All-head, All-tail, All-append, All-take, All-map}, Option.{none-some, same_Some}}
+use Rattle.std.specs.{Prelude.{if◌then◌else◌, nat_le, slice_get, slice_index}, List.flat_map, Option.option_map}
 use Rattle.dn_machine.specs.{Flight.Flight, Node.put, Limits.Limits, Started.started_node}
 use Rattle.dn_remain.proofs.Vanished.Put.{at_put, at_both}
-use Rattle.dn_link.specs.Linked.{Linked, PeerState, met, with_reached, IsWhole}
-use Rattle.dn_link.specs.Kept.{Unacknowledged, going, is_news, kept_after, without, end_of}
-use Rattle.dn_link.specs.{declared.bundle.Bundle.Bundle, Counting.reached, Counting.has_ended, Counting.has_of, declared.bundle.Part.Part}
-use Rattle.dn_link.specs.{declared.bundle.Carried.Carried, LinkedGame.WasGiven, LinkedGame.AreLinked, LinkedGame.IsLater, Hearing.carried_of, Packets.opened_from}
-use Rattle.dn_link.specs.{Packets.packets_of, Packing.ArePacked}
-use Rattle.dn_lockstep.specs.{Contents.Contents, Marking.Marking, OneGame.AreOneGame, OneGame.Session, OneGame.given_on, Phases.is_waiting, Represents.Represents}
-use Rattle.dn_survivor.specs.{OfOthers.has, OfOthers.nothing_kept, declared.others.Others.Others}
+use Rattle.dn_link.specs.{Linked.{Linked, PeerState, met, with_reached, IsWhole}, Kept.{Unacknowledged, going, is_news, kept_after, without, end_of}, Counting.{reached, has_ended, has_of}}
+use Rattle.dn_link.specs.{declared.bundle.{Bundle.Bundle, Part.Part, Carried.Carried}, LinkedGame.{WasGiven, AreLinked, IsLater}, Hearing.carried_of, Packets.{opened_from, packets_of}}
+use Rattle.dn_link.specs.Packing.{ArePacked}
+use Rattle.dn_lockstep.specs.{Contents.Contents, Marking.Marking, OneGame.{AreOneGame, Session, given_on}, Phases.is_waiting, Represents.Represents}
+use Rattle.dn_survivor.specs.{OfOthers.{has, nothing_kept}, declared.others.Others.Others}
 use Rattle.dn_setup.specs.Settings.{Settings}
 use Rattle.dn_lockstep.proofs.OneGame.{GoesBetween}
 use Rattle.dn_seal.specs.declared.opened.Opened.{Opened}

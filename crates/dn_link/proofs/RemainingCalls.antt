@@ -1,20 +1,17 @@
 -- The links of one game in which players may be given up stay so.
-use Rattle.std.proofs.Common.{◌≡◌, ◌<◌, ℕ, ℤ, pos, Bool, false, List, get_or, refl, ap, sym, ◌∙◌, subst, Option, Some, inl, inr, None, [], ◌∷◌}
-use Rattle.std.proofs.lemmas.Bool.{cases_eq}
+use Rattle.std.proofs.{Common.{◌≡◌, ◌<◌, ℕ, ℤ, pos, Bool, false, List, get_or, refl, ap, sym, ◌∙◌, subst, Option, Some, inl, inr, None, [], ◌∷◌}, lemmas.Bool.cases_eq}
 use Rattle.std.specs.Prelude.{slice_get}
-use Rattle.dn_tic.specs.{declared.command.Move.Move, declared.input.Input.Input}
+use Rattle.dn_tic.specs.declared.{command.Move.Move, input.Input.Input}
 use Rattle.dn_setup.specs.Settings.{Settings}
-use Rattle.dn_machine.specs.{declared.answers.Made.Made, declared.answers.Ran.Ran, Sending.on_build, Flight.Flight, Limits.Limits, Node.put, Running.is_over}
-use Rattle.dn_machine.specs.Running.{on_quit, on_run_but}
+use Rattle.dn_machine.specs.{declared.answers.{Made.Made, Ran.Ran}, Sending.on_build, Flight.Flight, Limits.Limits, Node.put, Running.{is_over, on_quit, on_run_but}}
 use Rattle.dn_machine.proofs.Put.{put_at, put_off}
-use Rattle.dn_lockstep.specs.{Contents.end_in, Marking.Marking, OneGame.world_told, Steps.RunsBy, Steps.Steps}
-use Rattle.dn_survivor.specs.Calls.{GivesUp, HearsReport, GivesUpUnless, HearsReportUnless, refused_give_up, refused_report}
+use Rattle.dn_lockstep.specs.{Contents.end_in, Marking.Marking, OneGame.world_told, Steps.{RunsBy, Steps}}
+use Rattle.dn_survivor.specs.{Calls.{GivesUp, HearsReport, GivesUpUnless, HearsReportUnless, refused_give_up, refused_report}, Surviving.{Surviving, has_given_up}, Telling.report_for}
 use Rattle.dn_survivor.specs.OneGame.{AreRemaining, Given, Session, after_build, after_report, after_run, with_survivor, reports_on}
-use Rattle.dn_survivor.specs.{declared.report.Report.Report, Surviving.Surviving, Surviving.has_given_up, Telling.report_for, declared.answers.GivenUp.GivenUp}
-use Rattle.dn_survivor.specs.{declared.answers.Reported.Reported, declared.others.Others.Others}
-use Rattle.dn_survivor.proofs.OneGame as one_game
-use Rattle.dn_link.specs.{Linked.Linked, Linked.PeerState, Linked.probed, Linked.surviving_of, RemainingLinks.AreRemainingLinks, RemainingLinks.KeepsGiven, Surviving.GivesUpPeer}
+use Rattle.dn_survivor.specs.declared.{report.Report.Report, answers.{GivenUp.GivenUp, Reported.Reported}, others.Others.Others}
+use Rattle.dn_link.specs.{Linked.{Linked, PeerState, probed, surviving_of}, RemainingLinks.{AreRemainingLinks, KeepsGiven}, Surviving.GivesUpPeer}
 use Rattle.dn_link.proofs.Relinking.{AreKept, all_later, all_put, found_on, put_kept}
+use Rattle.dn_survivor.proofs.OneGame as one_game
 
 -- Whose a survivor is stays.
 

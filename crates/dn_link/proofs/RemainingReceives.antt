@@ -1,21 +1,20 @@
 -- What a link takes in, within one game in which players may be given up.
 use Rattle.std.proofs.Common.{◌≡◌, ◌<◌, ℕ, Bool, true, false, List, refl, ap, sym, ◌∙◌, subst, All, inl, inr}
 use Rattle.std.specs.Prelude.{Result, Ok, Err}
-use Rattle.dn_survivor.specs.{Calls.HearsReport, Surviving.Surviving, declared.report.Report.Report, declared.report.ReportFault.ReportFault, ReportBytes.IsReadAs, declared.others.Others.Others, OfOthers.has, OneGame.AreRemaining, OneGame.Session, OneGame.with_survivor}
+use Rattle.dn_survivor.specs.{Calls.HearsReport, Surviving.Surviving, declared.{report.{Report.Report, ReportFault.ReportFault}, others.Others.Others}, ReportBytes.IsReadAs, OfOthers.has}
+use Rattle.dn_survivor.specs.OneGame.{AreRemaining, Session, with_survivor}
 use Rattle.dn_setup.specs.Settings.{Settings}
 use Rattle.dn_machine.specs.{Limits.Limits, Node.put}
 use Rattle.dn_machine.proofs.Put.{put_at}
 use Rattle.dn_lockstep.specs.{Contents.Contents, Marking.Marking}
 use Rattle.dn_seal.specs.declared.seal.Seal.{Seal}
-use Rattle.dn_link.specs.{declared.bundle.Bundle.Bundle, declared.bundle.BundleFault.BundleFault, Ends.excludes}
-use Rattle.dn_link.specs.{declared.received.Received.Received, declared.received.Received.TheVariants.Excluded, declared.received.Received.TheVariants.GivenUp, declared.received.Received.TheVariants.Heard}
-use Rattle.dn_link.specs.{declared.received.Received.TheVariants.Stranger, LinkedGame.WasGiven, Counting.held_of, Hearing.ByTest}
-use Rattle.dn_link.specs.{Packets.heard_in, Packets.packets_in, Reading.IsBundledAs, Reading.IsDatagramOf, RemainingLinks.AreRemainingLinks, RemainingLinks.IsGenuineIn, RemainingLinks.WasSealedIn, RemainingLinks.WasTold}
-use Rattle.dn_link.specs.{Linked.HearsPeer, Linked.Linked, Linked.Receives, Linked.ReceivesAs, Linked.TakesIn, Linked.TakesPackets, Linked.TakesRead, Linked.PeerState, Linked.has_given_up, Linked.is_peer, Linked.met, Linked.surviving_of}
-use Rattle.dn_link.specs.{Linked.takes}
+use Rattle.dn_link.specs.{declared.{bundle.{Bundle.Bundle, BundleFault.BundleFault}, received.Received.{Received, TheVariants.{Excluded, GivenUp, Heard, Stranger}}}, Ends.excludes, Counting.held_of}
+use Rattle.dn_link.specs.{LinkedGame.WasGiven, Hearing.ByTest, Packets.{heard_in, packets_in}, Reading.{IsBundledAs, IsDatagramOf}}
+use Rattle.dn_link.specs.RemainingLinks.{AreRemainingLinks, IsGenuineIn, WasSealedIn, WasTold}
+use Rattle.dn_link.specs.Linked.{HearsPeer, Linked, Receives, ReceivesAs, TakesIn, TakesPackets, TakesRead, PeerState, has_given_up, is_peer, met, surviving_of, takes}
 use Rattle.dn_open.specs.Sealed.{sealing_of}
-use Rattle.dn_link.proofs.{Keeping.all_along, Linking.same_bundle, Relinking.AreKept, Relinking.met_kept, Relinking.reached_kept, Letters.AreWith, Letters.MayBeHeard, Letters.packet_keeps}
-use Rattle.dn_link.proofs.{RemainingCalls.GoOn, RemainingCalls.nothing_given, Leaving.parts_from, Leaving.parts_heard, Reporting.put_twice}
+use Rattle.dn_link.proofs.{Keeping.all_along, Linking.same_bundle, Relinking.{AreKept, met_kept, reached_kept}, Letters.{AreWith, MayBeHeard, packet_keeps}, RemainingCalls.{GoOn, nothing_given}}
+use Rattle.dn_link.proofs.{Leaving.{parts_from, parts_heard}, Reporting.put_twice}
 use Rattle.dn_survivor.proofs.OneGame as one_game
 use Rattle.dn_link.proofs.RemainingCalls as base
 

@@ -1,25 +1,19 @@
 -- What a report changes in a link, where one comes with a datagram; and what it has as its bytes.
-use Rattle.std.proofs.Common.{◌≡◌, ◌⊎◌, ℕ, Bool, true, false, List, [], ◌++◌, zero, suc, refl, ap, sym, ◌∙◌, subst, Option, Some, None, inl, inr, length}
-use Rattle.std.proofs.{lemmas.Bool.cases_eq, lemmas.Bool.cond_both}
+use Rattle.std.proofs.{Common.{◌≡◌, ◌⊎◌, ℕ, Bool, true, false, List, [], ◌++◌, zero, suc, refl, ap, sym, ◌∙◌, subst, Option, Some, None, inl, inr, length}, lemmas.Bool.{cases_eq, cond_both}}
 use Rattle.std.specs.Prelude.{IfSome, Result, Ok, Err, if◌then◌else◌, nat_lt, ◌==◌}
 use Rattle.dn_tic.specs.declared.command.TicCmd.{TicCmd}
-use Rattle.dn_machine.specs.{Limits.Limits, Node.put, Settling.settled_one, declared.peer.Peer.Peer, declared.answers.Cause.TheVariants.Quit}
-use Rattle.dn_machine.specs.{declared.answers.Cause.TheVariants.Full, declared.answers.Cause.TheVariants.Inconsistent, declared.answers.Phase.Phase}
-use Rattle.dn_machine.specs.declared.answers.Phase.TheVariants.{Listening, Gathering, Playing}
-use Rattle.dn_machine.specs.declared.answers.Phase.TheVariants.{Ended}
-use Rattle.dn_machine.specs.Node as machine
+use Rattle.dn_machine.specs.{Limits.Limits, Node.put, Settling.settled_one}
+use Rattle.dn_machine.specs.declared.{peer.Peer.Peer, answers.{Cause.TheVariants.{Quit, Full, Inconsistent}, Phase.{Phase, TheVariants.{Listening, Gathering, Playing, Ended}}}}
 use Rattle.dn_machine.proofs.Put.{put_at, put_off, same_functions}
 use Rattle.dn_remain.specs.Vanished.Calls.{can_decide}
-use Rattle.dn_lockstep.specs.{Contents.Contents, Settling.missing, Settling.on_settle, Settling.refused_end, Settling.settled_unless}
-use Rattle.dn_lockstep.specs.declared.lockstep.settling.Settled.{Settled}
-use Rattle.dn_survivor.specs.Calls.{decided_by, end_by, heard_by, settled_below}
-use Rattle.dn_survivor.specs.OfOthers.{commands_of, first_of, has, nodes_of, own_of}
-use Rattle.dn_survivor.specs.{OneGame.Given, OneGame.reports_on, ReportBytes.IsReadAs, ReportBytes.IsReport, ReportBytes.report_bytes}
-use Rattle.dn_survivor.specs.{declared.others.Others.Others, declared.report.Report.Report, declared.report.ReportFault.ReportFault}
+use Rattle.dn_lockstep.specs.{Contents.Contents, Settling.{missing, on_settle, refused_end, settled_unless}, declared.lockstep.settling.Settled.Settled}
+use Rattle.dn_survivor.specs.{Calls.{decided_by, end_by, heard_by, settled_below}, OfOthers.{commands_of, first_of, has, nodes_of, own_of}, OneGame.{Given, reports_on}}
+use Rattle.dn_survivor.specs.{ReportBytes.{IsReadAs, IsReport, report_bytes}, declared.{others.Others.Others, report.{Report.Report, ReportFault.ReportFault}}}
 use Rattle.dn_survivor.proofs.ReportBytes.{one_reading}
-use Rattle.dn_link.specs.Linked.{IsWhole, Linked, TakesIn, TakesRead, fitting, met, surviving_of, takes, with_reached, written}
-use Rattle.dn_link.specs.{Ends.told_cause, declared.bundle.Bundle.Bundle, Hearing.HearsAll, Packets.heard_in, RemainingLinks.WasTold}
-use Rattle.dn_link.proofs.{RemainingCalls.hears_same, Relinking.last_at, Relinking.still_whole, Sending.resend_of}
+use Rattle.dn_link.specs.{Linked.{IsWhole, Linked, TakesIn, TakesRead, fitting, met, surviving_of, takes, with_reached, written}, Ends.told_cause, declared.bundle.Bundle.Bundle, Hearing.HearsAll}
+use Rattle.dn_link.specs.{Packets.heard_in, RemainingLinks.WasTold}
+use Rattle.dn_link.proofs.{RemainingCalls.hears_same, Relinking.{last_at, still_whole}, Sending.resend_of}
+use Rattle.dn_machine.specs.Node as machine
 
 -- Where nobody is given up.
 

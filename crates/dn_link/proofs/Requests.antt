@@ -1,30 +1,25 @@
 -- What comes in leaves the packets to a peer as they go on, unless the peer asks for commands past those.
 use Rattle.std.proofs.Common.{◌≡◌, ◌≢◌, ◌≤◌, ◌*◌, ◌⊎◌, ℕ, Bool, true, false, List, [], ◌∷◌, refl, ap, sym, ◌∙◌, subst, arith, Option, Some, None, All, inl, inr, ◌<◌, ◌+◌, ◌/◌, ◌%◌, ◌^◌, zero, suc, ◌++◌, length, take, drop}
-use Rattle.std.specs.Prelude.{IfSome, Result, Ok, Err}
-use Rattle.std.proofs.lemmas.Bool.{cases_eq}
-use Rattle.std.proofs.lemmas.List.Elements.{All-head, All-tail, All-nil, All-cons, All-append, All-take, All-drop}
-use Rattle.std.specs.List.{flat_map}
-use Rattle.std.specs.Int.{w8, w32, cast_unsigned, to_le_bytes}
-use Rattle.std.proofs.Math.Nat.{mod-lt}
+use Rattle.std.proofs.{lemmas.{Bool.cases_eq, List.Elements.{All-head, All-tail, All-nil, All-cons, All-append, All-take, All-drop}}, Math.Nat.mod-lt}
+use Rattle.std.specs.{Prelude.{IfSome, Result, Ok, Err}, List.flat_map, Int.{w8, w32, cast_unsigned, to_le_bytes}}
 use Rattle.byteorder.specs.Endian.{little_bytes}
-use Rattle.dn_packet.specs.{declared.packet.Packet.Packet, declared.packet.PacketFault.PacketFault, Read.AreBytes, Read.Reading, Text.sum_of}
-use Rattle.dn_setup.specs.{Settings.Settings, Setup.Told, declared.setup.SetupFault.SetupFault, declared.setup.SetupFault.TheVariants.NotSetup}
-use Rattle.dn_seal.specs.{declared.opened.Opened.Opened, declared.seal.Seal.Seal, Envelope.ask_bytes, Hmac.tag_of, Sealing.front_bytes}
+use Rattle.dn_packet.specs.{declared.packet.{Packet.Packet, PacketFault.PacketFault}, Read.{AreBytes, Reading}, Text.sum_of}
+use Rattle.dn_setup.specs.{Settings.Settings, Setup.Told, declared.setup.SetupFault.{SetupFault, TheVariants.NotSetup}}
+use Rattle.dn_seal.specs.{declared.{opened.Opened.Opened, seal.Seal.Seal}, Envelope.ask_bytes, Hmac.tag_of, Sealing.front_bytes}
 use Rattle.dn_machine.specs.{Limits.Limits, Node.made}
 use Rattle.dn_machine.proofs.Put.{put_at, put_off}
-use Rattle.dn_machine.specs.Node as machine
 use Rattle.dn_lockstep.specs.{Contents.Contents, Received.IsTold, Represents.Represents, Told.made as made_in}
 use Rattle.dn_lockstep.proofs.Shown.{made_is}
 use Rattle.dn_open.specs.{Arrivals.HearsOpened, declared.hearing.Arrived.Arrived, Sealed.sealing_of}
-use Rattle.dn_link.specs.{declared.bundle.Bundle.Bundle, declared.bundle.BundleFault.BundleFault, declared.bundle.Part.Part, declared.bundle.Part.TheVariants.Whole, declared.bundle.Part.TheVariants.Run, declared.bundle.Part.TheVariants.Relay}
-use Rattle.dn_link.specs.{declared.received.Received.Received, declared.received.Received.TheVariants.Excluded, declared.received.Received.TheVariants.GivenUp, declared.received.Received.TheVariants.Heard, Ends.excludes, declared.received.Received.TheVariants.Stranger, Counting.held_of, Counting.reached}
-use Rattle.dn_link.specs.{Hearing.ByTest, Hearing.HearsAll, Kept.IsKeptRising, CaughtUp.AsksWithin, CaughtUp.GoesOn, CaughtUp.IsGone, CaughtUp.StillGoesOn, Reading.IsBundledAs}
-use Rattle.dn_link.specs.{Linked.Linked, Linked.PeerState, Linked.Receives, Linked.ReceivesAs, Linked.TakesIn, Linked.TakesPackets, Linked.TakesRead, Linked.HearsPeer, Linked.surviving_of, Linked.after_report, Linked.has_given_up, Linked.is_peer, Linked.met, Linked.takes, Linked.with_reached}
-use Rattle.dn_link.proofs.{Sending.opened_asked, Following.next_same, Following.same_peers, Following.still, Leaving.parts_from, Leaving.parts_heard, Leaving.stays_left, Covered.rises_past, Sending.resend_of}
-use Rattle.dn_survivor.specs.{Calls.HearsReport, Calls.HearsReportUnless, Calls.refused_report, OfOthers.with_newest, Surviving.Surviving, declared.answers.Reported.Reported, declared.report.Report.Report, declared.report.ReportFault.ReportFault}
-use Rattle.dn_link.proofs.Reporting.{report_same}
+use Rattle.dn_link.specs.declared.{bundle.{Bundle.Bundle, BundleFault.BundleFault, Part.{Part, TheVariants.{Whole, Run, Relay}}}, received.Received.{Received, TheVariants.{Excluded, GivenUp, Heard, Stranger}}}
+use Rattle.dn_link.specs.{Ends.excludes, Counting.{held_of, reached}, Hearing.{ByTest, HearsAll}, Kept.IsKeptRising, CaughtUp.{AsksWithin, GoesOn, IsGone, StillGoesOn}, Reading.IsBundledAs}
+use Rattle.dn_link.specs.Linked.{Linked, PeerState, Receives, ReceivesAs, TakesIn, TakesPackets, TakesRead, HearsPeer, surviving_of, after_report, has_given_up, is_peer, met, takes, with_reached}
 use Rattle.dn_link.specs.Packets.{packets_of, heard_in, packets_in, short_body, short_packet, short_packets, opened_from}
 use Rattle.dn_link.specs.Text.{run_bytes, bundle_bytes, carried_bytes, counts_bytes, part_bytes, parts_bytes, report_field, sealed_bytes}
+use Rattle.dn_link.proofs.{Sending.{opened_asked, resend_of}, Following.{next_same, same_peers, still}, Leaving.{parts_from, parts_heard, stays_left}, Covered.rises_past, Reporting.report_same}
+use Rattle.dn_survivor.specs.{Calls.{HearsReport, HearsReportUnless, refused_report}, OfOthers.with_newest, Surviving.Surviving}
+use Rattle.dn_survivor.specs.declared.{answers.Reported.Reported, report.{Report.Report, ReportFault.ReportFault}}
+use Rattle.dn_machine.specs.Node as machine
 
 -- The packets of a datagram are of its sender, and bytes.
 abbrev IsByte : ℕ → Type 0

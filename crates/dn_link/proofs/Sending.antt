@@ -1,29 +1,23 @@
 -- Which tic a node sends to a peer next, after each call.
 use Rattle.std.proofs.Common.{ℤ, ◌≡◌, ◌≢◌, ◌≤◌, ◌+◌, ◌-◌, ◌⊎◌, ℕ, Bool, true, false, List, ◌++◌, length, drop, refl, ap, sym, ◌∙◌, arith, Option, Some, None, inl, inr, ◌<◌, ◌/◌, ◌%◌, ◌&&◌, ◌||◌}
-use Rattle.std.proofs.lemmas.Bool.{and_parts, cases_lt, cond_both, le-ltb, leb-true, eq-eqb, eqb-true, true≢false}
-use Rattle.std.proofs.{lemmas.List.length-take, lemmas.List.length-drop, lemmas.Option.none-some, lemmas.Option.same_Some}
+use Rattle.std.proofs.lemmas.{Bool.{and_parts, cases_lt, cond_both, le-ltb, leb-true, eq-eqb, eqb-true, true≢false}, List.{length-take, length-drop}, Option.{none-some, same_Some}}
 use Rattle.std.specs.Prelude.{if◌then◌else◌, min, nat_lt, not, ◌==◌, bit_and, is_some, slice_index, Result, Ok, Err}
-use Rattle.dn_tic.specs.{declared.command.TicCmd.TicCmd, declared.input.Input.Input, Tics.exact_tic}
+use Rattle.dn_tic.specs.{declared.{command.TicCmd.TicCmd, input.Input.Input}, Tics.exact_tic}
 use Rattle.dn_packet.proofs.Texts.{length-commands}
-use Rattle.dn_packet.specs.{declared.packet.Packet.Packet, declared.packet.PacketFault.PacketFault, Text.text}
-use Rattle.dn_packet.specs.Flags as flag
+use Rattle.dn_packet.specs.{declared.packet.{Packet.Packet, PacketFault.PacketFault}, Text.text}
 use Rattle.dn_setup.specs.{Settings.Settings, declared.setup.SetupFault.SetupFault}
 use Rattle.dn_seal.specs.declared.opened.Opened.{Opened}
-use Rattle.dn_machine.specs.Flight.{Kind, Play, Exit, Flight, is_close, is_request_close, request_byte}
-use Rattle.dn_machine.specs.Node.{Node, put, with_peer, got, made}
-use Rattle.dn_machine.specs.Sending.{on_build, after_sent, commands_flight, first_sent, lag, last_sent, left_kind, on_send, request_to, set_up_flight}
-use Rattle.dn_machine.specs.{declared.answers.Heard.Heard, declared.peer.Peer.Peer, Limits.Limits, Hearing.after_request, Hearing.after_exit, Hearing.on_packet}
-use Rattle.dn_machine.specs.{Running.on_run, Running.on_quit, declared.answers.Phase.Phase}
-use Rattle.dn_machine.proofs.Calls.{build_cases, send_cases, run_cases, quit_cases, packet_cases, sender_after}
-use Rattle.dn_machine.proofs.{Put.put_at, Put.put_off, Stages.lag_low}
-use Rattle.dn_machine.specs.Drops as drops
-use Rattle.dn_machine.specs.Node as machine
-use Rattle.dn_lockstep.specs.Received.{has_flag, request_in, flight_from, heard_as, read_flight, received}
-use Rattle.dn_lockstep.specs.Phases.{hears_none}
-use Rattle.dn_open.specs.Arrivals.{IsRead, asks_alike, flag_in, heard, is_alike, on_opened}
-use Rattle.dn_open.specs.declared.hearing.Arrived.{Arrived}
+use Rattle.dn_machine.specs.{Flight.{Kind, Play, Exit, Flight, is_close, is_request_close, request_byte}, Node.{Node, put, with_peer, got, made}, Limits.Limits, Running.{on_run, on_quit}}
+use Rattle.dn_machine.specs.{Sending.{on_build, after_sent, commands_flight, first_sent, lag, last_sent, left_kind, on_send, request_to, set_up_flight}, Hearing.{after_request, after_exit, on_packet}}
+use Rattle.dn_machine.specs.declared.{answers.{Heard.Heard, Phase.Phase}, peer.Peer.Peer}
+use Rattle.dn_machine.proofs.{Calls.{build_cases, send_cases, run_cases, quit_cases, packet_cases, sender_after}, Put.{put_at, put_off}, Stages.lag_low}
+use Rattle.dn_lockstep.specs.{Received.{has_flag, request_in, flight_from, heard_as, read_flight, received}, Phases.hears_none}
+use Rattle.dn_open.specs.{Arrivals.{IsRead, asks_alike, flag_in, heard, is_alike, on_opened}, declared.hearing.Arrived.Arrived}
 use Rattle.dn_open.proofs.Sealables.{flags_at}
 use Rattle.dn_link.specs.{declared.bundle.Carried.Carried, Hearing.carried_of}
+use Rattle.dn_packet.specs.Flags as flag
+use Rattle.dn_machine.specs.Drops as drops
+use Rattle.dn_machine.specs.Node as machine
 use Rattle.dn_link.specs.Kept as kept
 
 -- the tic from which it sends next

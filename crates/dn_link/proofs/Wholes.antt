@@ -1,23 +1,16 @@
 -- A bundle is read back, and what is read is what stands there, one part after the other. So bytes are read
 -- as one thing.
 use Rattle.std.proofs.Common.{◌≡◌, ◌<◌, ◌≤◌, ◌+◌, ◌^◌, ℕ, List, [], ◌∷◌, ◌++◌, length, take, drop, refl, ap, sym, ◌∙◌, subst, arith, append_assoc, Option, Some, None, All, inl, inr, w8, ℤ, to_z, of_z, zero, suc, get_or, append-nil, ◌≢◌, ◌-◌, Result, Ok, Err}
-use Rattle.std.proofs.lemmas.List.{take-append-drop, length-drop, drop-drop, length-append, length-take-le, length-take, take-take, get_or-take, get_or_past}
-use Rattle.std.proofs.{lemmas.Bool.cases_lt, lemmas.Bool.lt-ltb, lemmas.Bool.le-ltb, lemmas.Int.to_z-of_z, lemmas.Int.of_z-to_z, lemmas.Nat.from_le_bytes-to_le_bytes_2}
-use Rattle.std.proofs.{lemmas.Nat.from_le_bytes-to_le_bytes_4, lemmas.Nat.le_bytes_2, lemmas.Option.same_Some, lemmas.Option.none-some, Math.Seq.drop-append_seam}
-use Rattle.std.proofs.Math.Seq.{take-append_seam}
-use Rattle.std.specs.Prelude.{slice_index, FitsSigned, nat_lt, false}
-use Rattle.std.specs.Int.{w16, w32, cast_signed, cast_unsigned, from_le_bytes, to_le_bytes}
-use Rattle.std.specs.Option.{option_map}
-use Rattle.dn_seal.specs.Opening.{Sealing, told_game, IsOfKind, IsOfGame, IsFor, IsTagged, told_body, told_tag}
-use Rattle.dn_seal.specs.{declared.seal.Seal.Seal, Hmac.suite_byte, Hmac.tag_of}
-use Rattle.dn_seal.proofs.{Openings.four_bytes, Envelopes.length-tag, Envelopes.eight}
-use Rattle.dn_link.specs.Text.{counts_bytes, parts_bytes, report_field, bundle_bytes, IsBundle, IsPart, part_bytes}
+use Rattle.std.proofs.lemmas.{List.{take-append-drop, length-drop, drop-drop, length-append, length-take-le, length-take, take-take, get_or-take, get_or_past}, Bool.{cases_lt, lt-ltb, le-ltb}}
+use Rattle.std.proofs.lemmas.{Int.{to_z-of_z, of_z-to_z}, Nat.{from_le_bytes-to_le_bytes_2, from_le_bytes-to_le_bytes_4, le_bytes_2}, Option.{same_Some, none-some}}
+use Rattle.std.proofs.Math.Seq.{drop-append_seam, take-append_seam}
+use Rattle.std.specs.{Prelude.{slice_index, FitsSigned, nat_lt, false}, Int.{w16, w32, cast_signed, cast_unsigned, from_le_bytes, to_le_bytes}, Option.option_map}
+use Rattle.dn_seal.specs.{Opening.{Sealing, told_game, IsOfKind, IsOfGame, IsFor, IsTagged, told_body, told_tag}, declared.seal.Seal.Seal, Hmac.{suite_byte, tag_of}}
+use Rattle.dn_seal.proofs.{Openings.four_bytes, Envelopes.{length-tag, eight}}
+use Rattle.dn_link.specs.{Text.{counts_bytes, parts_bytes, report_field, bundle_bytes, IsBundle, IsPart, part_bytes}, Reading.{IsDatagramOf, IsBundledAs, bundles}}
 use Rattle.dn_link.specs.Told.{number_at, report_size, told_counts, told_parts, bundle_with, told_bundle, told_part, told_all}
-use Rattle.dn_link.specs.declared.bundle.BundleFault.TheVariants.{Short, Long, Game, Receiver, Tag, Form}
-use Rattle.dn_link.specs.{declared.bundle.Bundle.Bundle, declared.bundle.Part.Part, declared.bundle.BundleFault.BundleFault, Reading.IsDatagramOf, Reading.IsBundledAs}
-use Rattle.dn_link.specs.Reading.{bundles}
-use Rattle.dn_link.proofs.Parts.{Fit, fit_drop, small, counts_back, length-counts, counts_is}
-use Rattle.dn_link.proofs.Items.{all_back, all_is, opened}
+use Rattle.dn_link.specs.declared.bundle.{BundleFault.{TheVariants.{Short, Long, Game, Receiver, Tag, Form}, BundleFault}, Bundle.Bundle, Part.Part}
+use Rattle.dn_link.proofs.{Parts.{Fit, fit_drop, small, counts_back, length-counts, counts_is}, Items.{all_back, all_is, opened}}
 
 -- Parts are read one after the other.
 

@@ -1,18 +1,13 @@
 -- What a datagram tells of its sender's end.
 use Rattle.std.specs.Prelude.{ℕ, ◌==◌, ◌&&◌, if◌then◌else◌, Bool, nat_lt, Option, Some, slice_index}
-use Rattle.dn_machine.specs.{declared.answers.Cause.Cause, declared.answers.Cause.TheVariants.Quit, declared.answers.Cause.TheVariants.Full}
-use Rattle.dn_machine.specs.{declared.answers.Cause.TheVariants.Inconsistent, declared.answers.Phase.Phase, declared.answers.Phase.TheVariants.Ended}
+use Rattle.dn_machine.specs.declared.answers.{Cause.TheVariants.{Quit, Full, Inconsistent}, Phase.Phase, Phase.TheVariants.Ended}
 use Rattle.dn_link.specs.declared.bundle.Bundle.{Bundle}
 
--- causes as bytes
-abbrev pub cause_byte : Cause → ℕ
-cause_byte Quit = 1
-cause_byte Full = 2
-cause_byte (Inconsistent player was should) = 3
-
--- why a player in this phase has ended; 0 of one that has not
+-- the byte that tells why a player in this phase has ended; 0 of one that has not
 abbrev pub told_cause : Phase → ℕ
-told_cause (Ended cause) = cause_byte cause
+told_cause (Ended Quit) = 1
+told_cause (Ended Full) = 2
+told_cause (Ended (Inconsistent player was should)) = 3
 told_cause phase = 0
 
 -- its sender has given up the receiver, and tells no more

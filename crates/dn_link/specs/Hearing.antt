@@ -1,10 +1,9 @@
 -- How the packets of a datagram are heard, and what a lockstep gives to a peer.
-use Rattle.std.specs.Prelude.{◌≡◌, Bool, true, false, List, [], ◌∷◌, ℕ, Option}
-use Rattle.std.specs.Option.{option_map}
+use Rattle.std.specs.{Prelude.{◌≡◌, Bool, true, false, List, [], ◌∷◌, ℕ, Option}, Option.option_map}
 use Rattle.dn_seal.specs.declared.opened.Opened.{Opened}
 use Rattle.dn_machine.specs.Flight.{Flight}
-use Rattle.dn_lockstep.specs.{Contents.Contents, Sent.sent_to, Sent.bytes_of, Steps.Steps}
-use Rattle.dn_open.specs.{Arrivals.HearsOpened, Arrivals.SparesSealed, declared.hearing.Arrived.Arrived}
+use Rattle.dn_lockstep.specs.{Contents.Contents, Sent.{sent_to, bytes_of}, Steps.Steps}
+use Rattle.dn_open.specs.{Arrivals.{HearsOpened, SparesSealed}, declared.hearing.Arrived.Arrived}
 use Rattle.dn_link.specs.declared.bundle.Carried.{Carried}
 
 -- this where a test holds, and that where it does not

@@ -1,6 +1,5 @@
 -- How a player leans towards the mean of all, and how ticks are stretched.
-use Rattle.std.specs.Prelude.{ℕ, ◌+◌, ◌-◌, ◌==◌, ◌+ℤ◌, ◌-ℤ◌, if◌then◌else◌, nat_lt, nat_le, nat_abs, neg_ℤ, ℤ, pos, int_div, ◌*◌, ◌||◌, Bool, min}
-use Rattle.std.specs.Int.{int_max, int_min}
+use Rattle.std.specs.{Prelude.{ℕ, ◌+◌, ◌-◌, ◌==◌, ◌+ℤ◌, ◌-ℤ◌, if◌then◌else◌, nat_lt, nat_le, nat_abs, neg_ℤ, ℤ, pos, int_div, ◌*◌, ◌||◌, Bool, min}, Int.{int_max, int_min}}
 
 -- for how many ticks it looks away; at how many it has looked, and the sum of what it saw there; and how much
 -- is left to work off, in 32nds of a tick

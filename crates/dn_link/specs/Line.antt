@@ -1,8 +1,7 @@
 -- What is known of the line from a peer, and of the leads.
-use Rattle.std.specs.Prelude.{ℕ, ◌+◌, ◌-◌, ◌/◌, ◌==◌, ◌-ℤ◌, if◌then◌else◌, nat_lt, min, max, ℤ, pos, negsuc, None, Some}
-use Rattle.std.specs.Int.{int_max, int_min}
-use Rattle.dn_lockstep.specs.{Contents.Contents, Told.got, Told.made}
-use Rattle.dn_link.specs.{declared.bundle.Bundle.Bundle, declared.line.Line.Line, Tally.tallied}
+use Rattle.std.specs.{Prelude.{ℕ, ◌+◌, ◌-◌, ◌/◌, ◌==◌, ◌-ℤ◌, if◌then◌else◌, nat_lt, min, max, ℤ, pos, negsuc, None, Some}, Int.{int_max, int_min}}
+use Rattle.dn_lockstep.specs.{Contents.Contents, Told.{got, made}}
+use Rattle.dn_link.specs.{declared.{bundle.Bundle.Bundle, line.Line.Line}, Tally.tallied}
 
 -- a line from which nothing came
 abbrev pub new_line : Line

@@ -2,18 +2,14 @@
 use Rattle.std.specs.Prelude.{◌≡◌, ℕ, ◌+◌, ◌-◌, ◌%◌, ◌^◌, ◌==◌, ◌≤◌, ◌&&◌, ◌||◌, if◌then◌else◌, nat_lt, min, max, length, Bool, not, List, [], ◌∷◌, slice_index, ◌++◌, ◌≢◌, map, All, Option, is_some, pos, IfSome, None, Some, false, Result, Ok, Err}
 use Rattle.dn_seal.specs.declared.seal.Seal.{Seal}
 use Rattle.dn_machine.specs.Node.{put}
-use Rattle.dn_lockstep.specs.{Contents.Contents, Contents.end_in, Told.made}
-use Rattle.dn_survivor.specs.{OfOthers.has, declared.others.Others.Others, Surviving.Surviving, Telling.MayRelay, Telling.report_for, Calls.HearsReport}
-use Rattle.dn_survivor.specs.{ReportBytes.IsReadAs, ReportBytes.IsReport, ReportBytes.report_bytes, declared.answers.Reported.Reported}
-use Rattle.dn_survivor.specs.{declared.answers.Reported.TheVariants.Kept, declared.report.Report.Report, declared.report.ReportFault.ReportFault}
+use Rattle.dn_lockstep.specs.{Contents.{Contents, end_in}, Told.made}
+use Rattle.dn_survivor.specs.{OfOthers.has, declared.{others.Others.Others, answers.Reported.{Reported, TheVariants.Kept}, report.{Report.Report, ReportFault.ReportFault}}, Surviving.Surviving}
+use Rattle.dn_survivor.specs.{Telling.{MayRelay, report_for}, Calls.HearsReport, ReportBytes.{IsReadAs, IsReport, report_bytes}}
 use Rattle.dn_open.specs.Sealed.{sealing_of}
-use Rattle.dn_link.specs.declared.received.Received.TheVariants.{Unopened, Stranger, GivenUp, Excluded, Heard}
-use Rattle.dn_link.specs.Kept.{Unacknowledged, acknowledged, going, kept_after, taken_by}
-use Rattle.dn_link.specs.{declared.bundle.Bundle.Bundle, declared.bundle.BundleFault.BundleFault, declared.bundle.Carried.Carried, declared.received.Received.Received}
-use Rattle.dn_link.specs.{Reading.IsBundledAs, Counting.counts_of, Counting.held_of, Counting.reached, Hearing.SendsCarried, Hearing.ByTest, Hearing.HearsAll}
-use Rattle.dn_link.specs.{Line.missing, declared.line.Line.Line, Pacing.PaceState, Packets.heard_in, Packets.takes_relay, Packing.ArePacked, Relays.AreHandedOn, Relays.AreLacked}
-use Rattle.dn_link.specs.{Relays.Handed, Relays.handed_part, declared.bundle.Part.Part, Ends.excludes, Ends.left_by, Ends.told_cause, Text.IsBundle, Text.parts_bytes}
-use Rattle.dn_link.specs.{Text.sealed_bytes, declared.tally.Figures.Figures}
+use Rattle.dn_link.specs.declared.{received.Received.{TheVariants.{Unopened, Stranger, GivenUp, Excluded, Heard}, Received}, bundle.{Bundle.Bundle, BundleFault.BundleFault, Carried.Carried, Part.Part}, line.Line.Line, tally.Figures.Figures}
+use Rattle.dn_link.specs.{Kept.{Unacknowledged, acknowledged, going, kept_after, taken_by}, Reading.IsBundledAs, Counting.{counts_of, held_of, reached}, Hearing.{SendsCarried, ByTest, HearsAll}}
+use Rattle.dn_link.specs.{Line.missing, Pacing.PaceState, Packets.{heard_in, takes_relay}, Packing.ArePacked, Relays.{AreHandedOn, AreLacked, Handed, handed_part}}
+use Rattle.dn_link.specs.{Ends.{excludes, left_by, told_cause}, Text.{IsBundle, parts_bytes, sealed_bytes}}
 use Rattle.dn_link.specs.declared.bundle.Relay as relay
 
 -- what it keeps of a peer: the packets that the peer has not acknowledged, the most that the peer's datagrams
@@ -149,17 +145,13 @@ pub record TakesPackets (bundle : Bundle) (old new : Linked) : Type 0 where
   pub others : new.others ≡ old.others
   pub peers : new.peers ≡ with_reached new.node (met bundle old).peers
 
--- a report of a player comes. While nobody is given up, and where one is kept and others are awaited, the lockstep
--- stays as it is
-abbrev pub TakesReport : ℕ → Report → Linked → Linked → Type 0
-TakesReport from report old new =
+-- what bytes are read as: where they are no report, nothing comes. Where a report of a player comes while nobody is
+-- given up, or is kept and others are awaited, the lockstep stays as it is
+abbrev pub TakesRead : ℕ → Result Report ReportFault → Linked → Linked → Type 0
+TakesRead from (Err fault) old new = new ≡ old
+TakesRead from (Ok report) old new =
     (reported : Reported) × HearsReport from report (surviving_of old) (surviving_of new) reported
     × (reported ≡ Kept → new.node ≡ old.node) × (IsWhole old → new.node ≡ old.node) × (new.peers ≡ old.peers)
-
--- what bytes are read as: where they are no report, nothing comes
-abbrev pub TakesRead : ℕ → Result Report ReportFault → Linked → Linked → Type 0
-TakesRead from (Ok report) old new = TakesReport from report old new
-TakesRead from (Err fault) old new = new ≡ old
 
 -- a datagram of a peer is taken in: its packets, and then its report
 abbrev pub TakesIn : Bundle → Linked → Linked → Type 0

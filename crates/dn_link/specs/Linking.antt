@@ -2,8 +2,7 @@
 use Rattle.std.specs.Prelude.{ℕ, List, [], ◌∷◌, None, get_or, map}
 use Rattle.dn_seal.specs.{declared.seal.Seal.Seal, Sealing.sealing}
 use Rattle.dn_survivor.specs.Surviving.{surviving}
-use Rattle.dn_link.specs.{declared.lag.Had.Had, declared.link.Link.Link, declared.peer.Peer.Peer, Linked.Linked, Linked.PeerState, declared.kept.Kept.Kept}
-use Rattle.dn_link.specs.Kept.{Unacknowledged}
+use Rattle.dn_link.specs.{declared.{overdue.Overdue.Overdue, link.Link.Link, peer.Peer.Peer, kept.Kept.Kept}, Linked.{Linked, PeerState}, Kept.Unacknowledged}
 
 -- what is kept for a peer
 abbrev pub kept : Kept → Unacknowledged
@@ -13,7 +12,7 @@ abbrev pub state_of : Peer → PeerState
 state_of peer =
     record {
       kept = kept peer.kept;
-      reported = peer.reported;
+      reported = peer.reported.counts;
       left = peer.left;
       number = peer.number;
     }
@@ -39,9 +38,9 @@ linked link =
       peers = peers_of link.peers;
     }
 
--- how many commands of each of four players it had at its last ticks, the newest first
-abbrev pub history_of : Link → List Had
-history_of link = link.overdue.history.ticks.items
+-- what it keeps to decide what it hands on
+abbrev pub overdue_of : Link → Overdue
+overdue_of link = link.overdue
 
 -- what it has in common with the others of its game
 abbrev pub seal_of : Link → Seal

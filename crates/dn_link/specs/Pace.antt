@@ -1,14 +1,12 @@
 -- How the pace of a link changes.
 use Rattle.std.specs.Prelude.{◌≡◌, ℕ, ◌+◌, ◌&&◌, ◌||◌, not, if◌then◌else◌, Bool, List, nat_le, is_none, is_some, ◌+ℤ◌, ◌-ℤ◌, ℤ, pos, Option, None, Some, Result, Ok, Err}
 use Rattle.dn_tic.specs.declared.input.Input.{Input}
-use Rattle.dn_machine.specs.{declared.answers.Made.Made, declared.answers.Made.TheVariants.Full, Node.put}
+use Rattle.dn_machine.specs.{declared.answers.Made.{Made, TheVariants.Full}, Node.put}
 use Rattle.dn_lockstep.specs.Contents.{Contents}
 use Rattle.dn_seal.specs.declared.seal.Seal.{Seal}
 use Rattle.dn_open.specs.Sealed.{sealing_of}
-use Rattle.dn_link.specs.Leaning.{LeaningState, looks, step_of, worked_off, StretchingState, drops, stretches}
-use Rattle.dn_link.specs.{declared.bundle.Bundle.Bundle, declared.bundle.BundleFault.BundleFault, Ends.excludes, Hearing.ByTest, Line.heard_on}
-use Rattle.dn_link.specs.{Line.lead_over, Line.missing, Linked.Linked, Linked.end_known, Linked.is_peer, Linked.remains, Pacing.PaceState, Reading.IsBundledAs}
-use Rattle.dn_link.specs.Tally.{stops}
+use Rattle.dn_link.specs.{Leaning.{LeaningState, looks, step_of, worked_off, StretchingState, drops, stretches}, declared.bundle.{Bundle.Bundle, BundleFault.BundleFault}, Ends.excludes, Tally.stops}
+use Rattle.dn_link.specs.{Hearing.ByTest, Line.{heard_on, lead_over, missing}, Linked.{Linked, end_known, is_peer, remains}, Pacing.PaceState, Reading.IsBundledAs}
 
 -- an input that is owed stays so until there is room for it
 abbrev pub still_owed : Made → Option Input → Option Input

@@ -1,8 +1,7 @@
 -- What a link keeps for its pace.
 use Rattle.std.specs.Prelude.{ℕ, None, pos, Option, get_or}
 use Rattle.dn_tic.specs.declared.input.Input.{Input}
-use Rattle.dn_link.specs.{declared.line.Line.Line, declared.link.Link.Link, declared.pace.Pace.Pace, Line.new_line, Leaning.LeaningState}
-use Rattle.dn_link.specs.{Leaning.StretchingState, declared.leaning.Leaning.Leaning, declared.stretching.Stretching.Stretching}
+use Rattle.dn_link.specs.{declared.{line.Line.Line, link.Link.Link, pace.Pace.Pace, leaning.Leaning.Leaning, stretching.Stretching.Stretching}, Line.new_line, Leaning.{LeaningState, StretchingState}}
 
 -- the line from each player, the input of which a command is owed, how the ticks lean and stretch, and how many
 -- bytes came that were no datagram

@@ -1,11 +1,9 @@
 -- The packets that a datagram carries.
-use Rattle.std.specs.Prelude.{ℕ, zero, suc, ◌+◌, ◌/◌, ◌%◌, ◌^◌, List, [], ◌∷◌, ◌++◌, length, take, drop, Bool, ◌&&◌, not, nat_le, slice_index, if◌then◌else◌, None, false}
-use Rattle.std.specs.List.{flat_map}
+use Rattle.std.specs.{Prelude.{ℕ, zero, suc, ◌+◌, ◌/◌, ◌%◌, ◌^◌, List, [], ◌∷◌, ◌++◌, length, take, drop, Bool, ◌&&◌, not, nat_le, slice_index, if◌then◌else◌, None, false}, List.flat_map}
 use Rattle.byteorder.specs.Endian.{little_bytes}
 use Rattle.dn_packet.specs.Text.{sum_of}
 use Rattle.dn_seal.specs.declared.opened.Opened.{Opened}
-use Rattle.dn_link.specs.{declared.bundle.Bundle.Bundle, declared.bundle.Carried.Carried, declared.bundle.Part.Part, declared.bundle.Part.TheVariants.Whole}
-use Rattle.dn_link.specs.declared.bundle.Part.TheVariants.{Run, Relay}
+use Rattle.dn_link.specs.declared.bundle.{Bundle.Bundle, Carried.Carried, Part.{Part, TheVariants.{Whole, Run, Relay}}}
 use Rattle.dn_link.specs.declared.bundle.Relay as relay
 
 -- a packet as it would be opened, had it come alone in its sender's envelope

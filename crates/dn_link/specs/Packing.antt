@@ -1,10 +1,8 @@
 -- Packets that are written as parts.
-use Rattle.std.specs.Prelude.{◌≡◌, ◌≢◌, ◌<◌, ◌≤◌, ℕ, ◌+◌, ◌*◌, ◌/◌, ◌%◌, ◌^◌, List, [], ◌∷◌, length, take, map, All, nat_lt, if◌then◌else◌, ◌++◌}
-use Rattle.std.specs.List.{flat_map}
+use Rattle.std.specs.{Prelude.{◌≡◌, ◌≢◌, ◌<◌, ◌≤◌, ℕ, ◌+◌, ◌*◌, ◌/◌, ◌%◌, ◌^◌, List, [], ◌∷◌, length, take, map, All, nat_lt, if◌then◌else◌, ◌++◌}, List.flat_map}
 use Rattle.dn_seal.specs.declared.opened.Opened.{Opened}
-use Rattle.dn_link.specs.{declared.bundle.Carried.Carried, declared.bundle.Part.Part, declared.bundle.Part.TheVariants.Whole, declared.bundle.Part.TheVariants.Run}
-use Rattle.dn_link.specs.{declared.bundle.Part.TheVariants.Relay, Packets.opened_from, Packets.packets_of, Packets.short_packet, Text.parts_bytes, Text.IsPart}
-use Rattle.dn_link.specs.declared.packing.Packing.{Packing}
+use Rattle.dn_link.specs.{declared.{bundle.{Carried.Carried, Part.{Part, TheVariants.{Whole, Run, Relay}}}, packing.Packing.Packing}, Packets.{opened_from, packets_of, short_packet}}
+use Rattle.dn_link.specs.Text.{parts_bytes, IsPart}
 use Rattle.dn_link.specs.declared.bundle.Run as run
 
 -- a packet stands whole only where no command of eight bytes tells it; and none is of a third player

@@ -1,9 +1,7 @@
 -- What bytes are read as.
 use Rattle.std.specs.Prelude.{◌≡◌, ◌≢◌, ◌<◌, ◌≤◌, ℕ, List, length, slice_index, take, Result, Ok, Err}
-use Rattle.dn_seal.specs.Opening.{Sealing, Format, IsSized, IsOfSuite, IsOfKind, IsOfGame, IsFor, IsTagged, told_game, told_body, told_tag}
-use Rattle.dn_seal.specs.Hmac.{tag_of, suite_byte}
-use Rattle.dn_link.specs.declared.bundle.BundleFault.TheVariants.{Short, Long, Suite, Kind, Game, Receiver, Tag, Form}
-use Rattle.dn_link.specs.{declared.bundle.Bundle.Bundle, declared.bundle.BundleFault.BundleFault, Text.IsBundle, Text.sealed_bytes}
+use Rattle.dn_seal.specs.{Opening.{Sealing, Format, IsSized, IsOfSuite, IsOfKind, IsOfGame, IsFor, IsTagged, told_game, told_body, told_tag}, Hmac.{tag_of, suite_byte}}
+use Rattle.dn_link.specs.{declared.bundle.{BundleFault.{TheVariants.{Short, Long, Suite, Kind, Game, Receiver, Tag, Form}, BundleFault}, Bundle.Bundle}, Text.{IsBundle, sealed_bytes}}
 
 -- the bundle to this player of this game whose datagram the bytes are
 pub record IsDatagramOf (sealing : Sealing) (bytes : List ℕ) (bundle : Bundle) : Type 0 where

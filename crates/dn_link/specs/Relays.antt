@@ -62,14 +62,9 @@ AreLacked reported low (one ∷ handed) =
 
 -- Which commands of third players are handed on.
 
--- how many commands of a player it had at a tick
-abbrev pub had_then : ℕ → Option Had → ℕ
-had_then player None = 0
-had_then player (Some had) = slice_index had.counts player
-
--- and so many ticks before the last
+-- how many commands of a player it had so many ticks before the last
 abbrev pub had : List Had → (age player : ℕ) → ℕ
-had history age player = had_then player (slice_get history age)
+had history age player = elim (slice_get history age) [ None ↦ 0 | Some tick ↦ slice_index tick.counts player ]
 
 -- a lag in eighths of a tick, after a command that took longer, or less long
 abbrev pub moved : (longer shorter : Bool) → ℕ → ℕ

@@ -3,9 +3,8 @@ use Rattle.std.specs.Prelude.{◌≡◌, ℕ, ◌&&◌, Bool, false, not, Option
 use Rattle.dn_tic.specs.declared.command.Move.{Move}
 use Rattle.dn_machine.specs.{declared.answers.Ran.Ran, Running.on_run_but}
 use Rattle.dn_lockstep.specs.Steps.{RunsBy}
-use Rattle.dn_survivor.specs.{declared.report.Report.Report, OfOthers.has, OfOthers.newest_of, Calls.GivesUp, Surviving.Surviving, declared.answers.GivenUp.GivenUp}
-use Rattle.dn_link.specs.Relays.{Handed, IsHandedOn, handed_part}
-use Rattle.dn_link.specs.{Linked.HasBehind, Linked.Linked, Linked.has_given_up, Linked.surviving_of, declared.bundle.Part.Part, declared.bundle.Part.TheVariants.Relay, Text.IsRun}
+use Rattle.dn_survivor.specs.{declared.{report.Report.Report, answers.GivenUp.GivenUp}, OfOthers.{has, newest_of}, Calls.GivesUp, Surviving.Surviving}
+use Rattle.dn_link.specs.{Relays.{Handed, IsHandedOn, handed_part}, Linked.{Linked, has_given_up, surviving_of}, declared.bundle.Part.TheVariants.Relay, Text.IsRun}
 use Rattle.dn_link.specs.declared.bundle.Relay as relay
 
 -- a run of a link, in which no mark is compared of players who are given up
@@ -51,7 +50,3 @@ pub record IsHandedFor (link : Linked) (to player : ℕ) (relay : relay.Relay) :
   pub few : length handed.commands ≤ 24
   pub stays : has_given_up link handed.player ≡ false
   pub run : IsRun relay.run
-
--- behind its own parts a datagram has runs of two players at most
-abbrev pub HasTwoBehind : Linked → ℕ → (own all : List Part) → Type 0
-HasTwoBehind link to own all = (behind : HasBehind link to 0 own all) × (length behind.handed ≤ 2)

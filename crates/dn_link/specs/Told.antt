@@ -1,10 +1,8 @@
 -- What bytes tell, part by part.
-use Rattle.std.specs.Prelude.{ℕ, zero, suc, ◌+◌, ◌-◌, ◌*◌, ◌/◌, ◌%◌, ◌==◌, ◌||◌, nat_lt, if◌then◌else◌, List, [], ◌∷◌, length, take, drop, slice_index, Option, Some, None}
+use Rattle.std.specs.{Prelude.{ℕ, zero, suc, ◌+◌, ◌-◌, ◌*◌, ◌/◌, ◌%◌, ◌==◌, ◌||◌, nat_lt, if◌then◌else◌, List, [], ◌∷◌, length, take, drop, slice_index, Option, Some, None}, Option.option_map}
 use Rattle.std.specs.Int.{w8, w16, w32, cast_signed, from_le_bytes}
-use Rattle.std.specs.Option.{option_map}
 use Rattle.dn_seal.specs.Opening.{ask_in}
-use Rattle.dn_link.specs.{declared.bundle.Bundle.Bundle, declared.bundle.Carried.Carried, declared.bundle.Counts.Counts, declared.bundle.Part.Part}
-use Rattle.dn_link.specs.{declared.bundle.Part.TheVariants.Whole, declared.bundle.Part.TheVariants.Run, declared.bundle.Part.TheVariants.Relay, Text.part_bytes}
+use Rattle.dn_link.specs.{declared.bundle.{Bundle.Bundle, Carried.Carried, Counts.Counts, Part.{Part, TheVariants.{Whole, Run, Relay}}}, Text.part_bytes}
 use Rattle.dn_link.specs.declared.bundle.Run as run
 use Rattle.dn_link.specs.declared.bundle.Relay as relay
 

@@ -1,18 +1,15 @@
 //! That the links of a game are caught up.
 
 ghost use Rattle.std.specs.Prelude.{◌≡◌, ◌≢◌, ◌<◌, ◌≤◌, ◌+◌, ◌*◌, ℕ, ℤ, Bool, false, List, Option, Some, IfSome, length};
-ghost use Rattle.dn_tic.specs.{declared.command.Move.Move, declared.input.Input.Input};
+ghost use Rattle.dn_tic.specs.declared.{command.Move.Move, input.Input.Input};
 ghost use Rattle.dn_setup.specs.Settings.{Settings};
-ghost use Rattle.dn_machine.specs.{declared.answers.Made.Made, declared.answers.Ran.Ran, Limits.Limits, Node.put, Running.on_run, Running.on_quit, Sending.lag};
-ghost use Rattle.dn_machine.specs.{Started.started_node, declared.answers.Phase.TheVariants.Playing};
-ghost use Rattle.dn_lockstep.specs.{Told.Builds, Told.got, Told.made, Marking.Marking, Sent.IsFair, Sent.sent_to, Represents.Represents, Steps.RunsBy, Steps.Steps, Steps.Tells};
-ghost use Rattle.dn_lockstep.specs.OneGame.{Session};
+ghost use Rattle.dn_machine.specs.{declared.answers.{Made.Made, Ran.Ran, Phase.TheVariants.Playing}, Limits.Limits, Node.put, Running.{on_run, on_quit}, Sending.lag, Started.started_node};
+ghost use Rattle.dn_lockstep.specs.{Told.{Builds, got, made}, Marking.Marking, Sent.{IsFair, sent_to}, Represents.Represents, Steps.{RunsBy, Steps, Tells}, OneGame.Session};
 ghost use Rattle.dn_open.specs.Sealed.{sealing_of};
 ghost use Rattle.dn_seal.specs.declared.seal.Seal.{Seal};
-ghost use Rattle.dn_link.specs.CaughtUp.{Brings, HasGrown, IsInStep, AreCaughtUp, IsInStepTo, StayCaughtUp, WasInStep, next_to};
-ghost use Rattle.dn_link.specs.{declared.bundle.Bundle.Bundle, declared.bundle.Carried.Carried, Kept.end_of, Kept.taken_by, Reading.IsDatagramOf, Text.parts_bytes};
-ghost use Rattle.dn_link.specs.{declared.received.Received.Received, LinkedGame.IsGenuineDatagram, LinkedGame.AreLinked, Counting.has_ended, Rounds.AreRounds};
-ghost use Rattle.dn_link.specs.{Rounds.AreFairLines, Rounds.Stretch, Linked.Gives, Linked.Linked, Linked.Receives, Linking.new_peer, Pacing.PaceState};
+ghost use Rattle.dn_link.specs.{CaughtUp.{Brings, HasGrown, IsInStep, AreCaughtUp, IsInStepTo, StayCaughtUp, WasInStep, next_to}, Kept.{end_of, taken_by}, Reading.IsDatagramOf, Text.parts_bytes};
+ghost use Rattle.dn_link.specs.{declared.{bundle.{Bundle.Bundle, Carried.Carried}, received.Received.Received}, LinkedGame.{IsGenuineDatagram, AreLinked}, Counting.has_ended, Linking.new_peer};
+ghost use Rattle.dn_link.specs.{Rounds.{AreRounds, AreFairLines, Stretch}, Linked.{Gives, Linked, Receives}, Pacing.PaceState};
 
 use crate::laws::{bundles_are_read_back, linked_game_goes_on};
 use dn_lockstep::locksteps_agree;

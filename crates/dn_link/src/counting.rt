@@ -1,8 +1,7 @@
 //! How far a lockstep is.
 
-ghost use Rattle.std.specs.Prelude.{◌≡◌, ◌≢◌, ◌<◌, ℕ, ◌+◌, nat_lt, nat_le, false, None, Some, IfOk, IfSome, Option};
-ghost use Rattle.dn_lockstep.specs.{Contents.contents, Contents.end_in, Tables.count_of};
-ghost use Rattle.dn_seal.specs.Sealing.{sealing};
+ghost use Rattle.std.specs.Prelude.{◌≡◌, ◌+◌, None, Some};
+ghost use Rattle.dn_lockstep.specs.Contents.{contents};
 ghost use Rattle.dn_link.specs.Counting.{counts_of, has_of, held, held_of, reached};
 
 use crate::bundle::Counts;
@@ -13,9 +12,7 @@ use dn_lockstep::Lockstep;
 fn has_of(lockstep: &Lockstep, player: u8) -> u32
     ensures { result ≡ has_of (contents lockstep.now) player }
 {
-    let Some(got) = lockstep.got(player) else {
-        return 0;
-    };
+    let got = held(lockstep, player);
     match lockstep.end(player) {
         Some(_) => got + 1,
         None => got,
@@ -42,10 +39,7 @@ pub(crate) fn counts_of(lockstep: &Lockstep) -> Counts
 fn held(lockstep: &Lockstep, player: u8) -> u32
     ensures { result ≡ held (contents lockstep.now) player }
 {
-    match lockstep.got(player) {
-        Some(got) => got,
-        None => 0,
-    }
+    lockstep.got(player).unwrap_or(0)
 }
 
 /// How many commands a lockstep has of each player.

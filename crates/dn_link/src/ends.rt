@@ -1,7 +1,7 @@
 //! What a datagram tells of its sender's end.
 
 ghost use Rattle.std.specs.Prelude.{◌≡◌};
-ghost use Rattle.dn_link.specs.Ends.{cause_byte, excludes, left_by, tells_end, told_cause};
+ghost use Rattle.dn_link.specs.Ends.{excludes, left_by, tells_end, told_cause};
 
 use crate::bundle::Bundle;
 use dn_machine::{Cause, Phase};
@@ -9,23 +9,14 @@ use dn_machine::{Cause, Phase};
 /// The cause of one that has given up the receiver.
 pub(crate) const EXCLUDES: u8 = 4;
 
-/// The byte that stands for a cause.
-fn cause_byte(cause: Cause) -> u8
-    ensures { result ≡ cause_byte cause }
-{
-    match cause {
-        Cause::Quit => 1,
-        Cause::Full => 2,
-        Cause::Inconsistent { .. } => 3,
-    }
-}
-
-/// Why a player in this phase has ended; 0 of one that has not.
+/// The byte that tells why a player in this phase has ended; 0 of one that has not.
 pub(crate) fn told_cause(phase: Phase) -> u8
     ensures { result ≡ told_cause phase }
 {
     match phase {
-        Phase::Ended(cause) => cause_byte(cause),
+        Phase::Ended(Cause::Quit) => 1,
+        Phase::Ended(Cause::Full) => 2,
+        Phase::Ended(Cause::Inconsistent { .. }) => 3,
         Phase::Listening | Phase::Gathering | Phase::Playing => 0,
     }
 }

@@ -1,6 +1,6 @@
 //! Hearing what a datagram carries.
 
-ghost use Rattle.std.specs.{Prelude.◌≡◌, Prelude.slice_index, List.flat_map};
+ghost use Rattle.std.specs.{Prelude.◌≡◌, List.flat_map};
 ghost use Rattle.dn_lockstep.specs.Contents.{contents};
 ghost use Rattle.dn_survivor.specs.OfOthers.{has};
 ghost use Rattle.dn_open.specs.{Arrivals.HearsOpened, Arrivals.SparesSealed, declared.hearing.Arrived.Arrived};
@@ -53,24 +53,11 @@ fn hear_run(lockstep: &mut Lockstep, from: u8, run: &Run)
     }
 }
 
-/// Whether a player is given up.
-fn is_gone(gone: &[bool; 4], player: u8) -> bool
+/// Whether a player is one of those who are given up.
+pub(crate) fn is_gone(gone: &[bool; 4], player: u8) -> bool
     ensures { result ≡ has gone.now player }
 {
-    match gone.get(usize::from(player)) {
-        Some(is_gone) => *is_gone,
-        None => false,
-    }
-}
-
-/// How many commands of a player are there, by these counts.
-fn count_of(counts: &[u32; 4], player: u8) -> u32
-    ensures { result ≡ slice_index counts.now player }
-{
-    match counts.get(usize::from(player)) {
-        Some(count) => *count,
-        None => 0,
-    }
+    gone.get(usize::from(player)).copied().unwrap_or(false)
 }
 
 /// Whether commands of a third player are taken: it is not given up, and no command is missing before them.
@@ -78,7 +65,8 @@ fn count_of(counts: &[u32; 4], player: u8) -> u32
 fn takes_relay(gone: &[bool; 4], counts: &[u32; 4], relay: &Relay) -> bool
     ensures { result ≡ takes_relay (has gone.now) counts.now relay.now }
 {
-    !is_gone(gone, relay.player) && relay.run.start <= count_of(counts, relay.player)
+    let count = counts.get(usize::from(relay.player)).copied().unwrap_or(0);
+    !is_gone(gone, relay.player) && relay.run.start <= count
 }
 
 /// Hears the packets of a part, and of what is handed on those that are taken.

@@ -1,9 +1,8 @@
 //! The packets that a peer has not acknowledged.
 
-ghost use Rattle.std.specs.{Prelude.◌≡◌, Prelude.◌≤◌, Prelude.◌<◌, Prelude.◌+◌, Prelude.◌∷◌, Prelude.[], Prelude.ℕ, Prelude.All, Prelude.length, Prelude.nat_le, Prelude.slice_index, Prelude.Option};
-ghost use Rattle.std.specs.{Option.option_map};
-ghost use Rattle.dn_link.specs.{Kept.IsCovering, Kept.IsRising, Kept.IsRising-prop, Kept.acknowledged, Kept.commands_in, Kept.end_of, Kept.going, Kept.is_idle, Kept.is_news, Kept.kept_after};
-ghost use Rattle.dn_link.specs.{Kept.takes_packet, Kept.without, Packing.ArePacked, Text.IsPart, Text.parts_bytes};
+ghost use Rattle.std.specs.Prelude.{◌≡◌, ◌≤◌, ◌<◌, ◌+◌, [], All, length, Option};
+ghost use Rattle.dn_link.specs.{Kept.{IsCovering, IsRising, IsRising-prop, acknowledged, commands_in, end_of, going, is_idle, is_news, kept_after, takes_packet, without}, Packing.ArePacked};
+ghost use Rattle.dn_link.specs.Text.{IsPart, parts_bytes};
 
 use crate::bundle::{Carried, Part};
 use crate::packing::pack;
@@ -18,22 +17,10 @@ const HEAD_BYTES: usize = 8;
 /// How many bytes a command has.
 const COMMAND_BYTES: usize = 8;
 
-/// Where in a packet its flags stand, and the lowest of them.
+/// Where in a packet the byte stands whose high bits are its flags, and the lowest of them.
 const FLAG_BYTE: usize = 3;
 
 const FIRST_FLAG: u8 = 16;
-
-/// The byte of a packet whose high bits are its flags.
-fn flag_byte(packet: &Carried) -> u8
-    ensures { result ≡ slice_index packet.now.datagram.items 3 }
-{
-    packet
-        .datagram
-        .as_slice()
-        .get(FLAG_BYTE)
-        .copied()
-        .unwrap_or(0)
-}
 
 /// How many commands a packet has.
 fn commands_in(packet: &Carried) -> u64
@@ -54,7 +41,9 @@ fn end_of(packet: &Carried) -> u64
 fn is_idle(packet: &Carried) -> bool
     ensures { result ≡ is_idle packet.now }
 {
-    commands_in(packet) == 0 && packet.ask.is_none() && flag_byte(packet) < FIRST_FLAG
+    let bytes = packet.datagram.as_slice();
+    let flags = bytes.get(FLAG_BYTE).copied().unwrap_or(0);
+    commands_in(packet) == 0 && packet.ask.is_none() && flags < FIRST_FLAG
 }
 
 /// Whether a peer that has left for this cause, or has not, takes a packet: none that says nothing.
@@ -86,7 +75,7 @@ pub(crate) struct Kept {
     /// How many commands these packets and those before them cover.
     covered: u64,
     /// How many commands the peer needs no more.
-    done: u32,
+    pub(crate) done: u32,
     ghost few: { length packets.items ≤ 24 },
     ghost covers: { IsCovering (record { packets = packets.items; covered = covered; done = done }) },
     ghost rising: { IsRising done packets.items covered } by { IsRising-prop done packets.items covered },
@@ -139,13 +128,6 @@ impl Kept {
             self.packets.pop();
         }
         parts
-    }
-
-    /// How many commands the peer no longer needs.
-    pub(crate) fn done(&self) -> u32
-        ensures { result ≡ (kept self.now).done }
-    {
-        self.done
     }
 
     /// The peer has so many commands.

@@ -1,6 +1,6 @@
 //! How many commands of each player this one had at its last ticks, and how far a peer lags behind.
 
-ghost use Rattle.std.specs.Prelude.{◌≡◌, ◌<◌, ◌≤◌, nat_lt, [], ◌∷◌, slice_index, take};
+ghost use Rattle.std.specs.Prelude.{◌≡◌, ◌<◌, ◌≤◌, [], ◌∷◌, slice_index, take};
 ghost use Rattle.dn_link.specs.Relays.{counted_down, handed, handed_from, is_overdue, is_slow, learned, moved, had};
 
 use crate::bundle::Run;
@@ -123,18 +123,21 @@ impl Lag {
     /// What is known of the lag by the next report. The newest command of the report counts: a lag goes up by an
     /// eighth of a tick where that one took longer, and down by as much where it took less long. So half of the
     /// lags are shorter.
-    pub(crate) fn learn(&mut self, history: &History, player: u8, reported: u32)
+    pub(crate) fn learned(&self, history: &History, player: u8, reported: u32) -> Lag
         requires { player < 4 }
-        ensures { self.new ≡ learned history.now.ticks.items player reported self.old }
+        ensures { result ≡ learned history.now.ticks.items player reported self.now }
     {
         if reported <= self.told {
-            return;
+            return *self;
         }
         let ticks = self.usual / PARTS;
         let longer = history.had(ticks + 1, player) >= reported;
         let shorter = history.had(ticks, player) < reported;
-        self.usual = moved(self.usual, longer, shorter);
-        self.told = reported;
+        Lag {
+            usual: moved(self.usual, longer, shorter),
+            told: reported,
+            ..*self
+        }
     }
 
     /// Whether the oldest command that the peer has not reported is older than usual here.
@@ -154,14 +157,15 @@ impl Lag {
     }
 
     /// A tick, from which on commands are handed on for a while or not.
-    pub(crate) fn count_down(&mut self, is_on: bool)
-        ensures { self.new ≡ counted_down is_on self.old }
+    pub(crate) fn tick(&self, is_on: bool) -> Lag
+        ensures { result ≡ counted_down is_on self.now }
     {
-        self.left = if is_on {
+        let left = if is_on {
             STAYS_ON
         } else {
             self.left.saturating_sub(1)
         };
+        Lag { left, ..*self }
     }
 
     /// The first command that is handed on of those that the peer has not reported: the oldest if it is overdue; else,

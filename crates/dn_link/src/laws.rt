@@ -1,20 +1,17 @@
 //! What holds of datagrams.
 
-ghost use Rattle.std.specs.Prelude.{◌≡◌, ◌≢◌, ◌<◌, ◌≤◌, ℕ, ℤ, pos, Bool, true, false, List, [], slice_index, All, get_or, length, Option, None, Some, IfSome, Result, Ok, Err};
-ghost use Rattle.dn_tic.specs.{declared.command.Move.Move, declared.input.Input.Input};
+ghost use Rattle.std.specs.Prelude.{◌≡◌, ◌≢◌, ◌<◌, ◌≤◌, ℕ, ℤ, pos, Bool, true, false, List, [], slice_index, All, get_or, length, Option, Some, IfSome, Result, Ok, Err};
+ghost use Rattle.dn_tic.specs.declared.{command.Move.Move, input.Input.Input};
 ghost use Rattle.dn_setup.specs.Settings.{IsSettings, Settings};
-ghost use Rattle.dn_machine.specs.{declared.answers.Made.Made, declared.answers.Ran.Ran, Flight.Flight, Limits.Limits, Limits.IsWindow, Running.is_over, Running.on_run};
-ghost use Rattle.dn_machine.specs.{Running.on_quit, Started.started_node};
-ghost use Rattle.dn_lockstep.specs.OneGame.{AreOneGame, world_told, Session, after_build, after_packet, after_relays, after_run, started_session, with_lockstep};
-ghost use Rattle.dn_lockstep.specs.{Agreed.AreAgreed, Opening.IsGame, Told.Builds, Told.got, Told.made, Contents.Contents, Contents.end_in, Marking.Marking, Sent.IsFair};
-ghost use Rattle.dn_lockstep.specs.{Sent.sent_to, Represents.Represents, Steps.RunsBy, Steps.Steps, Steps.Tells};
+ghost use Rattle.dn_machine.specs.{declared.answers.{Made.Made, Ran.Ran}, Flight.Flight, Limits.{Limits, IsWindow}, Running.{is_over, on_run, on_quit}, Started.started_node};
+ghost use Rattle.dn_lockstep.specs.{OneGame.{AreOneGame, world_told, Session, after_build, after_packet, after_relays, after_run, started_session, with_lockstep}, Agreed.AreAgreed, Opening.IsGame};
+ghost use Rattle.dn_lockstep.specs.{Told.{Builds, got, made}, Contents.{Contents, end_in}, Marking.Marking, Sent.{IsFair, sent_to}, Represents.Represents, Steps.{RunsBy, Steps, Tells}};
 ghost use Rattle.dn_survivor.specs.OfOthers.{nothing_kept};
-ghost use Rattle.dn_seal.specs.{declared.opened.Opened.Opened, declared.seal.Seal.Seal, Opening.Sealing};
+ghost use Rattle.dn_seal.specs.{declared.{opened.Opened.Opened, seal.Seal.Seal}, Opening.Sealing};
 ghost use Rattle.dn_open.specs.Sealed.{sealing_of};
-ghost use Rattle.dn_link.specs.LinkedGame.{IsGenuineDatagram, WasBundled, WasGiven, AreLinked, IsLater, StayLinked};
-ghost use Rattle.dn_link.specs.Linked.{Gives, Linked, Receives, certain, may_leave};
-ghost use Rattle.dn_link.specs.{declared.bundle.Bundle.Bundle, declared.bundle.BundleFault.BundleFault, declared.received.Received.Received, Ends.tells_end, Counting.has_ended};
-ghost use Rattle.dn_link.specs.{Linking.new_peer, Hearing.HearsAll, Pacing.PaceState, Reading.IsBundledAs, Relays.flights_of, Text.IsBundle, Text.sealed_bytes};
+ghost use Rattle.dn_link.specs.{LinkedGame.{IsGenuineDatagram, WasBundled, WasGiven, AreLinked, IsLater, StayLinked}, Linked.{Gives, Linked, Receives, certain, may_leave}, Ends.tells_end};
+ghost use Rattle.dn_link.specs.{declared.{bundle.{Bundle.Bundle, BundleFault.BundleFault}, received.Received.Received}, Counting.has_ended, Linking.new_peer, Hearing.HearsAll, Pacing.PaceState};
+ghost use Rattle.dn_link.specs.{Reading.IsBundledAs, Relays.flights_of, Text.{IsBundle, sealed_bytes}};
 
 use dn_lockstep::{locksteps_agree, one_game_goes_on, one_game_starts};
 use dn_open::letters_keep_one_game;

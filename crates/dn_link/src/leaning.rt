@@ -1,7 +1,7 @@
 //! How a player leans towards the mean of all.
 
-ghost use Rattle.std.specs.Prelude.{◌≡◌, ◌≤◌, ◌<◌, ◌+◌, ◌*◌, ◌+ℤ◌, ℕ, ℤ, pos, nat_abs};
-ghost use Rattle.dn_link.specs.Leaning.{decided, looks, step_of, within, worked_off, worth};
+ghost use Rattle.std.specs.Prelude.{◌≡◌, ◌≤◌, ◌<◌, ◌+◌, ◌*◌, ◌+ℤ◌, ℤ, pos, nat_abs};
+ghost use Rattle.dn_link.specs.Leaning.{decided, looks, step_of, worked_off, worth};
 
 /// At how many ticks a player looks before it leans, and for how many it then looks away.
 const LOOKS: u8 = 16;

@@ -1,8 +1,8 @@
 //! What is known of the line from a peer.
 
-ghost use Rattle.std.specs.Prelude.{◌≡◌, ◌<◌, ◌≤◌, ◌+ℤ◌, ◌-ℤ◌, ◌||◌, None, min, nat_abs, nat_le, pos};
+ghost use Rattle.std.specs.Prelude.{◌≡◌, ◌<◌, ◌≤◌, ◌+ℤ◌, ◌-ℤ◌, ◌||◌, None, min, nat_abs, nat_le};
 ghost use Rattle.dn_lockstep.specs.Contents.{contents};
-ghost use Rattle.dn_link.specs.{Line.counted, Line.heard_on, Line.lead_over, Line.missing, Line.after_newest, Line.new_line, Line.with_tally};
+ghost use Rattle.dn_link.specs.{Line.counted, Line.heard_on, Line.lead_over, Line.missing, Line.after_newest, Line.new_line};
 
 use crate::bundle::Bundle;
 use crate::tally::Tally;
@@ -13,13 +13,6 @@ const BLOCK: u32 = 64;
 
 /// How many missing datagrams make a line a lossy one.
 const LOSSY: u8 = 2;
-
-/// A number of at most one byte.
-fn byte_of(number: u64) -> u8
-    ensures { result ≡ min number 255 }
-{
-    number.min(255) as u8
-}
 
 /// By how many commands a player leads another.
 pub(crate) fn lead_over(lockstep: &Lockstep, player: u8) -> i8
@@ -122,7 +115,7 @@ impl Line {
         requires { newest < number }
         ensures { self.new ≡ counted newest number self.old }
     {
-        let holes = byte_of(u64::from(self.holes) + u64::from(number - newest - 1));
+        let holes = (u64::from(self.holes) + u64::from(number - newest - 1)).min(255) as u8;
         if number / BLOCK == newest / BLOCK {
             self.holes = holes;
         } else {
@@ -140,18 +133,11 @@ impl Line {
         self.lead = bundle.lead;
     }
 
-    /// Counts a datagram.
-    fn tally(&mut self, bundle: &Bundle)
-        ensures { self.new ≡ with_tally bundle.now self.old }
-    {
-        self.tally.count(self.newest, bundle.number);
-    }
-
     /// A datagram came. An old one tells nothing.
     pub(crate) fn hear(&mut self, bundle: &Bundle)
         ensures { self.new ≡ heard_on bundle.now self.old }
     {
-        self.tally(bundle);
+        self.tally.count(self.newest, bundle.number);
         match self.newest {
             None => self.tell(bundle),
             Some(newest) => {

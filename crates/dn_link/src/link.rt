@@ -70,26 +70,14 @@ impl Link {
         ensures seal { IfOk result (λ link. seal_of link ≡ seal) }
     {
         let survivor = Survivor::started(alloc, config, settings, ahead)?;
-        Ok(Link::around(survivor, seal))
-    }
-
-    /// A link around a survivor, that has kept and heard nothing.
-    fn around(survivor: Survivor, seal: Seal) -> Link
-        ensures node { (linked result).node ≡ (surviving survivor).lockstep }
-        ensures others { (linked result).others ≡ (surviving survivor).others }
-        ensures peers { (player : ℕ) → (linked result).peers player ≡ new_peer }
-        ensures pace { pace_of result ≡ new_pace }
-        ensures seal { seal_of result ≡ seal }
-    {
-        let sealer = Sealer::of(seal, survivor.lockstep().me());
-        let overdue = Overdue::new(survivor.lockstep().me());
-        Link {
+        let me = survivor.lockstep().me();
+        Ok(Link {
             survivor,
-            sealer,
+            sealer: Sealer::of(seal, me),
             peers: [Peer::new(), Peer::new(), Peer::new(), Peer::new()],
             pace: Pace::new(),
-            overdue,
-        }
+            overdue: Overdue::new(me),
+        })
     }
 
     /// The lockstep, for its readers.

@@ -1,18 +1,16 @@
 //! What is kept for a peer has what the peer needs; and a peer is to be sent commands from where those end
 //! that are kept for it, or from earlier on.
 
-ghost use Rattle.std.specs.Prelude.{◌≡◌, ◌≢◌, ◌<◌, ◌≤◌, ◌⊎◌, ◌+◌, ℕ, ℤ, Bool, List, Option, Some, ◌↔◌, true, length, map};
-ghost use Rattle.std.specs.List.{flat_map};
-ghost use Rattle.dn_tic.specs.{declared.command.Move.Move, declared.input.Input.Input};
+ghost use Rattle.std.specs.{Prelude.{◌≡◌, ◌≢◌, ◌<◌, ◌≤◌, ◌⊎◌, ◌+◌, ℕ, ℤ, Bool, List, Option, Some, ◌↔◌, true, length, map}, List.flat_map};
+ghost use Rattle.dn_tic.specs.declared.{command.Move.Move, input.Input.Input};
 ghost use Rattle.dn_packet.specs.Read.{AreBytes};
 ghost use Rattle.dn_setup.specs.Settings.{Settings};
-ghost use Rattle.dn_machine.specs.{declared.answers.Made.Made, declared.answers.Ran.Ran, Sending.on_build, Started.started_node, Limits.Limits, Running.on_run, Running.on_quit};
-ghost use Rattle.dn_lockstep.specs.{Represents.Represents, Steps.RunsBy, Steps.Steps, Told.made};
+ghost use Rattle.dn_machine.specs.{declared.answers.{Made.Made, Ran.Ran}, Sending.on_build, Started.started_node, Limits.Limits, Running.{on_run, on_quit}};
+ghost use Rattle.dn_lockstep.specs.{Represents.Represents, Steps.{RunsBy, Steps}, Told.made};
 ghost use Rattle.dn_seal.specs.declared.seal.Seal.{Seal};
-ghost use Rattle.dn_link.specs.Kept.{end_of, taken_by, Reaches, IsCovering, IsKeptRising, Unacknowledged, has_tic};
-ghost use Rattle.dn_link.specs.{declared.bundle.Carried.Carried, declared.received.Received.Received, Linked.Gives, Linked.Linked, Linked.Receives, Linking.new_peer};
-ghost use Rattle.dn_link.specs.{Linking.linked, CaughtUp.AsksWithin, CaughtUp.GoesOn, CaughtUp.IsInTime, CaughtUp.StillGoesOn, Pacing.PaceState, declared.link.Link.Link};
-ghost use Rattle.dn_link.specs.{Packets.opened_from, Packets.packets_of, Text.parts_bytes};
+ghost use Rattle.dn_link.specs.{Kept.{end_of, taken_by, Reaches, IsCovering, IsKeptRising, Unacknowledged, has_tic}, declared.{bundle.Carried.Carried, received.Received.Received, link.Link.Link}};
+ghost use Rattle.dn_link.specs.{Linked.{Gives, Linked, Receives}, Linking.{new_peer, linked}, CaughtUp.{AsksWithin, GoesOn, IsInTime, StillGoesOn}, Pacing.PaceState, Text.parts_bytes};
+ghost use Rattle.dn_link.specs.Packets.{opened_from, packets_of};
 
 use dn_packet::every_datagram_is_read;
 use dn_setup::every_packet_is_told;

@@ -52,17 +52,6 @@ impl Towards {
         self.lags[player as usize]
     }
 
-    /// The lag of a player's commands once it has reported so many.
-    fn lag_after(&self, history: &History, player: u8, reported: &Had) -> Lag
-        requires { player < 4 }
-        ensures { result ≡ learned history.now.ticks.items player (slice_index reported.now.counts player)
-            (lag_of self.now.lags player) }
-    {
-        let mut lag = self.lag(player);
-        lag.learn(history, player, reported.of(player));
-        lag
-    }
-
     /// It has reported to have so many commands of each player.
     fn learn(&self, history: &History, reported: &Had) -> Towards
         ensures { result.lags ≡ four_of (λ player. learned history.now.ticks.items player
@@ -70,10 +59,10 @@ impl Towards {
     {
         Towards {
             lags: [
-                self.lag_after(history, 0, reported),
-                self.lag_after(history, 1, reported),
-                self.lag_after(history, 2, reported),
-                self.lag_after(history, 3, reported),
+                self.lag(0).learned(history, 0, reported.of(0)),
+                self.lag(1).learned(history, 1, reported.of(1)),
+                self.lag(2).learned(history, 2, reported.of(2)),
+                self.lag(3).learned(history, 3, reported.of(3)),
             ],
             given: false,
         }
@@ -90,19 +79,6 @@ impl Towards {
         lag.is_overdue(history, player, reported.of(player)) || lag.is_slow(&round_trip)
     }
 
-    /// The lag of a player's commands after a tick.
-    fn counted_down(&self, history: &History, me: u8, player: u8, reported: &Had) -> Lag
-        requires few { me < 4 }
-        requires one { player < 4 }
-        ensures { result ≡ counted_down (is_on history.now.ticks.items me reported.now self.now.lags player)
-            (lag_of self.now.lags player) }
-    {
-        let is_on = self.is_on(history, me, player, reported);
-        let mut lag = self.lag(player);
-        lag.count_down(is_on);
-        lag
-    }
-
     /// A tick, before which it had reported so many.
     fn tick(&self, history: &History, me: u8, reported: &Had) -> Towards
         requires { me < 4 }
@@ -112,10 +88,10 @@ impl Towards {
     {
         Towards {
             lags: [
-                self.counted_down(history, me, 0, reported),
-                self.counted_down(history, me, 1, reported),
-                self.counted_down(history, me, 2, reported),
-                self.counted_down(history, me, 3, reported),
+                self.lag(0).tick(self.is_on(history, me, 0, reported)),
+                self.lag(1).tick(self.is_on(history, me, 1, reported)),
+                self.lag(2).tick(self.is_on(history, me, 2, reported)),
+                self.lag(3).tick(self.is_on(history, me, 3, reported)),
             ],
             given: false,
         }
@@ -178,19 +154,12 @@ impl Overdue {
     {
         let mut rest = parts;
         'parts: while let Some((part, after)) = rest.split_first() {
-            self.hand_part(to, part);
-            rest = after;
-        }
-    }
-
-    /// The same of one part.
-    fn hand_part(&mut self, to: u8, part: &Part)
-        requires { to < 4 }
-    {
-        if let Part::Relay(relay) = part {
-            if relay.player < 4 {
-                self.peers[to as usize].lags[relay.player as usize].hand(&relay.run);
+            if let Part::Relay(relay) = part {
+                if relay.player < 4 {
+                    self.peers[to as usize].lags[relay.player as usize].hand(&relay.run);
+                }
             }
+            rest = after;
         }
     }
 

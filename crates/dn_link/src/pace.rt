@@ -1,10 +1,8 @@
 //! What a link keeps for its pace.
 
-ghost use Rattle.std.specs.Prelude.{◌≡◌, ◌<◌, ◌≤◌, ◌+ℤ◌, pos, nat_abs, Some};
-ghost use Rattle.dn_machine.specs.declared.answers.Made.{Made as AnyMade};
+ghost use Rattle.std.specs.Prelude.{◌≡◌, ◌<◌, ◌≤◌, ◌+ℤ◌, pos, nat_abs};
 ghost use Rattle.dn_lockstep.specs.Contents.{contents};
-ghost use Rattle.dn_link.specs.{Leaning.looks, Leaning.step_of, Leaning.worked_off, Pace.after_datagram, Pace.after_input, Pace.after_refusal, Pace.still_owed};
-ghost use Rattle.dn_link.specs.{Pace.with_leads, Pacing.new_pace, Pacing.state_of, Leaning.stretches};
+ghost use Rattle.dn_link.specs.{Leaning.{looks, step_of, worked_off, stretches}, Pace.{after_datagram, after_input, after_refusal, still_owed, with_leads}, Pacing.{new_pace, state_of}};
 
 use crate::bundle::Bundle;
 use crate::leaning::Leaning;
@@ -13,16 +11,6 @@ use crate::stretching::Stretching;
 use dn_lockstep::Lockstep;
 use dn_machine::Made;
 use dn_tic::Input;
-
-/// An input for which there was no room is owed.
-fn owed_after(input: Input, made: Made) -> Option<Input>
-    ensures { result ≡ still_owed made (Some input) }
-{
-    match made {
-        Made::Full => Some(input),
-        _ => None,
-    }
-}
 
 /// Two parts of a tick.
 fn together(lean: i8, slow: i8) -> i8
@@ -40,11 +28,11 @@ pub(crate) struct Pace {
     /// The line from each player.
     lines: [Line; 4],
     /// The input of which a command is owed.
-    owed: Option<Input>,
+    pub(crate) owed: Option<Input>,
     leaning: Leaning,
     stretching: Stretching,
     /// How often bytes came that were no datagram.
-    refused: u32,
+    pub(crate) refused: u32,
 }
 
 impl Pace {
@@ -78,13 +66,6 @@ impl Pace {
         self.lines[bundle.from as usize].hear(bundle);
     }
 
-    /// The input of which a command is owed.
-    pub(crate) fn owed(&self) -> Option<Input>
-        ensures { result ≡ (state_of self.now).owed }
-    {
-        self.owed
-    }
-
     /// The input of a tick, and what came of it.
     pub(crate) fn take(&mut self, input: Input, made: Made)
         ensures { state_of self.new ≡ after_input input made (state_of self.old) }
@@ -92,7 +73,8 @@ impl Pace {
         if self.owed.is_some() {
             self.stretching.drop_input();
         }
-        self.owed = owed_after(input, made);
+        self.owed = Some(input);
+        self.settle(made);
     }
 
     /// What came of the input that was owed.
@@ -102,13 +84,6 @@ impl Pace {
         if made != Made::Full {
             self.owed = None;
         }
-    }
-
-    /// How often bytes came that were no datagram.
-    pub(crate) fn refused(&self) -> u32
-        ensures { result ≡ (state_of self.now).refused }
-    {
-        self.refused
     }
 
     /// Bytes came that were no datagram.

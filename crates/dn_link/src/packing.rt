@@ -1,9 +1,8 @@
 //! Writing packets compactly, as parts of a datagram.
 
-ghost use Rattle.std.specs.{Prelude.◌≡◌, Prelude.◌≤◌, Prelude.◌<◌, Prelude.◌+◌, Prelude.◌/◌, Prelude.◌%◌, Prelude.◌^◌, Prelude.◌++◌, Prelude.◌∷◌, Prelude.[], Prelude.ℕ, Prelude.All, Prelude.length};
-ghost use Rattle.std.specs.{Prelude.false, Prelude.true, List.flat_map};
-ghost use Rattle.dn_link.specs.{Packets.opened_from, Packets.packets_of, Packets.short_packet, declared.bundle.Part.TheVariants.Whole, Packing.HasRoom, Packing.IsOpen, Packing.IsPacking};
-ghost use Rattle.dn_link.specs.{Packing.IsTight, Packing.MayFollow, Packing.packed, Packing.part_of, Packing.ArePacked, Packing.IsNeeded, Text.IsPart, Text.parts_bytes};
+ghost use Rattle.std.specs.Prelude.{◌≡◌, ◌≤◌, ◌<◌, ◌+◌, ◌/◌, ◌%◌, ◌^◌, ◌++◌, ◌∷◌, [], ℕ, All, length, false, true};
+ghost use Rattle.dn_link.specs.{Packets.{opened_from, short_packet}, declared.bundle.Part.TheVariants.Whole, Text.{IsPart, parts_bytes}};
+ghost use Rattle.dn_link.specs.Packing.{HasRoom, IsOpen, IsPacking, IsTight, MayFollow, packed, part_of, ArePacked, IsNeeded};
 
 use crate::bundle::{Carried, Part, Run};
 use crate::short::short_command;

@@ -5,6 +5,7 @@ ghost use Rattle.dn_link.specs.Linked.{larger};
 
 use crate::bundle::{Carried, Part};
 use crate::kept::{Kept, takes_packet};
+use crate::lag::Had;
 use arrayvec::ArrayVec;
 
 /// What a link keeps of a peer.
@@ -13,11 +14,11 @@ pub(crate) struct Peer {
     /// The packets that the peer has not acknowledged.
     kept: Kept,
     /// How many commands it has of each player, by the highest count that its datagrams reported.
-    reported: [u32; 4],
+    pub(crate) reported: Had,
     /// Why it has left, if it has told its end.
-    left: Option<u8>,
+    pub(crate) left: Option<u8>,
     /// The number of the next datagram to it.
-    number: u32,
+    pub(crate) number: u32,
 }
 
 /// The larger of two counts, for each of four players.
@@ -33,9 +34,8 @@ fn larger(one: &[u32; 4], other: &[u32; 4]) -> [u32; 4]
 }
 
 impl Peer {
-    ghost use Rattle.std.specs.Prelude.{All, length, ◌≤◌, ◌<◌, ◌+◌, ◌%◌, ◌^◌, slice_index};
-    ghost use Rattle.dn_link.specs.{Kept.acknowledged, Kept.going, Kept.kept_after, Kept.taken_by, Linking.new_peer, Linking.state_of, Packing.ArePacked, Text.IsPart};
-    ghost use Rattle.dn_link.specs.{Text.parts_bytes};
+    ghost use Rattle.std.specs.Prelude.{All, length, ◌≤◌, ◌<◌, ◌+◌, ◌%◌, ◌^◌};
+    ghost use Rattle.dn_link.specs.{Kept.{acknowledged, going, kept_after, taken_by}, Linking.{new_peer, state_of}, Packing.ArePacked, Text.{IsPart, parts_bytes}};
 
     /// Of which nothing is known.
     pub(crate) fn new() -> Peer
@@ -43,17 +43,10 @@ impl Peer {
     {
         Peer {
             kept: Kept::new(),
-            reported: [0; 4],
+            reported: Had { counts: [0; 4] },
             left: None,
             number: 0,
         }
-    }
-
-    /// The number of the next datagram to it.
-    pub(crate) fn number(&self) -> u32
-        ensures { result ≡ (state_of self.now).number }
-    {
-        self.number
     }
 
     /// The number of the datagram that goes to it now.
@@ -71,9 +64,7 @@ impl Peer {
     fn taken(&self, packet: Option<Carried>) -> Option<Carried>
         ensures { result ≡ taken_by (state_of self.now).left packet }
     {
-        let Some(packet) = packet else {
-            return None;
-        };
+        let packet = packet?;
         if takes_packet(self.left, &packet) {
             Some(packet)
         } else {
@@ -98,19 +89,11 @@ impl Peer {
         (self.next_number(), parts)
     }
 
-    /// How many commands of a player it has reported to have.
-    pub(crate) fn reported_of(&self, player: u8) -> u32
-        requires { player < 4 }
-        ensures { result ≡ slice_index (state_of self.now).reported player }
-    {
-        self.reported[player as usize]
-    }
-
     /// How many commands of this player it no longer needs.
     pub(crate) fn done(&self) -> u32
         ensures { result ≡ (state_of self.now).kept.done }
     {
-        self.kept.done()
+        self.kept.done
     }
 
     /// Drops what is kept for it of the commands below this tic, which it has.
@@ -118,13 +101,6 @@ impl Peer {
         ensures { state_of self.new ≡ record (state_of self.old) { kept = acknowledged (state_of self.old).kept count } }
     {
         self.kept.acknowledge(count);
-    }
-
-    /// Why it has left, if it has told its end.
-    pub(crate) fn left(&self) -> Option<u8>
-        ensures { result ≡ (state_of self.now).left }
-    {
-        self.left
     }
 
     /// Notes what it has of each player, why it has left, and how many commands of this player it no longer
@@ -137,7 +113,7 @@ impl Peer {
         } }
     {
         self.kept.acknowledge(done);
-        self.reported = larger(&self.reported, got);
+        self.reported.counts = larger(&self.reported.counts, got);
         self.left = left;
     }
 }

@@ -2,21 +2,44 @@
 
 ghost use Rattle.std.specs.Prelude.{◌≤◌, ◌≡◌, length, Result};
 ghost use Rattle.dn_seal.specs.Sealing.{sealing};
-ghost use Rattle.dn_link.specs.{declared.bundle.Bundle.Bundle, declared.bundle.BundleFault.BundleFault, Told.report_size, Told.told_bundle, Reading.IsBundledAs};
+ghost use Rattle.dn_link.specs.{declared.bundle.Bundle.Bundle, declared.bundle.BundleFault.BundleFault, Told.{report_size, told_bundle, told_counts}, Reading.IsBundledAs};
 
-mod fields;
 pub(crate) mod parts;
 
-use crate::bundle::{Bundle, BundleFault};
+use crate::bundle::{Bundle, BundleFault, Counts};
 use crate::writing::KIND;
 use arrayvec::ArrayVec;
 use dn_seal::{Sealer, append, tic_at};
 use dn_survivor::report::MAX_REPORT;
-use fields::{counts_in, report_size};
 use parts::parts_in;
 
 /// The highest byte of a cause.
 const MOST_CAUSE: u8 = 4;
+
+/// How many bytes of a report stand behind the counts.
+fn report_size(body: &[u8]) -> usize
+    requires { 45 ≤ length body.now }
+    ensures { result ≡ report_size body.now }
+{
+    usize::from(u16::from_le_bytes([body[43], body[44]]))
+}
+
+/// The counts in twenty-four bytes.
+fn counts_in(bytes: &[u8]) -> Counts
+    requires { 24 ≤ length bytes.now }
+    ensures { result ≡ told_counts bytes.now }
+{
+    Counts {
+        made: tic_at(bytes, 0),
+        ran: tic_at(bytes, 4),
+        got: [
+            tic_at(bytes, 8),
+            tic_at(bytes, 12),
+            tic_at(bytes, 16),
+            tic_at(bytes, 20),
+        ],
+    }
+}
 
 /// The bundle in these bytes, the first twelve of which were tested.
 fn bundle_in(body: &[u8]) -> Option<Bundle>
@@ -27,15 +50,10 @@ fn bundle_in(body: &[u8]) -> Option<Bundle>
         return None;
     }
     let size = report_size(body);
-    if size > MAX_REPORT {
+    if size > MAX_REPORT || body.len() < 45 + size {
         return None;
     }
-    if body.len() < 45 + size {
-        return None;
-    }
-    let Some(parts) = parts_in(&body[45 + size..]) else {
-        return None;
-    };
+    let parts = parts_in(&body[45 + size..])?;
     let mut report = ArrayVec::new();
     append(&mut report, &body[45..45 + size]);
     Some(Bundle {

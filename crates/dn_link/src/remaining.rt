@@ -1,20 +1,17 @@
 //! What holds of links of which players may be given up.
 
 ghost use Rattle.dn_setup.specs.Settings.{IsSettings, Settings};
-ghost use Rattle.dn_machine.specs.{Started.started_node, declared.answers.Made.Made, declared.answers.Ran.Ran, Flight.Flight, Limits.Limits, Limits.IsWindow, Running.is_over};
-ghost use Rattle.dn_machine.specs.Running.{on_quit, on_run_but};
-ghost use Rattle.dn_lockstep.specs.{Opening.IsGame, Told.Builds, Contents.end_in, Marking.Marking, Sent.IsFair, Sent.sent_to, OneGame.world_told, Represents.Represents};
-ghost use Rattle.dn_lockstep.specs.Steps.{RunsBy, Steps, Tells};
-ghost use Rattle.dn_survivor.specs.OneGame.{started_session, Session, after_build, after_run, with_survivor};
-ghost use Rattle.dn_survivor.specs.{OfOthers.nothing_kept, Agreed.AreAgreedInPairs, Agreed.FitInPairs, Agreed.DemosAgreeInPairs, declared.answers.GivenUp.GivenUp};
+ghost use Rattle.dn_machine.specs.{Started.started_node, declared.answers.{Made.Made, Ran.Ran}, Flight.Flight, Limits.{Limits, IsWindow}, Running.{is_over, on_quit, on_run_but}};
+ghost use Rattle.dn_lockstep.specs.{Opening.IsGame, Told.Builds, Contents.end_in, Marking.Marking, Sent.{IsFair, sent_to}, OneGame.world_told, Represents.Represents, Steps.{RunsBy, Steps, Tells}};
+ghost use Rattle.dn_survivor.specs.{OneGame.{started_session, Session, after_build, after_run, with_survivor}, OfOthers.nothing_kept, Agreed.{AreAgreedInPairs, FitInPairs, DemosAgreeInPairs}};
+ghost use Rattle.dn_survivor.specs.declared.answers.GivenUp.{GivenUp};
 ghost use Rattle.std.specs.Prelude.{◌≡◌, ◌<◌, ◌≤◌, ℕ, ℤ, pos, Bool, true, false, List, [], get_or, Option, IfSome, Err};
-ghost use Rattle.dn_tic.specs.{declared.command.Move.Move, declared.input.Input.Input};
+ghost use Rattle.dn_tic.specs.declared.{command.Move.Move, input.Input.Input};
 ghost use Rattle.dn_seal.specs.declared.seal.Seal.{Seal};
 ghost use Rattle.dn_open.specs.Sealed.{sealing_of};
-ghost use Rattle.dn_link.specs.Linked.{Gives, Linked, Receives, has_given_up, probed, remains, surviving_of};
-ghost use Rattle.dn_link.specs.RemainingLinks.{AreRemainingLinks, IsGenuineIn, KeepsGiven, after_datagram, StayRemaining, WasSealedIn};
-ghost use Rattle.dn_link.specs.{declared.bundle.Bundle.Bundle, declared.bundle.BundleFault.BundleFault, declared.received.Received.Received, Linking.new_peer, Pacing.PaceState};
-ghost use Rattle.dn_link.specs.{Reading.IsBundledAs, Surviving.GivesUpPeer, Text.IsBundle, Text.sealed_bytes};
+ghost use Rattle.dn_link.specs.{Linked.{Gives, Linked, Receives, has_given_up, probed, remains, surviving_of}, declared.{bundle.{Bundle.Bundle, BundleFault.BundleFault}, received.Received.Received}};
+ghost use Rattle.dn_link.specs.{RemainingLinks.{AreRemainingLinks, IsGenuineIn, KeepsGiven, after_datagram, StayRemaining, WasSealedIn}, Linking.new_peer, Pacing.PaceState, Reading.IsBundledAs};
+ghost use Rattle.dn_link.specs.{Surviving.GivesUpPeer, Text.{IsBundle, sealed_bytes}};
 
 use dn_survivor::{remaining_game_starts, survivors_agree};
 

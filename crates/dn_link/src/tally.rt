@@ -1,7 +1,7 @@
 //! What came over a line, and what is known of it, in numbers for the screen.
 
 ghost use Rattle.std.specs.Prelude.{◌≡◌, ◌<◌, ◌≤◌};
-ghost use Rattle.dn_link.specs.{Tally.begins, Tally.comes_late, Tally.falls_back, Tally.goes_on, Tally.seen_later, Tally.tallied, Tally.was_seen, Linked.figures_of};
+ghost use Rattle.dn_link.specs.{Tally.{falls_back, goes_on, seen_later, tallied}, Linked.figures_of};
 
 use crate::line::Line;
 
@@ -30,23 +30,7 @@ fn seen_later(step: u32, seen: u64) -> u64
     if step < KNOWN { seen << step | 1 } else { 1 }
 }
 
-/// Whether the number so far behind the newest came.
-fn was_seen(back: u32, seen: u64) -> bool
-    requires { back < 64 }
-    ensures { result ≡ was_seen back seen }
-{
-    (seen >> back) & 1 == 1
-}
-
 impl Tally {
-    /// The first came.
-    fn begin(&mut self)
-        ensures { self.new ≡ begins self.old }
-    {
-        self.came = self.came.saturating_add(1);
-        self.seen = 1;
-    }
-
     /// A newer one came.
     fn go_on(&mut self, step: u32)
         requires { 1 ≤ step }
@@ -57,26 +41,18 @@ impl Tally {
         self.seen = seen_later(step, self.seen);
     }
 
-    /// One that was missing came late.
-    fn come_late(&mut self, back: u32)
-        requires { back < 64 }
-        ensures { self.new ≡ comes_late back self.old }
-    {
-        self.came = self.came.saturating_add(1);
-        self.lost = self.lost.saturating_sub(1);
-        self.seen |= 1 << back;
-    }
-
-    /// One that is no newer than the newest came.
+    /// One that is no newer than the newest came: too late to tell, again, or late.
     fn fall_back(&mut self, back: u32)
         ensures { self.new ≡ falls_back back self.old }
     {
         if back >= KNOWN {
             self.too_old = self.too_old.saturating_add(1);
-        } else if was_seen(back, self.seen) {
+        } else if (self.seen >> back) & 1 == 1 {
             self.repeated = self.repeated.saturating_add(1);
         } else {
-            self.come_late(back);
+            self.came = self.came.saturating_add(1);
+            self.lost = self.lost.saturating_sub(1);
+            self.seen |= 1 << back;
         }
     }
 
@@ -85,7 +61,10 @@ impl Tally {
         ensures { self.new ≡ tallied newest number self.old }
     {
         match newest {
-            None => self.begin(),
+            None => {
+                self.came = self.came.saturating_add(1);
+                self.seen = 1;
+            }
             Some(newest) => {
                 if number > newest {
                     self.go_on(number - newest);

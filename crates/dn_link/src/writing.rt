@@ -2,9 +2,9 @@
 
 ghost use Rattle.std.specs.Prelude.{◌≤◌, ◌≡◌, ◌+◌, ◌++◌, All, length};
 ghost use Rattle.dn_seal.specs.Sealing.{sealing};
-ghost use Rattle.dn_link.specs.Text.{AreCounts, IsBundle, IsPart, carried_bytes, counts_bytes, part_bytes, parts_bytes, report_field, sealed_bytes};
+ghost use Rattle.dn_link.specs.Text.{AreCounts, IsBundle, IsPart, counts_bytes, part_bytes, parts_bytes, report_field, sealed_bytes};
 
-use crate::bundle::{Bundle, Carried, Counts, Part};
+use crate::bundle::{Bundle, Counts, Part};
 use arrayvec::ArrayVec;
 use dn_seal::{Sealer, append, ask_bytes};
 
@@ -37,18 +37,6 @@ fn append_report(bytes: &mut ArrayVec<u8, 1200>, report: &[u8])
     append(bytes, report);
 }
 
-/// Appends a packet as it is.
-fn append_carried(bytes: &mut ArrayVec<u8, 1200>, packet: &Carried)
-    requires short { length packet.now.datagram.items ≤ 104 }
-    requires room { length bytes.old.items + length (carried_bytes packet.now) ≤ 1200 }
-    ensures { bytes.new.items ≡ bytes.old.items ++ carried_bytes packet.now }
-{
-    append(bytes, &packet.start.to_le_bytes());
-    append(bytes, &ask_bytes(packet.ask));
-    append(bytes, &[packet.datagram.len() as u8]);
-    append(bytes, packet.datagram.as_slice());
-}
-
 /// Appends a part.
 fn append_part(bytes: &mut ArrayVec<u8, 1200>, part: &Part)
     requires fits { IsPart part.now }
@@ -58,7 +46,10 @@ fn append_part(bytes: &mut ArrayVec<u8, 1200>, part: &Part)
     match part {
         Part::Whole(packet) => {
             append(bytes, &[0]);
-            append_carried(bytes, packet);
+            append(bytes, &packet.start.to_le_bytes());
+            append(bytes, &ask_bytes(packet.ask));
+            append(bytes, &[packet.datagram.len() as u8]);
+            append(bytes, packet.datagram.as_slice());
         }
         Part::Run(run) => {
             append(bytes, &[(run.commands.len() / 8) as u8]);

@@ -11,11 +11,12 @@ use Rattle.dn_open.specs.Sealed.{sealing_of}
 use Rattle.dn_seal.specs.declared.seal.Seal.{Seal}
 use Rattle.dn_survivor.specs.OneGame.{Session, after_build, after_run, with_survivor}
 use Rattle.dn_link.specs.{Linked.Linked, Linked.surviving_of, Linking.linked, Linking.seal_of, Pacing.pace_of, RemainingLinks.AreRemainingLinks}
-use Rattle.dn_link.specs.{RemainingLinks.KeepsGiven, RemainingLinks.StayRemaining, declared.link.Link.Link}
+use Rattle.dn_link.specs.{Linked.Receives, RemainingLinks.IsGenuineIn, RemainingLinks.KeepsGiven, RemainingLinks.StayRemaining, declared.link.Link.Link}
 use Rattle.dn_link.proofs.RemainingCalls as calls
-use Rattle.dn_session.specs.Playing.{Builds, CatchesUp, EndsNow, GivesUpNow, GivesWhen, LeavesGame, PassesTime, Playing, PlaysOn, Polls, RunsNext, RunsTic, TicksWhen, after_half, looks, view}
-use Rattle.dn_session.specs.{Ending.ending_of, Ending.patience, Joining.has_come, Lead.due, Parts.AreMarksOf, Parts.AreParts, Parts.GoOn, Parts.links_of, Ticks.is_due}
-use Rattle.dn_session.specs.{declared.ending.Ending.Ending, declared.ending.Progress.Progress}
+use Rattle.dn_link.proofs.RemainingReceives.{received}
+use Rattle.dn_session.specs.Playing.{Builds, CatchesUp, EndsNow, GivesUpNow, GivesWhen, HearsBytes, LeavesGame, PassesTime, Playing, PlaysOn, Polls, RunsNext, RunsTic, TicksWhen, after_half, looks, view}
+use Rattle.dn_session.specs.{Ending.ending_of, Ending.patience, Joining.has_come, Lead.due, Parts.AreMarksOf, Parts.AreParts, Parts.links_of, Ticks.is_due}
+use Rattle.dn_session.specs.declared.{ending.Ending.Ending, ending.Progress.Progress, greeting.Address.Address}
 use Rattle.dn_session.specs.declared.ending.Progress.TheVariants as progress
 
 -- rows, as a player's runs told them
@@ -51,6 +52,15 @@ later_given one two three a b = record {
   packets = λ which packet found. b.packets which packet (a.packets which packet found);
   reports = λ which given found. b.reports which given (a.reports which given found);
 }
+
+-- with a new part of a player they are those of the game in a later session, in which nothing that was given is
+-- gone, and this player's run told this row, if there is one
+pub record GoOn (marking : Marking) (limits : Limits) (settings : Settings) (seal : Seal) (session : Session)
+    (parts : ℕ → Playing) (player : ℕ) (new : Playing) (row : Option (List (Option Move))) : Type 0 where
+  pub later : Session
+  pub stay : AreParts marking limits settings seal later (put parts player new)
+  pub given : KeepsGiven session later
+  pub told : (other : ℕ) → later.told other ≡ put session.told player (told_on (session.told player) row) other
 
 module _ (marking : Marking) (limits : Limits) (settings : Settings) (seal : Seal) where
   abbrev pub Are : Session → (ℕ → Playing) → Type 0
@@ -131,6 +141,14 @@ module _ (marking : Marking) (limits : Limits) (settings : Settings) (seal : Sea
 
     -- The calls.
 
+    pub hears : (from : Address) (bytes : List ℕ) (now : ℕ) (new : Playing) → IsGenuineIn seal session p bytes
+        → HearsBytes from bytes now (parts p) new → On session parts p new None
+    hears from bytes now new genuine took =
+        silently new (with_survivor session p (surviving_of (linked new.link))) took.1.0
+        (received marking limits settings session (links_of parts) are.links p few seal bytes (linked new.link) took.0
+        genuine (subst (λ (s : Seal). Receives s bytes (links_of parts p) (linked new.link) took.0) (are.sealed p few)
+        took.1.1)) refl
+
     pub builds : (input : Input) (made : Made) (new : Playing) → Builds input (parts p).link new.link made
         → On session parts p new None
     builds input made new b = silently new (after_build session p input made (surviving_of (linked new.link))) b.0
@@ -170,8 +188,8 @@ module _ (marking : Marking) (limits : Limits) (settings : Settings) (seal : Sea
 
     quits : (new : Playing) → LeavesGame (parts p).link new.link → On session parts p new None
     quits new l = silently new (with_survivor session p (surviving_of (linked new.link))) l.0
-        (calls.quits marking limits settings session (links_of parts) are.links p few (linked new.link) l.2.0.0 l.2.0.1
-        l.2.1 l.2.2) refl
+        (calls.quits marking limits settings session (links_of parts) are.links p few (linked new.link) l.2.0 l.2.1
+        l.3 l.4) refl
 
     pub ends : (end : Option Ending) (now : ℕ) (before new : Playing) → before.link ≡ (parts p).link
         → EndsNow end now before new → On session parts p new None

@@ -14,9 +14,9 @@ use Rattle.dn_survivor.specs.Surviving.{Surviving}
 use Rattle.dn_survivor.specs.declared.others.Others.{Others}
 use Rattle.dn_link.specs.{Linked.surviving_of, Linking.linked, declared.link.Link.Link}
 use Rattle.dn_link.proofs.RemainingCalls as calls
-use Rattle.dn_session.specs.{Parts.AreParts, Parts.GoOn, Parts.limits_of, Parts.links_of, Playing.Playing, Roster.IsSide, Roster.own_number, Roster.session_at}
-use Rattle.dn_session.specs.{Session.IsLinkOf, Session.begun_in, Session.game_seal, Sessions.PlaysWith, declared.side.Begun.Begun, declared.side.Side.Side}
-use Rattle.dn_session.proofs.{Going.silently, Rosters.one_link, Rosters.ones_game, Rosters.ones_own}
+use Rattle.dn_session.specs.{Parts.AreParts, Parts.limits_of, Parts.links_of, Playing.Playing, Roster.IsSide, Roster.own_number, Roster.session_at}
+use Rattle.dn_session.specs.{Session.IsLinkOf, Session.begun_in, Sessions.PlaysWith, Text.game_seal, declared.side.Begun.Begun, declared.side.Side.Side}
+use Rattle.dn_session.proofs.{Going.GoOn, Going.silently, Rosters.one_link, Rosters.ones_game, Rosters.ones_own}
 
 -- of two that represent a node before its first tic the one represents what the other does
 swapped : (limits : Limits) (me : ℕ) (settings : Settings) (one two : Contents) (m : Node)

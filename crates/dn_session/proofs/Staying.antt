@@ -6,9 +6,9 @@ use Rattle.dn_machine.specs.Node.{put}
 use Rattle.dn_machine.proofs.Put.{put_at, put_off}
 use Rattle.dn_lockstep.specs.Marking.{Marking}
 use Rattle.dn_survivor.specs.OneGame.{Session}
-use Rattle.dn_session.specs.{Parts.GoOn, Parts.limits_of, Playing.Playing, Playing.playing, Session.IfPlaying, Session.Meeting, Session.game_seal, Sessions.AreSessions, Sessions.IsPartFor}
-use Rattle.dn_session.specs.{Sessions.StaySessions, declared.part.Part.Part, declared.side.Begun.Begun}
-use Rattle.dn_session.proofs.Going.{untold}
+use Rattle.dn_session.specs.{Parts.limits_of, Playing.Playing, Playing.playing, Session.IfPlaying, Session.Meeting, Sessions.AreSessions, Sessions.IsPartFor}
+use Rattle.dn_session.specs.{Sessions.StaySessions, Text.game_seal, declared.part.Part.Part, declared.side.Begun.Begun}
+use Rattle.dn_session.proofs.Going.{GoOn, untold}
 
 module _ (marking : Marking) (secret : Option (List ℕ)) (b : Begun) (session : Session) (meetings : ℕ → Meeting)
     (player : ℕ) (new : Meeting) (are : AreSessions marking secret b session meetings)

@@ -28,9 +28,9 @@ abbrev pub may_give_up : View → ℕ → Bool
 may_give_up view player =
     is_open view view.me && (is_there view player && (nat_le 3000 view.stalled && is_leading view player))
 
--- under a policy by which the game ends: the highest of those for whom it waits too long
-abbrev pub lost_under : Policy → View → Option ℕ
-lost_under (policy.End seconds) view = highest (is_late (seconds * 1000) view)
+-- under a policy by which the game ends: the highest of those for whom it waits too long is lost
+abbrev pub lost_under : Policy → View → Option Ending
+lost_under (policy.End seconds) view = option_map ending.Lost (highest (is_late (seconds * 1000) view))
 lost_under policy view = None
 
 -- its own demo is full, or it found that another's world differs
@@ -45,7 +45,7 @@ abbrev pub ending_of : Policy → View → Linked → Option Ending
 ending_of policy view link =
     option_or (own_ending link.node.phase)
     (if is_given_up view then Some ending.GivenUp else
-    (if has_gone link && is_abandoned link then Some ending.Alone else option_map ending.Lost (lost_under policy view)))
+    (if has_gone link && is_abandoned link then Some ending.Alone else lost_under policy view))
 
 -- who is given up or alone has nobody to tell; any other says that it leaves, and leaves then
 abbrev pub ended_by : Ending → ℕ → Progress

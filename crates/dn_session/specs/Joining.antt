@@ -177,18 +177,19 @@ abbrev pub holds : List ℕ → Option Shown → Bool
 holds number (Some shown) = bytes_eq shown.holder.number number
 holds number None = false
 
--- the game has begun with it, where the seating says so
-abbrev pub stage_by : Seating → Stage
-stage_by s = if s.begun then stage.Playing else stage.Seated
-
 -- it has the seat that the seating tells it, as that says itself
 abbrev pub is_own : Seating → Joining → Bool
 is_own s j = holds j.number (slice_index_or s.seats (s.seat - 1) None)
 
+-- the game has begun with it, where the seating says so
 abbrev pub on_seating : Seating → ℕ → Joining → Joining
 on_seating s now j =
     if is_answer s.number s.count j && is_own s j
-    then record (answered s.count s.cookie now j) { seating = Some s; stage = stage_by s; retry_now = false }
+    then record (answered s.count s.cookie now j) {
+      seating = Some s;
+      stage = if s.begun then stage.Playing else stage.Seated;
+      retry_now = false;
+    }
     else j
 
 -- with the new cookie it calls again at once

@@ -1,20 +1,15 @@
 -- The parts of the players of one game: their links are those of one game, whatever their sessions do.
-use Rattle.std.specs.Prelude.{◌≡◌, ◌<◌, ℕ, ℤ, pos, false, get_or, List, Option, None}
-use Rattle.dn_tic.specs.declared.command.Move.{Move}
+use Rattle.std.specs.Prelude.{◌≡◌, ◌<◌, ℕ, ℤ, pos, false, get_or, List}
 use Rattle.dn_setup.specs.Settings.{Settings}
 use Rattle.dn_machine.specs.declared.answers.Ran.TheVariants as ran
-use Rattle.dn_machine.specs.{Limits.Limits, Node.put, Running.is_over, declared.answers.Ran.Ran}
-use Rattle.dn_lockstep.specs.{Contents.Contents, Contents.end_in, Marking.Marking, OneGame.told_on, OneGame.world_told, Opening.limits_within, declared.config.Config.Config}
+use Rattle.dn_machine.specs.{Limits.Limits, Running.is_over, declared.answers.Ran.Ran}
+use Rattle.dn_lockstep.specs.{Contents.Contents, Contents.end_in, Marking.Marking, OneGame.world_told, Opening.limits_within}
 use Rattle.dn_seal.specs.declared.seal.Seal.{Seal}
 use Rattle.dn_survivor.specs.OneGame.{Session}
-use Rattle.dn_link.specs.{Linked.Linked, Linking.linked, Linking.seal_of, RemainingLinks.AreRemainingLinks, RemainingLinks.KeepsGiven}
-use Rattle.dn_session.specs.{Playing.Playing, declared.terms.Terms.Terms}
+use Rattle.dn_link.specs.{Linked.Linked, Linking.linked, Linking.seal_of, RemainingLinks.AreRemainingLinks}
+use Rattle.dn_session.specs.{Playing.Playing, Session.config_for, declared.terms.Terms.Terms}
 
 -- the limits of a game of these terms, which are those of each of its players
-abbrev pub config_for : Terms → Config
-config_for terms =
-    record { players = terms.players; me = 0; extra = terms.extra; limit = terms.limit; settings = None }
-
 abbrev pub limits_of : Terms → Limits
 limits_of terms = limits_within (config_for terms) terms.ahead
 
@@ -27,15 +22,6 @@ pub record AreParts (marking : Marking) (limits : Limits) (settings : Settings) 
     (parts : ℕ → Playing) : Type 0 where
   pub links : AreRemainingLinks marking limits settings session (links_of parts)
   pub sealed : (player : ℕ) → player < limits.players → seal_of (parts player).link ≡ seal
-
--- with a new part of a player they are those of the game in a later session, in which nothing that was given is
--- gone, and this player's run told this row, if there is one
-pub record GoOn (marking : Marking) (limits : Limits) (settings : Settings) (seal : Seal) (session : Session)
-    (parts : ℕ → Playing) (player : ℕ) (new : Playing) (row : Option (List (Option Move))) : Type 0 where
-  pub later : Session
-  pub stay : AreParts marking limits settings seal later (put parts player new)
-  pub given : KeepsGiven session later
-  pub told : (other : ℕ) → later.told other ≡ put session.told player (told_on (session.told player) row) other
 
 -- the marks are those of a world that moved on by the rows that its player was told: of each player who takes part
 abbrev pub AreMarksOf : Marking → Limits → Settings → Session → ℕ → Contents → List ℤ → Ran → Type 0

@@ -1,6 +1,5 @@
 -- Datagrams that a player passes on, between two others.
-use Rattle.std.specs.Prelude.{ℕ, ◌==◌, ◌&&◌, not, if◌then◌else◌, slice_index, List, Option, None}
-use Rattle.std.specs.Option.{option_map}
+use Rattle.std.specs.{Prelude.ℕ, Prelude.◌==◌, Prelude.◌&&◌, Prelude.not, Prelude.if◌then◌else◌, Prelude.slice_index, Prelude.List, Prelude.Option, Prelude.None, Option.option_map}
 use Rattle.dn_link.specs.{Linked.Linked, Linked.remains, declared.received.Received.Received}
 use Rattle.dn_link.specs.declared.bundle.BundleFault.TheVariants as fault
 use Rattle.dn_link.specs.declared.received.Received.TheVariants as received

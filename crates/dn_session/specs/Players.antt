@@ -12,13 +12,10 @@ use Rattle.dn_machine.specs.declared.answers.Phase.TheVariants as phase
 abbrev pub four : List ℕ
 four = 0 ∷ 1 ∷ 2 ∷ 3 ∷ []
 
--- its own player plays
-abbrev pub plays_on : Phase → Bool
-plays_on phase.Playing = true
-plays_on phase = false
-
+-- its own player plays, or has left
 abbrev pub own_standing : Phase → Standing
-own_standing phase = if plays_on phase then Open else Closed
+own_standing phase.Playing = Open
+own_standing phase = Closed
 
 -- how many commands of a player are here
 abbrev pub count_in : Contents → ℕ → ℕ

@@ -8,13 +8,12 @@ use Rattle.dn_survivor.specs.declared.answers.GivenUp.{GivenUp}
 use Rattle.dn_link.specs.{Linked.Receives, Linked.has_given_up, Linked.remains, Linking.linked, Linking.seal_of, Pace.Paces, Pace.after_input, Pace.after_tick}
 use Rattle.dn_link.specs.{Pace.lean, Pace.still_owed, Pace.wants_second, Pacing.pace_of, Surviving.GivesUpPeer, Surviving.RunsBut, declared.link.Link.Link, declared.received.Received.Received}
 use Rattle.dn_link.specs.declared.received.Received.TheVariants as received
-use Rattle.dn_session.specs.{Coming.counts_in, Coming.has_more, Coming.heard_of, Coming.is_late_in, Coming.is_new_in, Coming.is_news_of, Coming.line_of, Coming.lines_in, Ending.ended_by}
-use Rattle.dn_session.specs.{Ending.ending_of, Ending.is_unneeded, Ending.may_give_up, Ending.patience, Ending.waits, Joining.has_come, Lead.due, Passing.passed_on, Passing.sent_of, Places.heard_at, Places.is_since, Places.place_of, Players.four}
+use Rattle.dn_session.specs.Coming.{counts_in, has_more, heard_of, is_late_in, is_new_in, is_news_of, line_of, lines_in}
+use Rattle.dn_session.specs.{Ending.ended_by, Ending.ending_of, Ending.is_unneeded, Ending.may_give_up, Ending.patience, Ending.waits, Joining.has_come, Lead.due, Passing.passed_on, Passing.sent_of}
+use Rattle.dn_session.specs.{Places.heard_at, Places.is_since, Places.place_of, Players.four, Players.has_row_behind, Players.is_any_awaited, Players.view_of, Ticks.half_taken, Ticks.is_due, Ticks.passed, Ticks.resumed}
 use Rattle.dn_session.specs.{Steady.after_tic, Steady.holds, Steady.ticked, declared.steady.Steady.Steady}
-use Rattle.dn_session.specs.{Players.has_row_behind, Players.is_any_awaited, Players.view_of, Ticks.half_taken, Ticks.is_due, Ticks.passed, Ticks.resumed, Watch.looked_at, declared.ending.Ending.Ending}
-use Rattle.dn_session.specs.{declared.ending.Progress.Progress, declared.greeting.Address.Address, declared.lead.View.View, declared.part.Exclusion.Exclusion}
-use Rattle.dn_session.specs.{declared.part.Part.Part, declared.part.hearing.Known.Known, declared.places.Places.Places, declared.terms.Policy.Policy, declared.ticks.Ticks.Ticks}
-use Rattle.dn_session.specs.declared.watch.Watch.{Watch}
+use Rattle.dn_session.specs.{Watch.looked_at, declared.ending.Ending.Ending, declared.ending.Progress.Progress, declared.greeting.Address.Address, declared.lead.View.View}
+use Rattle.dn_session.specs.declared.{part.Exclusion.Exclusion, part.Part.Part, part.hearing.Known.Known, places.Places.Places, terms.Policy.Policy, ticks.Ticks.Ticks, watch.Watch.Watch}
 use Rattle.dn_machine.specs.declared.answers.Ran.TheVariants as answer
 use Rattle.dn_session.specs.declared.ending.Ending.TheVariants as ending
 use Rattle.dn_session.specs.declared.ending.Progress.TheVariants as progress
@@ -267,13 +266,11 @@ GivesUpNow (Some player) old new =
     × (new ≡ record old { link = new.link })
 
 -- its player leaves the game, as far as it has not ended
-abbrev pub Quits : Link → Link → Type 0
-Quits old new =
-    ((quit : Bool) × Steps (linked old).node (linked new).node (λ limits me m. on_quit m) (λ answer. quit ≡ answer))
-    × ((linked new).others ≡ (linked old).others) × ((linked new).peers ≡ (linked old).peers)
-
 abbrev pub LeavesGame : Link → Link → Type 0
-LeavesGame old new = KeepsGame old new × (pace_of new ≡ pace_of old) × Quits old new
+LeavesGame old new =
+    KeepsGame old new × (pace_of new ≡ pace_of old)
+    × ((quit : Bool) × Steps (linked old).node (linked new).node (λ limits me m. on_quit m) (λ answer. quit ≡ answer))
+    × ((linked new).others ≡ (linked old).others) × ((linked new).peers ≡ (linked old).peers)
 
 -- the game ends for it, if it does
 abbrev pub EndsNow : Option Ending → ℕ → Playing → Playing → Type 0

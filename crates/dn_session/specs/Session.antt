@@ -1,21 +1,18 @@
 -- A session: its lobby, and its part in the game once that has begun.
 use Rattle.std.specs.Prelude.{⊤, ◌≡◌, ℕ, ℤ, if◌then◌else◌, Bool, true, false, is_some, List, map, replicate, Option, Some, None, Result, Ok, Err}
 use Rattle.std.specs.Option.{option_map, option_or}
-use Rattle.dn_seal.specs.{Hmac.no_secret, Sealing.sealed_with, declared.seal.Seal.Seal}
 use Rattle.dn_machine.specs.{Started.started_node, declared.answers.Ran.Ran}
 use Rattle.dn_tic.specs.declared.{command.Move.Move, input.Input.Input}
 use Rattle.dn_lockstep.specs.{Contents.whose, Opening.IsAdmittedWithin, Opening.keyed, Opening.limits_within, Opening.whose_within, Represents.Represents}
 use Rattle.dn_lockstep.specs.declared.{config.Config.Config, config.NodeFault.NodeFault}
 use Rattle.dn_survivor.specs.OfOthers.{nothing_kept}
 use Rattle.dn_link.specs.{Linking.linked, Linking.new_peer, Linking.seal_of, Pacing.new_pace, Pacing.pace_of, declared.link.Link.Link}
-use Rattle.dn_session.specs.{Events.none_announced, Hosting.HearsCall, Hosting.IsHostOf, Hosting.Lobby, Hosting.game_told, Hosting.holder_of, Hosting.kicked, Hosting.lobby, Joining.HearsHost}
-use Rattle.dn_session.specs.{Joining.IsJoinerOf, Joining.Joining, Joining.game_now, Joining.is_heard, Joining.joining, Joining.on_time, Places.places_of, Playing.GivesUpBy, Playing.GivesWhen}
-use Rattle.dn_session.specs.{Playing.HearsBytes, Playing.Playing, Playing.Polls, Playing.QuitsBy, Playing.RunsNext, Playing.WritesRow, Playing.given_up_at, Playing.holds_back, Playing.may_give, Playing.owes_nobody, Playing.playing}
-use Rattle.dn_session.specs.{Reading.is_greeting, Sent.SendsNext, Passing.sent_of, Steady.new_steady, Ticks.new_ticks, Watch.new_watch}
-use Rattle.dn_session.specs.declared.{event.Announced.Announced, greeting.Address.Address, greeting.Seating.Seating, greeting.Shown.Shown, host.Host.Host, host.HostConfig.HostConfig}
-use Rattle.dn_session.specs.declared.{joiner.JoinConfig.JoinConfig, joiner.Joiner.Joiner, part.Part.Part, seats.Seat.Seat, session.Session.Session, side.Begun.Begun, side.Side.Side}
-use Rattle.dn_session.specs.declared.{terms.LobbyFault.LobbyFault}
-use Rattle.dn_seal.specs.declared.seal.Suite.TheVariants as suite
+use Rattle.dn_session.specs.Playing.{GivesUpBy, GivesWhen, HearsBytes, Playing, Polls, QuitsBy, RunsNext, WritesRow, given_up_at, holds_back, may_give, owes_nobody, playing}
+use Rattle.dn_session.specs.Hosting.{HearsCall, IsHostOf, Lobby, game_told, holder_of, kicked, lobby}
+use Rattle.dn_session.specs.{Events.none_announced, Joining.HearsHost, Joining.IsJoinerOf, Joining.Joining, Joining.game_now, Joining.is_heard, Joining.joining, Joining.on_time, Places.places_of}
+use Rattle.dn_session.specs.{Reading.is_greeting, Sent.SendsNext, Passing.sent_of, Steady.new_steady, Text.game_seal, Ticks.new_ticks, Watch.new_watch, declared.event.Announced.Announced, declared.greeting.Address.Address}
+use Rattle.dn_session.specs.declared.{greeting.Seating.Seating, greeting.Shown.Shown, host.Host.Host, host.HostConfig.HostConfig, joiner.JoinConfig.JoinConfig, joiner.Joiner.Joiner, part.Part.Part}
+use Rattle.dn_session.specs.declared.{seats.Seat.Seat, session.Session.Session, side.Begun.Begun, side.Side.Side, terms.LobbyFault.LobbyFault, terms.Terms.Terms}
 use Rattle.dn_machine.specs.declared.answers.Ran.TheVariants as ran
 use Rattle.dn_session.specs.declared.ending.Progress.TheVariants as progress
 use Rattle.dn_session.specs.declared.seats.Seat.TheVariants as seat
@@ -63,19 +60,13 @@ begun_in (side.Joiner joiner) =
 
 -- The link of a game.
 
--- a game of this number: under the secret that the players share, and openly if they share none
-abbrev pub game_seal : Option (List ℕ) → List ℕ → Seal
-game_seal None game = sealed_with suite.Open no_secret game
-game_seal (Some secret) game = sealed_with suite.Secret secret game
+-- how it is made: that of the first player of a game of these terms, and that of a session's own
+abbrev pub config_for : Terms → Config
+config_for terms =
+    record { players = terms.players; me = 0; extra = terms.extra; limit = terms.limit; settings = None }
 
 abbrev pub config_of : Begun → Config
-config_of b = record {
-  players = b.terms.players;
-  me = b.me;
-  extra = b.terms.extra;
-  limit = b.terms.limit;
-  settings = None;
-}
+config_of b = record (config_for b.terms) { me = b.me }
 
 -- a link that plays from the beginning on, and has no history
 pub record IsLinkOf (secret : Option (List ℕ)) (b : Begun) (link : Link) : Type 0 where

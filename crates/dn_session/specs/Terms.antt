@@ -2,8 +2,7 @@
 use Rattle.std.specs.Prelude.{◌≡◌, ℕ, ◌^◌, ◌<◌, ◌&&◌, ◌++◌, Bool, not, true, false, nat_le, if◌then◌else◌, List, [], ◌∷◌, length, Option, Some, None}
 use Rattle.std.specs.Int.{w32, to_le_bytes}
 use Rattle.dn_setup.specs.Settings.{IsSettings, Settings}
-use Rattle.dn_session.specs.{declared.terms.LobbyFault.LobbyFault, declared.terms.Policy.Policy, declared.terms.Terms.Terms}
-use Rattle.dn_session.specs.declared.terms.Policy.TheVariants.{End, GiveUp, Wait}
+use Rattle.dn_session.specs.declared.{terms.LobbyFault.LobbyFault, terms.Policy.Policy, terms.Terms.Terms, terms.Policy.TheVariants.End, terms.Policy.TheVariants.GiveUp, terms.Policy.TheVariants.Wait}
 use Rattle.dn_session.specs.declared.terms.LobbyFault.TheVariants as fault
 
 abbrev pub bit : Bool → ℕ

@@ -13,10 +13,14 @@ use Rattle.dn_session.specs.declared.terms.LobbyFault.TheVariants as fault
 unfoldable pub greeting_number : List ℕ
 greeting_number = codes "zirmegat greeter"
 
--- under a secret, or without one
+-- a game of this number: under the secret that the players share, and openly if they share none
+abbrev pub game_seal : Option (List ℕ) → List ℕ → Seal
+game_seal None game = sealed_with Open no_secret game
+game_seal (Some secret) game = sealed_with Secret secret game
+
+-- and greetings, as a game of that number
 abbrev pub greeting_seal : Option (List ℕ) → Seal
-greeting_seal None = sealed_with Open no_secret greeting_number
-greeting_seal (Some secret) = sealed_with Secret secret greeting_number
+greeting_seal secret = game_seal secret greeting_number
 
 -- what stands behind the first byte of every greeting: kind 4, which no envelope and no datagram of a link has,
 -- and a name

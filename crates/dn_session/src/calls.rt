@@ -1,9 +1,8 @@
 //! What a host makes of calls.
 
-ghost use Rattle.std.specs.Prelude.{◌≡◌, ◌<◌, ◌≤◌, ◌+◌, ◌==◌, not, nat_le, true, length, position, slice_index_or, IfSome, option_map};
-ghost use Rattle.dn_session.specs.{Hosting.hint_for, Hosting.hint_to, Text.is_wish, Seats.is_of, Seats.seat_of, Seats.taken_again, Seats.taken_by, Cookies.is_one, Cookies.time_of};
-ghost use Rattle.dn_session.specs.declared.{seats.Seat.Seat, seats.Seat.TheVariants.Absent, greeting.Refusal.Refusal};
-ghost use Rattle.std.specs.{List.list_any, Str.bytes_eq};
+ghost use Rattle.std.specs.{Prelude.◌≡◌, Prelude.◌<◌, Prelude.◌≤◌, Prelude.◌==◌, Prelude.not, Prelude.nat_le, Prelude.true, Prelude.length, Prelude.position, Prelude.IfSome, Prelude.option_map, List.list_any, Str.bytes_eq};
+ghost use Rattle.dn_session.specs.Hosting.{hint_for, hint_to, bar, filled_by, in_lobby, lobby, on_newcomer, on_opened, on_player, refused, seating, seating_to, with_seat, HearsCall, IsLobby};
+ghost use Rattle.dn_session.specs.{Seats.is_of, Seats.taken_by, Text.is_wish, Cookies.is_one, Cookies.time_of};
 
 use crate::cookies::{cookie_of, is_good, time_of};
 use crate::fields::sixteen_at;
@@ -80,8 +79,6 @@ fn hint_to(bytes: &[u8], hint: Hint) -> Reply
 }
 
 impl Host {
-    ghost use Rattle.dn_session.specs.Hosting.{bar, filled_by, in_game, in_lobby, lobby, on_newcomer, on_opened, on_player, refused, seated, seating, seating_to, unless_barred, with_seat, HearsCall, IsLobby};
-
     /// What one who has a seat is told.
     fn seating_to(&self, from: &Address, call: &Call, now: u32, n: usize) -> Seating
         requires { n < 3 }

@@ -1,9 +1,8 @@
 //! How a player's datagrams come.
 
-ghost use Rattle.std.specs.Prelude.{◌≡◌, ◌<◌, map};
-ghost use Rattle.dn_lockstep.specs.{Contents.contents, Told.got};
+ghost use Rattle.std.specs.Prelude.{◌≡◌};
 ghost use Rattle.dn_link.specs.{Linking.linked, Pacing.pace_of};
-ghost use Rattle.dn_session.specs.{Coming.figures_in, Coming.heard_of, Coming.is_late_in, Coming.is_new_in, Coming.is_news_of, Coming.line_of, Coming.lines_in, Players.four};
+ghost use Rattle.dn_session.specs.Coming.{heard_of, is_late_in, is_new_in, is_news_of, line_of, lines_in};
 
 use dn_link::{Figures, Link, Received};
 use dn_lockstep::Lockstep;
@@ -69,8 +68,7 @@ pub(crate) fn heard_of(received: &Received) -> Option<u8>
 pub(crate) fn is_news_of(heard: Option<u8>, before: &Lines, after: &Lines, player: u8) -> bool
     ensures { result ≡ is_news_of heard before.now after.now player }
 {
-    match heard {
-        Some(from) => player == from && is_new_in(&line_of(before, from), &line_of(after, from)),
-        None => false,
-    }
+    heard.is_some_and(|from| {
+        player == from && is_new_in(&line_of(before, from), &line_of(after, from))
+    })
 }

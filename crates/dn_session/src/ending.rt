@@ -1,8 +1,7 @@
 //! How a game ends for a player, and whom it gives up under a policy.
 
-ghost use Rattle.std.specs.Prelude.{◌≡◌, ◌<◌, ◌-◌, ◌||◌, nat_le, IfSome, option_map};
+ghost use Rattle.std.specs.Prelude.{◌≡◌, ◌||◌};
 ghost use Rattle.dn_link.specs.{Linked.needs_nothing, Linking.linked};
-ghost use Rattle.dn_session.specs.{Cookies.is_one, Lead.highest, Lead.is_late, declared.ending.Ending.TheVariants.Lost};
 ghost use Rattle.dn_session.specs.Ending.{ended_by, ending_of, free_since, is_unneeded, is_leading, has_lost, lost_under, may_give_up, own_ending, patience, waits};
 
 use crate::greeting::{Hint, Refusal};
@@ -69,10 +68,7 @@ pub(crate) fn patience(policy: Policy) -> u32
 fn is_leading(view: &View, player: u8) -> bool
     ensures { result ≡ is_leading view.now player }
 {
-    match lead(view) {
-        Some(leader) => leader == usize::from(view.me) || leader == usize::from(player),
-        None => false,
-    }
+    lead(view).is_some_and(|leader| leader == usize::from(view.me) || leader == usize::from(player))
 }
 
 /// Whether a player may give up another when it is told to.
@@ -88,13 +84,15 @@ pub(crate) fn may_give_up(view: &View, player: u8) -> bool
         && is_leading(view, player)
 }
 
-/// For whom the game ends, if it waits for somebody too long.
-fn lost_under(policy: Policy, view: &View) -> Option<usize>
-    ensures value { result ≡ lost_under policy view.now }
-    ensures within { IfSome result (λ n. n < 4) }
+/// How the game ends, if it waits for somebody too long.
+fn lost_under(policy: Policy, view: &View) -> Option<Ending>
+    ensures { result ≡ lost_under policy view.now }
 {
     match policy {
-        Policy::End(seconds) => late(u32::from(seconds) * 1000, view),
+        Policy::End(seconds) => {
+            let lost = late(u32::from(seconds) * 1000, view)?;
+            Some(Ending::Lost(lost as u8))
+        }
         Policy::Wait | Policy::GiveUp(_) => None,
     }
 }
@@ -110,14 +108,6 @@ fn own_ending(phase: Phase) -> Option<Ending>
     }
 }
 
-/// The loss of a player, if it is one.
-fn lost(player: Option<usize>) -> Option<Ending>
-    requires { IfSome player (λ n. n < 4) }
-    ensures { result ≡ option_map Lost player }
-{
-    Some(Ending::Lost(player? as u8))
-}
-
 /// How the game of a player ends, if it does.
 pub(crate) fn ending_of(policy: Policy, view: &View, link: &Link) -> Option<Ending>
     ensures { result ≡ ending_of policy view.now (linked link.now) }
@@ -131,7 +121,7 @@ pub(crate) fn ending_of(policy: Policy, view: &View, link: &Link) -> Option<Endi
     if has_gone(link) && is_abandoned(link) {
         return Some(Ending::Alone);
     }
-    lost(lost_under(policy, view))
+    lost_under(policy, view)
 }
 
 /// How far it is once it ends so.
@@ -186,16 +176,6 @@ fn free_since(is_unneeded: bool, free: Option<u32>, now: u32) -> Option<u32>
     }
 }
 
-/// Whether that was two seconds ago.
-fn has_waited(free: Option<u32>, now: u32) -> bool
-    ensures { result ≡ is_one (λ free. nat_le 2000 (now - free)) free }
-{
-    match free {
-        Some(free) => now.saturating_sub(free) >= 2000,
-        None => false,
-    }
-}
-
 /// How far one is who leaves.
 pub(crate) fn waits(
     is_unneeded: bool,
@@ -207,7 +187,8 @@ pub(crate) fn waits(
     ensures { result ≡ waits is_unneeded ending since free now }
 {
     let free = free_since(is_unneeded, free, now);
-    if has_waited(free, now) || now.saturating_sub(since) >= 10_000 {
+    let has_waited = free.is_some_and(|free| now.saturating_sub(free) >= 2000);
+    if has_waited || now.saturating_sub(since) >= 10_000 {
         Progress::Over(ending)
     } else {
         Progress::Leaving {

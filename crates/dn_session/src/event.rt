@@ -1,11 +1,10 @@
 //! What has happened in a session, told in order.
 
-ghost use Rattle.std.specs.{Prelude.◌≡◌, Prelude.◌<◌, Prelude.slice_set};
-ghost use Rattle.dn_link.specs.{Linked.is_peer, Linking.linked};
-ghost use Rattle.dn_session.specs.Events.{began_event, first_news, none_announced, news_in, news_of, next_event, over_by, over_event, over_in, over_part, over_side, player_event, seat_by, seat_event, seat_in, announced_after};
+ghost use Rattle.std.specs.Prelude.{◌≡◌, ◌<◌, slice_set};
+ghost use Rattle.dn_link.specs.Linking.{linked};
+ghost use Rattle.dn_session.specs.Events.{began_event, first_news, none_announced, news_in, news_of, next_event, over_event, over_in, over_part, over_side, player_event, seat_event, seat_in, announced_after};
 
 use crate::ending::Over;
-use crate::greeting::Seating;
 use crate::joiner::Stage;
 use crate::lead::Standing;
 use crate::part::Part;
@@ -39,24 +38,17 @@ pub(crate) struct Announced {
     over: bool,
 }
 
-/// How a joiner's session is over by where it stands.
-fn over_by(stage: Stage) -> Option<Over>
-    ensures { result ≡ over_by stage }
-{
-    match stage {
-        Stage::Refused(refusal) => Some(Over::Refused(refusal)),
-        Stage::Hinted(hint) => Some(Over::Hinted(hint)),
-        _ => None,
-    }
-}
-
 /// How a session is over in its lobby.
 fn over_side(side: &Side) -> Option<Over>
     ensures { result ≡ over_side side.now }
 {
-    match side {
-        Side::Host(_) => None,
-        Side::Joiner(joiner) => over_by(joiner.stage()),
+    let Side::Joiner(joiner) = side else {
+        return None;
+    };
+    match joiner.stage() {
+        Stage::Refused(refusal) => Some(Over::Refused(refusal)),
+        Stage::Hinted(hint) => Some(Over::Hinted(hint)),
+        _ => None,
     }
 }
 
@@ -78,22 +70,15 @@ pub(crate) fn over_in(side: &Side, part: &Option<Part>) -> Option<Over>
 }
 
 /// The seat of a joiner by where it stands, and what it was told last.
-fn seat_by(stage: Stage, seating: &Option<Seating>) -> Option<u8>
-    ensures { result ≡ seat_by stage seating.now }
-{
-    match (stage, seating) {
-        (Stage::Seated | Stage::Playing, Some(seating)) => Some(seating.seat),
-        _ => None,
-    }
-}
-
-/// The seat of a joiner.
 fn seat_in(side: &Side) -> Option<u8>
     ensures { result ≡ seat_in side.now }
 {
-    match side {
-        Side::Host(_) => None,
-        Side::Joiner(joiner) => seat_by(joiner.stage(), joiner.seating()),
+    let Side::Joiner(joiner) = side else {
+        return None;
+    };
+    match (joiner.stage(), joiner.seating()) {
+        (Stage::Seated | Stage::Playing, Some(seating)) => Some(seating.seat),
+        _ => None,
     }
 }
 

@@ -2,8 +2,7 @@
 
 ghost use Rattle.std.specs.Prelude.{◌≡◌, ◌≤◌, ◌+◌, ◌==◌, if◌then◌else◌, [], ◌∷◌, drop, length, take, IfSome, Option, None, Some};
 ghost use Rattle.std.specs.List.{flat_map};
-ghost use Rattle.dn_session.specs.{Terms.bit, Terms.policy_bytes, Terms.settings_bytes, Terms.terms_bytes, Terms.IsTerms, Text.padding, Text.reason_bytes, Text.shown_bytes};
-ghost use Rattle.dn_session.specs.Text.{IsHolder};
+ghost use Rattle.dn_session.specs.{Terms.bit, Terms.policy_bytes, Terms.settings_bytes, Terms.terms_bytes, Terms.IsTerms, Text.padding, Text.reason_bytes, Text.shown_bytes, Text.IsHolder};
 
 use crate::greeting::{Address, Holder, Refusal, Shown};
 use crate::terms::{Policy, Terms, terms_fault};

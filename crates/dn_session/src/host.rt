@@ -1,6 +1,7 @@
 //! The host of a lobby.
 
 ghost use Rattle.std.specs.Prelude.{◌≡◌, IfOk};
+ghost use Rattle.dn_session.specs.Hosting.{game_told, holder_of, kicked, lobby, roster, IsHostOf, IsLobby};
 
 use crate::cookies::{game_of, session_number};
 use crate::seats::{Seat, held_by, number_in, seat_for};
@@ -38,8 +39,6 @@ pub struct Host {
 }
 
 impl Host {
-    ghost use Rattle.dn_session.specs.Hosting.{game_told, holder_of, kicked, lobby, roster, IsHostOf, IsLobby};
-
     /// The host of a game of these terms, or the first fault of them.
     pub fn new(config: &HostConfig) -> Result<Host, LobbyFault>
         ensures made { IsHostOf config.now result }

@@ -50,20 +50,14 @@ pub struct JoinConfig {
 pub(crate) fn is_wish(seat: Option<u8>) -> bool
     ensures { result ≡ is_wish seat }
 {
-    match seat {
-        None => true,
-        Some(seat) => 1 <= seat && seat <= 3,
-    }
+    seat.is_none_or(|seat| 1 <= seat && seat <= 3)
 }
 
 /// Whether a number of players may be asked for.
 pub(crate) fn is_count_or_none(players: Option<u8>) -> bool
     ensures { result ≡ is_count_or_none players }
 {
-    match players {
-        None => true,
-        Some(players) => is_within(2, 4, u32::from(players)),
-    }
+    players.is_none_or(|players| is_within(2, 4, u32::from(players)))
 }
 
 /// The first field that no joiner may have.

@@ -1,7 +1,7 @@
 //! Whom a player gives up.
 
 ghost use Rattle.std.specs.Prelude.{◌≡◌, ◌<◌, ◌-◌, ◌&&◌, IfSome, option_map, position, [], ◌∷◌};
-ghost use Rattle.dn_session.specs.Lead.{due, due_under, follows_due, has_left, highest, is_given_up, is_late, is_lost, is_mute, is_named, is_open, is_there, late_due, lead, leads_due, lowest, names, seen};
+ghost use Rattle.dn_session.specs.Lead.{due, follows_due, has_left, highest, is_given_up, is_late, is_lost, is_mute, is_named, is_open, is_there, late_due, lead, leads_due, lowest, names, seen};
 
 use crate::cookies::FRESH_FOR;
 

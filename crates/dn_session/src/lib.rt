@@ -16,7 +16,6 @@ mod laws;
 mod lead;
 mod meetings;
 mod part;
-mod parts;
 mod places;
 mod players;
 mod polling;
@@ -52,7 +51,6 @@ pub use laws::{
 pub use lead::{Seen, Standing, View, due, is_given_up};
 pub use meetings::{sessions_play, sessions_stay};
 pub use part::{Part, Transmit};
-pub use parts::sessions_play_on;
 pub use places::{Place, Places};
 pub use reading::{is_greeting, open, read_hinted};
 pub use roster::{one_link_a_place, places_are_ones_own};

@@ -7,12 +7,11 @@ ghost use Rattle.dn_lockstep.specs.{Marking.Marking, declared.config.NodeFault.N
 ghost use Rattle.dn_survivor.specs.OneGame.{started_session, Session};
 ghost use Rattle.dn_link.specs.{Linked.surviving_of, Linking.linked, RemainingLinks.IsGenuineIn, RemainingLinks.WasSealedIn, declared.link.Link.Link};
 ghost use Rattle.dn_session.specs.declared.{greeting.Address.Address, side.Begun.Begun, side.Side.Side};
-ghost use Rattle.dn_session.specs.{Parts.limits_of, Parts.links_of, Parts.AreMarksOf, Playing.Playing, Reading.is_greeting, Roster.own_number, Roster.IsSide};
-ghost use Rattle.dn_session.specs.Session.{begins_now, begun_in, game_seal, link_in, passing_in, Begins, GivesPart, GivesUpPart, HearsAny, IsLinkOf, IsPartOf, Kicks, Meeting, PassesTo, QuitsPart, RunsPart, Sends};
+ghost use Rattle.dn_session.specs.{Parts.limits_of, Parts.links_of, Parts.AreMarksOf, Playing.Playing, Reading.is_greeting, Roster.own_number, Roster.IsSide, Text.game_seal};
+ghost use Rattle.dn_session.specs.Session.{begins_now, begun_in, link_in, passing_in, Begins, GivesPart, GivesUpPart, HearsAny, IsLinkOf, IsPartOf, Kicks, Meeting, PassesTo, QuitsPart, RunsPart, Sends};
 ghost use Rattle.dn_session.specs.Sessions.{AreKeptBy, AreSessions, IsPartFor, PlaysWith, StaySessions};
 
-use crate::parts::sessions_play_on;
-use dn_link::remaining_links_start;
+use dn_link::{remaining_bytes_are_genuine, remaining_links_go_on, remaining_links_start};
 use dn_lockstep::windows_hold;
 
 /// Two sessions that play a game in one place have one number: where no two have drawn one, they are one session.
@@ -39,7 +38,8 @@ pub fn sessions_play()
 /// And so they stay after each call on one of them, as long as what a part opens was sealed in this game before. What
 /// a part sends was sealed in this game, or it is the bytes of another player that it passes on as they came. A
 /// session that begins plays this game, in this place. At a run the caller hands in the marks of a world that moved
-/// on by the rows that it was told. What else a session does changes no part.
+/// on by the rows that it was told. Whom a part gives up, and when, is not asked. What else a session does changes no
+/// part.
 pub fn sessions_stay()
     ensures begins { (marking : Marking) (secret : Option (List ℕ)) (b : Begun) (session : Session)
         (meetings : ℕ → Meeting) (player : ℕ) (new : Meeting) (one : Side) (now : ℕ) (result : Result Bool NodeFault)
@@ -77,5 +77,6 @@ pub fn sessions_stay()
     ensures kicks { (seat : ℕ) → AreKeptBy (Kicks seat) }
     ensures stays { AreKeptBy (λ old new. new.part ≡ old.part) }
 {
-    sessions_play_on();
+    remaining_links_go_on();
+    remaining_bytes_are_genuine();
 }

@@ -1,8 +1,9 @@
 //! A player's part in its game.
 
-ghost use Rattle.std.specs.Prelude.{◌≡◌, map, false, replicate, None};
+ghost use Rattle.std.specs.Prelude.{◌≡◌, map, false, replicate, None, ◌<◌, ◌^◌, ℕ};
 ghost use Rattle.dn_link.specs.{Linked.has_given_up, Linking.linked};
-ghost use Rattle.dn_session.specs.Players.{four};
+ghost use Rattle.dn_session.specs.{Players.four, Events.part_due, Joining.has_come, Playing.ended_as, Playing.owes_nobody, Playing.playing, Steady.new_steady, Ticks.new_ticks, Watch.new_watch};
+ghost use Rattle.dn_session.specs.declared.ending.Progress.TheVariants as progress;
 
 mod ending;
 mod giving;
@@ -22,7 +23,7 @@ use crate::ticks::Ticks;
 use crate::watch::Watch;
 use dn_link::Link;
 pub use sending::Transmit;
-pub(crate) use sending::{copied, widened};
+pub(crate) use sending::{copied, keep};
 
 /// Whom a link has given up.
 fn gone_from(link: &Link) -> [bool; 4]
@@ -70,10 +71,6 @@ pub struct Part {
 }
 
 impl Part {
-    ghost use Rattle.std.specs.Prelude.{◌<◌, ◌^◌, ℕ};
-    ghost use Rattle.dn_session.specs.{Events.part_due, Joining.has_come, Playing.ended_as, Playing.owes_nobody, Playing.playing, Steady.new_steady, Ticks.new_ticks, Watch.new_watch};
-    ghost use Rattle.dn_session.specs.declared.ending.Progress.TheVariants as progress;
-
     /// The part that plays by this link from now on, in a game of this rate and policy, with the others at
     /// these places.
     pub(crate) fn new(link: Link, rate: u8, policy: Policy, places: Places, now: u32) -> Part

@@ -1,6 +1,6 @@
 //! Where the players are.
 
-ghost use Rattle.std.specs.Prelude.{◌≡◌, ◌==◌, ◌&&◌, not};
+ghost use Rattle.std.specs.Prelude.{◌≡◌};
 ghost use Rattle.dn_session.specs.Places.{heard_at, heard_from, is_anothers, is_at, is_left, is_near_at, is_since, new_place, passed_by, place_of, places_of, probed_at};
 
 use crate::cookies::FRESH_FOR;
@@ -28,10 +28,7 @@ pub struct Place {
 pub(crate) fn is_since(time: u32, now: u32, done: Option<u32>) -> bool
     ensures { result ≡ is_since time now done }
 {
-    match done {
-        Some(done) => u64::from(now) < u64::from(done) + u64::from(time),
-        None => false,
-    }
+    done.is_some_and(|done| u64::from(now) < u64::from(done) + u64::from(time))
 }
 
 impl Place {
@@ -52,10 +49,8 @@ impl Place {
     pub(crate) fn is_at(&self, from: &Address) -> bool
         ensures { result ≡ is_at from.now self.now }
     {
-        match self.address {
-            Some(address) => address.bytes == from.bytes,
-            None => false,
-        }
+        self.address
+            .is_some_and(|address| address.bytes == from.bytes)
     }
 
     /// Whether none of its last datagrams came from the address that is known in the last two seconds.
@@ -138,21 +133,13 @@ impl Places {
         }
     }
 
-    /// Whether this one, another than the player, is known to be at this address.
-    fn has_other(&self, player: u8, from: &Address, other: u8) -> bool
-        ensures { result ≡ (not (other == player) && is_at from.now (place_of other self.now)) }
-    {
-        other != player && self.place(other).is_at(from)
-    }
-
     /// Whether another player than this one is known to be at this address.
     fn is_anothers(&self, player: u8, from: &Address) -> bool
         ensures { result ≡ is_anothers player from.now self.now }
     {
-        self.has_other(player, from, 0)
-            || self.has_other(player, from, 1)
-            || self.has_other(player, from, 2)
-            || self.has_other(player, from, 3)
+        [0, 1, 2, 3]
+            .iter()
+            .any(|other| *other != player && self.place(*other).is_at(from))
     }
 
     /// A datagram of a player came from this address. It may be a new one, and one of the last that it sent.

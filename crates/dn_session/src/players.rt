@@ -1,10 +1,10 @@
 //! What a player sees of the others in its game.
 
-ghost use Rattle.std.specs.{Prelude.◌≡◌, Prelude.◌&&◌, Prelude.◌==◌, Prelude.not, Prelude.◌<◌, Prelude.◌+◌, Prelude.◌||◌, Prelude.nat_lt, List.list_any, List.list_all};
+ghost use Rattle.std.specs.Prelude.{◌≡◌, ◌&&◌, ◌==◌, not, ◌<◌, ◌+◌, ◌||◌, nat_lt};
 ghost use Rattle.dn_lockstep.specs.Contents.{contents};
+ghost use Rattle.dn_link.specs.{Linked.is_peer, Linking.linked};
 ghost use Rattle.dn_session.specs.Cookies.{is_one};
-ghost use Rattle.dn_link.specs.{Linked.has_given_up, Linked.is_peer, Linking.linked};
-ghost use Rattle.dn_session.specs.Players.{count_in, ends_by, four, has_gone, has_row_behind, is_abandoned, is_any_awaited, is_awaited, is_behind, is_gone_from, is_whole, lacks, names_by, owes_report, own_standing, seen_of, standing_beside, standing_of, view_of};
+ghost use Rattle.dn_session.specs.Players.{count_in, ends_by, has_gone, has_row_behind, is_abandoned, is_any_awaited, is_awaited, is_behind, is_gone_from, is_whole, lacks, names_by, owes_report, own_standing, seen_of, standing_beside, standing_of, view_of};
 
 use crate::lead::{Seen, Standing, View};
 use crate::watch::Watch;
@@ -105,7 +105,9 @@ fn reaches(link: &Link, count: u32) -> bool
 fn is_behind(link: &Link, player: u8) -> bool
     ensures { result ≡ is_behind (linked link.now) player }
 {
-    is_gone_from(link, player) || is_whole(link, player) || reaches(link, count_in(link.lockstep(), player))
+    is_gone_from(link, player)
+        || is_whole(link, player)
+        || reaches(link, count_in(link.lockstep(), player))
 }
 
 /// Whether the row of the tic after the next is here.

@@ -1,7 +1,8 @@
 //! When a joiner calls.
 
 ghost use Rattle.std.specs.Prelude.{◌≡◌, ◌<◌, ◌^◌, ◌&&◌, ◌||◌, ℕ, option_map, IfSome, Ok};
-ghost use Rattle.dn_session.specs.{Reading.IsCallIn, Joining.calls_on, Joining.counts_on_host, Joining.has_come, Joining.has_passed, Joining.is_hint_over, Joining.may_retry};
+ghost use Rattle.dn_session.specs.Joining.{calls_on, counts_on_host, has_come, has_passed, is_hint_over, may_retry, acts, call_of, called, calling_again, given_up_by, interval, is_due, joining, on_time};
+ghost use Rattle.dn_session.specs.Reading.{IsCallIn};
 
 use crate::greeting::Call;
 use crate::joiner::{Joiner, Stage};
@@ -26,10 +27,7 @@ pub(crate) fn has_passed(now: u32, since: u32, time: u32) -> bool
 fn may_retry(now: u32, retried: Option<u32>) -> bool
     ensures { result ≡ may_retry now retried }
 {
-    match retried {
-        None => true,
-        Some(time) => has_passed(now, time, 500),
-    }
+    retried.is_none_or(|time| has_passed(now, time, 500))
 }
 
 /// Whether it was told of a seat, or to wait for one.
@@ -70,8 +68,6 @@ pub(crate) fn earlier(one: Option<u32>, two: Option<u32>) -> Option<u32>
 }
 
 impl Joiner {
-    ghost use Rattle.dn_session.specs.Joining.{acts, call_of, called, calling_again, given_up_by, interval, is_due, joining, on_time};
-
     /// How long it waits after its last call.
     fn interval(&self) -> u32
         ensures { result ≡ interval (joining self.now) }

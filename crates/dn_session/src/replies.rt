@@ -1,32 +1,13 @@
 //! What a joiner makes of replies.
 
-ghost use Rattle.std.specs.Prelude.{◌≡◌, ◌≤◌, IfOk, Result, false, map, true};
-ghost use Rattle.dn_session.specs.Joining.{number_of, retries_for, stage_after, stage_by};
-ghost use Rattle.dn_session.specs.declared.{greeting.GreetingFault.GreetingFault, greeting.Hinted.Hinted, greeting.Refused.Refused, greeting.Seating.Seating};
+ghost use Rattle.std.specs.Prelude.{◌≡◌, ◌≤◌, IfOk, false, map, true};
+ghost use Rattle.dn_session.specs.Joining.{number_of, stage_after, answered, game_now, is_answer, is_heard, is_own, is_sure, joining, on_hinted, on_refused, on_reply, on_seating, HearsHost};
 
 use crate::cookies::{game_of, is_recent};
 use crate::greeting::{Address, GreetingFault, Hint, Hinted, Refusal, Refused, Seating, Shown};
 use crate::joiner::{Joiner, Stage};
 use crate::polling::calls_on;
 use crate::reading::{open, read_hinted};
-
-/// Where who has this seating stands.
-fn stage_by(seating: &Seating) -> Stage
-    ensures { result ≡ stage_by seating.now }
-{
-    if seating.begun {
-        Stage::Playing
-    } else {
-        Stage::Seated
-    }
-}
-
-/// Whether who is refused so calls again at once.
-fn retries_for(refusal: Refusal) -> bool
-    ensures { result ≡ retries_for refusal }
-{
-    matches!(refusal, Refusal::Cookie)
-}
 
 /// Where who is refused so stands.
 fn stage_after(refusal: Refusal) -> Stage
@@ -58,8 +39,6 @@ fn numbers_of(seats: &[Option<Shown>; 3]) -> [[u8; 16]; 3]
 }
 
 impl Joiner {
-    ghost use Rattle.dn_session.specs.Joining.{answered, game_now, is_answer, is_heard, is_own, is_sure, joining, on_hinted, on_refused, on_reply, on_seating, HearsHost};
-
     /// Whether it is the newest reply to the calls that it has made.
     fn is_answer(&self, number: &[u8; 16], count: u32) -> bool
         ensures { result ≡ is_answer number.now count (joining self.now) }
@@ -82,10 +61,8 @@ impl Joiner {
         requires { (1 ≤ seating.now.seat) × (seating.now.seat ≤ 3) }
         ensures { result ≡ is_own seating.now (joining self.now) }
     {
-        match &seating.seats[usize::from(seating.seat - 1)] {
-            Some(shown) => shown.holder.number == self.number,
-            None => false,
-        }
+        let shown = seating.seats[usize::from(seating.seat - 1)];
+        shown.is_some_and(|shown| shown.holder.number == self.number)
     }
 
     /// What it makes of a seating.
@@ -97,7 +74,11 @@ impl Joiner {
             return;
         }
         self.answer(seating.count, seating.cookie, now);
-        self.stage = stage_by(&seating);
+        self.stage = if seating.begun {
+            Stage::Playing
+        } else {
+            Stage::Seated
+        };
         self.retry_now = false;
         self.seating = Some(seating);
     }
@@ -115,7 +96,7 @@ impl Joiner {
     {
         if self.is_answer(&refused.number, refused.count) && !self.is_sure(now) {
             self.answer(refused.count, refused.cookie, now);
-            self.retry_now = retries_for(refused.refusal);
+            self.retry_now = matches!(refused.refusal, Refusal::Cookie);
             self.stage = stage_after(refused.refusal);
         }
     }

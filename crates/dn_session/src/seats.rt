@@ -1,8 +1,8 @@
 //! A seat, who holds it, and what it is to a caller.
 
-ghost use Rattle.std.specs.{Prelude.◌≡◌, Prelude.◌<◌, Prelude.IfSome, Prelude.Option, Prelude.map, Prelude.position, Prelude.true, List.list_all};
+ghost use Rattle.std.specs.{Prelude.◌≡◌, Prelude.◌<◌, Prelude.IfSome, Prelude.map, Prelude.position, Prelude.true, List.list_all};
+ghost use Rattle.dn_session.specs.Seats.{held_again, is_free, is_of, is_ready, is_silent, number_in, seat_for, seat_of, shown_at, taken_again, taken_by};
 ghost use Rattle.dn_session.specs.Text.{is_wish};
-ghost use Rattle.dn_session.specs.Seats.{held_again, is_free, is_here, is_of, is_ready, is_silent, number_in, seat_for, seat_of, shown_at, taken_again, taken_by};
 
 use crate::cookies::is_recent;
 use crate::greeting::{Address, Call, Holder, Shown};
@@ -111,14 +111,6 @@ fn silent_in(now: u32, seats: &[Seat; 3]) -> Option<usize>
     seats.iter().position(|seat| is_silent(now, seat))
 }
 
-/// The seat of a newcomer who wants none for certain.
-fn any_seat(now: u32, seats: &[Seat; 3]) -> Option<usize>
-    ensures value { result ≡ seat_of Option.None now seats.now }
-    ensures within { IfSome result (λ n. n < 3) }
-{
-    free_in(seats).or(silent_in(now, seats))
-}
-
 /// The seat that a newcomer gets.
 pub(crate) fn seat_of(wish: Option<u8>, now: u32, seats: &[Seat; 3]) -> Option<usize>
     requires { is_wish wish ≡ true }
@@ -126,7 +118,7 @@ pub(crate) fn seat_of(wish: Option<u8>, now: u32, seats: &[Seat; 3]) -> Option<u
     ensures within { IfSome result (λ n. n < 3) }
 {
     let Some(wish) = wish else {
-        return any_seat(now, seats);
+        return free_in(seats).or(silent_in(now, seats));
     };
     let n = usize::from(wish.saturating_sub(1));
     if is_free(&seats[n]) || is_silent(now, &seats[n]) {
@@ -151,20 +143,13 @@ pub(crate) fn taken_by(from: &Address, call: &Call, time: u32) -> Seat
     })
 }
 
-/// Whether its holder is at this address.
-fn is_here(from: &Address, held: &Held) -> bool
-    ensures { result ≡ is_here from.now held.now }
-{
-    held.holder.address.bytes == from.bytes
-}
-
 /// Who holds a seat and calls again.
 fn held_again(from: &Address, now: u32, time: u32, held: &Held) -> Held
     ensures { result ≡ held_again from.now now time held.now }
 {
     let mut again = *held;
     again.heard = held.heard.max(time);
-    if is_here(from, held) {
+    if held.holder.address.bytes == from.bytes {
         again.heard_here = held.heard_here.max(time);
     } else if !is_recent(now, held.heard_here) {
         again.holder.address = *from;

@@ -1,7 +1,8 @@
 //! A session of one player: its lobby, and then its part in the game.
 
-ghost use Rattle.std.specs.{Prelude.◌≡◌, Prelude.IfOk, Option.option_map, Option.option_or};
-ghost use Rattle.dn_session.specs.{Passing.sent_of, Session.IsMadeAs};
+ghost use Rattle.std.specs.{Prelude.◌≡◌, Prelude.IfOk, Option.option_map};
+ghost use Rattle.dn_session.specs.Session.{IsMadeAs, meeting, new_meeting, Begins, HearsAny, IsHostSession, IsJoinSession, PassesTo, Sends};
+ghost use Rattle.dn_session.specs.{Passing.sent_of, Roster.IsSide};
 
 mod playing;
 mod reading;
@@ -10,10 +11,11 @@ use crate::event::Announced;
 use crate::greeting::Address;
 use crate::host::{Host, HostConfig};
 use crate::joiner::{JoinConfig, Joiner};
-use crate::part::{Part, Transmit};
+use crate::part::{Part, Transmit, keep};
 use crate::reading::is_greeting;
-use crate::side::{Begun, Side, game_seal};
+use crate::side::{Begun, Side};
 use crate::terms::LobbyFault;
+use crate::writing::game_seal;
 use dn_link::Link;
 use dn_lockstep::NodeFault;
 use std::alloc::Global;
@@ -34,15 +36,6 @@ fn part_of(
     Ok(Part::new(link, terms.rate, terms.policy, places, now))
 }
 
-/// What is new is to be sent in place of what was, if there is any.
-fn keep(waiting: &mut Option<Transmit>, new: Option<Transmit>)
-    ensures { option_map sent_of waiting.new ≡ option_or (option_map sent_of new) (option_map sent_of waiting.old) }
-{
-    if new.is_some() {
-        *waiting = new;
-    }
-}
-
 /// A session of one player: of a host, or of one who joins. It has no socket and no clock: what comes is given
 /// to it with the address that it came from, and what goes is taken from it with the address that it goes to.
 /// Times are milliseconds of the player's own clock, and never go back. They are counted from the making of the
@@ -58,8 +51,6 @@ pub struct Session {
 }
 
 impl Session {
-    ghost use Rattle.dn_session.specs.{Roster.IsSide, Session.meeting, Session.new_meeting, Session.Begins, Session.HearsAny, Session.IsHostSession, Session.IsJoinSession, Session.PassesTo, Session.Sends};
-
     /// The session of a host, or the first fault of its terms.
     pub fn host(config: &HostConfig) -> Result<Session, LobbyFault>
         ensures made { IsHostSession config.now result }

@@ -1,20 +1,20 @@
 //! The lobby of a session: that of its host, or of one who joins; and the game that it begins.
 
-ghost use Rattle.std.specs.{Prelude.◌≡◌, Prelude.ℕ, Prelude.List, Prelude.Option, Prelude.map, Option.option_map};
+ghost use Rattle.std.specs.{Prelude.◌≡◌, Prelude.ℕ, Prelude.List, Prelude.Option, Prelude.map, Prelude.◌<◌, Prelude.◌^◌, Option.option_map};
+ghost use Rattle.dn_session.specs.Session.{address_in, address_shown, begun_in, config_of, kicked_as, reply_to, Calls, HearsGreeting, KicksFrom};
+ghost use Rattle.dn_session.specs.Hosting.{holder_of, lobby, HearsCall, IsLobby};
+ghost use Rattle.dn_session.specs.{Joining.joining, Joining.on_time, Joining.has_come, Roster.IsJoining, Roster.IsSide, Passing.sent_of, Places.places_of, Events.acts_in};
 ghost use Rattle.dn_session.specs.declared.side.Side.TheVariants as side;
-ghost use Rattle.dn_session.specs.{Hosting.holder_of, Hosting.lobby, Hosting.HearsCall, Hosting.IsLobby, Joining.joining, Joining.on_time, Roster.IsJoining, Roster.IsSide, Passing.sent_of};
-ghost use Rattle.dn_session.specs.Session.{address_in, address_shown, begun_here, begun_in, begun_with, config_of, game_seal, kicked_as, reply_to};
 
 use crate::greeting::{Address, Shown};
 use crate::host::Host;
 use crate::joiner::Joiner;
-use crate::part::{Transmit, widened};
+use crate::part::{Transmit, copied};
 use crate::places::Places;
 use crate::seats::Seat;
 use crate::terms::Terms;
 use arrayvec::ArrayVec;
 use dn_lockstep::Config;
-use dn_seal::Seal;
 
 /// The lobby of a session.
 #[derive(Drop)]
@@ -76,19 +76,7 @@ fn addresses_shown(seats: &[Option<Shown>; 3]) -> [Option<Address>; 3]
     [address_shown(one), address_shown(two), address_shown(three)]
 }
 
-/// By what a game of this number is sealed, under a secret or without one.
-pub(crate) fn game_seal(secret: Option<[u8; 32]>, game: [u8; 16]) -> Seal
-    ensures { result ≡ game_seal secret game }
-{
-    match secret {
-        Some(secret) => Seal::new(secret, game),
-        None => Seal::without_secret(game),
-    }
-}
-
 impl Begun {
-    ghost use Rattle.dn_session.specs.Places.{places_of};
-
     /// How its player's link is made.
     pub(crate) fn config(&self) -> Config
         ensures { result ≡ config_of self.now }
@@ -110,12 +98,12 @@ impl Begun {
     }
 }
 
-/// What the host begins, in a game of this number.
-fn told_here(host: &Host, game: Option<[u8; 16]>) -> Option<Begun>
-    ensures { result ≡ option_map (begun_here (lobby host.now)) game }
+/// The game of a host, once it has begun.
+fn begun_here(host: &Host) -> Option<Begun>
+    ensures { result ≡ begun_in (side.Host host.now) }
 {
     Some(Begun {
-        game: game?,
+        game: host.game()?,
         terms: *host.terms(),
         me: 0,
         host: None,
@@ -123,18 +111,11 @@ fn told_here(host: &Host, game: Option<[u8; 16]>) -> Option<Begun>
     })
 }
 
-/// The game of a host, once it has begun.
-fn begun_here(host: &Host) -> Option<Begun>
-    ensures { result ≡ begun_in (side.Host host.now) }
+/// The game of one who joins, once it has begun.
+fn begun_there(joiner: &Joiner) -> Option<Begun>
+    ensures { result ≡ begun_in (side.Joiner joiner.now) }
 {
-    told_here(host, host.game())
-}
-
-/// What one who joins begins, in a game of this number.
-fn told_there(joiner: &Joiner, game: Option<[u8; 16]>) -> Option<Begun>
-    ensures { result ≡ begun_with (joining joiner.now) game (joining joiner.now).seating }
-{
-    let game = game?;
+    let game = joiner.game()?;
     match joiner.seating() {
         Some(seating) => Some(Begun {
             game,
@@ -147,20 +128,13 @@ fn told_there(joiner: &Joiner, game: Option<[u8; 16]>) -> Option<Begun>
     }
 }
 
-/// The game of one who joins, once it has begun.
-fn begun_there(joiner: &Joiner) -> Option<Begun>
-    ensures { result ≡ begun_in (side.Joiner joiner.now) }
-{
-    told_there(joiner, joiner.game())
-}
-
 /// Bytes that go to an address, if there are any.
 fn addressed(to: &Address, bytes: Option<ArrayVec<u8, 581>>) -> Option<Transmit>
     ensures { option_map sent_of result ≡ reply_to to.now (option_map (λ bytes. bytes.items) bytes) }
 {
     Some(Transmit {
         to: *to,
-        bytes: widened(&bytes?),
+        bytes: copied(bytes?.as_slice()),
     })
 }
 
@@ -197,9 +171,6 @@ fn host_kicks(host: &mut Host, seat: u8)
 }
 
 impl Side {
-    ghost use Rattle.std.specs.Prelude.{◌<◌, ◌^◌};
-    ghost use Rattle.dn_session.specs.{Events.acts_in, Joining.has_come, Session.Calls, Session.HearsGreeting, Session.KicksFrom};
-
     /// The game, once it has begun.
     pub(crate) fn begun(&self) -> Option<Begun>
         ensures { result ≡ begun_in self.now }

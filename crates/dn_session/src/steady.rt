@@ -5,6 +5,7 @@ ghost use Rattle.dn_session.specs.Steady.{has_waited, holds, is_rough, new_stead
 
 /// How many ticks without a tic are felt as a gap: more are a game that stands still.
 const SHORTEST: u8 = 3;
+
 const LONGEST: u8 = 8;
 
 /// For how many ticks a gap counts.

@@ -1,6 +1,8 @@
 //! When a player's ticks are due.
 
-ghost use Rattle.std.specs.Prelude.{◌≡◌};
+ghost use Rattle.std.specs.Prelude.{◌≡◌, ◌<◌, ◌≤◌, ◌^◌, nat_abs};
+ghost use Rattle.dn_session.specs.Ticks.{half_taken, is_due, is_late, later, new_ticks, next, parts_of_tick, parts_to_next, passed, resumed};
+ghost use Rattle.dn_session.specs.Joining.{has_come};
 
 /// When a player's ticks are due. Times are milliseconds of its own clock.
 ///
@@ -19,10 +21,6 @@ pub struct Ticks {
 }
 
 impl Ticks {
-    ghost use Rattle.std.specs.Prelude.{◌<◌, ◌≤◌, ◌^◌, nat_abs};
-    ghost use Rattle.dn_session.specs.Joining.{has_come};
-    ghost use Rattle.dn_session.specs.Ticks.{half_taken, is_due, is_late, later, new_ticks, next, parts_of_tick, parts_to_next, passed, resumed};
-
     /// So many in a second, from this time on.
     pub fn new(rate: u8, now: u32) -> Ticks
         ensures { result ≡ new_ticks rate now }

@@ -2,7 +2,7 @@
 
 ghost use Rattle.std.specs.Prelude.{◌≡◌, ◌≤◌, length};
 ghost use Rattle.dn_seal.specs.Sealing.{sealing};
-ghost use Rattle.dn_session.specs.Text.{greeting_bytes, greeting_number, greeting_seal};
+ghost use Rattle.dn_session.specs.Text.{game_seal, greeting_bytes, greeting_number, greeting_seal};
 
 use crate::sorts::Greeting;
 use arrayvec::ArrayVec;
@@ -42,13 +42,19 @@ fn greeting_number() -> [u8; 16]
     *b"zirmegat greeter"
 }
 
+/// By what a game of this number is sealed, under a secret or without one.
+pub(crate) fn game_seal(secret: Option<[u8; 32]>, game: [u8; 16]) -> Seal
+    ensures { result ≡ game_seal secret game }
+{
+    match secret {
+        Some(secret) => Seal::new(secret, game),
+        None => Seal::without_secret(game),
+    }
+}
+
 /// What greetings are sealed by, under a secret or without one.
 pub fn greeter(secret: Option<[u8; 32]>) -> Sealer
     ensures { sealing result ≡ record { seal = greeting_seal secret; me = 0 } }
 {
-    let number = greeting_number();
-    match secret {
-        Some(secret) => Sealer::of(Seal::new(secret, number), 0),
-        None => Sealer::of(Seal::without_secret(number), 0),
-    }
+    Sealer::of(game_seal(secret, greeting_number()), 0)
 }

@@ -29,13 +29,10 @@ impl Link {
         ensures pace { pace_of self.new ≡ pace_of self.old }
         ensures seal { seal_of self.new ≡ seal_of self.old }
     {
+        if !self.remains(to) {
+            return None;
+        }
         let me = self.me();
-        if to == me || to >= self.lockstep().players() {
-            return None;
-        }
-        if self.has_given_up(to) {
-            return None;
-        }
         let cause = told_cause(self.lockstep().phase());
         let packet = next_packet(self.survivor.lockstep_mut(), to);
         let (number, own) = self.peers[to as usize].parts(me, packet);

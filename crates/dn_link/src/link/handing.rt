@@ -11,8 +11,8 @@ use arrayvec::ArrayVec;
 const MOST_HANDED: u8 = 24;
 
 impl Link {
-    ghost use Rattle.std.specs.Prelude.{◌≡◌, ◌<◌, ◌≤◌, ◌||◌, ◌∷◌, take, All, length, not, slice_index, true, false, IfSome};
-    ghost use Rattle.dn_link.specs.{Counting.held_of, Linking.history_of, Linked.has_given_up, Linked.is_peer, Linked.remains, Linking.linked, Linking.seal_of, Surviving.HasTwoBehind, Surviving.IsHandedFor, Surviving.may_hand, Surviving.shares_gone};
+    ghost use Rattle.std.specs.Prelude.{◌≡◌, ◌<◌, ◌≤◌, ◌||◌, ◌∷◌, take, All, length, slice_index, true, false, IfSome};
+    ghost use Rattle.dn_link.specs.{Counting.held_of, Linking.overdue_of, Linked.HasBehind, Linked.has_given_up, Linked.is_peer, Linked.remains, Linking.linked, Linking.seal_of, Surviving.IsHandedFor, Surviving.may_hand, Surviving.shares_gone};
     ghost use Rattle.dn_link.specs.{Pacing.pace_of, Text.IsPart, Text.parts_bytes};
 
     /// Whether a player is not given up, or a peer has reported to have given it up too.
@@ -34,46 +34,23 @@ impl Link {
             && self.shares_gone(to, 3)
     }
 
-    /// How many commands of each player it has.
-    fn had(&self) -> Had
-        ensures { result.counts ≡ held_of (linked self.now).node }
-    {
-        let counts = held_of(self.lockstep());
-        Had { counts }
-    }
-
-    /// How many of each player a peer has reported to have.
-    fn reported_by(&self, player: u8) -> Had
-        requires { player < 4 }
-    {
-        let peer = self.peer(player);
-        Had {
-            counts: [
-                peer.reported_of(0),
-                peer.reported_of(1),
-                peer.reported_of(2),
-                peer.reported_of(3),
-            ],
-        }
-    }
-
     /// A tick, for what is handed on from here on.
     pub(super) fn look_back(&mut self)
-        ensures history { history_of self.new
-            ≡ record { counts = held_of (linked self.old).node } ∷ take 31 (history_of self.old) }
+        ensures history { (overdue_of self.new).history.ticks.items
+            ≡ record { counts = held_of (linked self.old).node } ∷ take 31 (overdue_of self.old).history.ticks.items }
         ensures link { linked self.new ≡ linked self.old }
         ensures pace { pace_of self.new ≡ pace_of self.old }
         ensures seal { seal_of self.new ≡ seal_of self.old }
     {
         let me = self.me();
-        let had = self.had();
+        let counts = held_of(self.lockstep());
         let reported = [
-            self.reported_by(0),
-            self.reported_by(1),
-            self.reported_by(2),
-            self.reported_by(3),
+            self.peer(0).reported,
+            self.peer(1).reported,
+            self.peer(2).reported,
+            self.peer(3).reported,
         ];
-        self.overdue.tick(me, had, &reported);
+        self.overdue.tick(me, Had { counts }, &reported);
     }
 
     /// Whether its own commands come to a peer in time: fewer than a window are not reported. Where they are
@@ -81,7 +58,7 @@ impl Link {
     fn is_in_time(&self, to: u8) -> bool
         requires { to < 4 }
     {
-        let reported = self.peer(to).reported_of(self.me());
+        let reported = self.peer(to).reported.of(self.me());
         self.made().saturating_sub(reported) < self.lockstep().ahead()
     }
 
@@ -95,7 +72,7 @@ impl Link {
         if !self.is_peer(to) {
             return false;
         }
-        self.may_hand(to) && self.peer(to).left().is_none() && self.is_in_time(to)
+        self.may_hand(to) && self.peer(to).left.is_none() && self.is_in_time(to)
     }
 
     /// From which on commands of a third player are handed on to a peer, if any are.
@@ -105,7 +82,7 @@ impl Link {
         ensures { IfSome result (λ start. slice_index ((linked self.now).peers to).reported player ≤ start) }
     {
         let got = self.lockstep().got(player).unwrap_or(0);
-        let reported = self.peer(to).reported_of(player);
+        let reported = self.peer(to).reported.of(player);
         self.overdue.handed_from(to, player, reported, got)
     }
 
@@ -118,9 +95,7 @@ impl Link {
         if player == to || !self.remains(player) {
             return None;
         }
-        let Some(start) = self.first_handed(to, player) else {
-            return None;
-        };
+        let start = self.first_handed(to, player)?;
         let relay = relay_of(self.lockstep(), player, start, MOST_HANDED);
         if relay.run.commands.is_empty() {
             return None;
@@ -142,7 +117,7 @@ impl Link {
         requires short { length (parts_bytes own.items) ≤ 1118 }
         ensures fit { All IsPart result.items }
         ensures short { length (parts_bytes result.items) ≤ 1118 }
-        ensures behind { HasTwoBehind (linked self.now) to own.items result.items }
+        ensures behind { (behind : HasBehind (linked self.now) to 0 own.items result.items) × (length behind.handed ≤ 2) }
     {
         if !is_first || !self.hands_on(to) {
             return own;

@@ -12,7 +12,7 @@ impl Link {
         ensures { result ≡ (if is_peer (linked self.now).node player then ((linked self.now).peers player).left else None) }
     {
         if self.is_peer(player) {
-            self.peer(player).left()
+            self.peer(player).left
         } else {
             None
         }
@@ -27,7 +27,7 @@ impl Link {
             return true;
         }
         let peer = self.peer(player);
-        peer.left().is_some() || self.made() < peer.reported_of(self.me())
+        peer.left.is_some() || self.made() < peer.reported.of(self.me())
     }
 
     /// Whether a player still needs commands of this one, or to know that it has left.

@@ -7,11 +7,10 @@ use dn_tic::Input;
 impl Link {
     ghost use Rattle.std.specs.Prelude.{◌≡◌, None, Some};
     ghost use Rattle.dn_tic.specs.declared.input.Input.{Input as AnyInput};
-    ghost use Rattle.dn_machine.specs.Sending.{on_build};
-    ghost use Rattle.dn_machine.specs.declared.answers.Made.{Made as AnyMade};
-    ghost use Rattle.dn_machine.specs.declared.answers.Made.TheVariants as made;
+    ghost use Rattle.dn_machine.specs.{Sending.on_build, declared.answers.Made.Made as AnyMade};
     ghost use Rattle.dn_lockstep.specs.Steps.{Steps};
-    ghost use Rattle.dn_link.specs.{Linking.linked, Linking.seal_of, Pace.still_owed, Pacing.pace_of};
+    ghost use Rattle.dn_link.specs.{Linking.{linked, seal_of}, Pace.still_owed, Pacing.pace_of};
+    ghost use Rattle.dn_machine.specs.declared.answers.Made.TheVariants as made;
 
     /// Makes the command of this input.
     #[tactic(auto, using(dn_survivor::proofs::Steps::lent_steps))]
@@ -45,9 +44,7 @@ impl Link {
         ensures peers { (linked self.new).peers ≡ (linked self.old).peers }
         ensures seal { seal_of self.new ≡ seal_of self.old }
     {
-        let Some(input) = self.pace.owed() else {
-            return None;
-        };
+        let input = self.pace.owed?;
         let made = self.make(input);
         self.pace.settle(made);
         Some(made)

@@ -4,9 +4,8 @@ use super::Link;
 use crate::line::{apart, lead_over, total};
 
 impl Link {
-    ghost use Rattle.std.specs.Prelude.{◌<◌, ◌≤◌, ◌+◌, ◌&&◌, nat_abs, nat_lt, ◌≡◌};
-    ghost use Rattle.dn_link.specs.{Linking.linked, Linking.seal_of, Pace.after_tick, Pace.difference, Pace.is_paced, Pace.lean, Pace.playing, Pace.differences, Pace.is_lossy};
-    ghost use Rattle.dn_link.specs.{Pace.is_lossy_to, Pace.wants_second, Pacing.pace_of};
+    ghost use Rattle.std.specs.Prelude.{◌<◌, ◌≤◌, ◌+◌, ◌&&◌, nat_abs, ◌≡◌};
+    ghost use Rattle.dn_link.specs.{Linking.{linked, seal_of}, Pace.{after_tick, difference, is_paced, lean, playing, differences, is_lossy, is_lossy_to, wants_second}, Pacing.pace_of};
 
     /// Whether a player is a peer that was heard, and has not left as far as it was.
     fn is_paced(&self, player: u8) -> bool
@@ -15,7 +14,7 @@ impl Link {
         self.is_peer(player)
             && self.pace.line(player).newest.is_some()
             && self.end(player).is_none()
-            && self.peer(player).left().is_none()
+            && self.peer(player).left.is_none()
     }
 
     /// The difference between this player's lead and a peer's, as each saw its own at its last tick.

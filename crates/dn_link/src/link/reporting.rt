@@ -14,11 +14,10 @@ use dn_survivor::report::{MAX_REPORT, decode};
 const ROOM: usize = 1139;
 
 impl Link {
-    ghost use Rattle.std.specs.{Prelude.◌≡◌, Prelude.◌+◌, Prelude.◌<◌, Prelude.◌≤◌, Prelude.IfSome, Prelude.if◌then◌else◌, Prelude.Result, Prelude.length, Option.option_map};
-    ghost use Rattle.dn_survivor.specs.ReportBytes.{IsReadAs, IsReport};
-    ghost use Rattle.dn_survivor.specs.declared.report.{Report.Report, ReportFault.ReportFault};
-    ghost use Rattle.dn_link.specs.{Linked.TakesRead, Linked.exclusion, Linked.exclusion_for, Linked.probe, Linked.probe_for, Linked.probed, Linked.remains, Linked.report_beside, Linked.surviving_of, Linked.written, Linking.linked, Linking.seal_of};
-    ghost use Rattle.dn_link.specs.{Pacing.pace_of, Text.IsBundle, Text.parts_bytes};
+    ghost use Rattle.std.specs.{Prelude.{◌≡◌, ◌+◌, ◌<◌, ◌≤◌, IfSome, if◌then◌else◌, Result, length}, Option.option_map};
+    ghost use Rattle.dn_survivor.specs.{ReportBytes.{IsReadAs, IsReport}, declared.report.{Report.Report, ReportFault.ReportFault}};
+    ghost use Rattle.dn_link.specs.{Linked.{TakesRead, exclusion, exclusion_for, probe, probe_for, probed, remains, report_beside, surviving_of, written}, Linking.{linked, overdue_of, seal_of}};
+    ghost use Rattle.dn_link.specs.{Pacing.pace_of, Text.{IsBundle, parts_bytes}};
 
     /// The bytes of the report to a peer, if there is one, and room for it beside these parts.
     pub(super) fn report_beside(&self, to: u8, parts: &[Part]) -> ArrayVec<u8, MAX_REPORT>
@@ -91,7 +90,7 @@ impl Link {
     {
         let line = self.pace.line(to);
         Bundle {
-            number: self.peer(to).number(),
+            number: self.peer(to).number,
             lead: line.own_lead,
             holes: line.missing(),
             cause: told_cause(self.lockstep().phase()),
@@ -103,6 +102,7 @@ impl Link {
     fn count_datagram(&mut self, to: u8)
         requires { to < 4 }
         ensures link { linked self.new ≡ probed (linked self.old) to }
+        ensures overdue { overdue_of self.new ≡ overdue_of self.old }
         ensures pace { pace_of self.new ≡ pace_of self.old }
         ensures seal { seal_of self.new ≡ seal_of self.old }
     {
@@ -117,6 +117,7 @@ impl Link {
         ensures fits { IfSome result (λ bytes. IsBundle (probe (pace_of self.old) (linked self.old) to)) }
         ensures link { linked self.new
             ≡ (if remains (linked self.old) to then probed (linked self.old) to else linked self.old) }
+        ensures overdue { overdue_of self.new ≡ overdue_of self.old }
         ensures pace { pace_of self.new ≡ pace_of self.old }
         ensures seal { seal_of self.new ≡ seal_of self.old }
     {

@@ -1,24 +1,21 @@
 //! Who is given up for good, and what the others reported of that.
 
 use super::Link;
+use crate::hearing::is_gone;
 use dn_survivor::GivenUp;
 
 impl Link {
     ghost use Rattle.std.specs.Prelude.{◌≡◌, ◌<◌, ◌≢◌, true};
     ghost use Rattle.dn_machine.specs.declared.answers.Phase.TheVariants.{Gathering};
-    ghost use Rattle.dn_survivor.specs.{Calls.awaits_report_of, Calls.undecided_in};
+    ghost use Rattle.dn_survivor.specs.Calls.{awaits_report_of, undecided_in};
+    ghost use Rattle.dn_link.specs.{Linked.{has_given_up, remains, surviving_of}, Linking.{linked, seal_of}, Pacing.pace_of, Surviving.{GivesUpPeer, reports_gone}};
     ghost use Rattle.dn_survivor.specs.declared.answers.GivenUp.TheVariants as given_up;
-    ghost use Rattle.dn_link.specs.{Linked.has_given_up, Linked.remains, Linked.surviving_of, Linking.linked, Linking.seal_of, Pacing.pace_of};
-    ghost use Rattle.dn_link.specs.{Surviving.GivesUpPeer, Surviving.reports_gone};
 
     /// Whether a player is given up.
     pub fn has_given_up(&self, player: u8) -> bool
         ensures { result ≡ has_given_up (linked self.now) player }
     {
-        match self.survivor.others().gone.get(usize::from(player)) {
-            Some(is_gone) => *is_gone,
-            None => false,
-        }
+        is_gone(&self.survivor.others().gone, player)
     }
 
     /// Whether a number is that of a peer who is not given up.
@@ -38,10 +35,7 @@ impl Link {
             return false;
         }
         match self.survivor.others().newest.get(usize::from(teller)) {
-            Some(Some(report)) => match report.gone.get(usize::from(player)) {
-                Some(names) => *names,
-                None => false,
-            },
+            Some(Some(report)) => is_gone(&report.gone, player),
             _ => false,
         }
     }

@@ -9,10 +9,9 @@ use crate::reading::open_bundle;
 use crate::received::Received;
 
 impl Link {
-    ghost use Rattle.dn_link.specs.{Ends.excludes, Hearing.ByTest, Hearing.HearsAll, Packets.heard_in, Linked.HearsPeer, Linked.Receives, Linked.TakesPackets, Linked.done_with, Linked.takes, Linked.with_reached};
+    ghost use Rattle.dn_link.specs.{Ends.excludes, Hearing.{ByTest, HearsAll}, Packets.heard_in, Linked.{HearsPeer, Receives, TakesPackets, done_with, takes, with_reached, met}, Pacing.pace_of};
+    ghost use Rattle.dn_link.specs.{Linking.{linked, seal_of}, Pace.{Paces, after_datagram}};
     ghost use Rattle.dn_machine.specs.Node.{put};
-    ghost use Rattle.dn_link.specs.{Linked.met, Linking.linked, Linking.seal_of, Pace.Paces};
-    ghost use Rattle.dn_link.specs.{Pace.after_datagram, Pace.after_refusal, Pacing.pace_of};
     ghost use Rattle.std.specs.Prelude.{◌<◌, ◌≡◌};
 
     /// How many commands of this player a peer no longer needs, that has left or reported this count.
@@ -33,7 +32,7 @@ impl Link {
         ensures seal { seal_of self.new ≡ seal_of self.old }
     {
         let me = self.me();
-        let left = left_by(bundle, self.peer(bundle.from).left());
+        let left = left_by(bundle, self.peer(bundle.from).left);
         let done = self.done_with(left, bundle.counts.got[me as usize]);
         self.peers[bundle.from as usize].tells(done, &bundle.counts.got, left);
     }
@@ -108,17 +107,6 @@ impl Link {
         Received::Heard(bundle.from)
     }
 
-    /// Counts bytes that are no datagram to this player, and answers so.
-    fn refuse(&mut self, answer: Received) -> Received
-        ensures answer { result ≡ answer }
-        ensures link { linked self.new ≡ linked self.old }
-        ensures pace { pace_of self.new ≡ after_refusal (pace_of self.old) }
-        ensures seal { seal_of self.new ≡ seal_of self.old }
-    {
-        self.pace.refuse();
-        answer
-    }
-
     /// Takes in any bytes, wherever they come from, and answers which peer's datagram they are. Bytes that are no
     /// datagram to this player in this game change nothing but what `refused` counts. A datagram changes nothing
     /// whose sender is no peer, or is given up, or has given up this player.
@@ -130,7 +118,10 @@ impl Link {
     {
         let bundle = match open_bundle(&self.sealer, bytes) {
             Ok(bundle) => bundle,
-            Err(fault) => return self.refuse(Received::Unopened(fault)),
+            Err(fault) => {
+                self.pace.refuse();
+                return Received::Unopened(fault);
+            }
         };
         if !self.is_peer(bundle.from) {
             return Received::Stranger(bundle.from);

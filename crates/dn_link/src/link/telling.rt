@@ -25,7 +25,7 @@ impl Link {
     pub fn refused(&self) -> u32
         ensures { result ≡ (pace_of self.now).refused }
     {
-        self.pace.refused()
+        self.pace.refused
     }
 
     /// How many of its commands a player has acknowledged; all, of one that needs nothing.

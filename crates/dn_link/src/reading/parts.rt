@@ -19,9 +19,7 @@ fn whole_in(bytes: &[u8]) -> Option<Carried>
     if size > 104 || bytes.len() < 10 + size {
         return None;
     }
-    let Some(ask) = ask_in(bytes[4], tic_at(bytes, 5)) else {
-        return None;
-    };
+    let ask = ask_in(bytes[4], tic_at(bytes, 5))?;
     let mut datagram = ArrayVec::new();
     let _ = datagram.try_extend_from_slice(&bytes[10..10 + size]);
     Some(Carried {
@@ -57,9 +55,7 @@ fn relay_in(head: u8, bytes: &[u8]) -> Option<Relay>
     if head > 159 || head % 32 == 0 {
         return None;
     }
-    let Some(run) = run_in(head % 32, bytes) else {
-        return None;
-    };
+    let run = run_in(head % 32, bytes)?;
     Some(Relay {
         player: head / 32 - 1,
         run,
@@ -75,21 +71,12 @@ fn part_in(bytes: &[u8]) -> Option<Part>
         return None;
     }
     if bytes[0] > 31 {
-        return match relay_in(bytes[0], &bytes[1..]) {
-            Some(relay) => Some(Part::Relay(relay)),
-            None => None,
-        };
+        return relay_in(bytes[0], &bytes[1..]).map(Part::Relay);
     }
     if bytes[0] != 0 {
-        return match run_in(bytes[0], &bytes[1..]) {
-            Some(run) => Some(Part::Run(run)),
-            None => None,
-        };
+        return run_in(bytes[0], &bytes[1..]).map(Part::Run);
     }
-    match whole_in(&bytes[1..]) {
-        Some(packet) => Some(Part::Whole(packet)),
-        None => None,
-    }
+    whole_in(&bytes[1..]).map(Part::Whole)
 }
 
 /// How many bytes it takes.
@@ -127,12 +114,9 @@ fn all_in(bytes: &[u8], count: u8) -> Option<ArrayVec<Part, 24>>
 pub(super) fn parts_in(bytes: &[u8]) -> Option<ArrayVec<Part, 24>>
     ensures { option_map (λ found. found.items) result ≡ told_parts bytes.now }
 {
-    if bytes.is_empty() {
+    let (count, rest) = bytes.split_first()?;
+    if *count > 24 {
         return None;
     }
-    let count = bytes[0];
-    if count > 24 {
-        return None;
-    }
-    all_in(&bytes[1..], count)
+    all_in(rest, *count)
 }

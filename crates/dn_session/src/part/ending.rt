@@ -1,7 +1,8 @@
 //! How its game ends.
 
 ghost use Rattle.std.specs.Prelude.{◌≡◌, ◌&&◌, if◌then◌else◌, None, Some, is_some};
-ghost use Rattle.dn_session.specs.Playing.{LeavesGame};
+ghost use Rattle.dn_session.specs.Playing.{LeavesGame, given_up_at, is_giving, playing, view, EndsNow, GivesUpBy, GivesUpNow, QuitsBy};
+ghost use Rattle.dn_session.specs.Ending.{may_give_up};
 
 use super::Part;
 use super::giving::is_giving;
@@ -16,8 +17,6 @@ fn leave(link: &mut Link)
 }
 
 impl Part {
-    ghost use Rattle.dn_session.specs.{Ending.may_give_up, Playing.given_up_at, Playing.is_giving, Playing.playing, Playing.view, Playing.EndsNow, Playing.GivesUpBy, Playing.GivesUpNow, Playing.QuitsBy};
-
     /// The game ends for it.
     pub(super) fn end(&mut self, ending: Ending, now: u32)
         ensures { EndsNow (Some ending) now (playing self.old) (playing self.new) }

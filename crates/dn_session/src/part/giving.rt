@@ -1,7 +1,7 @@
 //! Ticks: the commands that its player gives.
 
-ghost use Rattle.std.specs.Prelude.{◌≡◌};
-ghost use Rattle.dn_session.specs.Playing.{from_turn, is_full, is_giving, owed_at, Builds};
+ghost use Rattle.std.specs.Prelude.{◌≡◌, true};
+ghost use Rattle.dn_session.specs.Playing.{from_turn, is_full, is_giving, owed_at, playing, may_give, Builds, GivesWhen, PassesTick};
 
 use super::Part;
 use crate::ending::Progress;
@@ -48,9 +48,6 @@ pub(super) fn from_turn(turn: u8, place: u8) -> u8
 }
 
 impl Part {
-    ghost use Rattle.std.specs.Prelude.{true};
-    ghost use Rattle.dn_session.specs.Playing.{playing, may_give, GivesWhen, PassesTick};
-
     /// The tick that is due goes by, and its datagrams are held or not.
     pub(super) fn pass_tick(&mut self, is_held: bool)
         ensures { PassesTick is_held (playing self.old) (playing self.new) }

@@ -1,13 +1,14 @@
 //! What comes in.
 
-ghost use Rattle.std.specs.{Prelude.◌≡◌, Prelude.◌≤◌, Prelude.length, Option.option_map, Option.option_or};
+ghost use Rattle.std.specs.{Prelude.◌≡◌, Prelude.◌≤◌, Prelude.length, Option.option_map};
+ghost use Rattle.dn_lockstep.specs.Contents.{contents};
 ghost use Rattle.dn_link.specs.Linking.{linked};
 ghost use Rattle.dn_link.specs.declared.bundle.BundleFault.TheVariants as fault;
 ghost use Rattle.dn_link.specs.declared.received.Received.TheVariants as answer;
-ghost use Rattle.dn_lockstep.specs.Contents.{contents};
-ghost use Rattle.dn_session.specs.{Coming.counts_in, Coming.has_more, Playing.is_alive, Playing.known_by, Playing.told_at};
+ghost use Rattle.dn_session.specs.Playing.{is_alive, known_by, told_at, excluders_by, exclusions_by, hears_if, noted, place_after, playing, watch_after, HearsBytes};
+ghost use Rattle.dn_session.specs.{Coming.counts_in, Coming.has_more, Passing.next_hop, Passing.passed_on, Passing.sent_of};
 
-use super::{Exclusion, Part, Transmit, copied};
+use super::{Exclusion, Part, Transmit, copied, keep};
 use crate::coming::{Lines, heard_of, is_late_in, is_new_in, is_news_of, line_of, lines_of};
 use crate::greeting::Address;
 use crate::places::is_since;
@@ -31,10 +32,7 @@ fn counts_in(lockstep: &Lockstep) -> [u32; 4]
 fn has_more(before: &[u32; 4], after: &[u32; 4], player: u8) -> bool
     ensures { result ≡ has_more before.now after.now player }
 {
-    if player >= 4 {
-        return false;
-    }
-    before[player as usize] < after[player as usize]
+    player < 4 && before[player as usize] < after[player as usize]
 }
 
 /// What is known of players: of each line, and how many of each player's commands are here.
@@ -76,9 +74,6 @@ fn told_at(from: &Address, now: u32, exclusion: &Exclusion) -> Exclusion
 }
 
 impl Part {
-    ghost use Rattle.dn_session.specs.Passing.{next_hop, passed_on, sent_of};
-    ghost use Rattle.dn_session.specs.Playing.{excluders_by, exclusions_by, hears_if, noted, place_after, playing, watch_after, HearsBytes};
-
     /// Notes that a player was heard, if it was.
     fn note(&mut self, is_heard: bool, player: u8, now: u32)
         ensures { playing self.new ≡ record (playing self.old) {
@@ -183,17 +178,6 @@ impl Part {
         })
     }
 
-    /// Notes what is to be passed on.
-    fn note_passing(&mut self, passing: Option<Transmit>)
-        ensures { playing self.new ≡ record (playing self.old) {
-          passing = option_or (option_map sent_of passing) (playing self.old).passing;
-        } }
-    {
-        if passing.is_some() {
-            self.passing = passing;
-        }
-    }
-
     /// Notes all that is to be noted of what was received.
     fn note_all(
         &mut self,
@@ -209,7 +193,7 @@ impl Part {
         ensures { playing self.new ≡ noted received.now from.now bytes.now now before.now after.now (playing self.old) }
     {
         let passing = self.passed_on(received, from, bytes);
-        self.note_passing(passing);
+        keep(&mut self.passing, passing);
         self.note_alive(received, now, before, after);
         self.note_place(heard_of(received), from, now, before, after);
         self.note_excluder(received);

@@ -1,6 +1,10 @@
 //! What it does as time goes.
 
-ghost use Rattle.std.specs.Prelude.{◌≡◌, ◌<◌, IfSome};
+ghost use Rattle.std.specs.Prelude.{◌≡◌, ◌<◌, ◌||◌, IfSome};
+ghost use Rattle.dn_link.specs.{Linking.linked, Pace.wants_second, Pacing.pace_of};
+ghost use Rattle.dn_session.specs.Playing.{after_half, looks, playing, view, GivesUpNow, PassesTime, PlaysOn, Polls, TicksWhen};
+ghost use Rattle.dn_session.specs.{Ending.patience, Lead.due, Ticks.is_due};
+ghost use Rattle.dn_session.specs.declared.ending.Progress.TheVariants as progress;
 
 use super::{Part, gone_from};
 use crate::ending::{Ending, Progress, ending_of, is_unneeded, patience, waits};
@@ -16,12 +20,6 @@ fn number_of(player: Option<usize>) -> Option<u8>
 }
 
 impl Part {
-    ghost use Rattle.dn_session.specs.declared.ending.Progress.TheVariants as progress;
-    ghost use Rattle.std.specs.Prelude.{◌||◌};
-    ghost use Rattle.dn_link.specs.{Linking.linked, Pace.wants_second, Pacing.pace_of};
-    ghost use Rattle.dn_session.specs.{Ending.patience, Lead.due, Ticks.is_due};
-    ghost use Rattle.dn_session.specs.Playing.{after_half, looks, playing, view, GivesUpNow, PassesTime, PlaysOn, Polls, TicksWhen};
-
     /// What it sees of all players.
     pub fn view(&self, now: u32) -> View
         ensures { result ≡ view now (playing self.now) }

@@ -1,7 +1,10 @@
 //! How tics are run.
 
-ghost use Rattle.std.specs.Prelude.{◌≡◌};
-ghost use Rattle.dn_session.specs.Playing.{after_answer, is_made};
+ghost use Rattle.std.specs.Prelude.{◌≡◌, ℕ, ℤ, Option};
+ghost use Rattle.dn_lockstep.specs.Steps.{told_by};
+ghost use Rattle.dn_session.specs.Playing.{after_answer, after_catching_up, holds_back, is_made, playing, CatchesUp, RunsNext, WritesRow};
+ghost use Rattle.dn_machine.specs.declared.answers.Made.{Made as AnyMade};
+ghost use Rattle.dn_machine.specs.declared.answers.Ran.TheVariants as ran;
 
 use super::Part;
 use crate::players::has_row_behind;
@@ -28,13 +31,6 @@ fn after_answer(ran: Ran, steady: Steady) -> Steady
 }
 
 impl Part {
-    ghost use Rattle.std.specs.Prelude.{ℕ, ℤ, Option};
-    ghost use Rattle.dn_machine.specs.declared.answers.Made.{Made as AnyMade};
-    ghost use Rattle.dn_machine.specs.declared.answers.Ran.TheVariants as ran;
-    ghost use Rattle.dn_lockstep.specs.Steps.{told_by};
-    ghost use Rattle.dn_link.specs.{Linking.linked};
-    ghost use Rattle.dn_session.specs.Playing.{after_catching_up, holds_back, playing, CatchesUp, RunsNext, WritesRow};
-
     /// Whether the next tic should wait for the next tick.
     pub(crate) fn holds_back(&self) -> bool
         ensures { result ≡ holds_back (playing self.now) }

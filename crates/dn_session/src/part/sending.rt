@@ -1,6 +1,8 @@
 //! What goes out.
 
-ghost use Rattle.std.specs.Prelude.{◌≡◌, ◌<◌, ◌≤◌, ◌&&◌, ◌||◌, IfSome, is_some, length};
+ghost use Rattle.std.specs.{Prelude.◌≡◌, Prelude.◌<◌, Prelude.◌≤◌, Prelude.◌&&◌, Prelude.◌||◌, Prelude.IfSome, Prelude.is_some, Prelude.length, Prelude.true, Prelude.false, Prelude.Some, Prelude.position, Option.option_map, Option.option_or};
+ghost use Rattle.dn_session.specs.Sent.{first_owed, first_owed_exclusion, is_owed, is_owed_exclusion, is_probed, place_to, Excludes, SendsFirst, SendsNext, SendsTo, SendsWhen};
+ghost use Rattle.dn_session.specs.{Passing.sent_of, Players.four, Playing.from_turn, Playing.playing};
 
 use super::Part;
 use super::giving::from_turn;
@@ -28,19 +30,16 @@ pub(crate) fn copied(bytes: &[u8]) -> ArrayVec<u8, 1200>
     wide
 }
 
-/// The same bytes, in room for any.
-pub(crate) fn widened<const ROOM: usize>(bytes: &ArrayVec<u8, ROOM>) -> ArrayVec<u8, 1200>
-    requires { ROOM ≤ 1200 }
-    ensures { result.items ≡ bytes.now.items }
+/// What is new is to be sent in place of what was, if there is any.
+pub(crate) fn keep(waiting: &mut Option<Transmit>, new: Option<Transmit>)
+    ensures { option_map sent_of waiting.new ≡ option_or (option_map sent_of new) (option_map sent_of waiting.old) }
 {
-    copied(bytes.as_slice())
+    if new.is_some() {
+        *waiting = new;
+    }
 }
 
 impl Part {
-    ghost use Rattle.std.specs.Prelude.{option_map, position, true, false, Some};
-    ghost use Rattle.dn_session.specs.Sent.{first_owed, first_owed_exclusion, is_owed, is_owed_exclusion, is_probed, place_to, Excludes, SendsFirst, SendsNext, SendsTo, SendsWhen};
-    ghost use Rattle.dn_session.specs.{Passing.sent_of, Players.four, Playing.from_turn, Playing.playing};
-
     /// Whether it is known where a datagram to a player goes, and one may go there now.
     fn is_open(&self, player: u8) -> bool
         ensures { result ≡ (is_some (place_to (playing self.now) player).address

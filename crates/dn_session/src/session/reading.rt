@@ -1,5 +1,8 @@
 //! What a session says of itself.
 
+ghost use Rattle.std.specs.{Prelude.◌≡◌, Prelude.◌<◌, Prelude.◌^◌, Prelude.◌||◌, Prelude.ℕ, Option.option_map};
+ghost use Rattle.dn_session.specs.{Events.acts_in, Events.announced_after, Events.next_event, Events.over_in, Events.wants_in, Joining.has_come, Session.begun_in, Session.link_in, Session.meeting};
+
 use super::Session;
 use crate::ending::Over;
 use crate::event::{Event, over_in};
@@ -9,10 +12,6 @@ use crate::side::{Begun, Side};
 use dn_link::Link;
 
 impl Session {
-    ghost use Rattle.std.specs.{Prelude.◌≡◌, Prelude.◌<◌, Prelude.◌^◌, Prelude.◌||◌, Prelude.ℕ, Option.option_map};
-    ghost use Rattle.dn_session.specs.{Events.acts_in, Events.announced_after, Events.next_event, Events.over_in, Events.wants_in, Joining.has_come};
-    ghost use Rattle.dn_session.specs.Session.{begun_in, link_in, meeting};
-
     /// Its lobby.
     pub fn lobby(&self) -> &Side
         ensures { result.now ≡ (meeting self.now).lobby }

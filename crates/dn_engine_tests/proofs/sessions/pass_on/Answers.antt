@@ -6,7 +6,7 @@ use Rattle.dn_machine.specs.Node.{put}
 use Rattle.dn_machine.proofs.Put.{put_off}
 use Rattle.dn_survivor.specs.OneGame.{Session}
 use Rattle.dn_link.specs.RemainingLinks.{KeepsGiven, WasSealedIn}
-use Rattle.dn_session.specs.{Parts.limits_of, Parts.links_of, Passing.sent_of, Session.HearsAny, Session.Meeting, Session.Sends, Session.game_seal, Session.meeting, Session.passing_in}
+use Rattle.dn_session.specs.{Parts.limits_of, Parts.links_of, Passing.sent_of, Session.HearsAny, Session.Meeting, Session.Sends, Session.meeting, Session.passing_in, Text.game_seal}
 use Rattle.dn_session.specs.declared.{greeting.Address.Address, part.sending.Transmit.Transmit}
 use Rattle.dn_engine_tests.proofs.sessions.pass_on.Goals as goal
 

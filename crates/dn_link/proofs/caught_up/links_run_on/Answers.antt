@@ -1,25 +1,19 @@
 -- How many tics are run in rounds, over plain numbers.
 use Rattle.std.proofs.Common.{◌≡◌, ◌<◌, ◌≤◌, ◌+◌, ◌-◌, ◌*◌, ℕ, zero, suc, subst, arith, inl, inr, ℤ, ◌≢◌, ◌++◌, [], ◌∷◌, Bool, true, false, List, length, refl, ap, sym, ◌∙◌, Option, Some, None}
-use Rattle.std.proofs.lemmas.Bool.{cases_lt, and_parts, and_right, cases_eq, cond_both, leb-true}
-use Rattle.std.proofs.{Math.Nat.mul-zero, Math.Nat.mul-suc, lemmas.List.length-append, lemmas.Option.none-some, lemmas.Option.same_Some}
-use Rattle.std.specs.Prelude.{min, if◌then◌else◌, ◌==◌, nat_le, not, unwrap_or}
-use Rattle.std.specs.Option.{option_or}
-use Rattle.dn_tic.specs.{declared.command.TicCmd.TicCmd, declared.input.Input.Input}
+use Rattle.std.proofs.{lemmas.{Bool.{cases_lt, and_parts, and_right, cases_eq, cond_both, leb-true}, List.length-append, Option.{none-some, same_Some}}, Math.Nat.{mul-zero, mul-suc}}
+use Rattle.std.specs.{Prelude.{min, if◌then◌else◌, ◌==◌, nat_le, not, unwrap_or}, Option.option_or}
+use Rattle.dn_tic.specs.declared.{command.TicCmd.TicCmd, input.Input.Input}
 use Rattle.dn_setup.specs.Settings.{Settings}
-use Rattle.dn_machine.specs.Running.{first_off_but, is_absent, is_awaited, nobody, on_run, on_run_but_in, on_run_playing, full_at, row_held}
-use Rattle.dn_machine.specs.{declared.answers.Phase.Phase, declared.answers.Phase.TheVariants.Playing, declared.answers.Ran.Ran, Sending.on_build, Limits.Limits}
-use Rattle.dn_machine.specs.Node.{is_ended, lowest, put}
-use Rattle.dn_machine.proofs.{Calls.build_cases, Put.put_at, Put.put_off}
-use Rattle.dn_lockstep.specs.{Agreed.AreAgreed, Contents.Contents, Contents.end_in, Marking.Marking, Represents.Represents, Steps.marks_in, OneGame.Session, Told.got}
-use Rattle.dn_lockstep.specs.Told.{made}
+use Rattle.dn_machine.specs.{Running.{first_off_but, is_absent, is_awaited, nobody, on_run, on_run_but_in, on_run_playing, full_at, row_held}, Sending.on_build, Limits.Limits}
+use Rattle.dn_machine.specs.{declared.answers.{Phase.{Phase, TheVariants.Playing}, Ran.Ran}, Node.{is_ended, lowest, put}}
+use Rattle.dn_machine.proofs.{Calls.build_cases, Put.{put_at, put_off}}
+use Rattle.dn_lockstep.specs.{Agreed.AreAgreed, Contents.{Contents, end_in}, Marking.Marking, Represents.Represents, Steps.marks_in, OneGame.Session, Told.{got, made}}
 use Rattle.dn_lockstep.proofs.Shown.{has}
 use Rattle.dn_seal.specs.declared.seal.Seal.{Seal}
 use Rattle.dn_open.specs.Sealed.{sealing_of}
-use Rattle.dn_link.specs.CaughtUp.{AreCaughtUp, Brings, HasGrown, IsInStepTo, last_end}
-use Rattle.dn_link.specs.Rounds.{AreRounds, Arrives, AreFairLines, MakesAt, Stretch, WaitsAt}
-use Rattle.dn_link.specs.{declared.bundle.Bundle.Bundle, declared.received.Received.Received, LinkedGame.IsGenuineDatagram, LinkedGame.AreLinked, Counting.has_ended}
-use Rattle.dn_link.specs.{Linked.Linked, Linked.Receives, Packets.own_in, Reading.IsDatagramOf}
-use Rattle.dn_link.proofs.{Bringing.brings, Bringing.brings_on, Leaving.unended}
+use Rattle.dn_link.specs.{CaughtUp.{AreCaughtUp, Brings, HasGrown, IsInStepTo, last_end}, Rounds.{AreRounds, Arrives, AreFairLines, MakesAt, Stretch, WaitsAt}, Counting.has_ended, Packets.own_in}
+use Rattle.dn_link.specs.{declared.{bundle.Bundle.Bundle, received.Received.Received}, LinkedGame.{IsGenuineDatagram, AreLinked}, Linked.{Linked, Receives}, Reading.IsDatagramOf}
+use Rattle.dn_link.proofs.{Bringing.{brings, brings_on}, Leaving.unended}
 use Rattle.dn_machine.specs.Node as machine
 use Rattle.dn_link.proofs.Linking as base
 use Rattle.dn_link.proofs.caught_up.links_run_on.Goals as goal

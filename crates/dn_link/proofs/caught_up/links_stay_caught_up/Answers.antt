@@ -1,10 +1,9 @@
 use Rattle.std.proofs.Common.{◌≡◌, ◌∙◌, ℕ, refl, ap, arith}
-use Rattle.dn_machine.specs.{Sending.on_build, Running.on_run, Running.on_quit}
-use Rattle.dn_lockstep.specs.{Contents.Contents, Steps.marks_in, Steps.with_row, OneGame.after_packet, OneGame.after_relays, OneGame.with_lockstep, Told.got}
+use Rattle.dn_machine.specs.{Sending.on_build, Running.{on_run, on_quit}}
+use Rattle.dn_lockstep.specs.{Contents.Contents, Steps.{marks_in, with_row}, OneGame.{after_packet, after_relays, with_lockstep}, Told.got}
 use Rattle.dn_link.specs.{Counting.has_ended, Linked.PeerState, CaughtUp.next_to, Relays.flights_of}
-use Rattle.dn_link.proofs.Catching.{build_quiet, ends_on, quit_quiet, run_quiet, shows_still, still}
-use Rattle.dn_link.proofs.{CatchingIn.received, CatchingOut.given_on_time, CatchingOut.was_in_step, Growing.build_holds, Growing.run_holds, Growing.quit_holds}
-use Rattle.dn_link.proofs.Linking.{much_by, shows}
+use Rattle.dn_link.proofs.{Catching.{build_quiet, ends_on, quit_quiet, run_quiet, shows_still, still}, CatchingIn.received, CatchingOut.{given_on_time, was_in_step}, Linking.{much_by, shows}}
+use Rattle.dn_link.proofs.Growing.{build_holds, run_holds, quit_holds}
 use Rattle.dn_link.proofs.caught_up.links_stay_caught_up.Goals as goal
 
 pub returns-clause-built : goal.returns-clause-built

@@ -1,10 +1,9 @@
 -- What a node gives, with its exact numbers.
-use Rattle.std.proofs.Common.{◌≡◌, ℕ, List, ◌∙◌, Option, Some, None, ◌++◌, take, ap}
+use Rattle.std.proofs.{Common.{◌≡◌, ℕ, List, ◌∙◌, Option, Some, None, ◌++◌, take, ap}, lemmas.Option.same_Some}
 use Rattle.std.specs.Option.{option_map}
-use Rattle.std.proofs.lemmas.Option.{same_Some}
 use Rattle.arrayvec.specs.ArrayVec.{ArrayVec}
 use Rattle.dn_machine.specs.{Flight.Flight, Limits.Limits}
-use Rattle.dn_lockstep.specs.{declared.lockstep.aiming.Aim.Aim, Contents.Contents, Represents.Represents, Sent.sent_to, Sent.aim_of, Sent.bytes_of, Steps.IsAfter, Contents.contents}
+use Rattle.dn_lockstep.specs.{declared.lockstep.aiming.Aim.Aim, Contents.{Contents, contents}, Represents.Represents, Sent.{sent_to, aim_of, bytes_of}, Steps.IsAfter}
 use Rattle.dn_link.specs.Hearing.{carried_of}
 use Rattle.dn_lockstep.proofs.Giving.{some_given}
 use Rattle.dn_machine.specs.Node as machine

@@ -1,11 +1,10 @@
-use Rattle.std.proofs.Common.{rules, ◌≡◌, ◌∷◌, ℕ, Bool, refl, subst, List}
-use Rattle.std.proofs.lemmas.List.{nil_from_length}
+use Rattle.std.proofs.{Common.{rules, ◌≡◌, ◌∷◌, ℕ, Bool, refl, subst, List}, lemmas.List.nil_from_length}
 use Rattle.std.specs.List.{flat_map}
 use Rattle.dn_lockstep.specs.Contents.{Contents, contents}
-use Rattle.dn_link.specs.{declared.bundle.Part.Part, Packets.heard_of, Packets.takes_relay}
-use Rattle.dn_link.specs.declared.bundle.Relay as relay
+use Rattle.dn_link.specs.{declared.bundle.Part.Part, Packets.{heard_of, takes_relay}}
 use Rattle.dn_survivor.specs.OfOthers.{has}
 use Rattle.dn_link.proofs.Hearings.{LeadsOn, lists_go_on}
+use Rattle.dn_link.specs.declared.bundle.Relay as relay
 use Rattle.dn_link.proofs.hearing.hear_parts.Goals as goal
 
 -- the same rest leads on

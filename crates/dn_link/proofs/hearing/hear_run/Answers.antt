@@ -1,8 +1,7 @@
-use Rattle.std.proofs.Common.{◌≡◌, ◌+◌, ◌%◌, ◌^◌, ℕ, List, length, take, ap, sym, ◌∙◌, subst, arith}
-use Rattle.std.proofs.lemmas.List.{take_rest}
+use Rattle.std.proofs.{Common.{◌≡◌, ◌+◌, ◌%◌, ◌^◌, ℕ, List, length, take, ap, sym, ◌∙◌, subst, arith}, lemmas.List.take_rest}
 use Rattle.dn_lockstep.specs.Contents.{contents}
 use Rattle.dn_open.specs.Arrivals.{HearsOpened}
-use Rattle.dn_link.specs.{declared.bundle.Carried.Carried, Packets.opened_from, Packets.short_packet}
+use Rattle.dn_link.specs.{declared.bundle.Carried.Carried, Packets.{opened_from, short_packet}}
 use Rattle.dn_link.proofs.Hearings.{InRun, run_goes_on}
 use Rattle.dn_link.proofs.hearing.hear_run.Goals as goal
 

@@ -1,9 +1,7 @@
 use Rattle.std.proofs.Common.{◌≡◌, ◌<◌, ℕ, refl, ap, sym, ◌∙◌, subst, pos, false, get_or}
-use Rattle.dn_machine.specs.{Sending.on_build, Running.on_run, Running.on_quit, Running.is_over, declared.answers.Ran.Ran}
-use Rattle.dn_lockstep.specs.OneGame.{with_lockstep, world_told, after_build, after_run}
-use Rattle.dn_lockstep.specs.{Contents.Contents, Contents.end_in, Steps.RunsBy, Steps.marks_in, Steps.with_row, Steps.Steps}
-use Rattle.dn_link.proofs.Growing.{HasAsMuch, as_much, build_holds, run_holds, quit_holds}
-use Rattle.dn_link.proofs.{Linking.called, Linking.much_by, Gives.gave_to, Receives.received}
+use Rattle.dn_machine.specs.{Sending.on_build, Running.{on_run, on_quit, is_over}, declared.answers.Ran.Ran}
+use Rattle.dn_lockstep.specs.{OneGame.{with_lockstep, world_told, after_build, after_run}, Contents.{Contents, end_in}, Steps.{RunsBy, marks_in, with_row, Steps}}
+use Rattle.dn_link.proofs.{Growing.{HasAsMuch, as_much, build_holds, run_holds, quit_holds}, Linking.{called, much_by}, Gives.gave_to, Receives.received}
 use Rattle.dn_survivor.specs.declared.others.Others.{Others}
 use Rattle.dn_link.proofs.laws.linked_game_goes_on.Goals as goal
 

@@ -1,9 +1,7 @@
-use Rattle.std.proofs.Common.{◌≡◌, ◌≤◌, ℕ, true, false, List, All, refl, sym, ◌∙◌, subst, arith}
-use Rattle.std.specs.List.{flat_map}
-use Rattle.std.proofs.lemmas.List.Elements.{All-nil}
-use Rattle.std.specs.Prelude.{Result, Ok, Err}
+use Rattle.std.proofs.{Common.{◌≡◌, ◌≤◌, ℕ, true, false, List, All, refl, sym, ◌∙◌, subst, arith}, lemmas.List.Elements.All-nil}
+use Rattle.std.specs.{List.flat_map, Prelude.{Result, Ok, Err}}
 use Rattle.dn_open.specs.Sealed.{sealing_of}
-use Rattle.dn_link.specs.{declared.bundle.Bundle.Bundle, declared.bundle.BundleFault.BundleFault, declared.bundle.Part.Part, LinkedGame.WasGiven, Packets.packets_of}
+use Rattle.dn_link.specs.{declared.bundle.{Bundle.Bundle, BundleFault.BundleFault, Part.Part}, LinkedGame.WasGiven, Packets.packets_of}
 use Rattle.dn_link.proofs.{Wholes.only_bundle, Linking.bundled_on}
 use Rattle.dn_link.proofs.laws.sealed_datagrams_are_genuine.Goals as goal
 

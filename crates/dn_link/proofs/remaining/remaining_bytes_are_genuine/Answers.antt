@@ -1,12 +1,10 @@
 -- What was sealed in a game in which players may be given up.
-use Rattle.std.proofs.Common.{◌≡◌, ℕ, List, [], refl, sym, ◌∙◌, subst, All}
-use Rattle.std.specs.Prelude.{Result, Ok, Err}
-use Rattle.std.specs.List.{flat_map}
-use Rattle.std.proofs.lemmas.List.Elements.{All-nil}
+use Rattle.std.proofs.{Common.{◌≡◌, ℕ, List, [], refl, sym, ◌∙◌, subst, All}, lemmas.List.Elements.All-nil}
+use Rattle.std.specs.{Prelude.{Result, Ok, Err}, List.flat_map}
 use Rattle.dn_survivor.specs.{OneGame.Session, ReportBytes.report_bytes, declared.report.Report.Report}
 use Rattle.dn_seal.specs.declared.seal.Seal.{Seal}
-use Rattle.dn_link.specs.{declared.bundle.Bundle.Bundle, declared.bundle.BundleFault.BundleFault, declared.bundle.Part.Part, LinkedGame.WasGiven, Packets.packets_in, Packets.packets_of}
-use Rattle.dn_link.specs.{Reading.IsBundledAs, RemainingLinks.IsGenuineIn, RemainingLinks.KeepsGiven, RemainingLinks.WasSealedIn, Text.IsBundle, Text.sealed_bytes}
+use Rattle.dn_link.specs.{declared.bundle.{Bundle.Bundle, BundleFault.BundleFault, Part.Part}, LinkedGame.WasGiven, Packets.{packets_in, packets_of}, Reading.IsBundledAs}
+use Rattle.dn_link.specs.{RemainingLinks.{IsGenuineIn, KeepsGiven, WasSealedIn}, Text.{IsBundle, sealed_bytes}}
 use Rattle.dn_link.proofs.{Linking.opened_later, Wholes.only_bundle}
 use Rattle.dn_open.specs.Sealed.{sealing_of}
 use Rattle.dn_link.proofs.remaining.remaining_bytes_are_genuine.Goals as goal

@@ -1,27 +1,22 @@
 -- Packets with the same exact numbers and bytes: where a lockstep sends one, they are those of every node that
 -- it represents.
 use Rattle.std.proofs.Common.{◌≡◌, ℕ, Bool, true, false, List, length, refl, ap, sym, ◌∙◌, Option, Some, None, ◌<◌, [], ◌∷◌, append-nil, arith, subst, inl, inr, ◌-◌}
-use Rattle.std.proofs.{lemmas.Bool.cond_both, lemmas.Bool.and_parts, lemmas.Bool.not-true, lemmas.Option.none-some, lemmas.Option.same_Some}
-use Rattle.std.specs.Prelude.{IfSome, if◌then◌else◌, nat_lt}
-use Rattle.std.specs.Option.{option_map}
+use Rattle.std.proofs.lemmas.{Bool.{cond_both, and_parts, not-true}, Option.{none-some, same_Some}}
+use Rattle.std.specs.{Prelude.{IfSome, if◌then◌else◌, nat_lt}, Option.option_map}
 use Rattle.dn_setup.specs.Settings.{Settings}
 use Rattle.dn_packet.specs.declared.packet.Packet.{Packet}
 use Rattle.dn_packet.proofs.Texts.{same_packet}
-use Rattle.dn_machine.specs.{Flight.Play, Flight.Exit, Flight.Flight, Flight.packet_of, Limits.Limits, Sending.commands_flight, Sending.last_sent, Sending.set_up_flight}
-use Rattle.dn_machine.specs.Node.{put}
+use Rattle.dn_machine.specs.{Flight.{Play, Exit, Flight, packet_of}, Limits.Limits, Sending.{commands_flight, last_sent, set_up_flight}, Node.put}
 use Rattle.dn_machine.proofs.{Calls.send_cases, Put.put_at}
-use Rattle.dn_lockstep.specs.{declared.lockstep.aiming.Aim.Aim, Sent.IsFair, Sent.aim_of, Sent.bytes_of, Sent.sent_to, Marking.Marking, Represents.Represents}
-use Rattle.dn_lockstep.specs.{Steps.Steps, Steps.Tells, OneGame.given_on, Told.command_told}
-use Rattle.dn_link.specs.RemainingLinks.{AreRemainingLinks, KeepsGiven, WasSealedIn, WasTold, after_datagram}
-use Rattle.dn_link.specs.Linked.{Gives, Linked, is_peer, remains, report_beside, surviving_of}
-use Rattle.dn_link.specs.{declared.bundle.Carried.Carried, Hearing.carried_of, Hearing.SendsCarried, Relays.Handed, Relays.flights_of, Pacing.PaceState, Text.parts_bytes}
+use Rattle.dn_lockstep.specs.{declared.lockstep.aiming.Aim.Aim, Sent.{IsFair, aim_of, bytes_of, sent_to}, Marking.Marking, Represents.Represents, Steps.{Steps, Tells}, OneGame.given_on}
+use Rattle.dn_lockstep.specs.Told.{command_told}
+use Rattle.dn_link.specs.{RemainingLinks.{AreRemainingLinks, KeepsGiven, WasSealedIn, WasTold, after_datagram}, Linked.{Gives, Linked, is_peer, remains, report_beside, surviving_of}, Pacing.PaceState}
+use Rattle.dn_link.specs.{declared.bundle.Carried.Carried, Hearing.{carried_of, SendsCarried}, Relays.{Handed, flights_of}, Text.parts_bytes}
 use Rattle.dn_lockstep.proofs.OneGame.{GoesBetween}
-use Rattle.dn_survivor.specs.OneGame.{AreRemaining, Session, after_packet, after_relays, after_report, reports_on}
-use Rattle.dn_survivor.specs.{Telling.MayRelay, Telling.report_for, declared.report.Report.Report, Surviving.Surviving}
-use Rattle.dn_survivor.specs.Surviving.{has_given_up}
-use Rattle.dn_link.proofs.RemainingCalls.{built, counted, gives_up, quits, reports_stay, runs, same_link, told}
-use Rattle.dn_link.proofs.{Handing.gives_all, Linking.goes_given, Linking.stays_kept, Relinking.found_later, Relinking.found_on, RemainingReceives.received}
-use Rattle.dn_link.proofs.Reporting.{fits_or_not, told_last, written_is}
+use Rattle.dn_survivor.specs.{OneGame.{AreRemaining, Session, after_packet, after_relays, after_report, reports_on}, Telling.{MayRelay, report_for}, declared.report.Report.Report}
+use Rattle.dn_survivor.specs.Surviving.{Surviving, has_given_up}
+use Rattle.dn_link.proofs.{RemainingCalls.{built, counted, gives_up, quits, reports_stay, runs, same_link, told}, Handing.gives_all, Linking.{goes_given, stays_kept}, RemainingReceives.received}
+use Rattle.dn_link.proofs.{Relinking.{found_later, found_on}, Reporting.{fits_or_not, told_last, written_is}}
 use Rattle.dn_seal.specs.declared.seal.Seal.{Seal}
 use Rattle.dn_machine.specs.Node as machine
 use Rattle.dn_survivor.proofs.OneGame as one_game

@@ -1,8 +1,6 @@
-use Rattle.std.proofs.Common.{◌≡◌, ◌++◌, ◌∷◌, [], List, ℕ, ap, sym, ◌∙◌, w8, rules}
-use Rattle.std.specs.Prelude.{FitsSigned}
-use Rattle.std.proofs.lemmas.Int.{to_z-of_z}
-use Rattle.std.specs.Int.{cast_unsigned}
-use Rattle.dn_seal.specs.{Hmac.tag_of, Sealing.sealing, Sealing.front_bytes}
+use Rattle.std.proofs.{Common.{◌≡◌, ◌++◌, ◌∷◌, [], List, ℕ, ap, sym, ◌∙◌, w8, rules}, lemmas.Int.to_z-of_z}
+use Rattle.std.specs.{Prelude.FitsSigned, Int.cast_unsigned}
+use Rattle.dn_seal.specs.{Hmac.tag_of, Sealing.{sealing, front_bytes}}
 use Rattle.dn_link.specs.Text.{counts_bytes, parts_bytes, report_field, bundle_bytes}
 use Rattle.dn_link.proofs.writing.seal_bundle.Goals as goal
 

@@ -4,7 +4,7 @@ use Rattle.std.proofs.lemmas.Bool.{and_parts, cases_Bool, leb-true}
 use Rattle.std.proofs.lemmas.Option.{none-some}
 use Rattle.dn_lockstep.specs.{Opening.CanBeAhead, Opening.IsGame}
 use Rattle.dn_session.specs.declared.terms.LobbyFault.TheVariants as fault
-use Rattle.dn_session.specs.{Parts.config_for, Parts.limits_of, Parts.links_of, Terms.IsTerms, Terms.is_ahead, Terms.is_count, Terms.terms_fault, declared.terms.Terms.Terms}
+use Rattle.dn_session.specs.{Parts.limits_of, Parts.links_of, Session.config_for, Terms.IsTerms, Terms.is_ahead, Terms.is_count, Terms.terms_fault, declared.terms.Terms.Terms}
 use Rattle.dn_session.proofs.{NewLinks.one_place, NewLinks.place_link, Rosters.fixed, Rosters.ones_game}
 use Rattle.dn_session.proofs.meetings.sessions_play.Goals as goal
 

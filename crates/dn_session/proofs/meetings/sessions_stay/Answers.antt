@@ -4,11 +4,14 @@ use Rattle.std.specs.Prelude.{IfSome, if◌then◌else◌, is_some}
 use Rattle.dn_tic.specs.declared.command.Move.{Move}
 use Rattle.dn_lockstep.specs.{declared.config.NodeFault.NodeFault}
 use Rattle.dn_survivor.specs.OneGame.{Session}
-use Rattle.dn_link.specs.{Linking.linked, RemainingLinks.WasSealedIn}
-use Rattle.dn_session.specs.{Parts.AreMarksOf, Parts.limits_of, Playing.GivesUpBy, Playing.GivesWhen, Playing.HearsBytes, Playing.Playing, Playing.Polls, Playing.QuitsBy}
-use Rattle.dn_session.specs.{Playing.RunsNext, Playing.may_give, Playing.playing, Reading.is_greeting, Sent.SendsNext, Sessions.StaySessions}
-use Rattle.dn_session.specs.Session.{BeginsAs, GivesPart, GivesUpPart, HearsWhen, IsPartOf, Meeting, RunsPart, SendsCall, SendsPart, SendsReply, begins_now, begun_in, game_seal, link_in, passing_in}
+use Rattle.dn_link.specs.{Linking.linked, Linking.seal_of, Pacing.pace_of, RemainingLinks.WasSealedIn}
+use Rattle.dn_session.specs.{Parts.AreMarksOf, Parts.limits_of, Parts.links_of, Playing.GivesUpBy, Playing.GivesWhen, Playing.HearsBytes, Playing.Playing, Playing.Polls, Playing.QuitsBy}
+use Rattle.dn_session.specs.{Playing.RunsNext, Playing.given_up_at, Playing.is_giving, Playing.looks, Playing.may_give, Playing.playing, Reading.is_greeting, Sent.SendsNext, Sessions.StaySessions, Text.game_seal}
+use Rattle.dn_session.specs.Session.{BeginsAs, GivesPart, GivesUpPart, HearsWhen, IsPartOf, Meeting, RunsPart, SendsCall, SendsPart, SendsReply, begins_now, begun_in, link_in, passing_in}
 use Rattle.dn_session.specs.declared.{greeting.Address.Address, part.Part.Part, side.Begun.Begun}
+use Rattle.dn_session.specs.declared.ending.Ending.TheVariants as ending
+use Rattle.dn_session.proofs.Going as going
+use Rattle.dn_session.proofs.Sending as sending
 use Rattle.dn_session.proofs.{Staying.by_part, Staying.idle, Staying.if_part, Staying.if_playing, Staying.moved, Staying.moved_and, Staying.unmade, NewLinks.place_link, NewLinks.replaces}
 use Rattle.dn_session.proofs.meetings.sessions_stay.Goals as goal
 
@@ -47,8 +50,8 @@ returns-clause-hears c = λ marking secret b session meetings player now new fro
     λ test. elim test as (λ t. is_greeting bytes ≡ t → HearsWhen t from bytes now (meetings player) new → Goal) [
       | true ↦ λ e is. idle marking secret b session meetings player new are few (ap (λ (m : Meeting). m.part) is.3)
       | false ↦ λ e is. if_playing marking secret b session meetings player new are few (HearsBytes from bytes now)
-          (λ next heard. c.sessions_play_on.ensures.hears marking (limits_of b.terms) b.terms.settings
-          (game_seal secret b.game) session are.parts player now from bytes next are.are few (genuine e) heard) is.0
+          (λ next heard. going.hears marking (limits_of b.terms) b.terms.settings (game_seal secret b.game) session
+          are.parts player are.are few from bytes now next (genuine e) heard) is.0
     ] in
     go (is_greeting bytes) refl hears
 
@@ -59,11 +62,13 @@ returns-clause-runs c = λ marking secret b session meetings player new marks ra
     (λ same is. subst (λ (r : Option (List (Option Move))). StaySessions marking secret b session meetings player new r)
     (sym is.2) (idle marking secret b session meetings player new are few same))
     (λ old next had same has is. moved marking secret b session meetings player new are few next row has
-    (c.sessions_play_on.ensures.runs marking (limits_of b.terms) b.terms.settings (game_seal secret b.game) session
-    are.parts player marks ran row (playing next) are.are few
+    (going.runs_next marking (limits_of b.terms) b.terms.settings (game_seal secret b.game) session are.parts player
+    are.are few marks ran row (playing next)
     (subst (λ (p : Playing). AreMarksOf marking (limits_of b.terms) b.terms.settings session player (linked p.link).node marks ran)
     (sym same) (honest (playing old).link (ap link_in had)))
-    (subst (λ (p : Playing). RunsNext marks p (playing next) ran row) (sym same) is))) runs
+    (subst (λ (p : Playing). RunsNext marks p (playing next) ran row) (sym same) is)
+    (going.then_catches marking (limits_of b.terms) b.terms.settings (game_seal secret b.game) session are.parts player
+    few (playing next) row))) runs
 
 pub returns-clause-sends : goal.returns-clause-sends
 returns-clause-sends c = λ marking secret b session meetings player new sent are few sends.
@@ -85,8 +90,12 @@ returns-clause-sends c = λ marking secret b session meetings player new sent ar
                 (sym s.1) tt),
           ))
           (λ one next had same has s.
-          let gone = c.sessions_play_on.ensures.sends marking (limits_of b.terms) b.terms.settings seal session are.parts
-          player (playing next) sent are.are few
+          let gone = sending.sends marking (limits_of b.terms) b.terms.settings seal session are.parts player are.are
+          few (playing next) sent
+          (λ to bytes. c.remaining_links_go_on.ensures.gave marking (limits_of b.terms) b.terms.settings session
+          (links_of are.parts) player to (seal_of (are.parts player).link) (pace_of (are.parts player).link)
+          (linked (playing next).link) bytes are.are.links few)
+          (c.remaining_bytes_are_genuine.ensures.empty seal)
           (subst (λ (q : Playing). SendsNext q (playing next) sent) (sym same) s) in
           let sealed : Sealed gone.0.later = elim gone.1 [
             | inl passed ↦ inl (passed ∙ ap (λ (q : Playing). q.passing) same ∙ sym (ap passing_in had))
@@ -108,28 +117,30 @@ pub returns-clause-gives : goal.returns-clause-gives
 returns-clause-gives c = λ now input given marking secret b session meetings player new are few gives.
     if_part marking secret b session meetings player new are few (λ old after. GivesPart now input old after given)
     (λ after is. is.0) (λ old is. is)
-    (λ old next same is. c.sessions_play_on.ensures.gives marking (limits_of b.terms) b.terms.settings
-    (game_seal secret b.game) session are.parts player now (may_give now (playing old)) input (playing next) are.are few
+    (λ old next same is. going.gives marking (limits_of b.terms) b.terms.settings (game_seal secret b.game) session
+    are.parts player are.are few (may_give now (playing old)) now input (playing next)
     (subst (λ (p : Playing). GivesWhen (may_give now (playing old)) now input p (playing next)) (sym same) is.0)) gives
 
 pub returns-clause-passes : goal.returns-clause-passes
 returns-clause-passes c = λ now marking secret b session meetings player new are few passes.
     if_playing marking secret b session meetings player new are few (Polls now)
-    (λ next polls. c.sessions_play_on.ensures.polls marking (limits_of b.terms) b.terms.settings
-    (game_seal secret b.game) session are.parts player now next are.are few polls) passes.2
+    (λ next polls. going.polls marking (limits_of b.terms) b.terms.settings (game_seal secret b.game) session are.parts
+    player are.are few now next polls) passes.2
 
 pub returns-clause-quits : goal.returns-clause-quits
 returns-clause-quits c = λ now marking secret b session meetings player new are few quits.
     if_playing marking secret b session meetings player new are few (QuitsBy now)
-    (λ next quits. c.sessions_play_on.ensures.quits marking (limits_of b.terms) b.terms.settings
-    (game_seal secret b.game) session are.parts player now next are.are few quits) quits
+    (λ next quits. going.ends marking (limits_of b.terms) b.terms.settings (game_seal secret b.game) session are.parts
+    player are.are few (if is_giving (are.parts player).progress then Some ending.Left else None) now
+    (are.parts player) next refl quits) quits
 
 pub returns-clause-gives_up : goal.returns-clause-gives_up
 returns-clause-gives_up c = λ which now gave marking secret b session meetings player new are few gives.
     if_part marking secret b session meetings player new are few (λ old after. GivesUpPart which now old after gave)
     (λ after is. is.0) (λ old is. is)
-    (λ old next same is. c.sessions_play_on.ensures.gives_up marking (limits_of b.terms) b.terms.settings
-    (game_seal secret b.game) session are.parts player now which (playing next) are.are few
+    (λ old next same is. going.gives_up marking (limits_of b.terms) b.terms.settings (game_seal secret b.game) session
+    are.parts player are.are few (given_up_at now which (are.parts player)) (looks now (are.parts player))
+    (playing next) refl
     (subst (λ (p : Playing). GivesUpBy now which p (playing next)) (sym same) is.0)) gives
 
 pub returns-clause-kicks : goal.returns-clause-kicks

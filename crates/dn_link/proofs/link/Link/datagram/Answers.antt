@@ -1,12 +1,11 @@
 use Rattle.std.proofs.Common.{rules, ◌≡◌, ◌<◌, ◌+◌, List, ◌%◌, ◌^◌, ℕ, length, get_or, w8, to_z, of_z, refl, ap, ◌∙◌, subst, arith}
 use Rattle.std.specs.Prelude.{IfSome}
 use Rattle.dn_survivor.specs.{ReportBytes.IsReport, Surviving.Surviving}
-use Rattle.dn_link.specs.{Linked.report_beside, Linked.written, declared.bundle.Part.Part}
+use Rattle.dn_link.specs.{Linked.{report_beside, written, PeerState}, declared.{bundle.Part.Part, line.Line.Line}, Counting.counts_of, Ends.told_cause, Hearing.SendsCarried, Line.missing}
+use Rattle.dn_link.specs.{Kept.{going, kept_after, taken_by}, Linking.{linked, peers_of, state_of}, Packing.ArePacked}
 use Rattle.dn_machine.specs.Node.{put}
 use Rattle.dn_lockstep.specs.Contents.{Contents, contents}
-use Rattle.dn_link.specs.{Counting.counts_of, Ends.told_cause, Hearing.SendsCarried, declared.line.Line.Line, Line.missing, Kept.going, Kept.kept_after, Kept.taken_by, Linked.PeerState}
-use Rattle.dn_link.specs.{Linking.linked, Linking.peers_of, Linking.state_of, Packing.ArePacked}
-use Rattle.dn_link.proofs.{Places.peer_at, Places.peers_put}
+use Rattle.dn_link.proofs.Places.{peer_at, peers_put}
 use Rattle.dn_link.proofs.link.Link.datagram.Goals as goal
 
 pub returns-clause-gives : goal.returns-clause-gives
@@ -19,7 +18,7 @@ returns-clause-gives c =
     let is_lent : lent ≡ n = c.lockstep_mut.ensures.value in
     let me : c.me-me.result ≡ n.me = c.me-me.ensures in
     let four : length peers ≡ 4 = search rules in
-    let below : c.args.to < length peers = omega (arith, four, c.if-to-players.false, c.players.ensures, c.lockstep.result.now.few) in
+    let below : c.args.to < length peers = omega (arith, four, c.remains.ensures.few c.if-not-remains.false) in
     let here = peer_at peers c.args.to c.index-self-to.result below in
     let after = c.parts-number.ensures in
     let line = c.line-line.result.now in
@@ -53,8 +52,8 @@ returns-clause-gives c =
       lead = led ∙ ap (λ (l : Line). l.own_lead) c.line-line.ensures;
       holes = c.missing.ensures ∙ ap missing c.line-line.ensures;
       cause = c.told_cause-cause.ensures ∙ ap told_cause
-          (c.phase.ensures ∙ ap (λ (n : Contents). n.phase) c.lockstep-2.ensures);
-      counts = c.counts_of.ensures ∙ ap counts_of c.lockstep-3.ensures;
+          (c.phase.ensures ∙ ap (λ (n : Contents). n.phase) c.lockstep.ensures);
+      counts = c.counts_of.ensures ∙ ap counts_of c.lockstep-2.ensures;
       report = subst (λ (parts : List Part). c.report_beside-report.result.items ≡ written (report_beside now c.args.to parts))
           c.as_slice-2.ensures.value c.report_beside-report.ensures.bytes;
       proper = subst (λ (parts : List Part). IfSome (report_beside now c.args.to parts) IsReport)

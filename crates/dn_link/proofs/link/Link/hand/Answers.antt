@@ -1,8 +1,7 @@
-use Rattle.std.proofs.Common.{rules, ◌≢◌, ◌<◌, ◌≤◌, ℕ, length, refl, ap, sym, ◌∙◌, subst, arith}
+use Rattle.std.proofs.{Common.{rules, ◌≢◌, ◌<◌, ◌≤◌, ℕ, length, refl, ap, sym, ◌∙◌, subst, arith}, lemmas.Bool.{and_parts, ltb-true, not-true, eq-eqb, both_ways}}
 use Rattle.std.specs.Prelude.{slice_index, nat_lt, not, ◌==◌}
-use Rattle.std.proofs.lemmas.Bool.{and_parts, ltb-true, not-true, eq-eqb, both_ways}
 use Rattle.dn_lockstep.specs.Contents.{Contents}
-use Rattle.dn_link.specs.{declared.bundle.Part.TheVariants.Relay, Linked.has_given_up, Linked.is_peer, Linking.linked, Relays.AreTold}
+use Rattle.dn_link.specs.{declared.bundle.Part.TheVariants.Relay, Linked.{has_given_up, is_peer}, Linking.linked, Relays.AreTold}
 use Rattle.dn_link.proofs.Handing.{length_commands}
 use Rattle.dn_link.proofs.link.Link.hand.Goals as goal
 
@@ -16,13 +15,13 @@ returns c =
     let remains = and_parts (is_peer link.node c.args.player) (not (has_given_up link c.args.player))
     (sym c.remains.ensures.value ∙ c.if-not-remains.false) in
     let peer = and_parts (nat_lt c.args.player link.node.players) (not (c.args.player == link.node.me)) remains.0 in
-    let start : c.in-Some.start < 4294967296 = search rules in
-    let known : slice_index (link.peers c.args.to).reported c.args.player ≤ c.in-Some.start = search rules in
+    let start : c.in_ok-start.start < 4294967296 = search rules in
+    let known : slice_index (link.peers c.args.to).reported c.args.player ≤ c.in_ok-start.start = search rules in
     let some : 1 ≤ length c.relay_of-relay.result.run.commands.items = search rules in
     let small = c.remains.ensures.few c.if-not-remains.false in
     let apart : c.args.player ≢ c.args.to = search rules in
     record {
-      handed = record { player = c.args.player; start = c.in-Some.start; commands = told.0 };
+      handed = record { player = c.args.player; start = c.in_ok-start.start; commands = told.0 };
       is = λ i. Relay (record {
         player = c.relay_of-relay.ensures.player i;
         run = record { start = c.relay_of-relay.ensures.start i; commands = record { items = told.1 i } };
@@ -35,7 +34,7 @@ returns c =
         other = λ e. both_ways (c.args.player == link.node.me) (not-true (c.args.player == link.node.me) peer.1)
             (eq-eqb c.args.player link.node.me e);
         low = told.3;
-        told = subst (λ (n : Contents). AreTold n c.args.player c.in-Some.start told.0) c.lockstep.ensures
+        told = subst (λ (n : Contents). AreTold n c.args.player c.in_ok-start.start told.0) c.lockstep.ensures
             told.2;
       };
       its = refl;

@@ -15,7 +15,7 @@ returns-clause-link c =
     let below : bundle.from < length peers = omega (arith, four, c.requires) in
     let here = peer_at peers bundle.from c.index-self-bundle.result below in
     let left : c.left_by-left.result ≡ left_by bundle (peers_of peers bundle.from).left =
-    c.left_by-left.ensures ∙ ap (left_by bundle) (c.left.ensures ∙ ap (λ (t : PeerState). t.left) c.peer.ensures) in
+    c.left_by-left.ensures ∙ ap (left_by bundle) (ap (λ (t : PeerState). t.left) c.peer.ensures) in
     let done = c.done_with-done.ensures
     ∙ (λ i. done_with (left i) n (slice_index bundle.counts.got (me i))) in
     let tells = c.tells.ensures ∙ (λ i. record {

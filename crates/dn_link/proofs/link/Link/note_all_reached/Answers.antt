@@ -1,12 +1,11 @@
 -- What is noted of one peer after the other is noted of all.
 use Rattle.std.proofs.Common.{◌≡◌, ◌<◌, ◌≤◌, ◌+◌, ◌-◌, ◌⊎◌, ℕ, Bool, true, false, refl, ap, sym, ◌∙◌, arith, inl, inr, rules, length, map}
+use Rattle.std.proofs.lemmas.{Bool.{cases_eq, cases_lt, ltb-true}, List.{get_or_past, length-map}}
 use Rattle.std.specs.Prelude.{if◌then◌else◌, nat_lt}
-use Rattle.std.proofs.lemmas.Bool.{cases_eq, cases_lt, ltb-true}
 use Rattle.dn_machine.specs.Node.{put}
 use Rattle.dn_machine.proofs.Put.{put_at, put_off, same_functions}
 use Rattle.dn_lockstep.specs.Contents.{Contents}
-use Rattle.dn_link.specs.{Counting.reached, Kept.acknowledged, Linked.Linked, Linked.PeerState, Linked.with_reached, Linking.new_peer, Linking.linked, Linking.state_of}
-use Rattle.std.proofs.lemmas.List.{get_or_past, length-map}
+use Rattle.dn_link.specs.{Counting.reached, Kept.acknowledged, Linked.{Linked, PeerState, with_reached}, Linking.{new_peer, linked, state_of}}
 use Rattle.dn_link.proofs.link.Link.note_all_reached.Goals as goal
 
 -- one is noted

@@ -1,6 +1,5 @@
 use Rattle.std.proofs.Common.{ap, sym, ◌∙◌, subst}
-use Rattle.dn_link.specs.{Hearing.HearsAll, Linking.linked, Pace.after_datagram, Packets.heard_in}
-use Rattle.dn_link.specs.Linked.{Linked, TakesPackets, takes, with_reached}
+use Rattle.dn_link.specs.{Hearing.HearsAll, Linking.linked, Pace.after_datagram, Packets.heard_in, Linked.{Linked, TakesPackets, takes, with_reached}}
 use Rattle.dn_link.proofs.link.Link.take_packets.Goals as goal
 
 pub returns-clause-heard : goal.returns-clause-heard

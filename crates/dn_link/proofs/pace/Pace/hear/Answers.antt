@@ -1,7 +1,6 @@
-use Rattle.std.proofs.Common.{rules, ◌≡◌, ◌<◌, ℕ, length, ap, ◌∙◌, arith, get_or}
-use Rattle.std.proofs.lemmas.List.{get_or_default}
+use Rattle.std.proofs.{Common.{rules, ◌≡◌, ◌<◌, ℕ, length, ap, ◌∙◌, arith, get_or}, lemmas.List.get_or_default}
 use Rattle.dn_machine.specs.Node.{put}
-use Rattle.dn_link.specs.{declared.line.Line.Line, Line.heard_on, Line.new_line, Pacing.state_of}
+use Rattle.dn_link.specs.{declared.line.Line.Line, Line.{heard_on, new_line}, Pacing.state_of}
 use Rattle.dn_link.proofs.Places.{place_put}
 use Rattle.dn_link.proofs.pace.Pace.hear.Goals as goal
 

@@ -1,9 +1,8 @@
-use Rattle.std.proofs.Common.{rules, ◌≡◌, ◌≤◌, ℕ, zero, suc, ◌∷◌, [], length, refl, ap, sym, ◌∙◌, arith, get_or}
-use Rattle.std.proofs.lemmas.List.{get_or_past}
+use Rattle.std.proofs.{Common.{rules, ◌≡◌, ◌≤◌, ℕ, zero, suc, ◌∷◌, [], length, refl, ap, sym, ◌∙◌, arith, get_or}, lemmas.List.get_or_past}
 use Rattle.std.specs.Prelude.{false, nat_lt, pos}
 use Rattle.dn_machine.proofs.Put.{same_functions}
 use Rattle.dn_lockstep.specs.Contents.{contents}
-use Rattle.dn_link.specs.{declared.line.Line.Line, Line.lead_over, Line.new_line, Pacing.state_of}
+use Rattle.dn_link.specs.{declared.line.Line.Line, Line.{lead_over, new_line}, Pacing.state_of}
 use Rattle.dn_link.proofs.pace.Pace.see_leads.Goals as goal
 
 not_below : (one other : ℕ) → other ≤ one → nat_lt one other ≡ false

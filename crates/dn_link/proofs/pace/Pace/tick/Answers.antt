@@ -1,5 +1,4 @@
-use Rattle.std.proofs.Common.{◌∙◌, rules, w32}
-use Rattle.std.proofs.lemmas.Int.{to_z-of_z}
+use Rattle.std.proofs.{Common.{◌∙◌, rules, w32}, lemmas.Int.to_z-of_z}
 use Rattle.std.specs.Prelude.{FitsSigned}
 use Rattle.dn_link.specs.Leaning.{looks, stretches, worked_off}
 use Rattle.dn_link.proofs.pace.Pace.tick.Goals as goal

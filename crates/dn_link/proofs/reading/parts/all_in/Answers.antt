@@ -1,5 +1,4 @@
-use Rattle.std.proofs.Common.{◌≡◌, length, ap, sym, ◌∙◌, arith, Some}
-use Rattle.std.proofs.lemmas.List.{take_rest, length_push}
+use Rattle.std.proofs.{Common.{◌≡◌, length, ap, sym, ◌∙◌, arith, Some}, lemmas.List.{take_rest, length_push}}
 use Rattle.dn_link.specs.{declared.bundle.Part.Part, Told.told_part}
 use Rattle.dn_link.proofs.Wholes.{begins, goes_on_to, fails}
 use Rattle.dn_link.proofs.reading.parts.all_in.Goals as goal
