@@ -217,7 +217,7 @@ typedef struct zmg_join_config {
     uint8_t identity[16], name[16], keyless, seat, players;
 } zmg_join_config;
 
-/* Fill in all fields: key, random, name, identity and own with zeros; two players, a window of 8, 35 tics a
+/* Fill in all fields: key, random, name, identity and own with zeros; two players, a window of 12, 35 tics a
  * second, a demo of 16 MiB, the first map at skill 2 in cooperative play, ZMG_POLICY_WAIT; any seat, any
  * number of players. */
 void zmg_host_config_init(zmg_host_config *config);

@@ -68,7 +68,7 @@ impl Default for Terms {
     fn default() -> Terms {
         Terms {
             players: 2,
-            window: 8,
+            window: 12,
             rate: 35,
             limit: 16_777_216,
             settings: Settings {
