@@ -1,6 +1,6 @@
 //! What a host makes of calls.
 
-ghost use Rattle.std.specs.{Prelude.◌≡◌, Prelude.◌<◌, Prelude.◌≤◌, Prelude.◌==◌, Prelude.not, Prelude.nat_le, Prelude.true, Prelude.length, Prelude.position, Prelude.IfSome, Prelude.option_map, List.list_any, Str.bytes_eq};
+ghost use Rattle.std.specs.{Prelude.◌≡◌, Prelude.◌<◌, Prelude.◌≤◌, Prelude.true, Prelude.length, Prelude.position, Prelude.IfSome, Prelude.option_map, List.list_any, Str.bytes_eq};
 ghost use Rattle.dn_session.specs.Hosting.{hint_for, hint_to, bar, filled_by, in_lobby, lobby, on_newcomer, on_opened, on_player, refused, seating, seating_to, with_seat, HearsCall, IsLobby};
 ghost use Rattle.dn_session.specs.{Seats.is_of, Seats.taken_by, Text.is_wish, Cookies.is_one, Cookies.time_of};
 
@@ -16,26 +16,6 @@ use arrayvec::ArrayVec;
 
 /// A reply.
 type Reply = ArrayVec<u8, 581>;
-
-/// Whether a joiner was told another number of players.
-fn asks_for_other(asked: Option<u8>, players: u8) -> bool
-    ensures { result ≡ is_one (λ asked. not (asked == players)) asked }
-{
-    match asked {
-        Some(asked) => asked != players,
-        None => false,
-    }
-}
-
-/// Whether a seat is wanted that a game of so many does not have.
-fn wants_beyond(wish: Option<u8>, players: u8) -> bool
-    ensures { result ≡ is_one (nat_le players) wish }
-{
-    match wish {
-        Some(wish) => wish >= players,
-        None => false,
-    }
-}
 
 /// Whether the session that was turned away from a seat has this number.
 fn is_number(number: &[u8; 16], kicked: &Option<[u8; 16]>) -> bool
@@ -186,7 +166,8 @@ impl Host {
         ensures { result ≡ bar call.now (lobby self.now) }
     {
         let players = self.terms.players;
-        if asks_for_other(call.players, players) || wants_beyond(call.seat, players) {
+        let asks_for_other = call.players.is_some_and(|asked| asked != players);
+        if asks_for_other || call.seat.is_some_and(|wish| wish >= players) {
             return Some(Refusal::Players(players));
         }
         if call.identity != self.terms.identity {
