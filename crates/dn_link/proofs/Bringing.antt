@@ -9,7 +9,7 @@ use Rattle.dn_link.specs.CaughtUp.{next_to, AreCaughtUp, Brings, HasGrown, IsInS
 use Rattle.dn_link.specs.{declared.bundle.Part.Part, declared.bundle.Part.TheVariants.Whole, declared.bundle.Part.TheVariants.Run, declared.bundle.Part.TheVariants.Relay}
 use Rattle.dn_link.specs.{Linked.Gives, Linked.Linked, Pacing.PaceState, Packets.own_in, Packets.packets_of, Packets.opened_from, Packing.IsNeeded}
 use Rattle.dn_link.specs.{Relays.Handed, Relays.handed_part, declared.bundle.Bundle.Bundle, declared.bundle.Carried.Carried, Counting.has_ended, Hearing.carried_of}
-use Rattle.dn_link.specs.{Kept.going, Kept.taken_by, Kept.takes_packet, LinkedGame.AreLinked, Text.parts_bytes}
+use Rattle.dn_link.specs.{Kept.going, Kept.taken_by, Kept.takes_packet, LinkedGame.AreLinked, Packing.parts_room}
 use Rattle.dn_setup.specs.Settings.{Settings}
 use Rattle.dn_machine.specs.{declared.answers.Phase.TheVariants.Playing, declared.peer.Peer.Peer, Flight.Play, Limits.Limits, Node.put, Sending.after_sent}
 use Rattle.dn_machine.specs.Sending.{commands_flight, on_send, request_to}
@@ -85,7 +85,7 @@ module _ (marking : Marking) (limits : Limits) (settings : Settings) (session : 
     → made (links player).node ≤ next_to (links player).node to + (links player).node.places)
     (near : made (links player).node ≤ next_to (links player).node to + 12)
     (plays : (links player).node.phase ≡ Playing)
-    (few : length gives.own < 22) (short : length (parts_bytes gives.own) ≤ 998) where
+    (few : length gives.own < 22) (short : parts_room gives.own ≤ 998) where
   abbrev old : Linked
   old = links player
 

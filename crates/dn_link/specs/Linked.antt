@@ -11,8 +11,8 @@ use Rattle.dn_link.specs.declared.received.Received.TheVariants.{Unopened, Stran
 use Rattle.dn_link.specs.Kept.{Unacknowledged, acknowledged, going, kept_after, taken_by}
 use Rattle.dn_link.specs.{declared.bundle.Bundle.Bundle, declared.bundle.BundleFault.BundleFault, declared.bundle.Carried.Carried, declared.received.Received.Received}
 use Rattle.dn_link.specs.{Reading.IsBundledAs, Counting.counts_of, Counting.held_of, Counting.reached, Hearing.SendsCarried, Hearing.ByTest, Hearing.HearsAll}
-use Rattle.dn_link.specs.{Line.missing, declared.line.Line.Line, Pacing.PaceState, Packets.heard_in, Packets.takes_relay, Packing.ArePacked, Relays.AreHandedOn, Relays.AreLacked}
-use Rattle.dn_link.specs.{Relays.Handed, Relays.handed_part, declared.bundle.Part.Part, Ends.excludes, Ends.left_by, Ends.told_cause, Text.IsBundle, Text.parts_bytes}
+use Rattle.dn_link.specs.{Line.missing, declared.line.Line.Line, Pacing.PaceState, Packets.heard_in, Packets.takes_relay, Packing.ArePacked, Packing.parts_room, Relays.AreHandedOn, Relays.AreLacked}
+use Rattle.dn_link.specs.{Relays.Handed, Relays.handed_part, declared.bundle.Part.Part, Ends.excludes, Ends.left_by, Ends.told_cause, Text.IsBundle}
 use Rattle.dn_link.specs.{Text.sealed_bytes, declared.tally.Figures.Figures}
 use Rattle.dn_link.specs.declared.bundle.Relay as relay
 
@@ -57,7 +57,7 @@ fitting room None = None
 fitting room (Some report) = if nat_lt room (length (report_bytes report)) then None else Some report
 
 abbrev pub report_beside : Surviving → ℕ → List Part → Option Report
-report_beside now to parts = fitting (1139 - length (parts_bytes parts)) (report_for now to)
+report_beside now to parts = fitting (1139 - parts_room parts) (report_for now to)
 
 -- its bytes, or none
 abbrev pub written : Option Report → List ℕ

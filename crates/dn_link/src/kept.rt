@@ -3,7 +3,7 @@
 ghost use Rattle.std.specs.{Prelude.◌≡◌, Prelude.◌≤◌, Prelude.◌<◌, Prelude.◌+◌, Prelude.◌∷◌, Prelude.[], Prelude.ℕ, Prelude.All, Prelude.length, Prelude.nat_le, Prelude.slice_index, Prelude.Option};
 ghost use Rattle.std.specs.{Option.option_map};
 ghost use Rattle.dn_link.specs.{Kept.IsCovering, Kept.IsRising, Kept.IsRising-prop, Kept.acknowledged, Kept.commands_in, Kept.end_of, Kept.going, Kept.is_idle, Kept.is_news, Kept.kept_after};
-ghost use Rattle.dn_link.specs.{Kept.takes_packet, Kept.without, Packing.ArePacked, Text.IsPart, Text.parts_bytes};
+ghost use Rattle.dn_link.specs.{Kept.takes_packet, Kept.without, Packing.ArePacked, Text.IsPart, Packing.parts_room};
 
 use crate::bundle::{Carried, Part};
 use crate::packing::pack;
@@ -123,7 +123,7 @@ impl Kept {
     pub(crate) fn parts(&mut self, from: u8, packet: Option<Carried>) -> ArrayVec<Part, 24>
         ensures kept { kept self.new ≡ kept_after (kept self.old) packet }
         ensures fit { All IsPart result.items }
-        ensures short { length (parts_bytes result.items) ≤ 1118 }
+        ensures short { parts_room result.items ≤ 1118 }
         ensures packed { ArePacked from (going (kept self.old) packet) result.items }
     {
         let Some(packet) = packet else {

@@ -3,7 +3,7 @@
 ghost use Rattle.std.specs.{Prelude.◌≡◌, Prelude.◌≤◌, Prelude.◌<◌, Prelude.◌+◌, Prelude.◌/◌, Prelude.◌%◌, Prelude.◌^◌, Prelude.◌++◌, Prelude.◌∷◌, Prelude.[], Prelude.ℕ, Prelude.All, Prelude.length};
 ghost use Rattle.std.specs.{Prelude.false, Prelude.true, List.flat_map};
 ghost use Rattle.dn_link.specs.{Packets.opened_from, Packets.packets_of, Packets.short_packet, declared.bundle.Part.TheVariants.Whole, Packing.HasRoom, Packing.IsOpen, Packing.IsPacking};
-ghost use Rattle.dn_link.specs.{Packing.IsTight, Packing.MayFollow, Packing.packed, Packing.part_of, Packing.ArePacked, Packing.IsNeeded, Text.IsPart, Text.parts_bytes};
+ghost use Rattle.dn_link.specs.{Packing.IsTight, Packing.MayFollow, Packing.packed, Packing.part_of, Packing.ArePacked, Packing.IsNeeded, Text.IsPart, Packing.parts_room};
 
 use crate::bundle::{Carried, Part, Run};
 use crate::short::short_command;
@@ -174,7 +174,7 @@ impl Packing {
 /// twenty-two parts are done, or fewer bytes are left than a run and a whole packet may take.
 pub(crate) fn pack(from: u8, packets: &[Carried]) -> ArrayVec<Part, 24>
     ensures fit { All IsPart result.items }
-    ensures short { length (parts_bytes result.items) ≤ 1118 }
+    ensures short { parts_room result.items ≤ 1118 }
     ensures packed { ArePacked from packets.now result.items }
 {
     let mut packing = Packing::new();

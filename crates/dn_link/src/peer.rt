@@ -35,7 +35,7 @@ fn larger(one: &[u32; 4], other: &[u32; 4]) -> [u32; 4]
 impl Peer {
     ghost use Rattle.std.specs.Prelude.{All, length, ◌≤◌, ◌<◌, ◌+◌, ◌%◌, ◌^◌, slice_index};
     ghost use Rattle.dn_link.specs.{Kept.acknowledged, Kept.going, Kept.kept_after, Kept.taken_by, Linking.new_peer, Linking.state_of, Packing.ArePacked, Text.IsPart};
-    ghost use Rattle.dn_link.specs.{Text.parts_bytes};
+    ghost use Rattle.dn_link.specs.{Packing.parts_room};
 
     /// Of which nothing is known.
     pub(crate) fn new() -> Peer
@@ -89,7 +89,7 @@ impl Peer {
           number = ((state_of self.old).number + 1) % 2 ^ 32;
         } }
         ensures fit { All IsPart result.1.items }
-        ensures short { length (parts_bytes result.1.items) ≤ 1118 }
+        ensures short { parts_room result.1.items ≤ 1118 }
         ensures packed { ArePacked from
             (going (state_of self.old).kept (taken_by (state_of self.old).left packet)) result.1.items }
     {

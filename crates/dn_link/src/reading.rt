@@ -5,7 +5,7 @@ ghost use Rattle.dn_seal.specs.Sealing.{sealing};
 ghost use Rattle.dn_link.specs.{declared.bundle.Bundle.Bundle, declared.bundle.BundleFault.BundleFault, Told.report_size, Told.told_bundle, Reading.IsBundledAs};
 
 mod fields;
-pub(crate) mod parts;
+mod parts;
 
 use crate::bundle::{Bundle, BundleFault};
 use crate::writing::KIND;

@@ -4,10 +4,10 @@ ghost use Rattle.std.specs.{Prelude.◌≡◌, Prelude.◌≢◌, Prelude.◌≤
 ghost use Rattle.dn_tic.specs.{declared.command.TicCmd.TicCmd, Command.IsCommand, Command.command_bytes};
 ghost use Rattle.dn_lockstep.specs.Contents.{contents};
 ghost use Rattle.std.specs.Prelude.{◌++◌, ◌∷◌, ◌⊎◌, [], All, IfSome, Some, true};
-ghost use Rattle.dn_link.specs.{declared.bundle.Relay.Relay as Handing, declared.bundle.Part.TheVariants.Relay as of_relay, Relays.AreTold, Text.IsPart, Text.IsRelay, Text.parts_bytes};
+ghost use Rattle.dn_link.specs.{declared.bundle.Relay.Relay as Handing, declared.bundle.Part.TheVariants.Relay as of_relay, Relays.AreTold, Text.IsPart, Text.IsRelay, Packing.parts_room};
 
 use crate::bundle::{Part, Relay, Run};
-use crate::reading::parts::part_len;
+use crate::room::parts_room;
 use arrayvec::ArrayVec;
 use dn_lockstep::Lockstep;
 use dn_seal::append;
@@ -47,36 +47,23 @@ pub(crate) fn relay_of(lockstep: &Lockstep, player: u8, start: u32, most: u8) ->
     }
 }
 
-/// How many bytes parts take, and their number.
-pub(crate) fn parts_len(parts: &[Part]) -> usize
-    requires { length (parts_bytes parts.now) ≤ 1118 }
-    ensures { result ≡ length (parts_bytes parts.now) }
-{
-    let mut size = 1;
-    let mut rest = parts;
-    'parts: while let Some((part, after)) = rest.split_first() {
-        size += part_len(part);
-        rest = after;
-    }
-    size
-}
-
 /// Whether there is room for commands that are handed on behind these parts.
 fn has_room(parts: &ArrayVec<Part, 24>, relay: &Relay) -> bool
-    requires { length (parts_bytes parts.now.items) ≤ 1118 }
+    requires { parts_room parts.now.items ≤ 1118 }
     ensures { result ≡ true → (length parts.now.items < 24)
-        × (length (parts_bytes parts.now.items) + 5 + length relay.now.run.commands.items ≤ 1118) }
+        × (parts_room parts.now.items + 6 + length relay.now.run.commands.items ≤ 1118) }
 {
-    parts.len() < 24 && parts_len(parts.as_slice()) + 5 + relay.run.commands.len() <= 1118
+    parts.len() < 24 && parts_room(parts.as_slice()) + 6 + relay.run.commands.len() <= 1118
 }
 
 /// The parts of a datagram, and behind them commands that are handed on, if there are any and there is room.
+#[tactic(auto, using(crate::proofs::Packings::pushed_room))]
 pub(crate) fn with_relay(parts: ArrayVec<Part, 24>, relay: Option<Relay>) -> ArrayVec<Part, 24>
     requires fit { All IsPart parts.items }
-    requires short { length (parts_bytes parts.items) ≤ 1118 }
+    requires short { parts_room parts.items ≤ 1118 }
     requires run { IfSome relay IsRelay }
     ensures fit { All IsPart result.items }
-    ensures short { length (parts_bytes result.items) ≤ 1118 }
+    ensures short { parts_room result.items ≤ 1118 }
     ensures added { (result.items ≡ parts.items)
         ⊎ ((one : Handing) × (relay ≡ Some one) × (result.items ≡ parts.items ++ of_relay one ∷ [])) }
 {
