@@ -14,8 +14,8 @@ use Rattle.dn_session.specs.declared.side.Side.TheVariants as side
 use Rattle.dn_session.specs.declared.ending.Over.TheVariants as over
 use Rattle.dn_lockstep.specs.declared.config.NodeFault.{NodeFault}
 use Rattle.dn_host.specs.Turns.{new_turns, stage_of, Gives, HearsNext, IsTurn, Plays, Repeats, Runs, Scene, SendsAll, SendsNext, Stage, TakesOne, TurnsOn}
-use Rattle.dn_host.specs.{Leaving.LeavesFor, Leaving.LeavesIf, Leaving.LeavesWhen, Playing.come_in, Playing.millis, Playing.InGame, Telling.Sight, Playing.GivesInput}
-use Rattle.dn_host.specs.Outcomes.{ended_with, is_refusal, Follows, GoesOn, IsLeftOf, IsPlayed, IsRun}
+use Rattle.dn_host.specs.{Leaving.LeavesFor, Playing.come_in, Playing.millis, Playing.InGame, Telling.Sight, Playing.GivesInput}
+use Rattle.dn_host.specs.Outcomes.{ended_with, is_refusal, GoesOn, IsLeftOf, IsPlayed}
 use Rattle.dn_host.specs.declared.{ends.Ending.Ending, ends.HostFault.HostFault, ends.Outcome.Outcome, game.Game.Game, plan.Plan.Plan}
 use Rattle.dn_host.specs.declared.ends.HostFault.TheVariants as fault
 
@@ -62,20 +62,12 @@ gives_host : (now : ℕ) (given : Bool) (keys : Lcg) (old : Meeting) (after : Lc
 gives_host now true keys old after new (does, same, drawn) host = same_lobby old new _ same host
 gives_host now false keys old after new (same, drawn) host = same_lobby old new _ same host
 
-leaves_for_host : (why : Option End) (now : ℕ) (a : Game) (k : Meeting) (b : Game) (l : Meeting)
-    → LeavesFor why now a k b l → hosts k → hosts l
-leaves_for_host None now a k b l (still, same) host = same_lobby k l _ same host
-leaves_for_host (Some why) now a k b l (does, quits, same) host = same_lobby k l _ same host
-
-leaves_if_host : (playing : Bool) (now : ℕ) (a : Game) (k : Meeting) (b : Game) (l : Meeting)
-    → LeavesIf playing now a k b l → hosts k → hosts l
-leaves_if_host true now a k b l leaves host = leaves_for_host _ now a k b l leaves host
-leaves_if_host false now a k b l (does, same) host = same_lobby k l _ same host
-
-leaves_host : (left : Option ℕ) (now : ℕ) (a : Game) (k : Meeting) (b : Game) (l : Meeting)
-    → LeavesWhen left now a k b l → hosts k → hosts l
-leaves_host (Some since) now a k b l (still, same) host = same_lobby k l _ same host
-leaves_host None now a k b l leaves host = leaves_if_host _ now a k b l leaves host
+leaves_host : (left : Option ℕ) (plays : Bool) (why : Option End) (now : ℕ) (a : Game) (k : Meeting) (b : Game) (l : Meeting)
+    → LeavesFor left plays why now a k b l → hosts k → hosts l
+leaves_host None true (Some why) now a k b l (does, quits, same) host = same_lobby k l _ same host
+leaves_host None true None now a k b l (still, same) host = same_lobby k l _ same host
+leaves_host None false why now a k b l (does, same) host = same_lobby k l _ same host
+leaves_host (Some since) plays why now a k b l (still, same) host = same_lobby k l _ same host
 
 -- what each step keeps is kept by all
 repeats_keep : {A B : Type 0} (Does : A → B → Bool → A → B → Type 0) (P : A → B → Type 0)
@@ -90,7 +82,7 @@ repeats_keep Does P keeps (suc n) a k b l all (inr (c, m, does, rest)) p =
 
 plays_host : (now : ℕ) (a : Game) (k : Meeting) (b : Game) (l : Meeting) → Plays now a k b l → hosts k → hosts l
 plays_host now a k b l (c, m, given, gives, d, n, run, runs, leaves) host =
-    leaves_host d.left now d n b l leaves
+    leaves_host _ _ _ now d n b l leaves
     (repeats_keep (Runs now) (λ e p. hosts p) (λ e p done f q does. same_lobby p q _ does.1.3) 32 c m d n run runs
     (repeats_keep (Gives now) (λ e p. hosts p) (λ e p done f q does. gives_host _ done e.keys p does.0.keys q does.1) 32 a k c m given
     gives host))
@@ -146,9 +138,6 @@ seated_has_link : (part : Option Part) (game : Option Game) (lobby : Side) (e : 
 seated_has_link (Some part) game lobby e is seated = refl
 seated_has_link None game lobby e is seated = absurd (false≢true (sym seated ∙ lobby_refuses lobby game e is))
 
-ok_same : (o p : Outcome) (r : Result Outcome HostFault) → r ≡ Ok o → r ≡ Ok p → o ≡ p
-ok_same o p r one other = cc
-
 -- turns
 
 module _ {W : Type 0} (sends : W → Address → List ℕ → W → Type 0) (polls : W → Option (Address × List ℕ) → W → Type 0) where
@@ -201,56 +190,49 @@ module _ {W : Type 0} (sends : W → Address → List ℕ → W → Type 0) (pol
       goes_on_host : (start : ℕ) (r : Result Outcome HostFault) (a : Stage W S) (x : Y) (on : Bool) (b : Stage W S) (y : Y)
           → GoesOn sends polls shows waits misses reads naps plan start r a x on b y → hosts a.scene.session
           → hosts b.scene.session
-      goes_on_host start r a x true b y (None, z, read, timed) host = absurd timed
-      goes_on_host start r a x false b y (None, z, read, (is, same, still)) host =
+      goes_on_host start r a x true b y (time, z, read, busy, turn, goes, rests) host =
+          turn_host plan (time - start) a b (Ok busy) turn host
+      goes_on_host start r a x false b y (inl (read, is, same)) host =
           subst (λ (s : Stage W S). hosts s.scene.session) (sym same) host
-      goes_on_host start r a x on b y (Some time, z, read, (turned, turn, follows)) host =
-          turn_host plan (time - start) a b turned turn host
+      goes_on_host start (Err fault) a x false b y (inr (time, read, turn)) host =
+          turn_host plan (time - start) a b (Err fault) turn host
+      goes_on_host start (Ok o) a x false b y (inr (time, read, (busy, turn, left))) host =
+          turn_host plan (time - start) a b (Ok busy) turn host
 
       -- what is left of a session is so of what it is at its end
       abbrev Ends : Stage W S → Outcome → Type 0
       Ends b o = (now : ℕ) × IsLeftOf now b.scene.session b.scene.game o
-
-      follows_end : (now : ℕ) (turned : Result Bool HostFault) (o : Outcome) (b : Stage W S) (z y : Y)
-          → Follows sends polls shows waits misses reads naps now turned (Ok o) b.scene z false y → Ends b o
-      follows_end now (Err fault) o b z y (is, same) = absurd (cc)
-      follows_end now (Ok busy) o b z y (p, left, is, same) =
-          (now, subst (λ q. IsLeftOf now b.scene.session b.scene.game q) (sym (ok_same o p (Ok o) refl is)) left)
-
-      goes_on_ends : (start : ℕ) (o : Outcome) (a : Stage W S) (x : Y) (b : Stage W S) (y : Y)
-          → GoesOn sends polls shows waits misses reads naps plan start (Ok o) a x false b y → Ends b o
-      goes_on_ends start o a x b y (None, z, read, (is, same, still)) = absurd (cc)
-      goes_on_ends start o a x b y (Some time, z, read, (turned, turn, follows)) =
-          follows_end (time - start) turned o b z y follows
 
       repeats_end : (start : ℕ) (o : Outcome) (n : ℕ) (a : Stage W S) (x : Y) (b : Stage W S) (y : Y) (all : Bool)
           → Repeats (GoesOn sends polls shows waits misses reads naps plan start (Ok o)) n a x b y all
           → (all ≡ true → Ok o ≡ Err fault.Clock) → Ends b o
       unfolding Repeats
       repeats_end start o zero a x b y all (same, still, done) late = let wrong = late done in absurd (cc)
-      repeats_end start o (suc n) a x b y all (inl (does, last)) late = goes_on_ends start o a x b y does
+      repeats_end start o (suc n) a x b y all (inl (inl (read, is, same), last)) late = absurd (cc)
+      repeats_end start o (suc n) a x b y all (inl (inr (time, read, (busy, turn, left)), last)) late = (time - start, left)
       repeats_end start o (suc n) a x b y all (inr (c, m, does, rest)) late = repeats_end start o n c m b y all rest late
 
       -- the end of a session that was played, which is a host's if it was
       abbrev IsEnd : Session → Outcome → Type 0
       IsEnd session o = (b : Stage W S) × Ends b o × (hosts (meeting session) → hosts b.scene.session)
 
-      run_ends : (time : Option ℕ) (session : Session) (v : W) (s : S) (x : Y) (b : Stage W S) (y : Y) (o : Outcome)
-          → IsRun sends polls shows waits misses reads naps plan time (stage_of (new_turns session plan) v s) x b y (Ok o) → IsEnd session o
-      run_ends None session v s x b y o (is, same, still) = absurd (cc)
-      run_ends (Some start) session v s x b y o (all, turns, late) = (
+      ends : (session : Session) (v : W) (s : S) (x : Y) (w : W) (t : S) (y : Y) (o : Outcome)
+          → IsPlayed sends polls shows waits misses reads naps plan (stage_of (new_turns session plan) v s) x w t y (Ok o)
+          → IsEnd session o
+      ends session v s x w t y o (inl (read, is, wire, screen)) = absurd (cc)
+      ends session v s x w t y o (inr (start, z, read, b, all, turns, late, wire, screen)) = (
         b,
-        repeats_end start o (2 ^ 64 - 1) (stage_of (new_turns session plan) v s) x b y all turns late,
+        repeats_end start o (2 ^ 64 - 1) (stage_of (new_turns session plan) v s) z b y all turns late,
         repeats_keep (GoesOn sends polls shows waits misses reads naps plan start (Ok o))
-            (λ (c : Stage W S) (m : Y). hosts c.scene.session) (goes_on_host start (Ok o)) (2 ^ 64 - 1) (stage_of (new_turns session plan) v s) x
-            b y all turns,
+            (λ (c : Stage W S) (m : Y). hosts c.scene.session) (goes_on_host start (Ok o)) (2 ^ 64 - 1)
+            (stage_of (new_turns session plan) v s) z b y all turns,
       )
 
       pub linked : (session : Session) (v : W) (s : S) (x : Y) (w : W) (t : S) (y : Y) (r : Result Outcome HostFault)
           → IsPlayed sends polls shows waits misses reads naps plan (stage_of (new_turns session plan) v s) x w t y r → IfOk r (λ o. is_refusal o.ending ≡ false → is_some o.link ≡ true)
       linked session v s x w t y (Err fault) played = tt
-      linked session v s x w t y (Ok o) (time, z, read, b, run, wire, screen) =
-          let end = run_ends time session v s z b y o run in
+      linked session v s x w t y (Ok o) played =
+          let end = ends session v s x w t y o played in
           λ seated. ap is_some end.1.1.link ∙ seated_has_link end.0.scene.session.part end.0.scene.game
           end.0.scene.session.lobby o.ending end.1.1.ending seated
 
@@ -258,8 +240,8 @@ module _ {W : Type 0} (sends : W → Address → List ℕ → W → Type 0) (pol
           → IsPlayed sends polls shows waits misses reads naps plan (stage_of (new_turns session plan) v s) x w t y r → hosts (meeting session)
           → IfOk r (λ o. is_refusal o.ending ≡ false)
       seated session v s x w t y (Err fault) played host = tt
-      seated session v s x w t y (Ok o) (time, z, read, b, run, wire, screen) host =
-          let end = run_ends time session v s z b y o run in
+      seated session v s x w t y (Ok o) played host =
+          let end = ends session v s x w t y o played in
           host_is_seated end.0.scene.session.part end.0.scene.game end.0.scene.session.lobby o.ending (end.2 host)
           end.1.1.ending
 

@@ -1,7 +1,8 @@
 -- The parts of an address of a socket.
-use Rattle.std.proofs.Common.{◌≡◌, ℕ, zero, suc, ◌+◌, ◌-◌, ◌*◌, ◌/◌, ◌%◌, ◌<◌, List, [], ◌∷◌, ◌++◌, length, take, drop, refl, sym, ap, ◌∙◌, subst, arith, get_or, replicate, length-append}
+use Rattle.std.proofs.Common.{◌≡◌, ℕ, Bool, true, false, zero, suc, ◌+◌, ◌-◌, ◌*◌, ◌/◌, ◌%◌, ◌<◌, List, [], ◌∷◌, ◌++◌, length, take, drop, refl, sym, ap, ◌∙◌, subst, arith, get_or, replicate, length-append}
 use Rattle.std.proofs.Math.Seq.{take-append_seam, drop-append_seam}
-use Rattle.std.specs.Net.Addr.{segments_of, octets_of}
+use Rattle.std.specs.{Prelude.if◌then◌else◌, Net.Addr.octets_of, Net.Addr.segments_of}
+use Rattle.dn_host.specs.Addresses.{mapped}
 
 -- a list in three parts
 pub take_first : (n : ℕ) (xs ys : List ℕ) → length xs ≡ n → take n (xs ++ ys) ≡ xs
@@ -60,3 +61,9 @@ pub small_drop : (n : ℕ) (xs : List ℕ) → ((i : ℕ) → get_or xs i 0 < 25
 small_drop zero xs small = small
 small_drop (suc n) [] small = small
 small_drop (suc n) (x ∷ xs) small = small_drop n xs (λ k. small (suc k))
+
+-- the IP address for a wide socket
+pub wide_is : (wide : Bool) (bytes : List ℕ) → wide ≡ true
+    → (if wide then take 16 bytes else mapped (take 4 (drop 12 bytes))) ≡ take 16 bytes
+wide_is true bytes is = refl
+wide_is false bytes is = absurd (cc)

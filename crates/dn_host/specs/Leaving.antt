@@ -53,20 +53,15 @@ end_by None until now = None
 end_by (Some link) until now =
     if nat_le until now then Some end.Left else (if have_all_left link then Some (others_end link) else None)
 
--- it goes on, or leaves now for this reason
-abbrev pub LeavesFor : Option End → ℕ → Game → Meeting → Game → Meeting → Type 0
-LeavesFor None now old from new to = (new ≡ old) × (to ≡ from)
-LeavesFor (Some why) now old from new to =
-    (new ≡ record old { left = Some now; end = Some why })
+-- who has left has left; who plays leaves now, if there is a reason, and else goes on; who plays no more has begun to
+-- leave
+abbrev pub LeavesFor : (left : Option ℕ) → (plays : Bool) → (why : Option End) → (now : ℕ) → Game → Meeting → Game → Meeting
+    → Type 0
+LeavesFor None true (Some why) now old from new to = (new ≡ record old { left = Some now; end = Some why })
     × QuitsPart (millis now) from.part to.part × (to ≡ record from { part = to.part })
+LeavesFor None false why now old from new to = (new ≡ record old { left = Some now }) × (to ≡ from)
+LeavesFor left plays why now old from new to = (new ≡ old) × (to ≡ from)
 
--- a session that plays no more has begun to leave
-abbrev pub LeavesIf : (playing : Bool) → ℕ → Game → Meeting → Game → Meeting → Type 0
-LeavesIf true now old from new to =
-    LeavesFor (end_by (option_map linked (link_in from.part)) old.until now) now old from new to
-LeavesIf false now old from new to = (new ≡ record old { left = Some now }) × (to ≡ from)
-
--- who has left has left
-abbrev pub LeavesWhen : Option ℕ → ℕ → Game → Meeting → Game → Meeting → Type 0
-LeavesWhen (Some since) now old from new to = (new ≡ old) × (to ≡ from)
-LeavesWhen None now old from new to = LeavesIf (is_playing from.part) now old from new to
+abbrev pub Leaves : (now : ℕ) → Game → Meeting → Game → Meeting → Type 0
+Leaves now old from new to = LeavesFor old.left (is_playing from.part)
+    (end_by (option_map linked (link_in from.part)) old.until now) now old from new to

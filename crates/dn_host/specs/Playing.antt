@@ -1,5 +1,5 @@
 -- What a session's player does in the game: how its walk goes, and what is counted of it from its beginning on.
-use Rattle.std.specs.Prelude.{◌≡◌, ℕ, ℤ, zero, ◌+◌, ◌*◌, ◌/◌, ◌%◌, ◌-◌, ◌^◌, min, nat_lt, if◌then◌else◌, Bool, true, false, List, [], ◌∷◌, ◌++◌, map, replicate, Option, Some, None, option_map, is_some}
+use Rattle.std.specs.Prelude.{◌≡◌, ℕ, ℤ, zero, ◌+◌, ◌*◌, ◌/◌, ◌%◌, ◌-◌, ◌^◌, min, nat_lt, if◌then◌else◌, Bool, true, false, List, [], ◌∷◌, ◌++◌, map, replicate, Option, Some, None, option_map, is_some, unwrap_or}
 use Rattle.rand_pcg.specs.{Lcg.Lcg, Lcg.increment_of, Lcg.started, Pcg.multiplier_64, Pcg.pcg32}
 use Rattle.dn_tic.specs.declared.{command.Move.Move, input.Input.TheVariants.Pressed}
 use Rattle.dn_setup.specs.Settings.{Settings, start_of}
@@ -15,11 +15,6 @@ use Rattle.dn_host.specs.{declared.counts.Counts.Counts, declared.game.Game.Game
 abbrev pub marks_of : Spots → List ℤ
 marks_of walk = map (walking.mark walk) four
 
--- the walk goes on by the row that a run told, and by nothing else
-abbrev pub moved_by : Option (List (Option Move)) → Spots → Spots
-moved_by (Some row) walk = walking.step walk row
-moved_by None walk = walk
-
 -- for whom a run waits
 abbrev pub waited_for : Ran → Option ℕ
 waited_for (Waiting player) = Some player
@@ -30,13 +25,13 @@ abbrev pub begun_by : Option Settings → ℕ → Spots
 begun_by None players = None ∷ None ∷ None ∷ None ∷ []
 begun_by (Some settings) players = walking.begin (start_of settings) (seats_of players)
 
--- a run of the session with the marks of the walk as it stands, the walk after it, whether a tic was run, and for whom
--- the next one waits
+-- a run of the session with the marks of the walk as it stands; the walk after it, which goes on by the row that the run
+-- told, and by nothing else; whether a tic was run; and for whom the next one waits
 abbrev pub RunsWalk : Spots → Meeting → Meeting → Spots → (has_run : Bool) → (waits : Option ℕ) → Type 0
 RunsWalk before old new after has_run waits =
     (answer : Ran) × (row : Option (List (Option Move)))
     × RunsPart (marks_of before) old.part new.part answer row × (new ≡ record old { part = new.part })
-    × (after ≡ moved_by row before) × (has_run ≡ is_some row) × (waits ≡ waited_for answer)
+    × (after ≡ unwrap_or (option_map (walking.step before) row) before) × (has_run ≡ is_some row) × (waits ≡ waited_for answer)
 
 -- the session is given the keys that are drawn next, the low 18 bits of a word, or nothing
 abbrev pub GivesInput : ℕ → Bool → Lcg → Meeting → Lcg → Meeting → Type 0

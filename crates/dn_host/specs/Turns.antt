@@ -4,7 +4,7 @@ use Rattle.dn_link.specs.{Hearing.ByTest, declared.link.Link.Link}
 use Rattle.dn_lockstep.specs.declared.config.NodeFault.{NodeFault}
 use Rattle.dn_measure.specs.declared.status.Status.{Status}
 use Rattle.dn_session.specs.{declared.greeting.Address.Address, declared.greeting.Refusal.Refusal, declared.session.Session.Session, Reading.is_greeting, Session.can_give, Session.link_in, Session.meeting, Session.Begins, Session.HearsAny, Session.Meeting, Session.PassesTo, Session.Sends}
-use Rattle.dn_host.specs.{Leaving.LeavesWhen, Playing.come_in, Playing.millis, Playing.InGame, Playing.IsBegun, Playing.NotesIn, Telling.Sight, Telling.Tells, Playing.GivesInput, Playing.RunsWalk}
+use Rattle.dn_host.specs.{Leaving.Leaves, Playing.come_in, Playing.millis, Playing.InGame, Playing.IsBegun, Playing.NotesIn, Telling.Sight, Telling.Tells, Playing.GivesInput, Playing.RunsWalk}
 use Rattle.dn_host.specs.declared.{ends.HostFault.HostFault, ends.HostFault.TheVariants.Memory, game.Game.Game, plan.Plan.Plan, turns.Turns.Turns}
 
 -- something is done again and again, until it was not, or was done so many times; and whether it was done so often
@@ -26,7 +26,7 @@ Runs now a k has_run b l = (c : Game) × RunsWalk a.walk k l c.walk has_run c.wa
 -- its player gives the keys that are due, runs the tics that can be run, and leaves if it is time
 abbrev pub Plays : ℕ → Game → Meeting → Game → Meeting → Type 0
 Plays now a k b l = (c : Game) × (m : Meeting) × (given : Bool) × Repeats (Gives now) 32 a k c m given
-    × (d : Game) × (n : Meeting) × (run : Bool) × Repeats (Runs now) 32 c m d n run × LeavesWhen d.left now d n b l
+    × (d : Game) × (n : Meeting) × (run : Bool) × Repeats (Runs now) 32 c m d n run × Leaves now d n b l
 
 -- its player's part in the game begins, if the game has, and with it the player's walk
 abbrev pub StartsAs : Bool → Plan → (now : ℕ) → Option Link → Option Game → Option Game → Type 0

@@ -4,12 +4,12 @@ ghost use Rattle.std.specs.Prelude.{◌≡◌, ◌++◌, ℕ, List, replicate, n
 ghost use Rattle.dn_link.specs.{Linking.linked, Pacing.pace_of};
 ghost use Rattle.dn_measure.specs.{Measure.IsMeasureOf, Measure.IsSummaryOf, declared.measure.Told.Told};
 ghost use Rattle.dn_session.specs.Coming.{lines_in};
-ghost use Rattle.dn_host.specs.{Arrived.came_of_each, Arrived.late_in, Arrived.IsSomeMeasure, Arrived.IsSummaryBy};
+ghost use Rattle.dn_host.specs.Arrived.{came_of_each, late_in, IsSomeMeasure};
 
 use crate::arrivals::{Lines, came_of_each, late_in, lines_of, standings_in};
 use dn_link::Link;
 use dn_lockstep::Lockstep;
-use dn_measure::{Arrivals, Measure, Status, Summary, Told};
+use dn_measure::{Measure, Status, Summary, Told};
 
 /// After how long without a tic it is told for whom the game waits, in microseconds.
 const GAP: u64 = 100_000;
@@ -72,16 +72,9 @@ impl Counts {
         ensures { NotesMore now (contents lockstep.now) self.old self.new }
     {
         let (made, ran) = (lockstep.made(), lockstep.ran());
-        tell(
-            &mut self.measure,
-            Told::Ran(now),
-            ran.saturating_sub(self.ran),
-        );
-        tell(
-            &mut self.measure,
-            Told::Built(now),
-            made.saturating_sub(self.made),
-        );
+        let (built, went) = (made.saturating_sub(self.made), ran.saturating_sub(self.ran));
+        tell(&mut self.measure, Told::Ran(now), went);
+        tell(&mut self.measure, Told::Built(now), built);
         self.moved = moved_at(ran, self.ran, now, self.moved);
         self.made = made;
         self.ran = ran;
@@ -113,19 +106,12 @@ impl Counts {
         status
     }
 
-    /// What came of each player.
-    fn arrivals(&self, link: &Link) -> [Option<Arrivals>; 4]
-        ensures { result ≡ came_of_each (lines_in (linked link.now) (pace_of link.now)) self.now.late }
-    {
-        came_of_each(&lines_of(link), self.late)
-    }
-
-    /// What was measured up to now.
+    /// What was measured up to now, and what came of each player.
     pub(crate) fn summary(&self, link: &Link, now: u64, rate: u8) -> Summary
-        ensures own { (start : ℕ) (told : List Told) → IsMeasureOf self.now.measure start told → IsSummaryOf start
-            told now rate (came_of_each (lines_in (linked link.now) (pace_of link.now)) self.now.late) result }
-        ensures by { IsSummaryBy (linked link.now) (pace_of link.now) result }
+        ensures { (start : ℕ) (told : List Told) → IsMeasureOf self.now.measure start told → IsSummaryOf start told now
+            rate (came_of_each (lines_in (linked link.now) (pace_of link.now)) self.now.late) result }
     {
-        self.measure.summary(now, rate, self.arrivals(link))
+        let peers = came_of_each(&lines_of(link), self.late);
+        self.measure.summary(now, rate, peers)
     }
 }

@@ -2,11 +2,12 @@
 
 ghost use Rattle.std.specs.Prelude.{◌≡◌, ◌==◌, ◌&&◌, ℕ, not, option_map};
 ghost use Rattle.dn_session.specs.{Reading.is_greeting, Session.meeting, Session.HearsAny};
-ghost use Rattle.dn_host.specs.{Playing.come_in, Playing.millis, Turns.HearsNext, Turns.Repeats, Turns.SendsAll, Turns.SendsNext, Turns.TakesOne, Turns.left_after};
+ghost use Rattle.dn_host.specs.{Playing.come_in, Playing.lines_of, Playing.millis, Turns.HearsNext, Turns.Repeats, Turns.SendsAll, Turns.SendsNext, Turns.left_after};
 
+use crate::arrivals::{Lines, lines_of};
 use crate::game::Game;
 use crate::system::millis;
-use crate::wire::{MOST, Wire};
+use crate::wire::{ROOM, Wire};
 use dn_session::{Address, Session, is_greeting};
 
 /// The most datagrams that are read between two looks at the clock.
@@ -55,40 +56,27 @@ pub(crate) fn send_all<W: Wire>(session: &mut Session, wire: &mut W)
     }
 }
 
-/// A session takes any bytes that came from an address.
+/// What a session's link reports of the lines, if it has one.
+fn lines_in(session: &Session) -> Option<Lines>
+    ensures { result ≡ lines_of (meeting session.now) }
+{
+    Some(lines_of(session.link()?))
+}
+
+/// A session takes any bytes that came from an address; it is counted if they came late.
 fn hear(session: &mut Session, game: &mut Option<Game>, from: &Address, bytes: &[u8], now: u64)
     ensures hears { HearsAny from.now bytes.now (millis now) (meeting session.old) (meeting session.new) }
     ensures comes { game.new ≡ option_map (come_in (meeting session.old) (meeting session.new)) game.old }
 {
-    match game {
-        Some(game) => game.hear(session, from, bytes, now),
-        None => session.receive(from, bytes, millis(now)),
+    let before = lines_in(session);
+    session.receive(from, bytes, millis(now));
+    if let Some(game) = game {
+        game.counts.come(&before, &lines_in(session));
     }
 }
 
-/// Takes a datagram that was read. A greeting is dropped if no more of them are taken. What a session owes is sent
-/// before it takes another one, so each greeting is answered.
-fn take<W: Wire>(
-    session: &mut Session,
-    game: &mut Option<Game>,
-    wire: &mut W,
-    left: &mut u32,
-    from: &Address,
-    bytes: &[u8],
-    now: u64,
-)
-    ensures takes { TakesOne W.sends now left.old from.now bytes.now
-        (record { session = meeting session.old; game = game.old; wire = wire.old })
-        (record { session = meeting session.new; game = game.new; wire = wire.new }) }
-    ensures left { left.new ≡ left_after left.old bytes.now }
-{
-    if is_taken(left, bytes) {
-        hear(session, game, from, bytes, now);
-        send_all(session, wire);
-    }
-}
-
-/// Takes the next datagram, if one is there: whether one was.
+/// Takes the next datagram, if one is there: whether one was. A greeting is dropped if no more of them are taken. What
+/// a session owes is sent before it takes another datagram, so each greeting is answered.
 fn hear_next<W: Wire>(
     session: &mut Session,
     game: &mut Option<Game>,
@@ -99,14 +87,16 @@ fn hear_next<W: Wire>(
     ensures { HearsNext W.sends W.polls now (record { session = meeting session.old; game = game.old; wire = wire.old })
         left.old result (record { session = meeting session.new; game = game.new; wire = wire.new }) left.new }
 {
-    let mut room = [0; MOST];
-    match wire.poll(&mut room) {
-        Some((from, count)) => {
-            take(session, game, wire, left, &from, &room[..count], now);
-            true
-        }
-        None => false,
+    let mut room = [0; ROOM];
+    let Some((from, count)) = wire.poll(&mut room) else {
+        return false;
+    };
+    let bytes = &room[..count];
+    if is_taken(left, bytes) {
+        hear(session, game, &from, bytes, now);
+        send_all(session, wire);
     }
+    true
 }
 
 /// Takes the datagrams that are there, up to some number: whether there may be more.

@@ -2,7 +2,7 @@
 
 ghost use Rattle.std.specs.Prelude.{◌≡◌, ◌⊎◌, false, true, Err, IfErr, IfOk, is_some};
 ghost use Rattle.dn_session.specs.Session.{IsHostSession};
-ghost use Rattle.dn_host.specs.{Offers.hosted, Offers.terms_of, Offers.IsOffer, Outcomes.IsGame, Outcomes.is_refusal};
+ghost use Rattle.dn_host.specs.{Offers.hosted, Offers.IsOffer, Outcomes.IsGame, Outcomes.is_refusal};
 ghost use Rattle.dn_host.specs.declared.ends.HostFault.TheVariants as fault;
 
 use crate::ends::{HostFault, Outcome};
@@ -36,11 +36,11 @@ pub struct Hosting {
     pub settings: Settings,
 }
 
-/// What must be the same at all players then: a player who vanishes ends the game.
-fn terms_of(hosting: &Hosting) -> Terms
-    ensures { result ≡ terms_of hosting.now }
+/// What the session is made of, with these random bytes. A player who vanishes ends the game.
+fn hosted(plan: &Plan, hosting: &Hosting, random: [u8; 32]) -> HostConfig
+    ensures { result ≡ hosted plan.now hosting.now random }
 {
-    Terms {
+    let terms = Terms {
         players: hosting.players,
         extra: hosting.extra,
         ahead: hosting.ahead,
@@ -50,18 +50,12 @@ fn terms_of(hosting: &Hosting) -> Terms
         policy: Policy::End(SILENCE),
         identity: PROGRAM,
         own: [0; 256],
-    }
-}
-
-/// What the session is made of, with these random bytes.
-fn hosted(plan: &Plan, hosting: &Hosting, random: [u8; 32]) -> HostConfig
-    ensures { result ≡ hosted plan.now hosting.now random }
-{
+    };
     HostConfig {
         secret: plan.secret,
         random,
         name: [0; 16],
-        terms: terms_of(hosting),
+        terms,
     }
 }
 

@@ -24,4 +24,4 @@ pub use host::{Hosting, host_game};
 pub use plan::Plan;
 pub use screen::Screen;
 pub use system::{Os, System};
-pub use wire::{MOST, Udp, Wire, address_of};
+pub use wire::{ROOM, Udp, Wire, address_of};

@@ -1,6 +1,6 @@
 //! What a session tells while it goes on, and what of a joiner that waits.
 
-ghost use Rattle.std.specs.Prelude.{◌≡◌, ⊤};
+ghost use Rattle.std.specs.Prelude.{⊤};
 ghost use Rattle.dn_measure.specs.declared.status.Status.{Status as Standing};
 ghost use Rattle.dn_session.specs.declared.greeting.Refusal.{Refusal as Reason};
 ghost use Rattle.dn_host.specs.Telling.{TellsLobby, TellsMiss, TellsWait};
@@ -36,7 +36,7 @@ pub trait Screen {
 const QUIET: u32 = 10_000;
 
 /// What the screen was told of a joiner that waits.
-#[derive(Clone, Copy, Debug, PartialEq, Eq)]
+#[derive(Clone, Copy, Debug, Default, PartialEq, Eq)]
 pub(crate) struct Told {
     /// That it has no seat.
     waits: bool,
@@ -45,18 +45,6 @@ pub(crate) struct Told {
 }
 
 impl Told {
-    ghost use Rattle.std.specs.Prelude.{false};
-
-    /// Nothing; the session begins now.
-    pub(crate) fn nothing() -> Told
-        ensures { result ≡ record { waits = false; missed = 0 } }
-    {
-        Told {
-            waits: false,
-            missed: 0,
-        }
-    }
-
     /// Tells that it has no seat, if that is new.
     fn wait<S: Screen>(&mut self, joiner: &Joiner, screen: &mut S)
         ensures { TellsWait S.waits joiner.now self.old screen.old self.new screen.new }

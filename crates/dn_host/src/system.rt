@@ -11,16 +11,16 @@ use std::time::{Clock, Duration};
 /// For how long a session sleeps before it looks at its socket again, in microseconds.
 const NAP: u64 = 500;
 
-/// A clock and random bytes, as their own relations say.
+/// A clock, random bytes and naps, as their own relations say; where it has none, nothing is said of them.
 pub trait System {
     /// Its relation of a look at the clock: before, the time, if the clock can be read, after.
-    ghost reads: { Self → Option ℕ → Self → Type 0 };
+    ghost reads: { Self → Option ℕ → Self → Type 0 } = { λ before time after. ⊤ };
 
     /// Its relation of random bytes: before, the bytes, if there are any, after.
-    ghost draws: { Self → Option (List ℕ) → Self → Type 0 };
+    ghost draws: { Self → Option (List ℕ) → Self → Type 0 } = { λ before bytes after. ⊤ };
 
     /// Its relation of a nap: before and after.
-    ghost naps: { Self → Self → Type 0 };
+    ghost naps: { Self → Self → Type 0 } = { λ before after. ⊤ };
 
     /// What the clock shows, in microseconds, if it can be read.
     fn time(&mut self) -> Option<u64>
@@ -50,25 +50,15 @@ impl<'a, R> Os<'a, R> {
 
 /// Nothing is said of it, since `std` promises nothing of a clock and of random bytes.
 impl<R: Clock + RandomSource> System for Os<'_, R> {
-    ghost reads = { λ before time after. ⊤ };
-
-    ghost draws = { λ before bytes after. ⊤ };
-
-    ghost naps = { λ before after. ⊤ };
-
     fn time(&mut self) -> Option<u64> {
-        match self.rt.monotonic() {
-            Ok(time) => Some(u64::try_from(time.as_micros()).unwrap_or(u64::MAX)),
-            Err(_) => None,
-        }
+        let time = self.rt.monotonic().ok()?;
+        Some(u64::try_from(time.as_micros()).unwrap_or(u64::MAX))
     }
 
     fn draw(&mut self) -> Option<[u8; 32]> {
         let mut bytes = [0; 32];
-        match self.rt.fill_bytes(&mut bytes) {
-            Ok(()) => Some(bytes),
-            Err(_) => None,
-        }
+        self.rt.fill_bytes(&mut bytes).ok()?;
+        Some(bytes)
     }
 
     fn nap(&mut self) {

@@ -4,9 +4,9 @@ ghost use Rattle.std.specs.Prelude.{◌≡◌, IfErr, IfOk, Some, Err};
 ghost use Rattle.dn_host.specs.declared.ends.HostFault.TheVariants as fault;
 ghost use Rattle.dn_lockstep.specs.declared.config.NodeFault.{NodeFault};
 ghost use Rattle.dn_session.specs.Session.{begun_in, link_in, meeting, Begins};
-ghost use Rattle.dn_host.specs.{Outcomes.ended_at, Playing.millis, Telling.Shows};
+ghost use Rattle.dn_host.specs.{Outcomes.ended_at, Outcomes.IsLeftOf, Outcomes.SumsUp, Playing.InGame, Playing.millis, Telling.Shows, Telling.ShowsEach, Telling.Tells, Turns.IsTurn, Turns.Plays, Turns.Starts, Turns.new_turns, Turns.stage_of};
 
-use crate::ends::{Ending, HostFault, Outcome};
+use crate::ends::{Ending, HostFault, Outcome, end_of};
 use crate::game::Game;
 use crate::hearing::{hear_all, send_all};
 use crate::plan::Plan;
@@ -31,18 +31,7 @@ pub(crate) struct Turns {
     second: u64,
 }
 
-/// Tells the screen how a game stands, if its session has a link.
-fn show_game<S: Screen>(game: &mut Game, session: &Session, screen: &mut S, now: u64)
-    ensures { Shows S.shows now (link_in (meeting session.now).part) game.old screen.old game.new screen.new }
-{
-    if let Some(link) = session.link() {
-        screen.show(&game.status(link, now));
-    }
-}
-
 impl Turns {
-    ghost use Rattle.dn_host.specs.{Outcomes.IsLeftOf, Outcomes.SumsUp, Playing.InGame, Telling.ShowsEach, Telling.Tells, Turns.IsTurn, Turns.Plays, Turns.Starts, Turns.new_turns, Turns.stage_of};
-
     /// Of a session that begins now.
     pub(crate) fn new(session: Session, plan: &Plan) -> Turns
         ensures { result ≡ new_turns session plan.now }
@@ -51,7 +40,7 @@ impl Turns {
             session,
             plan: *plan,
             game: None,
-            told: Told::nothing(),
+            told: Told::default(),
             second: 0,
         }
     }
@@ -94,7 +83,9 @@ impl Turns {
         ensures rest { self.new ≡ record self.old { game = self.new.game } }
     {
         if let Some(game) = &mut self.game {
-            show_game(game, &self.session, screen, now);
+            if let Some(link) = self.session.link() {
+                screen.show(&game.counts.status(link, game.waiting, now));
+            }
         }
     }
 
@@ -129,7 +120,7 @@ impl Turns {
         match (self.session.over()?, &self.game) {
             (Over::Refused(refusal), _) => Some(Ending::Refused(refusal)),
             (Over::Hinted(hint), _) => Some(Ending::Hinted(hint)),
-            (Over::Ended(ending), Some(game)) => Some(Ending::Ended(game.end_as(ending))),
+            (Over::Ended(end), Some(game)) => Some(Ending::Ended(game.end.unwrap_or(end_of(end)))),
             (Over::Ended(_), None) => None,
         }
     }
@@ -163,10 +154,7 @@ impl Turns {
             (link_in (meeting self.now.session).part) result }
     {
         let begun = self.session.begun()?;
-        let game = match &self.game {
-            Some(game) => game,
-            None => return None,
-        };
+        let game = self.game.as_ref()?;
         let link = self.session.link()?;
         let end = game.left.unwrap_or(now);
         Some(game.counts.summary(link, end, begun.terms.rate))
@@ -178,10 +166,9 @@ impl Turns {
             → IsLeftOf now (meeting self.session) self.game result }
     {
         let summary = self.summary(now);
-        let Turns { session, .. } = self;
         Outcome {
             ending,
-            link: session.into_link(),
+            link: self.session.into_link(),
             summary,
         }
     }

@@ -10,15 +10,15 @@ use std::io;
 use std::net::{IpAddr, Ipv4Addr, Ipv6Addr, Net, SocketAddr, UdpSocket};
 
 /// The most bytes that are read of a datagram: one more than a link's has, so a longer one is none.
-pub const MOST: usize = 1201;
+pub const ROOM: usize = 1201;
 
 /// Carries datagrams to addresses. It may lose, repeat, delay and reorder them, as its own relations say.
 pub trait Wire {
     /// Its relation of a poll: before, where the datagram that came is from and its bytes, after.
-    ghost polls: { Self → Option (Place × List ℕ) → Self → Type 0 };
+    ghost polls: { Self → Option (Place × List ℕ) → Self → Type 0 } = { λ before came after. ⊤ };
 
     /// Its relation of a send: before, where to, the bytes, after.
-    ghost sends: { Self → Place → List ℕ → Self → Type 0 };
+    ghost sends: { Self → Place → List ℕ → Self → Type 0 } = { λ before to bytes after. ⊤ };
 
     /// Sends a datagram. One that cannot be sent is lost.
     fn send(&mut self, to: &Address, bytes: &[u8])
@@ -90,33 +90,18 @@ fn bound(rt: &impl Net, place: SocketAddr) -> io::Result<UdpSocket> {
     Ok(socket)
 }
 
-/// The IPv6 address in an address.
-fn wide_ip(bytes: &[u8; 32]) -> IpAddr
-    ensures { ip_bytes result ≡ take 16 bytes.now }
-{
-    let mut ip = [0; 16];
-    ip.copy_from_slice(&bytes[..16]);
-    IpAddr::V6(Ipv6Addr::from_octets(ip))
-}
-
-/// The IPv4 address that may be mapped into an address.
-fn narrow_ip(bytes: &[u8; 32]) -> IpAddr
-    ensures { ip_bytes result ≡ mapped (take 4 (drop 12 bytes.now)) }
-{
-    let mut ip = [0; 4];
-    ip.copy_from_slice(&bytes[12..16]);
-    IpAddr::V4(Ipv4Addr::from_octets(ip))
-}
-
 /// The IP address in an address, for a socket that is wide, or for one that is not.
 fn ip_in(bytes: &[u8; 32], wide: bool) -> IpAddr
     ensures { ip_bytes result ≡ (if wide then take 16 bytes.now else mapped (take 4 (drop 12 bytes.now))) }
 {
     if wide {
-        wide_ip(bytes)
-    } else {
-        narrow_ip(bytes)
+        let mut ip = [0; 16];
+        ip.copy_from_slice(&bytes[..16]);
+        return IpAddr::V6(Ipv6Addr::from_octets(ip));
     }
+    let mut ip = [0; 4];
+    ip.copy_from_slice(&bytes[12..16]);
+    IpAddr::V4(Ipv4Addr::from_octets(ip))
 }
 
 /// The port in an address.
@@ -133,14 +118,11 @@ impl Udp {
     /// is bound to. `places` has the two places that are tried, in this order.
     pub fn bind(rt: &impl Net, port: u16) -> io::Result<Udp> {
         let [wide, narrow] = places(port);
-        if let Ok(socket) = bound(rt, wide) {
-            return Ok(Udp { socket, wide: true });
-        }
-        let socket = bound(rt, narrow)?;
-        Ok(Udp {
-            socket,
-            wide: false,
-        })
+        let (socket, wide) = match bound(rt, wide) {
+            Ok(socket) => (socket, true),
+            Err(_) => (bound(rt, narrow)?, false),
+        };
+        Ok(Udp { socket, wide })
     }
 
     /// Where an address is, for this socket; None if it is no socket's, or of IPv6 where only IPv4 is spoken.
@@ -160,10 +142,6 @@ impl Udp {
 
 /// Nothing is said of the network.
 impl Wire for Udp {
-    ghost polls = { λ before came after. ⊤ };
-
-    ghost sends = { λ before to bytes after. ⊤ };
-
     fn send(&mut self, to: &Address, bytes: &[u8]) {
         if let Some(place) = self.place_of(to) {
             let _ = self.socket.send_to(bytes, place);
@@ -171,9 +149,7 @@ impl Wire for Udp {
     }
 
     fn poll(&mut self, room: &mut [u8]) -> Option<(Address, usize)> {
-        match self.socket.recv_from(room) {
-            Ok((count, from)) => Some((address_of(from), count)),
-            Err(_) => None,
-        }
+        let (count, from) = self.socket.recv_from(room).ok()?;
+        Some((address_of(from), count))
     }
 }

@@ -1,5 +1,17 @@
+use Rattle.std.proofs.Common.{Ok, inl, subst}
+use Rattle.dn_session.specs.{declared.joiner.JoinConfig.JoinConfig, Session.IsJoinSession}
 use Rattle.dn_host.proofs.Hosts.{linked}
 use Rattle.dn_host.proofs.guest.join_game.Goals as goal
+
+pub returns-in-Ok-clause-played : goal.returns-in-Ok-clause-played
+returns-in-Ok-clause-played g c = inl (
+  c.in-Some.random,
+  c.draw.new.self,
+  c.in-Some.ensures,
+  c.in-Ok.session,
+  subst (λ (config : JoinConfig). IsJoinSession config 0 (Ok c.in-Ok.session)) c.joining.ensures c.in-Ok.ensures.made,
+  c.play.ensures.played,
+)
 
 pub returns-in-Ok-clause-linked : goal.returns-in-Ok-clause-linked
 returns-in-Ok-clause-linked g c =

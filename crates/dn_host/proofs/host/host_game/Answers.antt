@@ -1,7 +1,17 @@
-use Rattle.std.proofs.Common.{ap}
-use Rattle.dn_session.specs.Session.{Meeting}
+use Rattle.std.proofs.Common.{Ok, ap, inl, subst}
+use Rattle.dn_session.specs.{declared.host.HostConfig.HostConfig, Session.IsHostSession, Session.Meeting}
 use Rattle.dn_host.proofs.Hosts.{host_linked, is_host, seated}
 use Rattle.dn_host.proofs.host.host_game.Goals as goal
+
+pub returns-in-Ok-clause-played : goal.returns-in-Ok-clause-played
+returns-in-Ok-clause-played g c = inl (
+  c.in-Some.random,
+  c.draw.new.self,
+  c.in-Some.ensures,
+  c.in-Ok.session,
+  subst (λ (config : HostConfig). IsHostSession config (Ok c.in-Ok.session)) c.hosted.ensures c.in-Ok.ensures.made,
+  c.play.ensures.played,
+)
 
 pub returns-in-Ok-clause-seated : goal.returns-in-Ok-clause-seated
 returns-in-Ok-clause-seated g c =

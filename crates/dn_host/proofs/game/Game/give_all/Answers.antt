@@ -11,16 +11,18 @@ pub loop-given-preserved : goal.loop-given-preserved
 loop-given-preserved c =
     let below : c.loop-given.given < 32 = search rules in
     λ b m all rest. c.loop-given.invariant b m all
-    (done_again (Gives c.args.now) 32 c.loop-given.given c.loop-given.self (meeting c.loop-given.session) c.give_next.result c.give_next.new.self
-    (meeting c.give_next.new.session) below c.if-not-give_next.false c.give_next.ensures b m all rest)
+    (done_again (Gives c.args.now) 32 c.loop-given.given c.loop-given.self (meeting c.loop-given.session) c.give-was_due.result c.note.new.self
+    (meeting c.give-was_due.new.session) below c.if-not-was_due.false
+    (c.give-was_due.new.self, c.give-was_due.ensures.gives, c.give-was_due.ensures.due, c.give-was_due.ensures.rest, c.note.ensures) b m all rest)
 
-pub returns-then-not-give_next : goal.returns-then-not-give_next
-returns-then-not-give_next c =
+pub returns-then-not-was_due : goal.returns-then-not-was_due
+returns-then-not-was_due c =
     let below : c.loop-given.given < 32 = search rules in (
       false,
-      c.loop-given.invariant c.give_next.new.self (meeting c.give_next.new.session) false
-          (not_done (Gives c.args.now) 32 c.loop-given.given c.loop-given.self (meeting c.loop-given.session) c.give_next.result c.give_next.new.self
-          (meeting c.give_next.new.session) below c.if-not-give_next.true c.give_next.ensures),
+      c.loop-given.invariant c.note.new.self (meeting c.give-was_due.new.session) false
+          (not_done (Gives c.args.now) 32 c.loop-given.given c.loop-given.self (meeting c.loop-given.session) c.give-was_due.result c.note.new.self
+          (meeting c.give-was_due.new.session) below c.if-not-was_due.true
+          (c.give-was_due.new.self, c.give-was_due.ensures.gives, c.give-was_due.ensures.due, c.give-was_due.ensures.rest, c.note.ensures)),
     )
 
 pub returns : goal.returns

@@ -11,16 +11,18 @@ pub loop-ran-preserved : goal.loop-ran-preserved
 loop-ran-preserved c =
     let below : c.loop-ran.ran < 32 = search rules in
     λ b m all rest. c.loop-ran.invariant b m all
-    (done_again (Runs c.args.now) 32 c.loop-ran.ran c.loop-ran.self (meeting c.loop-ran.session) c.run_next.result c.run_next.new.self
-    (meeting c.run_next.new.session) below c.if-not-run_next.false c.run_next.ensures b m all rest)
+    (done_again (Runs c.args.now) 32 c.loop-ran.ran c.loop-ran.self (meeting c.loop-ran.session) c.run-has_run.result c.note.new.self
+    (meeting c.run-has_run.new.session) below c.if-not-has_run.false
+    (c.run-has_run.new.self, c.run-has_run.ensures.runs, c.run-has_run.ensures.rest, c.note.ensures) b m all rest)
 
-pub returns-then-not-run_next : goal.returns-then-not-run_next
-returns-then-not-run_next c =
+pub returns-then-not-has_run : goal.returns-then-not-has_run
+returns-then-not-has_run c =
     let below : c.loop-ran.ran < 32 = search rules in (
       false,
-      c.loop-ran.invariant c.run_next.new.self (meeting c.run_next.new.session) false
-          (not_done (Runs c.args.now) 32 c.loop-ran.ran c.loop-ran.self (meeting c.loop-ran.session) c.run_next.result c.run_next.new.self
-          (meeting c.run_next.new.session) below c.if-not-run_next.true c.run_next.ensures),
+      c.loop-ran.invariant c.note.new.self (meeting c.run-has_run.new.session) false
+          (not_done (Runs c.args.now) 32 c.loop-ran.ran c.loop-ran.self (meeting c.loop-ran.session) c.run-has_run.result c.note.new.self
+          (meeting c.run-has_run.new.session) below c.if-not-has_run.true
+          (c.run-has_run.new.self, c.run-has_run.ensures.runs, c.run-has_run.ensures.rest, c.note.ensures)),
     )
 
 pub returns : goal.returns

@@ -1,16 +1,9 @@
-use Rattle.std.proofs.Common.{◌≡◌, ◌++◌, ℕ, Bool, true, false, List, length, take, drop, replicate, ap, sym, refl, rules, ◌∙◌}
-use Rattle.std.specs.Prelude.{if◌then◌else◌}
+use Rattle.std.proofs.Common.{◌≡◌, ◌++◌, ℕ, List, length, take, drop, replicate, ap, sym, refl, rules, ◌∙◌}
 use Rattle.std.specs.{Cmp.Lexicographic.other_text, Int.to_be_bytes, Int.w16, Net.Socket.socket_ip, Net.Socket.socket_port}
 use Rattle.dn_session.specs.declared.greeting.Address.{Address}
-use Rattle.dn_host.specs.Addresses.{ip_bytes, mapped}
-use Rattle.dn_host.proofs.Sockets.{joined}
+use Rattle.dn_host.specs.Addresses.{ip_bytes}
+use Rattle.dn_host.proofs.Sockets.{joined, wide_is}
 use Rattle.dn_host.proofs.wire.Udp.place_of.Goals as goal
-
--- the IP address for a wide socket
-wide_is : (wide : Bool) (bytes : List ℕ) → wide ≡ true
-    → (if wide then take 16 bytes else mapped (take 4 (drop 12 bytes))) ≡ take 16 bytes
-wide_is true bytes is = refl
-wide_is false bytes is = absurd (cc)
 
 abbrev of_bytes : List ℕ → Address
 of_bytes bytes = record { bytes = bytes }
