@@ -1,0 +1,127 @@
+/* The limit: what the best of all lockstep games could do on the line. Four times a tick each player tells each
+ * other one all commands of all players that it has, by datagrams that need no uplink, and all clocks agree. So
+ * its tics and gaps are a limit. Its keys are one too, but for some time after a standstill: its players stay as
+ * far ahead of each other as they came to be. */
+#include "game.h"
+#include <string.h>
+
+/* how often a tick it sends, the tick itself counted in */
+enum { SENDS = 4 };
+/* so many ticks that were missed are made up for */
+enum { MISSED = 8 };
+/* What is heard once a tick is heard behind the tick. */
+static const double BEHIND = 1e-3;
+
+typedef struct player {
+    int ran, owes;
+    int has[PLAYERS]; /* how many commands of each it has; of its own, has made */
+    double next; /* when its clock ticks */
+} player;
+
+/* what the sender has */
+typedef struct telling {
+    datagram head;
+    int has[PLAYERS];
+} telling;
+
+static player players[PLAYERS];
+
+static void open(game *g) {
+    memset(players, 0, sizeof players);
+    for (int me = 0; me < g->on->players; me++) {
+        players[me].next = BEGIN_TIME + g->on->behind[me];
+        game_wait(g, players[me].next, TICK, me, 0);
+    }
+}
+
+static void send_all(game *g, int me) {
+    telling t;
+    memset(&t, 0, sizeof t);
+    t.head.from = me;
+    t.head.size = sizeof t;
+    memcpy(t.has, players[me].has, sizeof t.has);
+    for (int to = 0; to < g->on->players; to++) {
+        t.head.to = to;
+        if (to != me) game_send(g, &t.head);
+    }
+}
+
+static int make(game *g, int me) {
+    player *p = &players[me];
+    if (p->has[me] - p->ran >= g->on->window) return 0;
+    record_command(&g->records[me], p->has[me]++);
+    return 1;
+}
+
+static int catch_up(game *g, int me) {
+    player *p = &players[me];
+    if (!p->owes || !make(g, me)) return 0;
+    p->owes = 0;
+    return 1;
+}
+
+static int is_next_here(const game *g, const player *p) {
+    for (int q = 0; q < g->on->players; q++)
+        if (p->has[q] <= p->ran) return 0;
+    return 1;
+}
+
+static void run_all(game *g, int me) {
+    player *p = &players[me];
+    while (game_can_run(g, me) && is_next_here(g, p)) game_run(g, me, p->ran++);
+}
+
+/* Runs what it can, and makes what it owes, as long as one lets it do the other. */
+static void go_on(game *g, int me) {
+    run_all(g, me);
+    while (catch_up(g, me)) {
+        send_all(g, me);
+        run_all(g, me);
+    }
+}
+
+static void tick(game *g, int me) {
+    player *p = &players[me];
+    double due = p->next;
+    record_tick(&g->records[me], g->now);
+    catch_up(g, me);
+    p->owes = !make(g, me);
+    p->next = due + TICK_TIME;
+    send_all(g, me);
+    go_on(g, me);
+    if (p->next < g->now - MISSED * TICK_TIME) p->next = g->now;
+    for (int k = 1; k < SENDS; k++) {
+        double at = due + TICK_TIME * k / SENDS;
+        game_wait(g, at > g->now ? at : g->now, DUE, me, 0);
+    }
+    game_wait(g, p->next, TICK, me, 0);
+}
+
+static void hear(game *g, int me, const telling *t) {
+    player *p = &players[me];
+    for (int q = 0; q < g->on->players; q++)
+        if (q != me && t->has[q] > p->has[q]) p->has[q] = t->has[q];
+    go_on(g, me);
+}
+
+static void hear_later(game *g, const datagram *d) {
+    double next = players[d->to].next;
+    double at = machine_ready(&g->machines[d->to], next > g->now ? next : g->now);
+    game_bring(g, at + BEHIND, HEARING, d);
+}
+
+static void happen(game *g, const event *e) {
+    switch (e->kind) {
+    case TICK: tick(g, e->player); break;
+    case DUE: send_all(g, e->player); break;
+    case ARRIVAL:
+        if (g->on->hears_once) hear_later(g, e->datagram);
+        else hear(g, e->player, (const telling *)(const void *)e->datagram);
+        break;
+    case HEARING: hear(g, e->player, (const telling *)(const void *)e->datagram); break;
+    }
+}
+
+static void close(game *g) { (void)g; }
+
+const netcode LIMIT = { "limit", open, happen, close, 1 };
