@@ -1,5 +1,5 @@
-/* The commands that one end of the stock netcode awaits from another: a ring from the first that is missing on,
- * and what it asks for again. */
+/* The commands that one end of the stock netcode awaits from another: a ring from the first that
+ * is missing on, and what it asks for again. */
 #ifndef AWAITED_H
 #define AWAITED_H
 
@@ -26,8 +26,8 @@ int awaited_has(const awaited *a, int tic);
 void awaited_pass(awaited *a);
 /* What is missing before these, back to what is there or was asked for. It is asked for now. */
 tics awaited_missing(awaited *a, tics came, double now);
-/* The first tics from this one on that were asked for too long ago and did not come. They are asked for
- * again now. */
+/* The first tics from this one on that were asked for too long ago and did not come. They are
+ * asked for again now. */
 tics awaited_overdue(awaited *a, int from, double now);
 /* These are asked for now. */
 void awaited_ask(awaited *a, tics missing, double now);

@@ -14,8 +14,8 @@ typedef struct bursts {
     size_t count, places;
 } bursts;
 
-/* Draws them until this time: they make up such a share of it, and last so long on average, as in the model
- * of Gilbert and Elliott, in time in place of datagrams. */
+/* Draws them until this time: they make up such a share of it, and last so long on average, as
+ * in the model of Gilbert and Elliott, in time in place of datagrams. */
 void bursts_draw(bursts *b, uint64_t mixed, double share, double length, double until);
 int bursts_have(const bursts *b, double time);
 void bursts_free(bursts *b);

@@ -8,7 +8,8 @@ enum { MOST = 4 };
 
 typedef enum number_kind { NONE, NUMBER, PERCENT, WHOLE } number_kind;
 
-/* A word sets so many fields, in this order; numbers that are left out leave their fields as they are. */
+/* A word sets so many fields, in this order; numbers that are left out leave their fields as
+ * they are. */
 typedef struct field {
     number_kind kind;
     size_t at;
@@ -36,9 +37,11 @@ static const word WORDS[] = {
     { "pair", { FIELD(WHOLE, pair[0]), FIELD(WHOLE, pair[1]), FIELD(PERCENT, pair_loss),
         FIELD(NUMBER, pair_delay) } },
     { "cut", { FIELD(WHOLE, cut[0]), FIELD(WHOLE, cut[1]) } },
-    { "outage", { FIELD(NUMBER, outage), FIELD(NUMBER, outage_every), FIELD(WHOLE, outage_player) } },
+    { "outage", { FIELD(NUMBER, outage), FIELD(NUMBER, outage_every),
+        FIELD(WHOLE, outage_player) } },
     { "queue", { FIELD(NUMBER, queue) } },
-    { "traffic", { FIELD(NUMBER, traffic), FIELD(NUMBER, traffic_every), FIELD(WHOLE, traffic_player) } },
+    { "traffic", { FIELD(NUMBER, traffic), FIELD(NUMBER, traffic_every),
+        FIELD(WHOLE, traffic_player) } },
     { "batch", { FIELD(NUMBER, batch), FIELD(WHOLE, batch_player) } },
     { "once", { FIELD(WHOLE, hears_once) } },
     { "hitch", { FIELD(NUMBER, hitch), FIELD(NUMBER, hitch_every), FIELD(WHOLE, hitch_player) } },
@@ -124,7 +127,8 @@ int conditions_read(conditions *c, const char *text) {
     const word *w;
     int player;
     if (length < 2) return 0;
-    if ((w = find(WORDS, COUNT(WORDS), text, length)) != NULL) return read_numbers(c, w, 0, equals + 1);
+    w = find(WORDS, COUNT(WORDS), text, length);
+    if (w) return read_numbers(c, w, 0, equals + 1);
     if (read_shared(c, text, length, equals + 1)) return 1;
     player = equals[-1] - '0';
     w = find(OWN_WORDS, COUNT(OWN_WORDS), text, length - 1);

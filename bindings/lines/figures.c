@@ -7,7 +7,7 @@
 static const double GAP = 100;
 /* keys are pressed so often, to measure */
 static const double PRESS = 5;
-static const double TEN_SECONDS = 10000;
+static const double TEN_SECONDS = 10000, JUST_AFTER = 1e-9;
 
 typedef struct times {
     double *all;
@@ -48,24 +48,26 @@ static void add_tics(figures *f, const game *g, const record *r) {
     note_gap(f, g->until - last);
 }
 
-/* How many tics were run from a time on, for ten seconds; and the next time at which one less would be. */
+/* The fewest tics a second in ten seconds on end: those that begin with the measuring, and those
+ * that begin behind a tic. */
 static double slowest_of(const game *g, const record *r) {
-    double most = g->until - g->from < TEN_SECONDS ? g->until - g->from : TEN_SECONDS;
-    int first = 0, end = 0, fewest = r->tics;
-    while (first < r->ran && first < r->tics && r->ran_at[first] < g->from) first++;
-    for (double from = g->from; from + most <= g->until; end = end < first ? first : end) {
-        while (end < r->ran && end < r->tics && r->ran_at[end] < from + most) end++;
+    double length = g->until - g->from < TEN_SECONDS ? g->until - g->from : TEN_SECONDS;
+    double from = g->from;
+    int run = r->ran < r->tics ? r->ran : r->tics, first = 0, end = 0, fewest = run;
+    while (first < run && r->ran_at[first] < from) first++;
+    while (from + length <= g->until) {
+        while (end < run && r->ran_at[end] < from + length) end++;
         if (end - first < fewest) fewest = end - first;
-        if (first >= r->ran || first >= r->tics) break;
-        from = r->ran_at[first++] + 1e-9;
+        if (first == run) break;
+        from = r->ran_at[first++] + JUST_AFTER;
     }
-    return fewest / (most / 1000);
+    return fewest * 1000 / length;
 }
 
 /* ---- Keys ---- */
 
-/* How long after this time the player ran the command of the presser's tick; if it did not, the rest of the
- * game. */
+/* How long after this time the player ran the command of the presser's tick; if it did not, the
+ * rest of the game. */
 static double felt_after(const game *g, int presser, int tick, int player, double time) {
     int command = g->records[presser].command_of[tick];
     const record *r = &g->records[player];
@@ -139,7 +141,8 @@ figures figures_mean(const figures players[PLAYERS], const figures *all, int cou
 }
 
 void figures_print(const figures *f) {
-    printf("tics %.2f gaps %.1f gap-seconds %.2f longest %.0f", f->tics, f->gaps, f->gap_seconds, f->longest);
-    printf(" key %.0f key-99 %.0f others %.0f others-99 %.0f", f->key, f->key_99, f->others, f->others_99);
+    printf("tics %.2f gaps %.1f gap-seconds %.2f", f->tics, f->gaps, f->gap_seconds);
+    printf(" longest %.0f key %.0f key-99 %.0f", f->longest, f->key, f->key_99);
+    printf(" others %.0f others-99 %.0f", f->others, f->others_99);
     printf(" sent %.2f datagrams %.0f slowest %.1f\n", f->sent, f->datagrams, f->slowest);
 }

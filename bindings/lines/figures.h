@@ -4,9 +4,9 @@
 
 #include "game.h"
 
-/* Of a player, or of all. A gap is a time of more than 100 ms between two tics. A key is pressed at any time,
- * looked at with the next tick, and felt when the tic of its command is run: at who pressed it, or at the
- * others. Times are in milliseconds. */
+/* Of a player, or of all. A gap is a time of more than 100 ms between two tics. A key is pressed
+ * at any time, looked at with the next tick, and felt when the tic of its command is run: at who
+ * pressed it, or at the others. Times are in milliseconds. */
 typedef struct figures {
     double tics;              /* a second */
     double gaps, gap_seconds; /* a minute */
@@ -19,8 +19,8 @@ typedef struct figures {
 
 /* Adds those of a game to sums, one for each player and one for all. */
 void figures_add(figures players[PLAYERS], figures *all, const game *g);
-/* Of so many games: means, but for the slowest. Of keys and of what is sent it is the player for whom it is
- * most, and of the longest time the mean of the games' longest. */
+/* Of so many games: means, but for the slowest. Of keys and of what is sent it is the player for
+ * whom it is most, and of the longest time the mean of the games' longest. */
 figures figures_mean(const figures players[PLAYERS], const figures *all, int count, int games);
 void figures_print(const figures *f);
 

@@ -13,16 +13,15 @@
 
 struct game;
 
-/* A kind of players. Of all calls but the first only the player's own `happen` is told of its events: its
- * machine is ready, and the datagram is the game's. */
+/* A netcode: how its players begin, and what they do when something happens to one of them,
+ * whose machine is ready then. The event's datagram stays the game's. is_ideal: datagrams need
+ * no uplink. */
 typedef struct netcode {
     const char *name;
-    /* makes the players, who wait for their first events */
+    int is_ideal;
     void (*open)(struct game *g);
     void (*happen)(struct game *g, const event *e);
     void (*close)(struct game *g);
-    /* their clocks do not drift, and their datagrams need no uplink */
-    int is_ideal;
 } netcode;
 extern const netcode LIMIT, STOCK, SESSIONS;
 
@@ -31,8 +30,8 @@ typedef struct game {
     const netcode *net;
     uint64_t seed;
     double now;
-    /* From when on it is measured, and until when, and the end of the game. All are later than any time until
-     * all have run a tic. */
+    /* From when on it is measured, and until when, and the end of the game. All are later than
+     * any time until all have run a tic. */
     double from, until, end;
     queue queue;
     line line;
@@ -55,7 +54,7 @@ void game_send(game *g, const datagram *d);
 /* The player runs a tic, if its machine does not load a level. */
 int game_can_run(const game *g, int player);
 void game_run(game *g, int player, int tic);
-/* The player's clock is so far, in milliseconds, when simulated time is. */
+/* How far the player's clock goes in such a time. */
 double game_clock(const game *g, int player, double time);
 
 #endif

@@ -1,7 +1,7 @@
-/* The limit: what the best of all lockstep games could do on the line. Four times a tick each player tells each
- * other one all commands of all players that it has, by datagrams that need no uplink, and all clocks agree. So
- * its tics and gaps are a limit. Its keys are one too, but for some time after a standstill: its players stay as
- * far ahead of each other as they came to be. */
+/* The limit: what the best of all lockstep games could do on the line. Four times a tick each
+ * player tells each other one all commands of all players that it has, by datagrams that need no
+ * uplink, and all clocks agree. So its tics and gaps are a limit. Its keys are one too, but for
+ * some time after a standstill: its players stay as far ahead of each other as they came to be. */
 #include "game.h"
 #include <string.h>
 
@@ -124,4 +124,4 @@ static void happen(game *g, const event *e) {
 
 static void close(game *g) { (void)g; }
 
-const netcode LIMIT = { "limit", open, happen, close, 1 };
+const netcode LIMIT = { "limit", 1, open, happen, close };

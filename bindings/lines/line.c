@@ -4,7 +4,8 @@
 #include <math.h>
 #include <string.h>
 
-/* The fate of a datagram is drawn anew each eighth of a millisecond; in order, the delay each 28.6 ms. */
+/* The fate of a datagram is drawn anew each eighth of a millisecond; in order, the delay each
+ * 28.6 ms. */
 static const double DRAWS = 8, ORDER_STEP = 28.5714;
 /* a delay of the tail is no longer */
 static const double TAIL_MOST = 1000;
@@ -80,7 +81,8 @@ static double drawn_delay(const line *l, const sending *s, uint64_t moment, uint
     return more + (tail > TAIL_MOST ? TAIL_MOST : tail);
 }
 
-/* A delay as a function of time that keeps the order: what was drawn at the last steps is waited out. */
+/* A delay as a function of time that keeps the order: what was drawn at the last steps is waited
+ * out. */
 static double ordered_delay(const line *l, const sending *s) {
     enum { STEPS = 60 };
     long last = (long)floor(s->time / ORDER_STEP);

@@ -1,6 +1,6 @@
-/* The line between players: whether a datagram is lost, and when it comes. Both are functions of the seed, of
- * who sends it to whom and of when; so all who play on a line of a seed meet the same one. Only the queue of
- * an uplink depends on what else was sent. */
+/* The line between players: whether a datagram is lost, and when it comes. Both are functions of
+ * the seed, of who sends it to whom and of when; so all who play on a line of a seed meet the
+ * same one. Only the queue of an uplink depends on what else was sent. */
 #ifndef LINE_H
 #define LINE_H
 
@@ -18,8 +18,8 @@ typedef struct line {
     double uplink_free[PLAYERS];
 } line;
 
-/* What is sent. length: without HEADERS. copy: 0, or 1 for the second of one that comes twice. free: it
- * passes by the uplink. */
+/* What is sent. length: without HEADERS. copy: 0, or 1 for the second of one that comes twice.
+ * free: it passes by the uplink. */
 typedef struct sending {
     int from, to, copy, free;
     double time;

@@ -1,6 +1,7 @@
 /* The lobby of a game of sessions: on a good line, before simulated time begins. */
 #include "chance.h"
 #include "must.h"
+#include "post.h"
 #include "sessions.h"
 #include <stdlib.h>
 #include <string.h>
@@ -10,15 +11,6 @@ enum { HOST = 0, KEY = 9 };
 static const uint32_t PATIENCE = 60000;
 /* how many bytes a demo may have */
 static const uint32_t DEMO = 1 << 22;
-
-zmg_address address_of(int player) {
-    zmg_address a;
-    memset(&a, 0, sizeof a);
-    a.bytes[0] = (uint8_t)(player + 1);
-    return a;
-}
-
-int player_at(const zmg_address *address) { return address->bytes[0] - 1; }
 
 static void fill(uint8_t random[32], uint64_t seed, int player) {
     for (int k = 0; k < 32; k++)
@@ -40,7 +32,7 @@ static void host(const game *g, zmg_session *session) {
 static void join(const game *g, zmg_session *session, int player) {
     zmg_join_config c;
     zmg_join_config_init(&c);
-    c.host = address_of(HOST);
+    c.host = post_address(HOST);
     c.seat = (uint8_t)player;
     c.key[0] = KEY;
     fill(c.random, g->seed, player);
@@ -54,23 +46,17 @@ static double comes(const game *g, int to, uint32_t now) {
 
 static void send_all(const game *g, seat seats[PLAYERS], queue *q, int me, uint32_t now) {
     session_datagram d;
-    zmg_address to;
-    memset(&d, 0, sizeof d);
-    d.head.size = sizeof d;
-    d.head.from = me;
-    while ((d.head.length = zmg_session_transmit(&seats[me].session, &to, d.bytes, sizeof d.bytes))) {
-        event e = { 0, ARRIVAL, player_at(&to), 0, NULL, 0 };
-        e.at = comes(g, e.player, now);
+    while (post_next(&seats[me].session, me, &d)) {
+        event e = { 0, ARRIVAL, d.head.to, 0, NULL, 0 };
+        e.at = comes(g, d.head.to, now);
         e.datagram = datagram_copy(&d.head);
         queue_push(q, e);
     }
 }
 
 static void hear(const game *g, seat seats[PLAYERS], queue *q, const event *e) {
-    const session_datagram *d = (const void *)e->datagram;
-    zmg_address from = address_of(d->head.from);
     uint32_t now = (uint32_t)e->at;
-    zmg_session_receive(&seats[e->player].session, &from, d->bytes, d->head.length, now);
+    post_hear(&seats[e->player].session, e->datagram, now);
     send_all(g, seats, q, e->player, now);
 }
 

@@ -1,4 +1,5 @@
-/* What is noted of a player: when it ticked, which command that made, when it ran each tic, what it sent. */
+/* What is noted of a player: when it ticked, which command that made, when it ran each tic, what
+ * it sent. */
 #ifndef RECORD_H
 #define RECORD_H
 

@@ -2,12 +2,13 @@
 #include "sessions.h"
 #include "hand.h"
 #include "must.h"
+#include "post.h"
 #include <math.h>
 #include <stdlib.h>
 #include <string.h>
 
-/* A session's clock has whole milliseconds: it is asked this much after one has begun, and no earlier than
- * the next one again. */
+/* A session's clock has whole milliseconds: it is asked this much after one has begun, and no
+ * earlier than the next one again. */
 static const double JUST_AFTER = 1e-6, MILLISECOND = 1;
 
 static seat seats[PLAYERS];
@@ -44,11 +45,7 @@ static void sleep(game *g, int me) {
 
 static void send_all(game *g, int me) {
     session_datagram d;
-    zmg_address to;
-    d.head.size = sizeof d;
-    d.head.from = me;
-    while ((d.head.length = zmg_session_transmit(&seats[me].session, &to, d.bytes, sizeof d.bytes))) {
-        d.head.to = player_at(&to);
+    while (post_next(&seats[me].session, me, &d)) {
         must(d.head.to >= 0 && d.head.to < g->on->players, "a datagram goes to a player");
         game_send(g, &d.head);
     }
@@ -95,9 +92,7 @@ static int run(game *g, int me) {
 }
 
 static void hear(game *g, int me, const datagram *d) {
-    const session_datagram *came = (const void *)d;
-    zmg_address from = address_of(d->from);
-    zmg_session_receive(&seats[me].session, &from, came->bytes, d->length, clock_of(g, me));
+    post_hear(&seats[me].session, d, clock_of(g, me));
     send_all(g, me);
 }
 
@@ -165,4 +160,4 @@ static void close(game *g) {
     }
 }
 
-const netcode SESSIONS = { "sessions", open, happen, close, 0 };
+const netcode SESSIONS = { "sessions", 0, open, happen, close };

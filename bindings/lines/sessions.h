@@ -6,14 +6,8 @@
 #include "world.h"
 #include "zirmegat.h"
 
-/* A datagram of a session. It is as long as head.length says. */
-typedef struct session_datagram {
-    datagram head;
-    uint8_t bytes[ZMG_SESSION_SIZE];
-} session_datagram;
-
-/* A player. ticks: how many commands it gave. wakes: when it wakes next, by the event of this number; earlier
- * ones are void. inbox: what came and was not heard yet. */
+/* A player. ticks: how many commands it gave. wakes: when it wakes next, by the event of this
+ * number; earlier ones are void. inbox: what came and was not heard yet. */
 typedef struct seat {
     zmg_session session;
     world world;
@@ -23,11 +17,8 @@ typedef struct seat {
     queue inbox;
 } seat;
 
-/* Where a player is, and who is there. */
-zmg_address address_of(int player);
-int player_at(const zmg_address *address);
-/* Makes the sessions of a game, and lets them meet on a line that loses nothing. Returns how far their clocks
- * are, in milliseconds, when the game has begun for all. */
+/* Makes the sessions of a game, and lets them meet on a line that loses nothing. Returns how far
+ * their clocks are, in milliseconds, when the game has begun for all. */
 uint32_t lobby_pass(const game *g, seat seats[PLAYERS]);
 
 #endif

@@ -1,5 +1,5 @@
-/* Plays games on a bad line in simulated time, and prints how they go. `table` beside it plays them on all
- * lines. */
+/* Plays games on a bad line in simulated time, and prints how they go. `table` beside it plays
+ * them on all lines. */
 #include "figures.h"
 #include "game.h"
 #include "must.h"

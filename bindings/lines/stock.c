@@ -48,4 +48,4 @@ static void happen(game *g, const event *e) {
 
 static void close(game *g) { (void)g; }
 
-const netcode STOCK = { "stock", open, happen, close, 0 };
+const netcode STOCK = { "stock", 0, open, happen, close };

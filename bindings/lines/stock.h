@@ -1,16 +1,17 @@
-/* The stock netcode, that of Chocolate Doom 3, as a model: clients, and a server on player 0's machine. */
+/* The stock netcode, that of Chocolate Doom 3, as a model: clients, and a server on player 0's
+ * machine. */
 #ifndef STOCK_H
 #define STOCK_H
 
 #include "awaited.h"
 #include "game.h"
 
-/* COMMANDS has those of the tics; from the server, of all other players. AGAIN asks for them. SEEN says which
- * came. */
+/* COMMANDS has those of the tics; from the server, of all other players. AGAIN asks for them.
+ * SEEN says which came. */
 typedef enum stock_kind { COMMANDS, AGAIN, SEEN } stock_kind;
 
-/* seen: with COMMANDS from a client, and SEEN: its first tic that the server is to keep. latency: a client's
- * own; from the server, the greatest of the other players. */
+/* seen: with COMMANDS from a client, and SEEN: its first tic that the server is to keep.
+ * latency: a client's own; from the server, the greatest of the other players. */
 typedef struct stock_datagram {
     datagram head;
     stock_kind kind;

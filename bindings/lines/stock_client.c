@@ -4,7 +4,8 @@
 #include <string.h>
 
 enum { SERVER = 0 };
-/* It builds no command that is further ahead of the tics that it ran, and makes up for so many missed ticks. */
+/* It builds no command that is further ahead of the tics that it ran, and makes up for so many
+ * missed ticks. */
 enum { AHEAD = 8, MISSED = 50 };
 /* So long after commands came it says so, if nothing else did. */
 static const double SAY_SEEN = 200;
@@ -128,7 +129,8 @@ static void send_again(game *g, int me, tics t) {
     if (t.first <= t.last) send_commands(g, me, t);
 }
 
-/* The commands of the others came for a tic, after a time that is compared with that of the slowest of them. */
+/* The commands of the others came for a tic, after a time that is compared with that of the
+ * slowest of them. */
 static void follow_clock(game *g, int me, int tic, double slowest) {
     client *c = &clients[me];
     double error;

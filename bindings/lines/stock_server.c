@@ -3,9 +3,11 @@
 #include <string.h>
 
 enum { MACHINE = 0 };
-/* It sends a player no command that is further ahead of what all have, and keeps so many for who asks. */
+/* It sends a player no command that is further ahead of what all have, and keeps so many for who
+ * asks. */
 enum { AHEAD = 40, KEPT = 60 };
-/* A player of whom no command came for so long is asked for some, and sent again what it may lack. */
+/* A player of whom no command came for so long is asked for some, and sent again what it may
+ * lack. */
 enum { ASKED = 6 };
 static const double SILENCE = 1000;
 
@@ -64,7 +66,8 @@ static void forget(const game *g, int seen) {
     }
 }
 
-/* Whether the server has the tic of all others of a player; and then the greatest of their latencies. */
+/* Whether the server has the tic of all others of a player; and then the greatest of their
+ * latencies. */
 static int is_ready(const game *g, int to, int tic, double *slowest) {
     *slowest = 0;
     for (int p = 0; p < g->on->players; p++) {
