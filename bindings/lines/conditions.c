@@ -76,7 +76,7 @@ conditions conditions_plain(void) {
     c.tail_shape = 2;
     c.burst_length = 100;
     c.pair[0] = c.pair[1] = c.cut[0] = c.cut[1] = NOBODY;
-    c.outage_player = c.batch_player = c.hitch_player = EACH;
+    c.outage_player = c.traffic_player = c.batch_player = c.hitch_player = EACH;
     c.queue = 200;
     c.traffic_every = 4000;
     return c;

@@ -1,5 +1,18 @@
-/* Plays games on a bad line in simulated time, and prints how they go. `table` beside it plays
- * them on all lines. */
+/* Plays games on a bad line in simulated time, and prints how they go: sim WORD=VALUE ..
+ *
+ *     net=sessions seed=1 seeds=8    or limit, or stock; a game of each of so many seeds
+ *     players=2 window=12 extra=1 seconds=60
+ *     delay=0 back=0 jitter=0 tail=0/2 order=0
+ *     loss=0 repeat=0 burst=0/100
+ *     delay1=0 jitter1=0 loss1=0     of player 1, and so of each other
+ *     pair=1/2/30/100                players 1 and 2: 30 % lost besides, and 100 ms more
+ *     cut=1/2 outage=300/5000/0 traffic=300/4000/0 batch=50/0
+ *     uplink=128 uplink1=128 queue=200
+ *     drift1=0 frames=60 frames1=60 once=0 hitch=150/4000/0
+ *     level=900 load1=1500 behind1=0
+ *
+ * conditions.h says what they mean. Numbers behind a stroke may be left out; a player that is left
+ * out is each of them. `table` plays all lines. */
 #include "figures.h"
 #include "game.h"
 #include "must.h"
