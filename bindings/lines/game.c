@@ -84,8 +84,8 @@ void game_wait(game *g, double at, event_kind kind, int player, unsigned number)
     push(g, machine_ready(&g->machines[player], at), kind, player, number, NULL);
 }
 
-void game_bring(game *g, double at, event_kind kind, const datagram *d) {
-    push(g, machine_ready(&g->machines[d->to], at), kind, d->to, 0, datagram_copy(d));
+void game_bring(game *g, double at, const datagram *d) {
+    push(g, machine_ready(&g->machines[d->to], at), ARRIVAL, d->to, 0, datagram_copy(d));
 }
 
 void game_send(game *g, const datagram *d) {
@@ -98,7 +98,7 @@ void game_send(game *g, const datagram *d) {
         r->datagrams++;
     }
     for (; s.copy < copies; s.copy++)
-        if (line_carry(&g->line, &s, &comes)) game_bring(g, comes, ARRIVAL, d);
+        if (line_carry(&g->line, &s, &comes)) game_bring(g, comes, d);
 }
 
 int game_can_run(const game *g, int player) { return g->now >= g->machines[player].loaded; }

@@ -47,8 +47,8 @@ void game_close(game *g);
 
 /* Something will happen to a player at this time, or as soon as its machine is ready then. */
 void game_wait(game *g, double at, event_kind kind, int player, unsigned number);
-/* A datagram comes to a player, or is heard by it, at this time, by no line. Copies it. */
-void game_bring(game *g, double at, event_kind kind, const datagram *d);
+/* A datagram comes to a player at this time, by no line. Copies it. */
+void game_bring(game *g, double at, const datagram *d);
 /* A datagram goes on the line. Copies it. */
 void game_send(game *g, const datagram *d);
 /* The player runs a tic, if its machine does not load a level. */

@@ -9,12 +9,10 @@
 enum { SENDS = 4 };
 /* so many ticks that were missed are made up for */
 enum { MISSED = 8 };
-/* What is heard once a tick is heard behind the tick. */
-static const double BEHIND = 1e-3;
-
 typedef struct player {
     int ran, owes;
-    int has[PLAYERS]; /* how many commands of each it has; of its own, has made */
+    int has[PLAYERS];  /* how many commands of each it has; of its own, has made */
+    int came[PLAYERS]; /* how many have come, and are heard when its engine hears */
     double next; /* when its clock ticks */
 } player;
 
@@ -80,9 +78,16 @@ static void go_on(game *g, int me) {
     }
 }
 
+static void hear(const game *g, int me) {
+    player *p = &players[me];
+    for (int q = 0; q < g->on->players; q++)
+        if (q != me && p->came[q] > p->has[q]) p->has[q] = p->came[q];
+}
+
 static void tick(game *g, int me) {
     player *p = &players[me];
     double due = p->next;
+    hear(g, me);
     record_tick(&g->records[me], g->now);
     catch_up(g, me);
     p->owes = !make(g, me);
@@ -97,29 +102,19 @@ static void tick(game *g, int me) {
     game_wait(g, p->next, TICK, me, 0);
 }
 
-static void hear(game *g, int me, const telling *t) {
+static void arrive(game *g, int me, const telling *t) {
     player *p = &players[me];
     for (int q = 0; q < g->on->players; q++)
-        if (q != me && t->has[q] > p->has[q]) p->has[q] = t->has[q];
+        if (t->has[q] > p->came[q]) p->came[q] = t->has[q];
+    if (g->on->hears_once) return;
+    hear(g, me);
     go_on(g, me);
 }
 
-static void hear_later(game *g, const datagram *d) {
-    double next = players[d->to].next;
-    double at = machine_ready(&g->machines[d->to], next > g->now ? next : g->now);
-    game_bring(g, at + BEHIND, HEARING, d);
-}
-
 static void happen(game *g, const event *e) {
-    switch (e->kind) {
-    case TICK: tick(g, e->player); break;
-    case DUE: send_all(g, e->player); break;
-    case ARRIVAL:
-        if (g->on->hears_once) hear_later(g, e->datagram);
-        else hear(g, e->player, (const telling *)(const void *)e->datagram);
-        break;
-    case HEARING: hear(g, e->player, (const telling *)(const void *)e->datagram); break;
-    }
+    if (e->kind == ARRIVAL) arrive(g, e->player, (const void *)e->datagram);
+    else if (e->kind == TICK) tick(g, e->player);
+    else send_all(g, e->player);
 }
 
 static void close(game *g) { (void)g; }

@@ -6,11 +6,9 @@
 
 datagram *datagram_copy(const datagram *d) { return memcpy(must_get(d->size), d, d->size); }
 
-static int is_late(const event *e) { return e->kind != ARRIVAL && e->kind != HEARING; }
-
 static int is_before(const event *a, const event *b) {
     if (a->at != b->at) return a->at < b->at;
-    if (is_late(a) != is_late(b)) return is_late(b);
+    if ((a->kind == ARRIVAL) != (b->kind == ARRIVAL)) return a->kind == ARRIVAL;
     return a->order < b->order;
 }
 

@@ -5,9 +5,9 @@
 #include <stddef.h>
 #include <stdint.h>
 
-/* A datagram comes, or is heard later than it came; a player's clock ticks; or it does what is
- * due. Of what happens at one time datagrams are first, and then what was pushed first. */
-typedef enum event_kind { ARRIVAL, HEARING, TICK, DUE } event_kind;
+/* A datagram comes, a player's clock ticks, or something is due. Of what happens at one time
+ * datagrams are first, and then what was pushed first. */
+typedef enum event_kind { ARRIVAL, TICK, DUE } event_kind;
 
 /* What is sent. Each kind of player has its own kind of datagram, which begins with this one.
  * size: of that, in memory. length: on the line. */

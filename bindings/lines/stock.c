@@ -21,7 +21,7 @@ static size_t length_of(const game *g, const stock_datagram *d) {
 void stock_send(game *g, stock_datagram *d) {
     d->head.size = sizeof *d;
     d->head.length = length_of(g, d);
-    if (d->head.from == d->head.to) game_bring(g, g->now + LOCAL, ARRIVAL, &d->head);
+    if (d->head.from == d->head.to) game_bring(g, g->now + LOCAL, &d->head);
     else game_send(g, &d->head);
 }
 
