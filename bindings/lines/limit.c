@@ -9,11 +9,12 @@
 enum { SENDS = 4 };
 /* so many ticks that were missed are made up for */
 enum { MISSED = 8 };
+
+/* has: how many commands of each player it has; of its own, has made. came: how many have come, and
+ * are heard when its engine hears. next: when its clock ticks. */
 typedef struct player {
-    int ran, owes;
-    int has[PLAYERS];  /* how many commands of each it has; of its own, has made */
-    int came[PLAYERS]; /* how many have come, and are heard when its engine hears */
-    double next; /* when its clock ticks */
+    int ran, owes, has[PLAYERS], came[PLAYERS];
+    double next;
 } player;
 
 /* what the sender has */

@@ -16,12 +16,14 @@ typedef struct datagram {
     size_t size, length;
 } datagram;
 
+/* number: the player's own. datagram: memory that whoever takes the event frees; or NULL. order:
+ * the queue's own. */
 typedef struct event {
     double at;
     event_kind kind;
     int player;
-    unsigned number; /* the player's own */
-    datagram *datagram; /* memory that whoever takes the event frees; else NULL */
+    unsigned number;
+    datagram *datagram;
     uint64_t order;
 } event;
 

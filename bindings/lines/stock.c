@@ -2,7 +2,6 @@
 #include "chance.h"
 #include "stock.h"
 
-enum { SERVER = 0 };
 /* An engine that waits for a tic looks for datagrams each millisecond. */
 static const double POLL = 1;
 /* how long a datagram takes from a program to another of the same machine */

@@ -6,6 +6,9 @@
 #include "awaited.h"
 #include "game.h"
 
+/* on whose machine the server is */
+enum { SERVER = 0 };
+
 /* COMMANDS has those of the tics; from the server, of all other players. AGAIN asks for them.
  * SEEN says which came. */
 typedef enum stock_kind { COMMANDS, AGAIN, SEEN } stock_kind;

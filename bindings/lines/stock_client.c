@@ -3,7 +3,6 @@
 #include <math.h>
 #include <string.h>
 
-enum { SERVER = 0 };
 /* It builds no command that is further ahead of the tics that it ran, and makes up for so many
  * missed ticks. */
 enum { AHEAD = 8, MISSED = 50 };

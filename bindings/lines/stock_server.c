@@ -2,7 +2,6 @@
 #include "stock.h"
 #include <string.h>
 
-enum { MACHINE = 0 };
 /* It sends a player no command that is further ahead of what all have, and keeps so many for who
  * asks. */
 enum { AHEAD = 40, KEPT = 60 };
@@ -27,7 +26,7 @@ void server_open(void) { memset(seats, 0, sizeof seats); }
 static stock_datagram to_client(int to, stock_kind kind, tics t) {
     stock_datagram d;
     memset(&d, 0, sizeof d);
-    d.head.from = MACHINE;
+    d.head.from = SERVER;
     d.head.to = to;
     d.kind = kind;
     d.from_server = 1;
