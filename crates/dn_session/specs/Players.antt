@@ -47,14 +47,15 @@ standing_of link player =
 abbrev pub lacks : Contents → ℕ → Bool
 lacks n player = nat_lt n.ran (made n) && nat_le (count_in n player) n.ran
 
--- a player's command of the tic after the next is there, or it gives none
-abbrev pub is_behind : Linked → ℕ → Bool
-is_behind link player =
-    is_gone_from link player || (is_whole link player || nat_lt (link.node.ran + 1) (count_in link.node player))
+-- a player's command of the tic after the next is there
+abbrev pub has_second : Contents → ℕ → Bool
+has_second n player = nat_lt (n.ran + 1) (count_in n player)
 
--- the row of the tic after the next is there
+-- the row of the tic after the next is: the own command, and of each other who gives one
 abbrev pub has_row_behind : Linked → Bool
-has_row_behind link = nat_lt (link.node.ran + 1) (made link.node) && list_all (is_behind link) four
+has_row_behind link =
+    has_second link.node link.node.me
+    && list_all (λ player. is_gone_from link player || (is_whole link player || has_second link.node player)) four
 
 -- somebody is given up
 abbrev pub has_gone : Linked → Bool
