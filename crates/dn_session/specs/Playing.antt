@@ -19,9 +19,8 @@ use Rattle.dn_session.specs.declared.ending.Ending.TheVariants as ending
 use Rattle.dn_session.specs.declared.ending.Progress.TheVariants as progress
 
 -- its link; when ticks are due; for how long others were silent; where they are; who has told that it has given up
--- this player; whom it is to tell so; to whom a datagram is owed; whether those of this tick are held until its command
--- is made; whose turn it is; how evenly tics come; what is to be passed on; how far it is; and what becomes of a
--- player who vanishes
+-- this player; whom it is to tell so; to whom a datagram is owed; whose turn it is; how evenly tics come; what is to be
+-- passed on; how far it is; and what becomes of a player who vanishes
 pub record Playing : Type 0 where
   pub link : Link
   pub ticks : Ticks
@@ -30,7 +29,6 @@ pub record Playing : Type 0 where
   pub excluders : List Bool
   pub exclusions : List Exclusion
   pub owed : List Bool
-  pub is_held : Bool
   pub turn : ℕ
   pub steady : Steady
   pub passing : Option (Address × List ℕ)
@@ -47,7 +45,6 @@ playing part =
       excluders = part.excluders;
       exclusions = part.exclusions;
       owed = part.owed;
-      is_held = part.is_held;
       turn = part.turn;
       steady = part.steady;
       passing = option_map sent_of part.passing;
@@ -162,19 +159,14 @@ Leans old new by =
 abbrev pub from_turn : (turn place : ℕ) → ℕ
 from_turn turn place = (turn + place) % 4
 
--- all are owed a datagram, unless those of the tick are held
-abbrev pub owed_at : (is_held : Bool) → List Bool → List Bool
-owed_at is_held owed = if is_held then owed else owes_all
-
--- the tick that is due goes by, and it is the next one's turn
-abbrev pub PassesTick : (is_held : Bool) → Playing → Playing → Type 0
-PassesTick is_held old new =
+-- the tick that is due goes by: all are owed a datagram, and it is the next one's turn
+abbrev pub PassesTick : Playing → Playing → Type 0
+PassesTick old new =
     (by : ℤ) × Leans old.link new.link by
     × (new ≡ record old {
       link = new.link;
       ticks = passed by old.ticks;
-      owed = owed_at is_held old.owed;
-      is_held = is_held;
+      owed = owes_all;
       turn = from_turn old.turn 1;
       steady = ticked old.steady;
     })
@@ -187,11 +179,6 @@ Builds input old new made =
     (λ answer. made ≡ answer) × (pace_of new ≡ after_input input made (pace_of old)))
     × ((linked new).others ≡ (linked old).others) × ((linked new).peers ≡ (linked old).peers)
 
--- there was no room for it: as many commands wait to be run as may
-abbrev pub is_full : Made → Bool
-is_full Made.Full = true
-is_full made = false
-
 -- its player gives the input of a tick: one is due while it plays, or nothing changes
 abbrev pub may_give : ℕ → Playing → Bool
 may_give now p = is_giving p.progress && is_due now p.ticks
@@ -200,7 +187,7 @@ abbrev pub GivesWhen : Bool → ℕ → Input → Playing → Playing → Type 0
 GivesWhen false now input old new = new ≡ old
 GivesWhen true now input old new =
     (mid : Link) × (made : Made) × Builds input old.link mid made
-    × PassesTick (is_full made) (record old { link = mid; ticks = resumed now old.ticks }) new
+    × PassesTick (record old { link = mid; ticks = resumed now old.ticks }) new
 
 -- Tics.
 
@@ -219,7 +206,7 @@ is_made result = false
 
 -- if one was built, all are owed a datagram now
 abbrev pub after_catching_up : Option Made → Playing → Playing
-after_catching_up made p = if is_made made then record p { owed = owes_all; is_held = false } else p
+after_catching_up made p = if is_made made then record p { owed = owes_all } else p
 
 -- a tic is run, or not
 abbrev pub RunsTic : List ℤ → Link → Link → Ran → Option (List (Option Move)) → Type 0
@@ -281,7 +268,7 @@ EndsNow (Some end) now old new =
 -- a tick of one who leaves
 abbrev pub TicksWhen : Bool → ℕ → Playing → Playing → Type 0
 TicksWhen false now old new = new ≡ old
-TicksWhen true now old new = PassesTick false (record old { ticks = resumed now old.ticks }) new
+TicksWhen true now old new = PassesTick (record old { ticks = resumed now old.ticks }) new
 
 -- whose game does not end gives up whom it must
 abbrev pub PlaysOn : Option Ending → ℕ → Playing → Playing → Type 0
@@ -298,16 +285,15 @@ PassesTime (progress.Leaving end since free) now old new =
     × (new ≡ record mid { progress = waits (is_unneeded end (linked mid.link)) end since free now })
 PassesTime (progress.Over end) now old new = new ≡ old
 
--- half a tick later a datagram is owed to all if those of the tick are still held, and else to those who miss some
+-- half a tick later a second datagram is owed to those who miss some
 abbrev pub owed_second : Playing → List Bool
 owed_second p =
-    map (λ player. slice_index_or p.owed player false
-    || (p.is_held || wants_second (linked p.link) (pace_of p.link) player)) four
+    map (λ player. slice_index_or p.owed player false || wants_second (linked p.link) (pace_of p.link) player) four
 
 abbrev pub after_half : ℕ → Playing → Playing
 after_half now p =
     if has_come now p.ticks.half
-    then record p { ticks = half_taken now p.ticks; owed = owed_second p; is_held = false } else p
+    then record p { ticks = half_taken now p.ticks; owed = owed_second p } else p
 
 abbrev pub Polls : ℕ → Playing → Playing → Type 0
 Polls now old new = (mid : Playing) × PassesTime old.progress now old mid × (new ≡ after_half now mid)

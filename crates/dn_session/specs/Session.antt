@@ -87,7 +87,6 @@ pub record IsPartOf (secret : Option (List ℕ)) (b : Begun) (now : ℕ) (p : Pl
   pub excluders : p.excluders ≡ replicate 4 false
   pub exclusions : p.exclusions ≡ replicate 4 (record { to = None; told = None })
   pub owed : p.owed ≡ owes_nobody
-  pub held : p.is_held ≡ false
   pub turn : p.turn ≡ 0
   pub steady : p.steady ≡ new_steady
   pub passing : p.passing ≡ None

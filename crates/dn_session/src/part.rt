@@ -51,8 +51,7 @@ const NO_EXCLUSION: Exclusion = Exclusion {
 };
 
 /// A player's part in its game: its link, when its ticks are due, where the others are, whom it waits for, to whom
-/// a datagram is owed, whether those of this tick are held, whose turn it is, how evenly tics come, what it passes
-/// on between others, and how far it is.
+/// a datagram is owed, whose turn it is, how evenly tics come, what it passes on between others, and how far it is.
 #[derive(Drop)]
 pub struct Part {
     link: Link,
@@ -62,7 +61,6 @@ pub struct Part {
     excluders: [bool; 4],
     exclusions: [Exclusion; 4],
     owed: [bool; 4],
-    is_held: bool,
     turn: u8,
     steady: Steady,
     passing: Option<Transmit>,
@@ -82,7 +80,6 @@ impl Part {
           excluders = replicate 4 false;
           exclusions = replicate 4 (record { to = None; told = None });
           owed = owes_nobody;
-          is_held = false;
           turn = 0;
           steady = new_steady;
           passing = None;
@@ -98,7 +95,6 @@ impl Part {
             excluders: [false; 4],
             exclusions: [NO_EXCLUSION; 4],
             owed: [false; 4],
-            is_held: false,
             turn: 0,
             steady: Steady::new(),
             passing: None,

@@ -1,7 +1,7 @@
 //! Ticks: the commands that its player gives.
 
 ghost use Rattle.std.specs.Prelude.{◌≡◌, true};
-ghost use Rattle.dn_session.specs.Playing.{from_turn, is_full, is_giving, owed_at, playing, may_give, Builds, GivesWhen, PassesTick};
+ghost use Rattle.dn_session.specs.Playing.{from_turn, is_giving, playing, may_give, Builds, GivesWhen, PassesTick};
 
 use super::Part;
 use crate::ending::Progress;
@@ -26,20 +26,6 @@ fn build(link: &mut Link, input: Input) -> Made
     }
 }
 
-/// Whether there was no room for it.
-fn is_full(made: Made) -> bool
-    ensures { result ≡ is_full made }
-{
-    matches!(made, Made::Full)
-}
-
-/// To whom a datagram is owed at a tick whose datagrams are held or not.
-fn owed_at(is_held: bool, owed: [bool; 4]) -> [bool; 4]
-    ensures { result ≡ owed_at is_held owed }
-{
-    if is_held { owed } else { [true; 4] }
-}
-
 /// The player so many places behind one, around.
 pub(super) fn from_turn(turn: u8, place: u8) -> u8
     ensures { result ≡ from_turn turn place }
@@ -48,14 +34,13 @@ pub(super) fn from_turn(turn: u8, place: u8) -> u8
 }
 
 impl Part {
-    /// The tick that is due goes by, and its datagrams are held or not.
-    pub(super) fn pass_tick(&mut self, is_held: bool)
-        ensures { PassesTick is_held (playing self.old) (playing self.new) }
+    /// The tick that is due goes by.
+    pub(super) fn pass_tick(&mut self)
+        ensures { PassesTick (playing self.old) (playing self.new) }
     {
         let lean = self.link.lean();
         self.ticks.pass(lean);
-        self.owed = owed_at(is_held, self.owed);
-        self.is_held = is_held;
+        self.owed = [true; 4];
         self.turn = from_turn(self.turn, 1);
         self.steady.tick();
     }
@@ -72,8 +57,8 @@ impl Part {
         ensures { GivesWhen true now input (playing self.old) (playing self.new) }
     {
         self.ticks.resume(now);
-        let made = build(&mut self.link, input);
-        self.pass_tick(is_full(made));
+        let _ = build(&mut self.link, input);
+        self.pass_tick();
     }
 
     /// The same where it is wanted.

@@ -1,7 +1,6 @@
 //! What it does as time goes.
 
-ghost use Rattle.std.specs.Prelude.{◌≡◌, ◌<◌, ◌||◌, IfSome};
-ghost use Rattle.dn_link.specs.{Linking.linked, Pace.wants_second, Pacing.pace_of};
+ghost use Rattle.std.specs.Prelude.{◌≡◌, ◌<◌, IfSome};
 ghost use Rattle.dn_session.specs.Playing.{after_half, looks, playing, view, GivesUpNow, PassesTime, PlaysOn, Polls, TicksWhen};
 ghost use Rattle.dn_session.specs.{Ending.patience, Lead.due, Ticks.is_due};
 ghost use Rattle.dn_session.specs.declared.ending.Progress.TheVariants as progress;
@@ -80,7 +79,7 @@ impl Part {
     {
         if self.ticks.is_due(now) {
             self.ticks.resume(now);
-            self.pass_tick(false);
+            self.pass_tick();
         }
     }
 
@@ -93,27 +92,18 @@ impl Part {
         self.progress = waits(is_unneeded(ending, &self.link), ending, since, free, now);
     }
 
-    /// Whether a datagram is owed to a player half a tick later: those of the tick are still held, or it misses some.
-    fn owes_second(&self, player: u8) -> bool
-        ensures { result ≡ ((playing self.now).is_held
-            || wants_second (linked (playing self.now).link) (pace_of (playing self.now).link) player) }
-    {
-        self.is_held || self.link.wants_second(player)
-    }
-
-    /// Half a tick later datagrams are owed.
+    /// Half a tick later a second datagram is owed to those who miss some.
     fn owe_second(&mut self, now: u32)
         ensures { playing self.new ≡ after_half now (playing self.old) }
     {
         if self.ticks.takes_half(now) {
             let [zero, one, two, three] = self.owed;
             self.owed = [
-                zero || self.owes_second(0),
-                one || self.owes_second(1),
-                two || self.owes_second(2),
-                three || self.owes_second(3),
+                zero || self.link.wants_second(0),
+                one || self.link.wants_second(1),
+                two || self.link.wants_second(2),
+                three || self.link.wants_second(3),
             ];
-            self.is_held = false;
         }
     }
 

@@ -45,7 +45,6 @@ impl Part {
     {
         if is_made(self.link.catch_up()) {
             self.owed = [true; 4];
-            self.is_held = false;
         }
     }
 
