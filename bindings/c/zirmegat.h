@@ -315,7 +315,7 @@ typedef enum zmg_tic {
     ZMG_TIC_WAITING = 2,     /* the command of `player` is missing */
     ZMG_TIC_DEMO_FULL = 3,   /* this call ended the game here */
     ZMG_TIC_INCONSISTENT = 4, /* so did this one: the mark of `player` was `was` in place of `should` */
-    ZMG_TIC_HELD = 5         /* the next tic could be run, but waits for the next tick */
+    ZMG_TIC_HELD = 5         /* none is run before the next tick, whether one could be or not */
 } zmg_tic;
 
 /* Runs the next tic, if it can, by each player's mark in the caller's world as it stands. Where delays vary, tics

@@ -33,7 +33,7 @@ RunsWalk before old new after has_run waits =
     × RunsPart (marks_of before) old.part new.part answer row × (new ≡ record old { part = new.part })
     × (after ≡ unwrap_or (option_map (walking.step before) row) before) × (has_run ≡ is_some row) × (waits ≡ waited_for answer)
 
--- and so unless the next tic should wait for the next tick: then nothing is
+-- the same; but where the tic is held back nothing changes, and nobody is waited for
 abbrev pub RunsWhen : (holds : Bool) → Spots → Meeting → Meeting → Spots → (has_run : Bool) → (waits : Option ℕ) → Type 0
 RunsWhen true before old new after has_run waits =
     (new ≡ old) × (after ≡ before) × (has_run ≡ false) × (waits ≡ None)

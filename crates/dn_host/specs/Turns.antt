@@ -18,7 +18,7 @@ abbrev pub Gives : ℕ → Game → Meeting → (given : Bool) → Game → Meet
 Gives now a k given b l = (c : Game) × GivesInput (millis now) given a.keys k c.keys l
     × (given ≡ can_give (millis now) k.part) × (c ≡ record a { keys = c.keys }) × NotesIn now l c b
 
--- the next tic is run with the marks of the walk, if it can be run, and is counted
+-- the next tic is run with the marks of the walk, if it can be run and is not held back, and is counted
 abbrev pub Runs : ℕ → Game → Meeting → (has_run : Bool) → Game → Meeting → Type 0
 Runs now a k has_run b l = (c : Game) × RunsWhen (holds_back_in k.part) a.walk k l c.walk has_run c.waiting
     × (c ≡ record a { walk = c.walk; waiting = c.waiting }) × NotesIn now l c b

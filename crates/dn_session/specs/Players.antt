@@ -51,7 +51,7 @@ lacks n player = nat_lt n.ran (made n) && nat_le (count_in n player) n.ran
 abbrev pub has_second : Contents → ℕ → Bool
 has_second n player = nat_lt (n.ran + 1) (count_in n player)
 
--- the row of the tic after the next is: the own command, and of each other who gives one
+-- the row of the tic after the next is complete here: the own command, and that of each other who gives one
 abbrev pub has_row_behind : Linked → Bool
 has_row_behind link =
     has_second link.node link.node.me

@@ -159,7 +159,7 @@ Leans old new by =
 abbrev pub from_turn : (turn place : ℕ) → ℕ
 from_turn turn place = (turn + place) % 4
 
--- the tick that is due goes by: all are owed a datagram, and it is the next one's turn
+-- the tick that is due goes by: all are owed a datagram, it is the next one's turn, and the next tic may be run
 abbrev pub PassesTick : Playing → Playing → Type 0
 PassesTick old new =
     (by : ℤ) × Leans old.link new.link by
@@ -219,9 +219,9 @@ RunsTic marks old new ran row =
 abbrev pub WritesRow : List (Option Move) → Playing → Type 0
 WritesRow row p = Tells (linked p.link).node (λ limits me m. row ≡ row_held limits m)
 
--- the next tic should wait for the next tick
+-- while its player plays, the next tic should wait for the next tick
 abbrev pub holds_back : Playing → Bool
-holds_back p = holds (has_row_behind (linked p.link)) p.steady
+holds_back p = is_giving p.progress && holds (has_row_behind (linked p.link)) p.steady
 
 -- a tic was run, or none could be
 abbrev pub after_answer : Ran → Steady → Steady

@@ -7,6 +7,7 @@ ghost use Rattle.dn_machine.specs.declared.answers.Made.{Made as AnyMade};
 ghost use Rattle.dn_machine.specs.declared.answers.Ran.TheVariants as ran;
 
 use super::Part;
+use super::giving::is_giving;
 use crate::players::has_row_behind;
 use crate::steady::Steady;
 use dn_machine::{Made, Ran};
@@ -31,11 +32,11 @@ fn after_answer(ran: Ran, steady: Steady) -> Steady
 }
 
 impl Part {
-    /// Whether the next tic should wait for the next tick.
+    /// Whether its player plays, and the next tic should wait for the next tick.
     pub(crate) fn holds_back(&self) -> bool
         ensures { result ≡ holds_back (playing self.now) }
     {
-        self.steady.holds(has_row_behind(&self.link))
+        is_giving(self.progress) && self.steady.holds(has_row_behind(&self.link))
     }
 
     /// Builds the command that was owed, if there is room for it now: then all are owed a datagram.

@@ -70,7 +70,7 @@ impl Part {
             .position(|place| self.is_owed(from_turn(self.turn, *place)))
     }
 
-    /// That player.
+    /// The first player to whom a datagram is owed, from the one whose turn it is.
     fn first_owed(&self) -> Option<u8>
         ensures value { result ≡ first_owed (playing self.now) }
         ensures within { IfSome result (λ n. n < 4) }

@@ -32,7 +32,8 @@ impl Session {
     }
 
     /// Whether the next tic should wait for the next tick, so that tics that come together are run one by one. That
-    /// begins where three gaps of three to eight ticks were felt in half a minute.
+    /// begins with the third gap of three to eight ticks within 320 ticks or so, and ends 960 ticks after the last at
+    /// the latest.
     pub fn holds_back(&self) -> bool
         ensures { result ≡ holds_back_in (meeting self.now).part }
     {
