@@ -83,7 +83,8 @@ static int run(game *g, int me) {
     zmg_ran ran;
     world_marks(&s->world, marks);
     ran = zmg_session_run(&s->session, marks, row);
-    must(ran.code == ZMG_TIC_RAN || ran.code == ZMG_TIC_WAITING, "the worlds are the same");
+    must(ran.code == ZMG_TIC_RAN || ran.code == ZMG_TIC_WAITING || ran.code == ZMG_TIC_HELD,
+         "the worlds are the same");
     if (ran.code != ZMG_TIC_RAN) return 0;
     world_step(&s->world, ran.tic, row);
     game_run(g, me, (int)ran.tic);

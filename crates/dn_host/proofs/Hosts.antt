@@ -65,8 +65,8 @@ gives_host now false keys old after new (same, drawn) host = same_lobby old new 
 
 runs_host : (holds : Bool) (before : Spots) (old new : Meeting) (after : Spots) (done : Bool) (waits : Option ℕ)
     → RunsWhen holds before old new after done waits → hosts old → hosts new
-runs_host true before old new after done waits (same, rest) host = subst hosts (sym same) host
-runs_host false before old new after done waits (answer, row, does, same, rest) host = same_lobby old new _ same host
+runs_host true before old new after done waits does host = subst hosts (sym does.0) host
+runs_host false before old new after done waits does host = same_lobby old new _ does.3 host
 
 leaves_host : (left : Option ℕ) (plays : Bool) (why : Option End) (now : ℕ) (a : Game) (k : Meeting) (b : Game) (l : Meeting)
     → LeavesFor left plays why now a k b l → hosts k → hosts l
