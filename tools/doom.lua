@@ -15,7 +15,9 @@ local report = Proto("doom_report", "Doom netgame, report")
 local greeting = Proto("doom_greeting", "Doom netgame, greeting")
 
 local MAX_COMMANDS, MAX_DATAGRAM, MAX_PARTS, MAX_RUN, MAX_TOLD, MAX_TAIL = 12, 104, 24, 24, 2, 24
-local THIRD, MAX_HEAD = 32, 159 -- of a run's first byte: the unit of a third player's number, and the most
+local THIRD, DIFFERENCES, MAX_HEAD = 32, 64, 127 -- of a run's first byte: for a third player's, for commands that
+-- stand as differences, and the most
+local NO_COMMAND = ("\0"):rep(8) -- by which the first command of a run is told
 local EXIT, RETRANSMIT, SETUP, KILL = 8, 4, 2, 1
 local SUM = 0x10000000 -- the checksum word has the flags in units of this
 local HEAD, TAG = 12, 16 -- bytes of the head that all but greetings have, and of the tag
@@ -293,15 +295,78 @@ local function is_unlike(r, exact, sender)
         or r(4, 1):uint() ~= (exact.ask or 0) % 256 or has(r, RETRANSMIT) ~= (exact.ask ~= nil)
 end
 
+-- A command of eight bytes by the one before it: a bit for each byte that differs, and these bytes.
+local function difference_of(last, command)
+    local bits, changed = 0, ""
+    for k = 1, #NO_COMMAND do
+        if command:byte(k) ~= last:byte(k) then
+            bits, changed = bits + 2 ^ (k - 1), changed .. command:sub(k, k)
+        end
+    end
+    return string.char(bits) .. changed
+end
+
+-- The commands of a run, each by the one before it.
+local function differences_of(commands)
+    local text, last = "", NO_COMMAND
+    for place = 1, #commands, #last do
+        local command = commands:sub(place, place + #last - 1)
+        text, last = text .. difference_of(last, command), command
+    end
+    return text
+end
+
+-- The command that a difference tells at the front of bytes, whatever they are; and what stands behind it.
+local function command_in(last, bytes)
+    local bits, rest, command = bytes:byte(1) or 0, bytes:sub(2), ""
+    for k = 1, #NO_COMMAND do
+        if math.floor(bits / 2 ^ (k - 1)) % 2 == 1 then
+            command, rest = command .. rest:sub(1, 1), rest:sub(2)
+        else
+            command = command .. last:sub(k, k)
+        end
+    end
+    return command, rest
+end
+
+-- So many commands that differences tell at the front of bytes.
+local function differences_in(bytes, count)
+    local commands, last = "", NO_COMMAND
+    for _ = 1, count do
+        last, bytes = command_in(last, bytes)
+        commands = commands .. last
+    end
+    return commands
+end
+
+-- The commands of a run behind its head, and how many bytes they take; or none if these are not the bytes of
+-- those commands: whole, unless differences are shorter.
+local function commands_in(bytes, head)
+    local size, are_told = head % THIRD * #NO_COMMAND, head >= DIFFERENCES
+    local commands = are_told and differences_in(bytes, head % THIRD) or bytes:sub(1, size)
+    if #commands ~= size then return nil end
+    local text = differences_of(commands)
+    if (#text < size) ~= are_told then return nil end
+    if not are_told then return commands, size end
+    if bytes:sub(1, #text) == text then return commands, #text end
+end
+
+-- The run at the front of bytes, which may be of a third player, or none if they lack the form.
+local function run_in(r, head)
+    local third = math.floor(head / THIRD) % 2 == 1
+    local front = third and 6 or 5
+    if head > MAX_HEAD or head % THIRD == 0 or head % THIRD > MAX_RUN or r:len() < front then return nil end
+    if third and r(1, 1):uint() > 3 then return nil end
+    local commands, size = commands_in(from(r, front):raw(), head)
+    if not commands then return nil end
+    return { run = head % THIRD, third = third and r(1, 1), all = r(0, front + size), front = front,
+        commands = commands, exact = { start = r(front - 4, 4):le_uint() } }
+end
+
 -- The part at the front of bytes, or none if they lack the form.
 local function part_in(r)
     local head = r:len() > 0 and r(0, 1):uint() or 0
-    if head > 0 then
-        local count, third = head % THIRD, head >= THIRD and math.floor(head / THIRD) - 1 or nil
-        local size = 5 + 8 * count
-        if count == 0 or count > MAX_RUN or head > MAX_HEAD or r:len() < size then return nil end
-        return { run = count, third = third, all = r(0, size), exact = { start = r(1, 4):le_uint() } }
-    end
+    if head > 0 then return run_in(r, head) end
     if r:len() < 11 then return nil end
     local exact, size = exact_in(r(1, 9)), r(10, 1):uint()
     if not exact or size > MAX_DATAGRAM or r:len() < 11 + size then return nil end
@@ -320,15 +385,23 @@ local function parts_in(r)
     return parts, place == r:len()
 end
 
+-- The commands of a run: as they stand, or, where they stand as differences, as bytes of their own.
+local function add_run(item, part)
+    local first, told = part.exact.start, ByteArray.new(part.commands, true)
+    local r = from(part.all, part.front)
+    if r:len() < #part.commands then r = told:tvb("Commands")(0, #part.commands) end
+    item:add_le(f.exact_start, part.all(part.front - 4, 4))
+    for k = 0, part.run - 1 do add_command(item, r(8 * k, 8), (first + k) % 2 ^ 32) end
+    return tics(first, part.run, 2 ^ 32)
+end
+
 local function add_part(tree, part, sender)
     local item, r = tree:add(l.part, part.all), part.all
     item:add(l.run, r(0, 1), part.run)
-    if part.third then item:add(l.third, r(0, 1), part.third) end
+    if part.third then item:add(l.third, part.third) end
     if part.run > 0 then
-        item:add_le(f.exact_start, r(1, 4))
-        for k = 0, part.run - 1 do add_command(item, r(5 + 8 * k, 8), (part.exact.start + k) % 2 ^ 32) end
-        local words = tics(part.exact.start, part.run, 2 ^ 32)
-        return part.third and ("player %d: %s"):format(part.third, words) or words
+        local words = add_run(item, part)
+        return part.third and ("player %d: %s"):format(part.third:uint(), words) or words
     end
     add_exact(item, r(1, 9))
     item:add(l.size, r(10, 1))

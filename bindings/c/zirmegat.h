@@ -217,7 +217,7 @@ typedef struct zmg_join_config {
     uint8_t identity[16], name[16], keyless, seat, players;
 } zmg_join_config;
 
-/* Fill in all fields: key, random, name, identity and own with zeros; two players, a window of 8, 35 tics a
+/* Fill in all fields: key, random, name, identity and own with zeros; two players, a window of 12, 35 tics a
  * second, a demo of 16 MiB, the first map at skill 2 in cooperative play, ZMG_POLICY_WAIT; any seat, any
  * number of players. */
 void zmg_host_config_init(zmg_host_config *config);
@@ -314,10 +314,13 @@ typedef enum zmg_tic {
     ZMG_TIC_RAN = 1,
     ZMG_TIC_WAITING = 2,     /* the command of `player` is missing */
     ZMG_TIC_DEMO_FULL = 3,   /* this call ended the game here */
-    ZMG_TIC_INCONSISTENT = 4 /* so did this one: the mark of `player` was `was` in place of `should` */
+    ZMG_TIC_INCONSISTENT = 4, /* so did this one: the mark of `player` was `was` in place of `should` */
+    ZMG_TIC_HELD = 5         /* none is run before the next tick, whether one could be or not */
 } zmg_tic;
 
-/* Runs the next tic, if it can, by each player's mark in the caller's world as it stands. With ZMG_TIC_RAN,
+/* Runs the next tic, if it can, by each player's mark in the caller's world as it stands. Where delays vary, tics
+ * come together; once three gaps of three to eight ticks were felt in a short time, they are run one by one, and
+ * the answer is ZMG_TIC_HELD if another was run since the last tick and none waits behind. With ZMG_TIC_RAN,
  * row has the whole command of each player who has one in the tic, chat included, and the world is stepped by
  * it; with any other code row stays as it is. Call it until it does not run, and send then: a run may make the
  * command that is owed. */

@@ -238,21 +238,39 @@ static const uint8_t *read_whole(const uint8_t *at, carried *packet) {
     return at + 10 + packet->length;
 }
 
-/* A run, which is of a third player where its first byte is above 31. */
+/* A command: as it stands, or by the one before it. */
+static const uint8_t *read_command(const uint8_t *at, int is_difference, uint8_t command[8]) {
+    unsigned bits = is_difference ? *at++ : 0xff;
+    for (unsigned k = 0; k < 8; k++)
+        if (bits >> k & 1) {
+            MUST(!is_difference || command[k] != *at);
+            command[k] = *at++;
+        }
+    return at;
+}
+
+/* A run, which is of a third player where its first byte has 32, and told by differences, which are shorter,
+ * where it has 64. */
 static const uint8_t *read_run(const uint8_t *at, uint8_t from, carried *packets, size_t *count) {
     unsigned head = *at++, commands = head % 32;
-    uint32_t begins = number_at(at);
-    if (head > 31) from = (uint8_t)(head / 32 - 1);
-    at += 4;
-    for (uint32_t k = 0; k < commands; k++, at += 8) {
+    int are_differences = (head & 64) != 0;
+    uint8_t command[8] = {0};
+    uint32_t begins;
+    const uint8_t *first;
+    if (head & 32) from = *at++;
+    begins = number_at(at);
+    first = at += 4;
+    for (uint32_t k = 0; k < commands; k++) {
         carried *packet = &packets[(*count)++];
+        at = read_command(at, are_differences, command);
         packet->from = from;
         packet->begins = begins;
         packet->start = begins + k;
         packet->ask.known = packet->ask.value = 0;
         packet->length = 16;
-        short_packet(packet->bytes, from, packet->start, at);
+        short_packet(packet->bytes, from, packet->start, command);
     }
+    MUST(!are_differences || at - first < 8 * (long)commands);
     return at;
 }
 

@@ -68,7 +68,7 @@ impl Default for Terms {
     fn default() -> Terms {
         Terms {
             players: 2,
-            window: 8,
+            window: 12,
             rate: 35,
             limit: 16_777_216,
             settings: Settings {
@@ -287,6 +287,8 @@ pub enum Tic {
     DemoFull,
     /// So it has: the mark of this player was the first in place of the second.
     Inconsistent(u8, i16, i16),
+    /// No tic is run before the next tick: tics that come together are run one by one.
+    Held,
     /// The game has not begun, or has ended.
     NotPlaying,
 }
@@ -438,6 +440,7 @@ impl Session {
             2 => Tic::Waiting(ran.player),
             3 => Tic::DemoFull,
             4 => Tic::Inconsistent(ran.player, ran.was, ran.should),
+            5 => Tic::Held,
             _ => Tic::NotPlaying,
         }
     }

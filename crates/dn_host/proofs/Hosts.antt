@@ -4,7 +4,8 @@ use Rattle.std.proofs.{lemmas.Bool.false≢true, lemmas.Option.none-some}
 use Rattle.std.specs.{Prelude.◌&&◌, Prelude.◌==◌, Prelude.is_some, Prelude.IfOk, Option.option_map, Option.option_or}
 use Rattle.rand_pcg.specs.Lcg.{Lcg}
 use Rattle.dn_link.specs.Hearing.{ByTest}
-use Rattle.dn_session.specs.Session.{HearsAny, link_in, meeting, BeginsAs, Calls, HearsGreeting, HearsWhen, Meeting, SendsCall, SendsReply}
+use Rattle.dn_world.specs.Plane.{Spots}
+use Rattle.dn_session.specs.Session.{HearsAny, holds_back_in, link_in, meeting, BeginsAs, Calls, HearsGreeting, HearsWhen, Meeting, SendsCall, SendsReply}
 use Rattle.dn_session.specs.{Events.over_by, Events.over_in, Joining.joining, Playing.ended_as, Playing.playing, Reading.is_greeting}
 use Rattle.dn_session.specs.declared.{greeting.Address.Address, greeting.Refusal.Refusal, joiner.Stage.Stage as JoinStage, part.Part.Part, session.Session.Session, side.Begun.Begun, side.Side.Side}
 use Rattle.dn_measure.specs.declared.{end.End.End, status.Status.Status}
@@ -14,7 +15,7 @@ use Rattle.dn_session.specs.declared.side.Side.TheVariants as side
 use Rattle.dn_session.specs.declared.ending.Over.TheVariants as over
 use Rattle.dn_lockstep.specs.declared.config.NodeFault.{NodeFault}
 use Rattle.dn_host.specs.Turns.{new_turns, stage_of, Gives, HearsNext, IsTurn, Plays, Repeats, Runs, Scene, SendsAll, SendsNext, Stage, TakesOne, TurnsOn}
-use Rattle.dn_host.specs.{Leaving.LeavesFor, Playing.come_in, Playing.millis, Playing.InGame, Telling.Sight, Playing.GivesInput}
+use Rattle.dn_host.specs.{Leaving.LeavesFor, Playing.come_in, Playing.millis, Playing.InGame, Telling.Sight, Playing.GivesInput, Playing.RunsWhen}
 use Rattle.dn_host.specs.Outcomes.{ended_with, is_refusal, GoesOn, IsLeftOf, IsPlayed}
 use Rattle.dn_host.specs.declared.{ends.Ending.Ending, ends.HostFault.HostFault, ends.Outcome.Outcome, game.Game.Game, plan.Plan.Plan}
 use Rattle.dn_host.specs.declared.ends.HostFault.TheVariants as fault
@@ -62,6 +63,11 @@ gives_host : (now : ℕ) (given : Bool) (keys : Lcg) (old : Meeting) (after : Lc
 gives_host now true keys old after new (does, same, drawn) host = same_lobby old new _ same host
 gives_host now false keys old after new (same, drawn) host = same_lobby old new _ same host
 
+runs_host : (holds : Bool) (before : Spots) (old new : Meeting) (after : Spots) (done : Bool) (waits : Option ℕ)
+    → RunsWhen holds before old new after done waits → hosts old → hosts new
+runs_host true before old new after done waits does host = subst hosts (sym does.0) host
+runs_host false before old new after done waits does host = same_lobby old new _ does.3 host
+
 leaves_host : (left : Option ℕ) (plays : Bool) (why : Option End) (now : ℕ) (a : Game) (k : Meeting) (b : Game) (l : Meeting)
     → LeavesFor left plays why now a k b l → hosts k → hosts l
 leaves_host None true (Some why) now a k b l (does, quits, same) host = same_lobby k l _ same host
@@ -83,7 +89,8 @@ repeats_keep Does P keeps (suc n) a k b l all (inr (c, m, does, rest)) p =
 plays_host : (now : ℕ) (a : Game) (k : Meeting) (b : Game) (l : Meeting) → Plays now a k b l → hosts k → hosts l
 plays_host now a k b l (c, m, given, gives, d, n, run, runs, leaves) host =
     leaves_host _ _ _ now d n b l leaves
-    (repeats_keep (Runs now) (λ e p. hosts p) (λ e p done f q does. same_lobby p q _ does.1.3) 32 c m d n run runs
+    (repeats_keep (Runs now) (λ e p. hosts p) (λ e p done f q does. runs_host (holds_back_in p.part) e.walk p q does.0.walk done
+    does.0.waiting does.1) 32 c m d n run runs
     (repeats_keep (Gives now) (λ e p. hosts p) (λ e p done f q does. gives_host _ done e.keys p does.0.keys q does.1) 32 a k c m given
     gives host))
 

@@ -33,6 +33,12 @@ RunsWalk before old new after has_run waits =
     × RunsPart (marks_of before) old.part new.part answer row × (new ≡ record old { part = new.part })
     × (after ≡ unwrap_or (option_map (walking.step before) row) before) × (has_run ≡ is_some row) × (waits ≡ waited_for answer)
 
+-- the same; but where the tic is held back nothing changes, and nobody is waited for
+abbrev pub RunsWhen : (holds : Bool) → Spots → Meeting → Meeting → Spots → (has_run : Bool) → (waits : Option ℕ) → Type 0
+RunsWhen true before old new after has_run waits =
+    (new ≡ old) × (after ≡ before) × (has_run ≡ false) × (waits ≡ None)
+RunsWhen false before old new after has_run waits = RunsWalk before old new after has_run waits
+
 -- the session is given the keys that are drawn next, the low 18 bits of a word, or nothing
 abbrev pub GivesInput : ℕ → Bool → Lcg → Meeting → Lcg → Meeting → Type 0
 GivesInput now false keys old after new = (new ≡ old) × (after ≡ keys)

@@ -3,8 +3,8 @@ use Rattle.std.specs.Prelude.{◌≡◌, ◌⊎◌, ◌&&◌, ◌==◌, ◌-◌,
 use Rattle.dn_link.specs.{Hearing.ByTest, declared.link.Link.Link}
 use Rattle.dn_lockstep.specs.declared.config.NodeFault.{NodeFault}
 use Rattle.dn_measure.specs.declared.status.Status.{Status}
-use Rattle.dn_session.specs.{declared.greeting.Address.Address, declared.greeting.Refusal.Refusal, declared.session.Session.Session, Reading.is_greeting, Session.can_give, Session.link_in, Session.meeting, Session.Begins, Session.HearsAny, Session.Meeting, Session.PassesTo, Session.Sends}
-use Rattle.dn_host.specs.{Leaving.Leaves, Playing.come_in, Playing.millis, Playing.InGame, Playing.IsBegun, Playing.NotesIn, Telling.Sight, Telling.Tells, Playing.GivesInput, Playing.RunsWalk}
+use Rattle.dn_session.specs.{declared.greeting.Address.Address, declared.greeting.Refusal.Refusal, declared.session.Session.Session, Reading.is_greeting, Session.can_give, Session.holds_back_in, Session.link_in, Session.meeting, Session.Begins, Session.HearsAny, Session.Meeting, Session.PassesTo, Session.Sends}
+use Rattle.dn_host.specs.{Leaving.Leaves, Playing.come_in, Playing.millis, Playing.InGame, Playing.IsBegun, Playing.NotesIn, Telling.Sight, Telling.Tells, Playing.GivesInput, Playing.RunsWhen}
 use Rattle.dn_host.specs.declared.{ends.HostFault.HostFault, ends.HostFault.TheVariants.Memory, game.Game.Game, plan.Plan.Plan, turns.Turns.Turns}
 
 -- something is done again and again, until it was not, or was done so many times; and whether it was done so often
@@ -18,9 +18,9 @@ abbrev pub Gives : ℕ → Game → Meeting → (given : Bool) → Game → Meet
 Gives now a k given b l = (c : Game) × GivesInput (millis now) given a.keys k c.keys l
     × (given ≡ can_give (millis now) k.part) × (c ≡ record a { keys = c.keys }) × NotesIn now l c b
 
--- the next tic is run with the marks of the walk, if it can be run, and is counted
+-- the next tic is run with the marks of the walk, if it can be run and is not held back, and is counted
 abbrev pub Runs : ℕ → Game → Meeting → (has_run : Bool) → Game → Meeting → Type 0
-Runs now a k has_run b l = (c : Game) × RunsWalk a.walk k l c.walk has_run c.waiting
+Runs now a k has_run b l = (c : Game) × RunsWhen (holds_back_in k.part) a.walk k l c.walk has_run c.waiting
     × (c ≡ record a { walk = c.walk; waiting = c.waiting }) × NotesIn now l c b
 
 -- its player gives the keys that are due, runs the tics that can be run, and leaves if it is time

@@ -1,8 +1,8 @@
 //! What a session's player does in the game, and what is counted of it.
 
 ghost use Rattle.std.specs.Prelude.{◌≡◌, Bool};
-ghost use Rattle.dn_session.specs.Session.{can_give, meeting};
-ghost use Rattle.dn_host.specs.{Playing.GivesInput, Playing.IsBegun, Playing.NotesIn, Playing.RunsWalk, Playing.millis, Turns.Gives, Turns.Plays, Turns.Repeats, Turns.Runs};
+ghost use Rattle.dn_session.specs.Session.{can_give, holds_back_in, meeting};
+ghost use Rattle.dn_host.specs.{Playing.GivesInput, Playing.IsBegun, Playing.NotesIn, Playing.RunsWalk, Playing.RunsWhen, Playing.millis, Turns.Gives, Turns.Plays, Turns.Repeats, Turns.Runs};
 
 use crate::counts::Counts;
 use crate::plan::Plan;
@@ -80,7 +80,7 @@ impl Game {
 
     /// Runs the next tic, if it can be run, with the marks of the walk, which goes on by the row of that tic and by
     /// nothing else. Whether it was run.
-    fn run(&mut self, session: &mut Session) -> bool
+    fn run_now(&mut self, session: &mut Session) -> bool
         ensures runs { RunsWalk self.old.walk (meeting session.old) (meeting session.new) self.new.walk result
             self.new.waiting }
         ensures rest { self.new ≡ record self.old { walk = self.new.walk; waiting = self.new.waiting } }
@@ -93,6 +93,19 @@ impl Game {
         }
         self.walk.step(&row);
         true
+    }
+
+    /// The same, unless the tic should wait for the next tick.
+    fn run(&mut self, session: &mut Session) -> bool
+        ensures runs { RunsWhen (holds_back_in (meeting session.old).part) self.old.walk (meeting session.old)
+            (meeting session.new) self.new.walk result self.new.waiting }
+        ensures rest { self.new ≡ record self.old { walk = self.new.walk; waiting = self.new.waiting } }
+    {
+        if session.holds_back() {
+            self.waiting = None;
+            return false;
+        }
+        self.run_now(session)
     }
 
     /// Gives the inputs that are due, and counts what came of each.

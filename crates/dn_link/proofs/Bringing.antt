@@ -6,6 +6,7 @@ use Rattle.dn_seal.specs.declared.{opened.Opened.Opened, seal.Seal.Seal}
 use Rattle.dn_link.specs.{CaughtUp.{next_to, AreCaughtUp, Brings, HasGrown, IsInStep, last_end}, declared.bundle.{Part.{Part, TheVariants.{Whole, Run, Relay}}, Bundle.Bundle, Carried.Carried}}
 use Rattle.dn_link.specs.{Linked.{Gives, Linked}, Pacing.PaceState, Packets.{own_in, packets_of, opened_from}, Packing.IsNeeded, Relays.{Handed, handed_part}, Counting.has_ended, Hearing.carried_of}
 use Rattle.dn_link.specs.{Kept.{going, taken_by, takes_packet}, LinkedGame.AreLinked, Text.parts_bytes}
+use Rattle.dn_link.specs.Packing.{parts_room}
 use Rattle.dn_setup.specs.Settings.{Settings}
 use Rattle.dn_machine.specs.{declared.{answers.Phase.TheVariants.Playing, peer.Peer.Peer}, Flight.Play, Limits.Limits, Node.put, Sending.{after_sent, commands_flight, on_send, request_to}}
 use Rattle.dn_machine.proofs.Put.{put_off}
@@ -80,7 +81,7 @@ module _ (marking : Marking) (limits : Limits) (settings : Settings) (session : 
     → made (links player).node ≤ next_to (links player).node to + (links player).node.places)
     (near : made (links player).node ≤ next_to (links player).node to + 12)
     (plays : (links player).node.phase ≡ Playing)
-    (few : length gives.own < 22) (short : length (parts_bytes gives.own) ≤ 998) where
+    (few : length gives.own < 22) (short : parts_room gives.own ≤ 998) where
   abbrev old : Linked
   old = links player
 

@@ -9,6 +9,7 @@ use Rattle.dn_machine.proofs.Put.{put_at}
 use Rattle.dn_link.specs.{Kept.{IsCovering, Reaches, Unacknowledged, acknowledged, end_of, going, has_tic, is_news, kept_after, taken_by, without, IsKeptRising, IsRising}, Linking.peers_of}
 use Rattle.dn_link.specs.{declared.{bundle.Carried.Carried, peer.Peer.Peer}, Linked.{Gives, Linked, PeerState}, Pacing.PaceState, Packets.{opened_from, packets_of}, Packing.ArePacked}
 use Rattle.dn_link.specs.Text.{parts_bytes}
+use Rattle.dn_link.specs.Packing.{parts_room}
 
 -- Each packet that is kept for a peer ends past those before it.
 
@@ -144,7 +145,7 @@ reached kept packet = grind (arith, and_parts, leb-true, ltb-true, and_from, le-
 -- and a datagram has all of them, where it has room
 pub carries : (seal : Seal) (pace : PaceState) (to : ℕ) (old new : Linked) (bytes : List ℕ)
     (gives : Gives seal pace to old new bytes)
-    → IsCovering (old.peers to).kept → length gives.own < 22 → length (parts_bytes gives.own) ≤ 998
+    → IsCovering (old.peers to).kept → length gives.own < 22 → parts_room gives.own ≤ 998
     → (packets : List Carried) × (flat_map (packets_of gives.bundle.from) gives.own
     ≡ map (opened_from old.node.me) packets)
     × ((tic : ℕ) → (old.peers to).kept.done ≤ tic → tic < (new.peers to).kept.covered → has_tic tic packets ≡ true)

@@ -7,6 +7,14 @@ use Rattle.dn_seal.specs.{Opening.ask_in, Envelope.ask_bytes}
 use Rattle.dn_seal.proofs.Openings.{four_bytes, ask_is, asked-small}
 use Rattle.dn_link.specs.{Text.{carried_bytes, IsCarried, part_bytes, run_bytes, IsPart, IsRelay, IsRun}, Told.{number_at, told_whole, told_run, told_relay, told_part, told_all}}
 use Rattle.dn_link.specs.declared.bundle.{Carried.Carried, Part.{Part, TheVariants.{Whole, Run, Relay}}}
+use Rattle.dn_link.proofs.Runs.{heads, run_first, run_is}
+use Rattle.dn_link.specs.Text.{run_head}
+use Rattle.dn_link.specs.Told.{told_as, told_by}
+use Rattle.std.proofs.Common.{Bool, false, if◌then◌else◌, nat_eq, true}
+use Rattle.std.proofs.lemmas.Bool.Decides.{Decides-eqb}
+use Rattle.std.proofs.lemmas.Slice.Eq.{starts_is}
+use Rattle.std.specs.List.{starts_with}
+use Rattle.std.specs.Option.{option_and_then}
 use Rattle.dn_link.proofs.Parts.{Fit, small, fit_drop}
 use Rattle.dn_link.specs.declared.bundle.Run as run
 use Rattle.dn_link.specs.declared.bundle.Relay as relay
@@ -39,25 +47,6 @@ pub written_first : (packet : Carried) (rest : List ℕ) → IsCarried packet
     → IsFirst (carried_bytes packet ++ rest) packet
 written_first packet rest is = grind (arith, length-append, length-carried, from_le_bytes-to_le_bytes_4, small, take-append_seam)
 
--- what stands there is the packet's bytes
-pub first_is : (bytes : List ℕ) (packet : Carried) → Fit bytes → IsFirst bytes packet
-    → bytes ≡ carried_bytes packet ++ drop (10 + size packet) bytes
-first_is (s0 ∷ s1 ∷ s2 ∷ s3 ∷ q ∷ a ∷ b ∷ c ∷ d ∷ n ∷ rest) packet fits is =
-    let starts = four_bytes s0 s1 s2 s3 packet.start (fits 0) (fits 1) (fits 2) (fits 3) (sym is.start) in
-    let asks = ask_is q a b c d packet.ask (fits 5) (fits 6) (fits 7) (fits 8) is.ask in
-    let items : rest ≡ packet.datagram.items ++ drop (size packet) rest =
-    sym (take-append-drop (size packet) rest) ∙ ap (λ (xs : List ℕ). xs ++ drop (size packet) rest) is.items in
-    (λ i. starts i ++ (asks i ++ (is.told_size i ∷ items i))) ∙ sewn packet.ask (drop (size packet) rest)
-    ∙ ap (λ (xs : List ℕ). carried_bytes packet ++ xs)
-    (drop-drop (size packet) 10 (s0 ∷ s1 ∷ s2 ∷ s3 ∷ q ∷ a ∷ b ∷ c ∷ d ∷ n ∷ rest))
-  where
-    sewn : (ask : Option ℕ) (more : List ℕ)
-        → to_le_bytes w32 packet.start ++ (ask_bytes ask ++ (size packet ∷ (packet.datagram.items ++ more)))
-        ≡ carried_bytes (record packet { ask = ask }) ++ more
-    sewn None more = refl
-    sewn (Some tic) more = refl
-first_is _ packet fits is = absurd (let l = is.long in omega arith)
-
 pub first_fits : (bytes : List ℕ) (packet : Carried) → Fit bytes → IsFirst bytes packet → IsCarried packet
 first_fits (s0 ∷ s1 ∷ s2 ∷ s3 ∷ q ∷ a ∷ b ∷ c ∷ d ∷ n ∷ rest) packet fits is =
     record {
@@ -67,150 +56,116 @@ first_fits (s0 ∷ s1 ∷ s2 ∷ s3 ∷ q ∷ a ∷ b ∷ c ∷ d ∷ n ∷ rest
     }
 first_fits _ packet fits is = absurd (let l = is.long in omega arith)
 
--- a run that was written stands there
-run_first : (r : run.Run) (rest : List ℕ) → IsRun r
-    → told_run (length r.commands.items / 8) (run_bytes r ++ rest) ≡ Some r
-run_first r rest is = grind (arith, le-ltb, length-append, from_le_bytes-to_le_bytes_4, take-append_seam)
+run_as : (r : run.Run) (rest : List ℕ) → IsRun r → told_as (part_bytes (Run r) ++ rest) ≡ Some (Run r)
+run_as r rest is =
+    let head = heads 0 r.commands.items (omega arith) is.some is.few in
+    let off = ne_eqb (run_head 0 r.commands.items) 0 head.some in
+    let own = eq-eqb (run_head 0 r.commands.items / 32 % 2) 0 head.third in
+    rw (off, own) (ap (option_map Run) (run_first 0 r rest (omega arith) is))
 
-run_back : (r : run.Run) (rest : List ℕ) → IsRun r → told_part (part_bytes (Run r) ++ rest) ≡ Some (Run r)
-run_back r rest is =
-    let n : ℕ = length r.commands.items / 8 in
-    let whole = is.whole in
-    let off = ne_eqb n 0 (λ e. absurd (omega (arith, e, whole, is.some))) in
-    let low = lt-ltb n 32 (omega (arith, whole, is.few)) in
-    rw (off, low) (ap (option_map Run) (run_first r rest is))
+relay_as : (r : relay.Relay) (rest : List ℕ) → IsRelay r → told_as (part_bytes (Relay r) ++ rest) ≡ Some (Relay r)
+relay_as r rest is =
+    let head = heads 1 r.run.commands.items (omega arith) is.run.some is.run.few in
+    let off = ne_eqb (run_head 32 r.run.commands.items) 0 head.some in
+    let third = ne_eqb (run_head 32 r.run.commands.items / 32 % 2) 0 (λ own. absurd (omega (arith, own, head.third))) in
+    let low = le-ltb 3 r.player (omega (arith, is.player)) in
+    rw (off, third, low) (ap (λ (o : Option run.Run). option_map Relay (option_map (λ x. record { player = r.player; run = x }) o))
+    (run_first 1 r.run rest (omega arith) is.run))
 
-relay_back : (r : relay.Relay) (rest : List ℕ) → IsRelay r → told_part (part_bytes (Relay r) ++ rest) ≡ Some (Relay r)
-relay_back r rest is =
-    let k : ℕ = length r.run.commands.items / 8 in
-    let n : ℕ = 32 * (r.player + 1) + k in
-    let whole = is.run.whole in
-    let some = is.run.some in
-    let few = is.run.few in
-    let small = is.player in
-    let off = ne_eqb n 0 (λ e. absurd (omega (arith, e))) in
-    let high = le-ltb n 32 (omega arith) in
-    let count : n % 32 ≡ k = omega (arith, whole, few) in
-    let who : n / 32 - 1 ≡ r.player = omega (arith, whole, few) in
-    let a = le-ltb 159 n (omega (arith, whole, few, small)) in
-    let z = ne_eqb k 0 (λ e. absurd (omega (arith, e, whole, some))) in
-    rw (off, high, a, count, z) (ap (λ (o : Option run.Run).
-    option_map Relay (option_map (λ x. record { player = n / 32 - 1; run = x }) o)) (run_first r.run rest is.run)
-    ∙ (λ i. Some (Relay (record { player = who i; run = r.run }))))
+part_as : (part : Part) (rest : List ℕ) → IsPart part → told_as (part_bytes part ++ rest) ≡ Some part
+part_as (Whole packet) rest is =
+    ap (option_map Whole) (told_first (carried_bytes packet ++ rest) packet (written_first packet rest is))
+part_as (Run r) rest is = run_as r rest is
+part_as (Relay r) rest is = relay_as r rest is
+
+-- a part is told by its own bytes
+told_its : (part : Part) (rest : List ℕ) → told_by (part_bytes part ++ rest) part ≡ Some part
+told_its part rest =
+    let bytes : List ℕ = part_bytes part ++ rest in
+    let on : starts_with nat_eq bytes (part_bytes part) ≡ true =
+    (starts_is Decides-eqb bytes (part_bytes part) (starts_with nat_eq bytes (part_bytes part)) refl).1 rest refl in
+    ap (λ (b : Bool). if b then Some part else None) on
 
 pub part_back : (part : Part) (rest : List ℕ) → IsPart part → told_part (part_bytes part ++ rest) ≡ Some part
-part_back part rest is = grind (arith, told_first, written_first, run_back, relay_back)
+part_back part rest is =
+    ap (option_and_then (told_by (part_bytes part ++ rest))) (part_as part rest is) ∙ told_its part rest
 
 -- what is read as a part is that part's bytes
 pub record IsPlaced (bytes : List ℕ) (part : Part) : Type 0 where
   pub is : IsPart part
   pub spelled : bytes ≡ part_bytes part ++ drop (length (part_bytes part)) bytes
 
-whole_is : (rest : List ℕ) (part : Part) → Fit rest → option_map Whole (told_whole rest) ≡ Some part
-    → IsPlaced (0 ∷ rest) part
-whole_is rest part fits e = go (told_whole rest) refl e
+as_whole : (rest : List ℕ) (part : Part) → Fit rest → option_map Whole (told_whole rest) ≡ Some part → IsPart part
+as_whole rest part fits e = go (told_whole rest) refl e
   where
-    go : (one : Option Carried) → told_whole rest ≡ one → option_map Whole one ≡ Some part
-        → IsPlaced (0 ∷ rest) part
+    go : (one : Option Carried) → told_whole rest ≡ one → option_map Whole one ≡ Some part → IsPart part
     go None is e = absurd (none-some part e)
     go (Some packet) is e =
-        let first = first_told rest packet is in
-        subst (IsPlaced (0 ∷ rest)) (same_Some (Whole packet) part e) (record {
-          is = first_fits rest packet fits first;
-          spelled = ap (λ (xs : List ℕ). 0 ∷ xs) (first_is rest packet fits first
-              ∙ ap (λ (k : ℕ). carried_bytes packet ++ drop k rest) (sym (length-carried packet)));
-        })
+        subst IsPart (same_Some (Whole packet) part e) (first_fits rest packet fits (first_told rest packet is))
 
--- what is read as a run is that run's bytes
-record IsRunAt (n : ℕ) (rest : List ℕ) (r : run.Run) : Type 0 where
-  is : IsRun r
-  count : n ≡ length r.commands.items / 8
-  spelled : rest ≡ run_bytes r ++ drop (length (run_bytes r)) rest
-
-run_at : (n : ℕ) (rest : List ℕ) → n ≢ 0 → Fit rest → n ≤ 24 → 4 + 8 * n ≤ length rest
-    → IsRunAt n rest (record { start = number_at 0 rest; commands = record { items = take (8 * n) (drop 4 rest) } })
-run_at n (s0 ∷ s1 ∷ s2 ∷ s3 ∷ more) some fits few long =
-    let start : ℕ = from_le_bytes w32 (s0 ∷ s1 ∷ s2 ∷ s3 ∷ []) in
-    let starts = four_bytes s0 s1 s2 s3 start (fits 0) (fits 1) (fits 2) (fits 3) refl in
-    let one : 1 ≤ n = positive n some in
-    let long_1 : 8 * n ≤ length more = omega (arith, long) in
-    let sized : length (take (8 * n) more) ≡ 8 * n = length-take-le (8 * n) more long_1 in
-    let items : more ≡ take (8 * n) more ++ drop (length (take (8 * n) more)) more =
-    sym (take-append-drop (8 * n) more) ∙ ap (λ (k : ℕ). take (8 * n) more ++ drop k more) (sym sized) in
-    record {
-      is = record {
-        start = small s0 s1 s2 s3 (fits 0) (fits 1) (fits 2) (fits 3);
-        some = omega (arith, sized, one);
-        few = omega (arith, sized, few);
-        whole = omega (arith, sized);
-      };
-      count = omega (arith, sized);
-      spelled = λ i. starts i ++ items i;
-    }
+as_run : (head : ℕ) (rest behind : List ℕ) (part : Part) → Fit rest → option_map Run (told_run head rest) ≡ Some part
+    → head ∷ rest ≡ part_bytes part ++ behind → IsPart part
+as_run head rest behind part fits e spelled = go (told_run head rest) refl e
   where
-    positive : (k : ℕ) → k ≢ 0 → 1 ≤ k
-    positive zero is = absurd (is refl)
-    positive (suc k) is = omega arith
-run_at n _ some fits few long = absurd (omega arith)
-
-run_is : (n : ℕ) (rest : List ℕ) (r : run.Run) → n ≢ 0 → Fit rest → told_run n rest ≡ Some r → IsRunAt n rest r
-run_is n rest r some fits e = grind (arith, lt-ltb, none-some, le-ltb, same_Some, run_at)
-
-run_part : (n : ℕ) (rest : List ℕ) (part : Part) → n ≢ 0 → Fit rest → option_map Run (told_run n rest) ≡ Some part
-    → IsPlaced (n ∷ rest) part
-run_part n rest part some fits e = go (told_run n rest) refl e
-  where
-    go : (one : Option run.Run) → told_run n rest ≡ one → option_map Run one ≡ Some part → IsPlaced (n ∷ rest) part
+    go : (one : Option run.Run) → told_run head rest ≡ one → option_map Run one ≡ Some part → IsPart part
     go None is e = absurd (none-some part e)
     go (Some r) is e =
-        let at = run_is n rest r some fits is in
-        subst (IsPlaced (n ∷ rest)) (same_Some (Run r) part e) (record {
-          is = at.is;
-          spelled = λ i. at.count i ∷ at.spelled i;
-        })
+        let same = same_Some (Run r) part e in
+        let first = ap (λ (xs : List ℕ). slice_index xs 0)
+        (subst (λ (p : Part). head ∷ rest ≡ part_bytes p ++ behind) (sym same) spelled) in
+        subst IsPart same (run_is 0 head rest r (omega arith) fits is first)
 
-relay_part : (n : ℕ) (rest : List ℕ) (part : Part) → 32 ≤ n → Fit rest
-    → option_map Relay (told_relay n rest) ≡ Some part → IsPlaced (n ∷ rest) part
-relay_part n rest part high fits e = elim (cases_lt 159 n) [
-  | inl over ↦ let on = lt-ltb 159 n over in
-      let none : ◌≡◌ {A = Option Part} None (Some part) = rw on at e in absurd (none-some part none)
-  | inr low ↦ let off = le-ltb 159 n low in elim (cases_eq (n % 32) 0) [
-    | inl nothing ↦ let on = eq-eqb (n % 32) 0 nothing in
-        let none : ◌≡◌ {A = Option Part} None (Some part) = rw (off, on) at e in absurd (none-some part none)
-    | inr some ↦ let no = ne_eqb (n % 32) 0 some in go low some (told_run (n % 32) rest) refl (rw (off, no) at e)
-  ]
+as_relay : (head : ℕ) (rest behind : List ℕ) (part : Part) → Fit rest
+    → option_map Relay (told_relay head rest) ≡ Some part → head ∷ rest ≡ part_bytes part ++ behind → IsPart part
+as_relay head [] behind part fits e spelled = absurd (none-some part e)
+as_relay head (player ∷ rest) behind part fits e spelled = elim (cases_lt 3 player) [
+  | inl many ↦ let on = lt-ltb 3 player many in
+      let no : ◌≡◌ {A = Option Part} None (Some part) = rw on at e in absurd (none-some part no)
+  | inr low ↦ let off = le-ltb 3 player low in go low (told_run head rest) refl (rw off at e)
 ]
   where
-    go : n ≤ 159 → n % 32 ≢ 0 → (one : Option run.Run) → told_run (n % 32) rest ≡ one
-        → option_map Relay (option_map (λ x. record { player = n / 32 - 1; run = x }) one) ≡ Some part
-        → IsPlaced (n ∷ rest) part
-    go low some None is e = absurd (none-some part e)
-    go low some (Some r) is e =
-        let at = run_is (n % 32) rest r some fits is in
-        let head : n ≡ 32 * (n / 32 - 1 + 1) + length r.commands.items / 8 = omega (arith, high, at.count) in
-        subst (IsPlaced (n ∷ rest)) (same_Some (Relay (record { player = n / 32 - 1; run = r })) part e) (record {
-          is = record { player = omega (arith, low); run = at.is };
-          spelled = λ i. head i ∷ at.spelled i;
+    go : player ≤ 3 → (one : Option run.Run) → told_run head rest ≡ one
+        → option_map Relay (option_map (λ x. record { player = player; run = x }) one) ≡ Some part → IsPart part
+    go low None is e = absurd (none-some part e)
+    go low (Some r) is e =
+        let same = same_Some (Relay (record { player = player; run = r })) part e in
+        let first = ap (λ (xs : List ℕ). slice_index xs 0)
+        (subst (λ (p : Part). head ∷ player ∷ rest ≡ part_bytes p ++ behind) (sym same) spelled) in
+        subst IsPart same (record {
+          player = omega (arith, low);
+          run = run_is 1 head rest r (omega arith) (fit_drop 1 (player ∷ rest) fits) is first;
         })
 
-pub part_is : (bytes : List ℕ) (part : Part) → Fit bytes → told_part bytes ≡ Some part → IsPlaced bytes part
-part_is [] part fits e = absurd (none-some part e)
-part_is (n ∷ rest) part fits e = elim (cases_eq n 0) [
-  | inl none ↦
-      let on = eq-eqb n 0 none in
-      subst (λ (k : ℕ). IsPlaced (k ∷ rest) part) (sym none)
-      (whole_is rest part (fit_drop 1 (n ∷ rest) fits) (rw on at e))
-  | inr some ↦
-      let off = ne_eqb n 0 some in
-      elim (cases_lt n 32) [
-        | inl own ↦
-            let low = lt-ltb n 32 own in
-            run_part n rest part some (fit_drop 1 (n ∷ rest) fits) (rw (off, low) at e)
-        | inr third ↦
-            let high = le-ltb n 32 third in
-            relay_part n rest part third (fit_drop 1 (n ∷ rest) fits) (rw (off, high) at e)
-      ]
+as_is : (bytes behind : List ℕ) (part : Part) → Fit bytes → told_as bytes ≡ Some part
+    → bytes ≡ part_bytes part ++ behind → IsPart part
+as_is [] behind part fits e spelled = absurd (none-some part e)
+as_is (head ∷ rest) behind part fits e spelled = elim (cases_eq head 0) [
+  | inl none ↦ let on = eq-eqb head 0 none in as_whole rest part (fit_drop 1 (head ∷ rest) fits) (rw on at e)
+  | inr some ↦ let off = ne_eqb head 0 some in elim (cases_eq (head / 32 % 2) 0) [
+    | inl own ↦ let on = eq-eqb (head / 32 % 2) 0 own in
+        as_run head rest behind part (fit_drop 1 (head ∷ rest) fits) (rw (off, on) at e) spelled
+    | inr third ↦ let no = ne_eqb (head / 32 % 2) 0 third in
+        as_relay head rest behind part (fit_drop 1 (head ∷ rest) fits) (rw (off, no) at e) spelled
+  ]
 ]
+
+pub part_is : (bytes : List ℕ) (part : Part) → Fit bytes → told_part bytes ≡ Some part → IsPlaced bytes part
+part_is bytes part fits e = go (told_as bytes) refl e
+  where
+    begun : (p : Part) → told_as bytes ≡ Some p → (b : Bool) → starts_with nat_eq bytes (part_bytes p) ≡ b
+        → (if b then Some p else None) ≡ Some part → IsPlaced bytes part
+    begun p is false off e = absurd (none-some part e)
+    begun p is true on e =
+        let spelled = (starts_is Decides-eqb bytes (part_bytes p) (starts_with nat_eq bytes (part_bytes p)) refl).0 on in
+        subst (IsPlaced bytes) (same_Some p part e) (record {
+          is = as_is bytes (drop (length (part_bytes p)) bytes) p fits is spelled;
+          spelled = spelled;
+        })
+
+    go : (one : Option Part) → told_as bytes ≡ one → option_and_then (told_by bytes) one ≡ Some part
+        → IsPlaced bytes part
+    go None is e = absurd (none-some part e)
+    go (Some p) is e = begun p is (starts_with nat_eq bytes (part_bytes p)) refl e
 
 -- what follows a part, or none
 abbrev pub opened : ℕ → List ℕ → Option Part → Option (List Part)
@@ -280,6 +235,3 @@ module _ (bytes whole : List ℕ) (rest : List Part) (part : Part) (after : List
 
   pub one_more : (new : List ℕ) → new ≡ bytes ++ part_bytes part → new ++ flat_map part_bytes after ≡ whole
   one_more new e = grind (arith, append_assoc)
-
-  pub still_fit : All IsPart rest → All IsPart after
-  still_fit fit = All-tail IsPart part after (subst (All IsPart) split fit)

@@ -1,5 +1,8 @@
+pub mod Changes
 pub mod Parts
+pub mod Runs
 pub mod Items
+pub mod Rooms
 pub mod Wholes
 pub mod Hearings
 pub mod Keeping
@@ -11,6 +14,7 @@ pub mod Gives
 pub mod Receives
 pub mod Sending
 pub mod Following
+pub mod Spelled
 pub mod Requests
 pub mod Growing
 pub mod Leaving

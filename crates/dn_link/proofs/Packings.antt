@@ -7,6 +7,8 @@ use Rattle.arrayvec.specs.ArrayVec.{ArrayVec}
 use Rattle.dn_seal.specs.declared.opened.Opened.{Opened}
 use Rattle.dn_link.specs.{Packing.{runs, runs_last, ArePacked, AreEnded, IsEnded, IsNeeded, MayFollow, IsPacking, IsOpen, part_of, packed, IsTight}, Text.{IsPart, part_bytes, parts_bytes}}
 use Rattle.dn_link.specs.{declared.{bundle.{Part.{Part, TheVariants.{Run, Whole, Relay}}, Carried.Carried}, packing.Packing.Packing}, Packets.{opened_from, packets_of, short_packet, short_packets}}
+use Rattle.dn_link.specs.Packing.{IsOpenRun, part_room, parts_room}
+use Rattle.dn_link.specs.Text.{IsCarried}
 use Rattle.dn_link.specs.declared.bundle.Run as run
 
 -- Packets are written as no more parts than they need.
@@ -120,22 +122,13 @@ whole_tight from p q packet tight needed now start at =
 -- Parts that are written fit.
 
 -- parts with one more
-pushed_bytes : (parts : List Part) (part : Part)
-    → length (parts_bytes (parts ++ part ∷ [])) ≡ length (parts_bytes parts) + length (part_bytes part)
-pushed_bytes parts part =
-    let split = ap (length {A = ℕ}) (flat_map-append part_bytes parts (part ∷ [])) in
-    let both = length-append (flat_map part_bytes parts) (part_bytes part ++ []) in
-    let one = ap (length {A = ℕ}) (append-nil (part_bytes part)) in
-    omega (arith, split, both, one)
+pub pushed_room : (parts : List Part) (part : Part) → parts_room (parts ++ part ∷ []) ≡ parts_room parts + part_room part
+pushed_room [] part = omega arith
+pushed_room (one ∷ parts) part = omega (arith, pushed_room parts part)
 
 pushed_all : (parts : List Part) (part : Part) → All IsPart parts → IsPart part → All IsPart (parts ++ part ∷ [])
 pushed_all parts part all is =
     All-append IsPart parts (part ∷ []) all (All-cons IsPart part [] is (All-nil IsPart))
-
-run_length : (r : run.Run) → length (part_bytes (Run r)) ≡ 5 + length r.commands.items
-run_length r =
-    let four : length (to_le_bytes w32 r.start) ≡ 4 = refl in
-    omega (arith, length-append (to_le_bytes w32 r.start) r.commands.items, four)
 
 -- the run is ended
 pub ended : (p q : Packing) → IsPacking p → length p.parts.items ≤ 23 → 1 ≤ length p.run.commands.items
@@ -147,7 +140,7 @@ ended p q is few some parts bytes start none =
     let more = length-append p.parts.items (Run p.run ∷ []) in
     let empty = ap (length {A = ℕ}) none in
     let whole = is.run.whole in
-    let written = ap (λ (ps : List Part). length (parts_bytes ps)) parts in
+    let written = ap parts_room parts in
     record {
       parts = subst (All IsPart) (sym parts) (pushed_all p.parts.items (Run p.run) is.parts (record {
         start = is.run.start;
@@ -156,10 +149,30 @@ ended p q is few some parts bytes start none =
         whole = is.run.whole;
       }));
       run = record { start = start; few = omega (arith, empty); whole = omega (arith, empty) };
-      bytes = omega (arith, bytes, is.bytes, written, pushed_bytes p.parts.items (Run p.run), run_length p.run);
+      bytes = omega (arith, bytes, is.bytes, written, pushed_room p.parts.items (Run p.run));
       few = omega (arith, count, more, few);
       fit = omega (arith, bytes, is.run_fits some);
       run_fits = λ more. absurd (omega (arith, more, empty));
+    }
+
+-- a packet stands whole
+pub whole_fits : (p q : Packing) (packet : Carried) → IsPacking p → length p.parts.items ≤ 22
+    → p.bytes + 115 ≤ 1118 → p.run.commands.items ≡ [] → IsCarried packet
+    → q.parts.items ≡ p.parts.items ++ Whole packet ∷ []
+    → q.bytes ≡ p.bytes + (11 + length packet.datagram.items) → q.run ≡ p.run → IsPacking q
+whole_fits p q packet is few room none fits parts bytes same =
+    let count = ap (length {A = Part}) parts in
+    let more = length-append p.parts.items (Whole packet ∷ []) in
+    let short = fits.short in
+    let empty : length q.run.commands.items ≡ 0 =
+    ap (λ (r : run.Run). length r.commands.items) same ∙ ap (length {A = ℕ}) none in
+    record {
+      parts = subst (All IsPart) (sym parts) (pushed_all p.parts.items (Whole packet) is.parts fits);
+      run = subst IsOpenRun (sym same) is.run;
+      bytes = omega (arith, bytes, is.bytes, ap parts_room parts, pushed_room p.parts.items (Whole packet));
+      few = omega (arith, count, more, few);
+      fit = omega (arith, bytes, room, short);
+      run_fits = λ some. absurd (omega (arith, some, empty));
     }
 
 run_fits : (p q : Packing) (command : List ℕ) → IsPacking p → length command ≡ 8
@@ -178,7 +191,7 @@ run_fits p q command is eight few room parts bytes begin more =
         few = omega (arith, grown, both, eight, few);
         whole = omega (arith, grown, both, eight, whole);
       };
-      bytes = bytes ∙ is.bytes ∙ ap (λ (ps : List Part). length (parts_bytes ps)) (sym items);
+      bytes = bytes ∙ is.bytes ∙ ap parts_room (sym items);
       few = subst (λ (ps : List Part). length ps ≤ 24) (sym items) is.few;
       fit = omega (arith, bytes, is.fit);
       run_fits = λ some. omega (arith, bytes, grown, both, eight, room);
@@ -193,21 +206,21 @@ last_of (a ∷ b ∷ parts) part = last_of (b ∷ parts) part
 ended_full : (p : Packing) (parts : List Part) → IsPacking p → IsOpen p
     → parts ≡ p.parts.items ++ part_of p.run
     → (length p.parts.items < 22 → 1118 < p.bytes + 5 + length p.run.commands.items + 115)
-    → length parts < 22 + runs_last parts → 1118 + 5 * runs_last parts < length (parts_bytes parts) + (5 + 115)
+    → length parts < 22 + runs_last parts → 1118 + 5 * runs_last parts < parts_room parts + (5 + 115)
 ended_full p parts is going now full few = elim (cases_lt 0 (length p.run.commands.items)) [
   | inl some ↦
       let same : parts ≡ p.parts.items ++ Run p.run ∷ [] =
       now ∙ ap (λ (last : List Part). p.parts.items ++ last) (is_part p.run some) in
       let last : runs_last parts ≡ 1 = ap runs_last same ∙ last_of p.parts.items (Run p.run) in
       let count = ap (length {A = Part}) same ∙ length-append p.parts.items (Run p.run ∷ []) in
-      let written = ap (λ (ps : List Part). length (parts_bytes ps)) same ∙ pushed_bytes p.parts.items (Run p.run) in
-      omega (arith, full (omega (arith, few, last, count)), last, written, run_length p.run, is.bytes)
+      let written = ap parts_room same ∙ pushed_room p.parts.items (Run p.run) in
+      omega (arith, full (omega (arith, few, last, count)), last, written, is.bytes)
   | inr none ↦
       let same : parts ≡ p.parts.items =
       now ∙ ap (λ (last : List Part). p.parts.items ++ last) (is_none p.run none) ∙ append-nil p.parts.items in
       let last : runs_last parts ≡ 0 = ap runs_last same ∙ going (omega (arith, none)) in
       let count = ap (length {A = Part}) same in
-      let written = ap (λ (ps : List Part). length (parts_bytes ps)) same in
+      let written = ap parts_room same in
       omega (arith, full (omega (arith, few, last, count)), last, written, none, is.bytes)
 ]
 

@@ -1,127 +1,26 @@
 -- What comes in leaves the packets to a peer as they go on, unless the peer asks for commands past those.
-use Rattle.std.proofs.Common.{◌≡◌, ◌≢◌, ◌≤◌, ◌*◌, ◌⊎◌, ℕ, Bool, true, false, List, [], ◌∷◌, refl, ap, sym, ◌∙◌, subst, arith, Option, Some, None, All, inl, inr, ◌<◌, ◌+◌, ◌/◌, ◌%◌, ◌^◌, zero, suc, ◌++◌, length, take, drop}
-use Rattle.std.proofs.{lemmas.{Bool.cases_eq, List.Elements.{All-head, All-tail, All-nil, All-cons, All-append, All-take, All-drop}}, Math.Nat.mod-lt}
-use Rattle.std.specs.{Prelude.{IfSome, Result, Ok, Err}, List.flat_map, Int.{w8, w32, cast_unsigned, to_le_bytes}}
-use Rattle.byteorder.specs.Endian.{little_bytes}
-use Rattle.dn_packet.specs.{declared.packet.{Packet.Packet, PacketFault.PacketFault}, Read.{AreBytes, Reading}, Text.sum_of}
-use Rattle.dn_setup.specs.{Settings.Settings, Setup.Told, declared.setup.SetupFault.{SetupFault, TheVariants.NotSetup}}
-use Rattle.dn_seal.specs.{declared.{opened.Opened.Opened, seal.Seal.Seal}, Envelope.ask_bytes, Hmac.tag_of, Sealing.front_bytes}
+use Rattle.std.proofs.Common.{◌≡◌, ◌≢◌, ◌≤◌, ◌⊎◌, ℕ, Bool, true, false, List, [], ◌∷◌, refl, ap, sym, ◌∙◌, subst, arith, Option, Some, None, All, inl, inr}
+use Rattle.std.specs.Prelude.{IfSome, Result, Ok, Err}
+use Rattle.std.proofs.lemmas.Bool.{cases_eq}
+use Rattle.std.proofs.lemmas.List.Elements.{All-head, All-tail}
+use Rattle.dn_packet.specs.{declared.packet.Packet.Packet, declared.packet.PacketFault.PacketFault, Read.AreBytes, Read.Reading}
+use Rattle.dn_setup.specs.{Settings.Settings, Setup.Told, declared.setup.SetupFault.SetupFault, declared.setup.SetupFault.TheVariants.NotSetup}
+use Rattle.dn_seal.specs.{declared.opened.Opened.Opened, declared.seal.Seal.Seal}
 use Rattle.dn_machine.specs.{Limits.Limits, Node.made}
 use Rattle.dn_machine.proofs.Put.{put_at, put_off}
+use Rattle.dn_machine.specs.Node as machine
 use Rattle.dn_lockstep.specs.{Contents.Contents, Received.IsTold, Represents.Represents, Told.made as made_in}
 use Rattle.dn_lockstep.proofs.Shown.{made_is}
 use Rattle.dn_open.specs.{Arrivals.HearsOpened, declared.hearing.Arrived.Arrived, Sealed.sealing_of}
-use Rattle.dn_link.specs.declared.{bundle.{Bundle.Bundle, BundleFault.BundleFault, Part.{Part, TheVariants.{Whole, Run, Relay}}}, received.Received.{Received, TheVariants.{Excluded, GivenUp, Heard, Stranger}}}
-use Rattle.dn_link.specs.{Ends.excludes, Counting.{held_of, reached}, Hearing.{ByTest, HearsAll}, Kept.IsKeptRising, CaughtUp.{AsksWithin, GoesOn, IsGone, StillGoesOn}, Reading.IsBundledAs}
-use Rattle.dn_link.specs.Linked.{Linked, PeerState, Receives, ReceivesAs, TakesIn, TakesPackets, TakesRead, HearsPeer, surviving_of, after_report, has_given_up, is_peer, met, takes, with_reached}
-use Rattle.dn_link.specs.Packets.{packets_of, heard_in, packets_in, short_body, short_packet, short_packets, opened_from}
-use Rattle.dn_link.specs.Text.{run_bytes, bundle_bytes, carried_bytes, counts_bytes, part_bytes, parts_bytes, report_field, sealed_bytes}
-use Rattle.dn_link.proofs.{Sending.{opened_asked, resend_of}, Following.{next_same, same_peers, still}, Leaving.{parts_from, parts_heard, stays_left}, Covered.rises_past, Reporting.report_same}
-use Rattle.dn_survivor.specs.{Calls.{HearsReport, HearsReportUnless, refused_report}, OfOthers.with_newest, Surviving.Surviving}
-use Rattle.dn_survivor.specs.declared.{answers.Reported.Reported, report.{Report.Report, ReportFault.ReportFault}}
-use Rattle.dn_machine.specs.Node as machine
-
--- The packets of a datagram are of its sender, and bytes.
-abbrev IsByte : ℕ → Type 0
-IsByte byte = byte < 256
-
--- of two lists
-after : (xs ys : List ℕ) → AreBytes (xs ++ ys) → AreBytes ys
-after [] ys all = all
-after (x ∷ xs) ys all = after xs ys (All-tail IsByte x (xs ++ ys) all)
-
-before : (xs ys : List ℕ) → AreBytes (xs ++ ys) → AreBytes xs
-before [] ys all = All-nil IsByte
-before (x ∷ xs) ys all =
-    All-cons IsByte x xs (All-head IsByte x (xs ++ ys) all) (before xs ys (All-tail IsByte x (xs ++ ys) all))
-
--- the datagram of a packet is of bytes
-abbrev IsSpelled : Opened → Type 0
-IsSpelled opened = AreBytes opened.datagram.items
-
--- a packet of one command
-four_bytes : (a b c d : ℕ) → a < 256 → b < 256 → c < 256 → d < 256 → AreBytes (a ∷ b ∷ c ∷ d ∷ [])
-four_bytes a b c d la lb lc ld =
-    All-cons IsByte a (b ∷ c ∷ d ∷ []) la (All-cons IsByte b (c ∷ d ∷ []) lb
-    (All-cons IsByte c (d ∷ []) lc (All-cons IsByte d [] ld (All-nil IsByte))))
-
-sum_bytes : (sum : ℕ) → AreBytes (little_bytes 4 sum)
-sum_bytes sum = four_bytes (sum % 256) (sum / 256 % 256) (sum / 65536 % 256) (sum / 16777216 % 256)
-    (mod-lt sum (omega arith)) (mod-lt (sum / 256) (omega arith)) (mod-lt (sum / 65536) (omega arith))
-    (mod-lt (sum / 16777216) (omega arith))
-
-short_bytes : (from start : ℕ) (command : List ℕ) → from < 256 → AreBytes command
-    → IsSpelled (opened_from from (short_packet from start command))
-short_bytes from start command low all =
-    All-append IsByte (little_bytes 4 (sum_of (short_body from start command))) (short_body from start command)
-    (sum_bytes (sum_of (short_body from start command))) (All-cons IsByte 0 (start % 256 ∷ from ∷ 1 ∷ command)
-    (omega arith) (All-cons IsByte (start % 256) (from ∷ 1 ∷ command) (mod-lt start (omega arith))
-    (All-cons IsByte from (1 ∷ command) low (All-cons IsByte 1 command (omega arith) all))))
-
-shorts_bytes : (n from start : ℕ) (commands : List ℕ) → from < 256 → AreBytes commands
-    → All IsSpelled (short_packets n from start commands)
-shorts_bytes zero from start commands low all = All-nil IsSpelled
-shorts_bytes (suc n) from start commands low all =
-    All-cons IsSpelled _ _ (short_bytes from start (take 8 commands) low (All-take IsByte 8 commands all))
-    (shorts_bytes n from ((start + 1) % 2 ^ 32) (drop 8 commands) low (All-drop IsByte 8 commands all))
-
--- what a part stands for
-part_of_bytes : (from : ℕ) (part : Part) → from < 256 → AreBytes (part_bytes part) → All IsSpelled (packets_of from part)
-part_of_bytes from (Whole packet) low all =
-    All-cons IsSpelled (opened_from from packet) [] (All-tail IsByte (length packet.datagram.items)
-    packet.datagram.items (after (ask_bytes packet.ask) (length packet.datagram.items ∷ packet.datagram.items)
-    (after (to_le_bytes w32 packet.start) (ask_bytes packet.ask ++ length packet.datagram.items
-    ∷ packet.datagram.items) (All-tail IsByte 0 (carried_bytes packet) all)))) (All-nil IsSpelled)
-part_of_bytes from (Run run) low all =
-    shorts_bytes (length run.commands.items / 8) from run.start run.commands.items low
-    (after (to_le_bytes w32 run.start) run.commands.items (All-tail IsByte (length run.commands.items / 8)
-    (to_le_bytes w32 run.start ++ run.commands.items) all))
-part_of_bytes from (Relay relay) low all =
-    let head : ℕ = 32 * (relay.player + 1) + length relay.run.commands.items / 8 in
-    let first : head < 256 = All-head IsByte head (run_bytes relay.run) all in
-    shorts_bytes (length relay.run.commands.items / 8) relay.player relay.run.start relay.run.commands.items
-    (omega (arith, first))
-    (after (to_le_bytes w32 relay.run.start) relay.run.commands.items (All-tail IsByte head (run_bytes relay.run) all))
-
-all_of_bytes : (from : ℕ) (parts : List Part) → from < 256 → AreBytes (flat_map part_bytes parts)
-    → All IsSpelled (flat_map (packets_of from) parts)
-all_of_bytes from [] low all = All-nil IsSpelled
-all_of_bytes from (part ∷ parts) low all =
-    All-append IsSpelled (packets_of from part) (flat_map (packets_of from) parts)
-    (part_of_bytes from part low (before (part_bytes part) (flat_map part_bytes parts) all))
-    (all_of_bytes from parts low (after (part_bytes part) (flat_map part_bytes parts) all))
-
--- the bytes of a datagram up to its ends, its number, its lead, its counts, and its report
-abbrev to_ends : Seal → Bundle → List ℕ
-to_ends seal bundle = front_bytes seal 5 ++ (bundle.from ∷ bundle.to ∷ [])
-
-abbrev to_number : Seal → Bundle → List ℕ
-to_number seal bundle = to_ends seal bundle ++ to_le_bytes w32 bundle.number
-
-abbrev to_lead : Seal → Bundle → List ℕ
-to_lead seal bundle = to_number seal bundle ++ (cast_unsigned w8 bundle.lead ∷ bundle.holes ∷ bundle.cause ∷ [])
-
-abbrev to_counts : Seal → Bundle → List ℕ
-to_counts seal bundle = to_lead seal bundle ++ counts_bytes bundle.counts
-
-abbrev to_report : Seal → Bundle → List ℕ
-to_report seal bundle = to_counts seal bundle ++ report_field bundle.report.items
-
--- what a datagram carries
-packets_of_bytes : (seal : Seal) (bundle : Bundle) → AreBytes (sealed_bytes seal bundle)
-    → All (IsSpelled) (packets_in bundle)
-packets_of_bytes seal bundle all =
-    let parts : List ℕ = parts_bytes bundle.parts.items in
-    let whole = before (bundle_bytes seal bundle) (tag_of seal.key (bundle_bytes seal bundle)) all in
-    let report = before (to_report seal bundle) parts whole in
-    let counts = before (to_counts seal bundle) (report_field bundle.report.items) report in
-    let lead = before (to_lead seal bundle) (counts_bytes bundle.counts) counts in
-    let number = before (to_number seal bundle) (cast_unsigned w8 bundle.lead ∷ bundle.holes ∷ bundle.cause ∷ []) lead in
-    let ends = before (to_ends seal bundle) (to_le_bytes w32 bundle.number) number in
-    let low = All-head IsByte bundle.from (bundle.to ∷ [])
-    (after (front_bytes seal 5) (bundle.from ∷ bundle.to ∷ []) ends) in
-    all_of_bytes bundle.from bundle.parts.items low (All-tail IsByte (length bundle.parts.items)
-    (flat_map part_bytes bundle.parts.items) (after (to_report seal bundle) parts whole))
+use Rattle.dn_link.specs.{declared.bundle.Bundle.Bundle, declared.bundle.BundleFault.BundleFault}
+use Rattle.dn_link.specs.{declared.received.Received.Received, declared.received.Received.TheVariants.Excluded, declared.received.Received.TheVariants.GivenUp, declared.received.Received.TheVariants.Heard, Ends.excludes, declared.received.Received.TheVariants.Stranger, Counting.held_of, Counting.reached}
+use Rattle.dn_link.specs.{Hearing.ByTest, Hearing.HearsAll, Kept.IsKeptRising, CaughtUp.AsksWithin, CaughtUp.GoesOn, CaughtUp.IsGone, CaughtUp.StillGoesOn, Reading.IsBundledAs}
+use Rattle.dn_link.specs.{Linked.Linked, Linked.PeerState, Linked.Receives, Linked.ReceivesAs, Linked.TakesIn, Linked.TakesPackets, Linked.TakesRead, Linked.HearsPeer, Linked.surviving_of, Linked.after_report, Linked.has_given_up, Linked.is_peer, Linked.met, Linked.takes, Linked.with_reached}
+use Rattle.dn_link.proofs.{Sending.opened_asked, Following.next_same, Following.same_peers, Following.still, Leaving.parts_from, Leaving.parts_heard, Leaving.stays_left, Covered.rises_past, Sending.resend_of}
+use Rattle.dn_survivor.specs.{Calls.HearsReport, Calls.HearsReportUnless, Calls.refused_report, OfOthers.with_newest, Surviving.Surviving, declared.answers.Reported.Reported, declared.report.Report.Report, declared.report.ReportFault.ReportFault}
+use Rattle.dn_link.proofs.Reporting.{report_same}
+use Rattle.dn_link.proofs.Spelled.{IsSpelled, packets_of_bytes}
+use Rattle.dn_link.specs.Packets.{heard_in, packets_in}
 
 -- What comes in.
 

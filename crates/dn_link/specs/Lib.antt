@@ -1,3 +1,4 @@
+pub mod Differences
 pub mod Text
 pub mod Told
 pub mod Reading

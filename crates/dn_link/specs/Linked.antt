@@ -10,6 +10,7 @@ use Rattle.dn_link.specs.declared.{received.Received.{TheVariants.{Unopened, Str
 use Rattle.dn_link.specs.{Kept.{Unacknowledged, acknowledged, going, kept_after, taken_by}, Reading.IsBundledAs, Counting.{counts_of, held_of, reached}, Hearing.{SendsCarried, ByTest, HearsAll}}
 use Rattle.dn_link.specs.{Line.missing, Pacing.PaceState, Packets.{heard_in, takes_relay}, Packing.ArePacked, Relays.{AreHandedOn, AreLacked, Handed, handed_part}}
 use Rattle.dn_link.specs.{Ends.{excludes, left_by, told_cause}, Text.{IsBundle, parts_bytes, sealed_bytes}}
+use Rattle.dn_link.specs.Packing.{parts_room}
 use Rattle.dn_link.specs.declared.bundle.Relay as relay
 
 -- what it keeps of a peer: the packets that the peer has not acknowledged, the most that the peer's datagrams
@@ -53,7 +54,7 @@ fitting room None = None
 fitting room (Some report) = if nat_lt room (length (report_bytes report)) then None else Some report
 
 abbrev pub report_beside : Surviving → ℕ → List Part → Option Report
-report_beside now to parts = fitting (1139 - length (parts_bytes parts)) (report_for now to)
+report_beside now to parts = fitting (1139 - parts_room parts) (report_for now to)
 
 -- its bytes, or none
 abbrev pub written : Option Report → List ℕ

@@ -5,6 +5,17 @@ use Rattle.dn_link.specs.{declared.{bundle.{Carried.Carried, Part.{Part, TheVari
 use Rattle.dn_link.specs.Text.{parts_bytes, IsPart}
 use Rattle.dn_link.specs.declared.bundle.Run as run
 
+-- how many bytes a part is given room for: as many as it takes with its commands whole
+abbrev pub part_room : Part → ℕ
+part_room (Whole packet) = 11 + length packet.datagram.items
+part_room (Run run) = 5 + length run.commands.items
+part_room (Relay relay) = 6 + length relay.run.commands.items
+
+-- parts, behind their number
+abbrev pub parts_room : List Part → ℕ
+parts_room [] = 1
+parts_room (part ∷ parts) = part_room part + parts_room parts
+
 -- a packet stands whole only where no command of eight bytes tells it; and none is of a third player
 abbrev pub IsNeeded : ℕ → Part → Type 0
 IsNeeded from (Whole packet) =
@@ -35,14 +46,14 @@ runs_last (one ∷ other ∷ parts) = runs_last (other ∷ parts)
 
 -- the parts stand for these packets, oldest first, and no fewer parts could. They stand for all of them, unless
 -- there may be no room for one more: there are twenty-two parts beside a run that is the last of them; or of
--- 1,118 bytes fewer are left than a whole packet takes, which is 115, and a run without commands, which is 5,
--- where no run is the last
+-- 1,118 bytes of room fewer are left than a whole packet takes, which is 115, and a run without commands, which
+-- is 5, where no run is the last
 pub record ArePacked (from : ℕ) (packets : List Carried) (parts : List Part) : Type 0 where
   pub count : ℕ
   pub some : count ≤ length packets
   pub front : flat_map (packets_of from) parts ≡ take count (map (opened_from from) packets)
   pub all : count < length packets → length parts < 22 + runs_last parts
-      → 1118 + 5 * runs_last parts < length (parts_bytes parts) + (5 + 115)
+      → 1118 + 5 * runs_last parts < parts_room parts + (5 + 115)
   pub needed : All (IsNeeded from) parts
   pub ended : AreEnded parts
 
@@ -76,11 +87,11 @@ IsTight from p =
 abbrev pub IsOpen : Packing → Type 0
 IsOpen p = length p.run.commands.items ≡ 0 → runs_last p.parts.items ≡ 0
 
--- it fits: the parts have so many bytes, and with the run no more than there is room for
+-- it fits: the parts have so many bytes of room, and with the run no more than there are
 pub record IsPacking (p : Packing) : Type 0 where
   pub parts : All IsPart p.parts.items
   pub run : IsOpenRun p.run
-  pub bytes : p.bytes ≡ length (parts_bytes p.parts.items)
+  pub bytes : p.bytes ≡ parts_room p.parts.items
   pub few : length p.parts.items ≤ 24
   pub fit : p.bytes ≤ 1118
   pub run_fits : 1 ≤ length p.run.commands.items → p.bytes + 5 + length p.run.commands.items ≤ 1118

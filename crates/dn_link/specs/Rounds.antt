@@ -6,7 +6,7 @@ use Rattle.dn_machine.specs.{declared.answers.Made.Made, declared.answers.Phase.
 use Rattle.dn_lockstep.specs.{Told.Builds, Told.made, Marking.Marking, Steps.RunsBy, OneGame.Session}
 use Rattle.dn_seal.specs.declared.seal.Seal.{Seal}
 use Rattle.dn_link.specs.{declared.received.Received.Received, LinkedGame.IsGenuineDatagram, LinkedGame.AreLinked, CaughtUp.AreCaughtUp, CaughtUp.HasGrown}
-use Rattle.dn_link.specs.{CaughtUp.IsInStepTo, CaughtUp.next_to, Linked.Gives, Linked.Linked, Linked.Receives, Pacing.PaceState, Text.parts_bytes}
+use Rattle.dn_link.specs.{CaughtUp.IsInStepTo, CaughtUp.next_to, Linked.Gives, Linked.Linked, Linked.Receives, Pacing.PaceState, Packing.parts_room}
 
 -- the links of a game from one moment to another, in which all players play. From each moment to the next they
 -- grow, as they do by any calls on them (`links_stay_caught_up`)
@@ -65,7 +65,7 @@ pub record Arrives {marking : Marking} {limits : Limits} {settings : Settings} {
   pub gives : Gives seal pace peer (stretch.links given player) (stretch.links (suc given) player) bytes
   pub soon : made (stretch.links given player).node ≤ next_to (stretch.links given player).node peer + 12
   pub few : length gives.own < 22
-  pub short : length (parts_bytes gives.own) ≤ 998
+  pub short : parts_room gives.own ≤ 998
   pub size : length bytes ≤ 1200
   pub answer : Received
   pub genuine : IsGenuineDatagram seal (stretch.sessions taken) peer bytes

@@ -2,6 +2,8 @@
 use Rattle.std.specs.{Prelude.{ℕ, ◌+◌, ◌<◌, ◌≡◌, ◌≤◌, ◌^◌, ◌*◌, ◌/◌, List, [], ◌∷◌, ◌++◌, length, All, IfSome, FitsSigned}, Int.{w8, w16, w32, cast_unsigned, to_le_bytes}, List.flat_map}
 use Rattle.dn_seal.specs.{declared.seal.Seal.Seal, Envelope.ask_bytes, Hmac.tag_of, Sealing.front_bytes}
 use Rattle.dn_link.specs.declared.bundle.{Carried.Carried, Counts.Counts, Part.{Part, TheVariants.{Whole, Run, Relay}}, Bundle.Bundle}
+use Rattle.dn_link.specs.Differences.{are_shorter, commands_bytes}
+use Rattle.std.specs.Prelude.{if◌then◌else◌}
 use Rattle.dn_link.specs.declared.bundle.Relay as relay
 use Rattle.dn_link.specs.declared.bundle.Run as run
 
@@ -16,18 +18,23 @@ carried_bytes packet =
     to_le_bytes w32 packet.start ++ ask_bytes packet.ask
     ++ length packet.datagram.items ∷ packet.datagram.items
 
--- what stands behind the first byte of a run: its first tic and the commands
-abbrev pub run_bytes : run.Run → List ℕ
-run_bytes run = to_le_bytes w32 run.start ++ run.commands.items
+-- the first byte of a run: how many commands it has, 32 more if it is a third player's, and 64 more if they stand
+-- as differences
+abbrev pub run_head : (third : ℕ) → List ℕ → ℕ
+run_head third commands = third + (if are_shorter commands then 64 else 0) + length commands / 8
 
--- a whole packet stands behind a byte of 0; a run behind its number of commands; and a run of a third player
--- behind that number and 32 times the player's number plus one
+-- its first tic and the commands
+abbrev pub run_bytes : run.Run → List ℕ
+run_bytes run = to_le_bytes w32 run.start ++ commands_bytes run.commands.items
+
+-- a whole packet stands behind a byte of 0; a run behind its first byte; and a run of a third player behind that
+-- and the player's number
 abbrev pub part_bytes : Part → List ℕ
 part_bytes (Whole packet) = 0 ∷ carried_bytes packet
-part_bytes (Run run) = length run.commands.items / 8 ∷ run_bytes run
-part_bytes (Relay relay) =
-    (32 * (relay.player + 1) + length relay.run.commands.items / 8) ∷ run_bytes relay.run
+part_bytes (Run run) = run_head 0 run.commands.items ∷ run_bytes run
+part_bytes (Relay relay) = run_head 32 relay.run.commands.items ∷ relay.player ∷ run_bytes relay.run
 
+-- their number in front
 abbrev pub parts_bytes : List Part → List ℕ
 parts_bytes parts = length parts ∷ flat_map part_bytes parts
 

@@ -3,6 +3,10 @@ use Rattle.std.specs.{Prelude.{ℕ, zero, suc, ◌+◌, ◌-◌, ◌*◌, ◌/�
 use Rattle.std.specs.Int.{w8, w16, w32, cast_signed, from_le_bytes}
 use Rattle.dn_seal.specs.Opening.{ask_in}
 use Rattle.dn_link.specs.{declared.bundle.{Bundle.Bundle, Carried.Carried, Counts.Counts, Part.{Part, TheVariants.{Whole, Run, Relay}}}, Text.part_bytes}
+use Rattle.dn_link.specs.Differences.{difference, zeros}
+use Rattle.std.specs.List.{starts_with}
+use Rattle.std.specs.Option.{option_and_then}
+use Rattle.std.specs.Prelude.{nat_eq, ◌++◌}
 use Rattle.dn_link.specs.declared.bundle.Run as run
 use Rattle.dn_link.specs.declared.bundle.Relay as relay
 
@@ -31,27 +35,60 @@ told_whole bytes =
       datagram = record { items = take (slice_index bytes 9) (drop 10 bytes) };
     }) (ask_in (slice_index bytes 4) (number_at 5 bytes)))
 
--- a run of so many commands, where the bytes reach
+-- a command by the one before it, of the bytes that these bits tell of
+abbrev pub told_changed : ℕ → (before bytes : List ℕ) → List ℕ
+told_changed bits [] bytes = []
+told_changed bits (b ∷ before) bytes =
+    if bits % 2 == 0
+    then b ∷ told_changed (bits / 2) before bytes
+    else slice_index bytes 0 ∷ told_changed (bits / 2) before (drop 1 bytes)
+
+-- the command in front
+abbrev pub told_command : (before bytes : List ℕ) → List ℕ
+told_command before bytes = told_changed (slice_index bytes 0) before (drop 1 bytes)
+
+-- so many commands, each by the one before it
+abbrev pub told_differences : ℕ → (before bytes : List ℕ) → List ℕ
+told_differences zero before bytes = []
+told_differences (suc n) before bytes =
+    told_command before bytes
+    ++ told_differences n (told_command before bytes)
+    (drop (length (difference before (told_command before bytes))) bytes)
+
+-- so many commands behind a first byte: as differences from 64 on, else whole
+abbrev pub told_commands : (head n : ℕ) → List ℕ → List ℕ
+told_commands head n bytes = if nat_lt head 64 then take (8 * n) bytes else told_differences n zeros bytes
+
+-- a run behind its first byte
 abbrev pub told_run : ℕ → List ℕ → Option run.Run
-told_run n bytes =
-    if nat_lt 24 n || nat_lt (length bytes) (4 + 8 * n)
+told_run head bytes =
+    if head % 32 == 0 || nat_lt 24 (head % 32) || nat_lt (length bytes) 4
     then None
-    else Some (record { start = number_at 0 bytes; commands = record { items = take (8 * n) (drop 4 bytes) } })
+    else Some (record {
+      start = number_at 0 bytes;
+      commands = record { items = told_commands head (head % 32) (drop 4 bytes) };
+    })
 
--- a run of a third player, whose number and how many commands they are the first byte tells
+-- a run of a third player, whose number stands in front
 abbrev pub told_relay : ℕ → List ℕ → Option relay.Relay
-told_relay n bytes =
-    if nat_lt 159 n || n % 32 == 0
-    then None
-    else option_map (λ run. record { player = n / 32 - 1; run = run }) (told_run (n % 32) bytes)
+told_relay head [] = None
+told_relay head (player ∷ bytes) =
+    if nat_lt 3 player then None else option_map (λ run. record { player = player; run = run }) (told_run head bytes)
 
--- by the first byte
-abbrev pub told_part : List ℕ → Option Part
-told_part [] = None
-told_part (n ∷ rest) =
-    if n == 0
+-- by the first byte, whatever follows
+abbrev pub told_as : List ℕ → Option Part
+told_as [] = None
+told_as (head ∷ rest) =
+    if head == 0
     then option_map Whole (told_whole rest)
-    else (if nat_lt n 32 then option_map Run (told_run n rest) else option_map Relay (told_relay n rest))
+    else (if head / 32 % 2 == 0 then option_map Run (told_run head rest) else option_map Relay (told_relay head rest))
+
+-- a part is told only by its own bytes
+abbrev pub told_by : List ℕ → Part → Option Part
+told_by bytes part = if starts_with nat_eq bytes (part_bytes part) then Some part else None
+
+abbrev pub told_part : List ℕ → Option Part
+told_part bytes = option_and_then (told_by bytes) (told_as bytes)
 
 -- so many parts, and nothing after them
 abbrev pub told_all : ℕ → List ℕ → Option (List Part)

@@ -3,6 +3,7 @@
 ghost use Rattle.std.specs.Prelude.{◌≡◌, ◌≤◌, ◌<◌, ◌+◌, [], All, length, Option};
 ghost use Rattle.dn_link.specs.{Kept.{IsCovering, IsRising, IsRising-prop, acknowledged, commands_in, end_of, going, is_idle, is_news, kept_after, takes_packet, without}, Packing.ArePacked};
 ghost use Rattle.dn_link.specs.Text.{IsPart, parts_bytes};
+ghost use Rattle.dn_link.specs.Packing.{parts_room};
 
 use crate::bundle::{Carried, Part};
 use crate::packing::pack;
@@ -112,7 +113,7 @@ impl Kept {
     pub(crate) fn parts(&mut self, from: u8, packet: Option<Carried>) -> ArrayVec<Part, 24>
         ensures kept { kept self.new ≡ kept_after (kept self.old) packet }
         ensures fit { All IsPart result.items }
-        ensures short { length (parts_bytes result.items) ≤ 1118 }
+        ensures short { parts_room result.items ≤ 1118 }
         ensures packed { ArePacked from (going (kept self.old) packet) result.items }
     {
         let Some(packet) = packet else {

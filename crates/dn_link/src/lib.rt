@@ -4,6 +4,7 @@
 mod bundle;
 mod caught_up;
 mod counting;
+mod differences;
 mod ends;
 mod giving;
 mod hearing;
@@ -22,6 +23,7 @@ mod reading;
 mod received;
 mod relaying;
 mod remaining;
+mod room;
 mod short;
 mod stretching;
 mod tally;

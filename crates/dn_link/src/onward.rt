@@ -11,23 +11,24 @@ ghost use Rattle.dn_seal.specs.declared.seal.Seal.{Seal};
 ghost use Rattle.dn_link.specs.{Kept.{end_of, taken_by, Reaches, IsCovering, IsKeptRising, Unacknowledged, has_tic}, declared.{bundle.Carried.Carried, received.Received.Received, link.Link.Link}};
 ghost use Rattle.dn_link.specs.{Linked.{Gives, Linked, Receives}, Linking.{new_peer, linked}, CaughtUp.{AsksWithin, GoesOn, IsInTime, StillGoesOn}, Pacing.PaceState, Text.parts_bytes};
 ghost use Rattle.dn_link.specs.Packets.{opened_from, packets_of};
+ghost use Rattle.dn_link.specs.Packing.{parts_room};
 
 use dn_packet::every_datagram_is_read;
 use dn_setup::every_packet_is_told;
 
 /// The packets that any link keeps for a peer have each command from the first that the peer still needs to the
 /// last that they cover. And a datagram carries all of these, unless it has no room for some: then it has
-/// twenty-two parts or more, or these have more than 998 bytes. What they cover reaches the end of a packet
-/// that is given exactly if it did before, or if the packet begins there or before and fewer than twenty-four
-/// are kept. Each kept packet ends past those before it, so no more are kept than commands are covered that the
-/// peer still needs.
+/// twenty-two parts or more, or these have more than 998 bytes, counted as if their commands stood whole. What
+/// they cover reaches the end of a packet that is given exactly if it did before, or if the packet begins there
+/// or before and fewer than twenty-four are kept. Each kept packet ends past those before it, so no more are
+/// kept than commands are covered that the peer still needs.
 pub fn kept_covers()
     ensures covers { (link : Link) (peer : ℕ) → IsCovering ((linked link).peers peer).kept }
     ensures rising { (link : Link) (peer : ℕ) → IsKeptRising ((linked link).peers peer).kept }
     ensures few { (kept : Unacknowledged) → IsKeptRising kept → kept.done + length kept.packets ≤ kept.covered }
     ensures carried { (seal : Seal) (pace : PaceState) (to : ℕ) (old new : Linked) (bytes : List ℕ)
         (gives : Gives seal pace to old new bytes)
-        → IsCovering (old.peers to).kept → length gives.own < 22 → length (parts_bytes gives.own) ≤ 998
+        → IsCovering (old.peers to).kept → length gives.own < 22 → parts_room gives.own ≤ 998
         → (packets : List Carried) × (flat_map (packets_of gives.bundle.from) gives.own
         ≡ map (opened_from old.node.me) packets)
         × ((tic : ℕ) → (old.peers to).kept.done ≤ tic → tic < (new.peers to).kept.covered

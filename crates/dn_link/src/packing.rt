@@ -3,6 +3,7 @@
 ghost use Rattle.std.specs.Prelude.{◌≡◌, ◌≤◌, ◌<◌, ◌+◌, ◌/◌, ◌%◌, ◌^◌, ◌++◌, ◌∷◌, [], ℕ, All, length, false, true};
 ghost use Rattle.dn_link.specs.{Packets.{opened_from, short_packet}, declared.bundle.Part.TheVariants.Whole, Text.{IsPart, parts_bytes}};
 ghost use Rattle.dn_link.specs.Packing.{HasRoom, IsOpen, IsPacking, IsTight, MayFollow, packed, part_of, ArePacked, IsNeeded};
+ghost use Rattle.dn_link.specs.Packing.{parts_room};
 
 use crate::bundle::{Carried, Part, Run};
 use crate::short::short_command;
@@ -173,7 +174,7 @@ impl Packing {
 /// twenty-two parts are done, or fewer bytes are left than a run and a whole packet may take.
 pub(crate) fn pack(from: u8, packets: &[Carried]) -> ArrayVec<Part, 24>
     ensures fit { All IsPart result.items }
-    ensures short { length (parts_bytes result.items) ≤ 1118 }
+    ensures short { parts_room result.items ≤ 1118 }
     ensures packed { ArePacked from packets.now result.items }
 {
     let mut packing = Packing::new();

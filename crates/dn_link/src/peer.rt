@@ -36,6 +36,7 @@ fn larger(one: &[u32; 4], other: &[u32; 4]) -> [u32; 4]
 impl Peer {
     ghost use Rattle.std.specs.Prelude.{All, length, ◌≤◌, ◌<◌, ◌+◌, ◌%◌, ◌^◌};
     ghost use Rattle.dn_link.specs.{Kept.{acknowledged, going, kept_after, taken_by}, Linking.{new_peer, state_of}, Packing.ArePacked, Text.{IsPart, parts_bytes}};
+    ghost use Rattle.dn_link.specs.Packing.{parts_room};
 
     /// Of which nothing is known.
     pub(crate) fn new() -> Peer
@@ -80,7 +81,7 @@ impl Peer {
           number = ((state_of self.old).number + 1) % 2 ^ 32;
         } }
         ensures fit { All IsPart result.1.items }
-        ensures short { length (parts_bytes result.1.items) ≤ 1118 }
+        ensures short { parts_room result.1.items ≤ 1118 }
         ensures packed { ArePacked from
             (going (state_of self.old).kept (taken_by (state_of self.old).left packet)) result.1.items }
     {

@@ -4,7 +4,7 @@ ghost use Rattle.std.specs.Prelude.{◌≤◌, ◌≡◌, length, Result};
 ghost use Rattle.dn_seal.specs.Sealing.{sealing};
 ghost use Rattle.dn_link.specs.{declared.bundle.Bundle.Bundle, declared.bundle.BundleFault.BundleFault, Told.{report_size, told_bundle, told_counts}, Reading.IsBundledAs};
 
-pub(crate) mod parts;
+mod parts;
 
 use crate::bundle::{Bundle, BundleFault, Counts};
 use crate::writing::KIND;

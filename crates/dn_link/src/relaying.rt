@@ -3,10 +3,10 @@
 ghost use Rattle.std.specs.{Prelude.{◌≡◌, ◌≤◌, ◌<◌, ◌+◌, ◌^◌, List, length, ◌++◌, ◌∷◌, ◌⊎◌, [], All, IfSome, Some}, List.flat_map};
 ghost use Rattle.dn_tic.specs.{declared.command.TicCmd.TicCmd, Command.command_bytes};
 ghost use Rattle.dn_lockstep.specs.Contents.{contents};
-ghost use Rattle.dn_link.specs.{declared.bundle.{Relay.Relay as Handing, Part.TheVariants.Relay as of_relay}, Relays.AreTold, Text.{IsPart, IsRelay, parts_bytes}};
+ghost use Rattle.dn_link.specs.{declared.bundle.{Relay.Relay as Handing, Part.TheVariants.Relay as of_relay}, Relays.AreTold, Text.{IsPart, IsRelay}, Packing.parts_room};
 
 use crate::bundle::{Part, Relay, Run};
-use crate::reading::parts::part_len;
+use crate::room::parts_room;
 use arrayvec::ArrayVec;
 use dn_lockstep::Lockstep;
 use dn_seal::append;
@@ -37,34 +37,21 @@ pub(crate) fn relay_of(lockstep: &Lockstep, player: u8, start: u32, most: u8) ->
     }
 }
 
-/// How many bytes parts take, and their number.
-pub(crate) fn parts_len(parts: &[Part]) -> usize
-    requires { length (parts_bytes parts.now) ≤ 1118 }
-    ensures { result ≡ length (parts_bytes parts.now) }
-{
-    let mut size = 1;
-    let mut rest = parts;
-    'parts: while let Some((part, after)) = rest.split_first() {
-        size += part_len(part);
-        rest = after;
-    }
-    size
-}
-
 /// The parts of a datagram, and behind them commands that are handed on, if there are any and there is room.
+#[tactic(auto, using(crate::proofs::Packings::pushed_room))]
 pub(crate) fn with_relay(parts: ArrayVec<Part, 24>, relay: Option<Relay>) -> ArrayVec<Part, 24>
     requires fit { All IsPart parts.items }
-    requires short { length (parts_bytes parts.items) ≤ 1118 }
+    requires short { parts_room parts.items ≤ 1118 }
     requires run { IfSome relay IsRelay }
     ensures fit { All IsPart result.items }
-    ensures short { length (parts_bytes result.items) ≤ 1118 }
+    ensures short { parts_room result.items ≤ 1118 }
     ensures added { (result.items ≡ parts.items)
         ⊎ ((one : Handing) × (relay ≡ Some one) × (result.items ≡ parts.items ++ of_relay one ∷ [])) }
 {
     let Some(relay) = relay else {
         return parts;
     };
-    if parts.len() > 23 || parts_len(parts.as_slice()) + 5 + relay.run.commands.len() > 1118 {
+    if parts.len() > 23 || parts_room(parts.as_slice()) + 6 + relay.run.commands.len() > 1118 {
         return parts;
     }
     let mut all = parts;

@@ -1,15 +1,25 @@
 //! Writing the datagram of a bundle.
 
-ghost use Rattle.std.specs.Prelude.{◌≤◌, ◌≡◌, ◌+◌, ◌++◌, All, length};
+ghost use Rattle.std.specs.Prelude.{◌≤◌, ◌≡◌, ◌+◌, ◌++◌, ◌∷◌, All, length};
 ghost use Rattle.dn_seal.specs.Sealing.{sealing};
-ghost use Rattle.dn_link.specs.Text.{AreCounts, IsBundle, IsPart, counts_bytes, part_bytes, parts_bytes, report_field, sealed_bytes};
+ghost use Rattle.dn_link.specs.Text.{AreCounts, IsBundle, IsPart, carried_bytes, counts_bytes, part_bytes, parts_bytes, report_field, run_bytes, run_head, sealed_bytes};
 
-use crate::bundle::{Bundle, Counts, Part};
+use crate::bundle::{Bundle, Carried, Counts, Part, Run};
+use crate::differences::differences;
 use arrayvec::ArrayVec;
 use dn_seal::{Sealer, append, ask_bytes};
 
 /// The kind of a link's datagrams among envelopes.
 pub(crate) const KIND: u8 = 5;
+
+/// What the first byte of a run has more for a third player's.
+const THIRD: u8 = 32;
+
+/// And for commands that stand as differences.
+pub(crate) const DIFFERENCES: u8 = 64;
+
+/// How many bytes a part has at most: a third player's run of twenty-four commands that stand whole.
+pub(crate) const PART_BYTES: usize = 198;
 
 /// Appends how far the sender is.
 fn append_counts(bytes: &mut ArrayVec<u8, 1200>, counts: &Counts)
@@ -37,37 +47,56 @@ fn append_report(bytes: &mut ArrayVec<u8, 1200>, report: &[u8])
     append(bytes, report);
 }
 
-/// Appends a part.
-fn append_part(bytes: &mut ArrayVec<u8, 1200>, part: &Part)
-    requires fits { IsPart part.now }
-    requires room { length bytes.old.items + length (part_bytes part.now) ≤ 1200 }
-    ensures { bytes.new.items ≡ bytes.old.items ++ part_bytes part.now }
+/// Appends a packet as it is.
+fn append_carried(bytes: &mut ArrayVec<u8, PART_BYTES>, packet: &Carried)
+    requires { length bytes.old.items ≤ 1 }
+    ensures { bytes.new.items ≡ bytes.old.items ++ carried_bytes packet.now }
 {
+    append(bytes, &packet.start.to_le_bytes());
+    append(bytes, &ask_bytes(packet.ask));
+    append(bytes, &[packet.datagram.len() as u8]);
+    append(bytes, packet.datagram.as_slice());
+}
+
+/// Appends a run, which is of this player, if of a third.
+fn append_run(bytes: &mut ArrayVec<u8, PART_BYTES>, third: u8, player: &[u8], run: &Run)
+    requires third { third ≤ 32 }
+    requires room { length bytes.old.items + length player.now ≤ 1 }
+    ensures { bytes.new.items
+        ≡ bytes.old.items ++ run_head third run.now.commands.items ∷ player.now ++ run_bytes run.now }
+{
+    let told = differences(run.commands.as_slice());
+    let is_shorter = told.len() < run.commands.len();
+    let form = if is_shorter { DIFFERENCES } else { 0 };
+    let count = (run.commands.len() / 8) as u8;
+    append(bytes, &[third + form + count]);
+    append(bytes, player);
+    append(bytes, &run.start.to_le_bytes());
+    if is_shorter {
+        append(bytes, told.as_slice());
+    } else {
+        append(bytes, run.commands.as_slice());
+    }
+}
+
+/// The bytes of a part.
+pub(crate) fn part_bytes(part: &Part) -> ArrayVec<u8, PART_BYTES>
+    ensures { result.items ≡ part_bytes part.now }
+{
+    let mut bytes = ArrayVec::new();
     match part {
         Part::Whole(packet) => {
-            append(bytes, &[0]);
-            append(bytes, &packet.start.to_le_bytes());
-            append(bytes, &ask_bytes(packet.ask));
-            append(bytes, &[packet.datagram.len() as u8]);
-            append(bytes, packet.datagram.as_slice());
+            append(&mut bytes, &[0]);
+            append_carried(&mut bytes, packet);
         }
-        Part::Run(run) => {
-            append(bytes, &[(run.commands.len() / 8) as u8]);
-            append(bytes, &run.start.to_le_bytes());
-            append(bytes, run.commands.as_slice());
-        }
-        Part::Relay(relay) => {
-            let count = (relay.run.commands.len() / 8) as u8;
-            append(bytes, &[32 * (relay.player + 1) + count]);
-            append(bytes, &relay.run.start.to_le_bytes());
-            append(bytes, relay.run.commands.as_slice());
-        }
+        Part::Run(run) => append_run(&mut bytes, 0, &[], run),
+        Part::Relay(relay) => append_run(&mut bytes, THIRD, &[relay.player], &relay.run),
     }
+    bytes
 }
 
 /// Appends parts.
 fn append_parts(bytes: &mut ArrayVec<u8, 1200>, parts: &[Part])
-    requires fit { All IsPart parts.now }
     requires few { length parts.now ≤ 24 }
     requires room { length bytes.old.items + length (parts_bytes parts.now) ≤ 1200 }
     ensures more { bytes.new.items ≡ bytes.old.items ++ parts_bytes parts.now }
@@ -76,7 +105,7 @@ fn append_parts(bytes: &mut ArrayVec<u8, 1200>, parts: &[Part])
     append(bytes, &[parts.len() as u8]);
     let mut rest = parts;
     'parts: while let Some((part, after)) = rest.split_first() {
-        append_part(bytes, part);
+        append(bytes, part_bytes(part).as_slice());
         rest = after;
     }
 }

@@ -16,7 +16,7 @@ use Rattle.dn_program.specs.Printed.{Answers, key_status}
 
 -- how many commands a player makes ahead of its runs
 abbrev pub ahead : ℕ
-ahead = 8
+ahead = 12
 
 -- what a host offers: the game that its options say, with so many players and at this rate
 pub record IsHostingOf (game : GameConfig) (players rate : ℕ) (hosting : Hosting) : Type 0 where

@@ -20,8 +20,8 @@ use std::random::RandomSource;
 use std::rt::Files;
 use std::time::Clock;
 
-/// How many commands a player makes ahead of its runs: what hides a delay of 200 ms.
-const AHEAD: u8 = 8;
+/// How many commands a player makes ahead of its runs, as many as a session allows.
+const AHEAD: u8 = 12;
 
 /// Prints the line of a key that was not made or not read, and answers the exit status.
 fn tell_key(rt: &(impl Print + Eprint), raw: bool, fault: KeyFault) -> Result<u8, RunFault>

@@ -1,7 +1,7 @@
 -- The first of four players of which something is so.
-use Rattle.std.proofs.Common.{◌≡◌, ◌<◌, ℕ, suc, zero, get_or, refl, subst, arith, Some, inl, inr, Bool, true}
+use Rattle.std.proofs.Common.{◌≡◌, ◌<◌, ℕ, suc, zero, get_or, refl, subst, arith, Option, Some, None, inl, inr, Bool, true}
 use Rattle.std.proofs.{lemmas.Bool.cases_lt, lemmas.Bool.le-ltb, lemmas.Bool.lt-ltb, lemmas.List.Sums.passes_at_first, lemmas.Option.none-some, lemmas.Option.same_Some}
-use Rattle.std.specs.Prelude.{position}
+use Rattle.std.specs.Prelude.{position, option_map}
 use Rattle.std.specs.List.{position_or_len}
 use Rattle.dn_session.specs.Players.{four}
 
@@ -24,3 +24,12 @@ first_passes p n is = elim (cases_lt (position_or_len p four) 4) [
       let test = le-ltb (position_or_len p four) 4 all in
       absurd (none-some n (rw test at is))
 ]
+
+-- and of those that they are counted as
+pub first_counted_passes : (p : ℕ → Bool) (f : ℕ → ℕ) (n : ℕ) → option_map f (position (λ k. p (f k)) four) ≡ Some n
+    → p n ≡ true
+first_counted_passes p f n is = go (position (λ k. p (f k)) four) refl is
+  where
+    go : (place : Option ℕ) → position (λ k. p (f k)) four ≡ place → option_map f place ≡ Some n → p n ≡ true
+    go None at none = absurd (none-some n none)
+    go (Some k) at some = subst (λ (m : ℕ). p m ≡ true) (same_Some _ _ some) (first_passes (λ k. p (f k)) k at)

@@ -149,10 +149,11 @@ module _ (marking : Marking) (limits : Limits) (settings : Settings) (seal : Sea
         genuine (subst (λ (s : Seal). Receives s bytes (links_of parts p) (linked new.link) took.0) (are.sealed p few)
         took.1.1)) refl
 
-    pub builds : (input : Input) (new : Playing) → Builds input (parts p).link new.link → On session parts p new None
-    builds input new b = silently new (after_build session p input b.1.0 (surviving_of (linked new.link))) b.0
-        (calls.built marking limits settings session (links_of parts) are.links p few (linked new.link) input b.1.0
-        b.1.1 b.2 b.3) refl
+    pub builds : (input : Input) (made : Made) (new : Playing) → Builds input (parts p).link new.link made
+        → On session parts p new None
+    builds input made new b = silently new (after_build session p input made (surviving_of (linked new.link))) b.0
+        (calls.built marking limits settings session (links_of parts) are.links p few (linked new.link) input made
+        b.1.0 b.2 b.3) refl
 
     pub runs : (marks : List ℤ) (ran : Ran) (row : Option (List (Option Move))) (new : Playing)
         → AreMarksOf marking limits settings session p (links_of parts p).node marks ran
@@ -233,9 +234,9 @@ module _ (marking : Marking) (limits : Limits) (settings : Settings) (seal : Sea
         → On session parts p new None
     gives false now input new same =
         kept new (ap (λ (q : Playing). linked q.link) same) (ap (λ (q : Playing). seal_of q.link) same)
-    gives true now input new (mid, b, t) =
+    gives true now input new (mid, made, b, t) =
         alike (record (parts p) { link = mid }) new None t.1.1 t.1.0
-        (builds input (record (parts p) { link = mid }) b)
+        (builds input made (record (parts p) { link = mid }) b)
 
     pub runs_next : (marks : List ℤ) (ran : Ran) (row : Option (List (Option Move))) (new : Playing)
         → AreMarksOf marking limits settings session p (links_of parts p).node marks ran

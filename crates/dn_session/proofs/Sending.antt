@@ -10,9 +10,9 @@ use Rattle.dn_survivor.specs.OneGame.{Session, with_survivor}
 use Rattle.dn_link.specs.{Linked.Gives, Linked.Linked, Linked.exclusion, Linked.has_given_up, Linked.is_peer, Linked.probe, Linked.remains, Linked.surviving_of, Linking.linked, Linking.seal_of}
 use Rattle.dn_link.specs.{Pacing.pace_of, RemainingLinks.StayRemaining, RemainingLinks.WasSealedIn, RemainingLinks.after_datagram, Text.IsBundle, Text.sealed_bytes, declared.bundle.Bundle.Bundle}
 use Rattle.dn_link.proofs.RemainingCalls.{counted}
-use Rattle.dn_session.specs.{Parts.AreParts, Parts.links_of, Playing.Playing, Playing.ended_as, declared.greeting.Address.Address}
+use Rattle.dn_session.specs.{Parts.AreParts, Parts.links_of, Playing.Playing, Playing.ended_as, Playing.from_turn, declared.greeting.Address.Address}
 use Rattle.dn_session.specs.Sent.{Excludes, IsFairTo, SendsFirst, SendsNext, SendsOn, SendsWhen, first_owed, first_owed_exclusion, is_owed, place_to}
-use Rattle.dn_session.proofs.{Firsts.first_passes, Going.GoOn, Going.kept, Going.silently, Going.silently_and}
+use Rattle.dn_session.proofs.{Firsts.first_counted_passes, Going.GoOn, Going.kept, Going.silently, Going.silently_and}
 
 -- a datagram goes to one who remains
 pub owed_remains : (part : Playing) (player : ℕ) → is_owed part player ≡ true → remains (linked part.link) player ≡ true
@@ -103,7 +103,7 @@ module _ (marking : Marking) (limits : Limits) (settings : Settings) (seal : Sea
     first : (first : Option ℕ) → first_owed (parts p) ≡ first → SendsFirst first (parts p) new sent → Sends
     first None none is = excludes (first_owed_exclusion (parts p)) is
     first (Some player) some is =
-        sends_to player (owed_remains (parts p) player (first_passes (is_owed (parts p)) player some))
+        sends_to player (owed_remains (parts p) player (first_counted_passes (is_owed (parts p)) (from_turn (parts p).turn) player some))
         (place_to (parts p) player).is_confirmed is
 
     passes : (passing : Option (Address × List ℕ)) → (parts p).passing ≡ passing

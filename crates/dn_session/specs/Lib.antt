@@ -9,6 +9,7 @@ pub mod Joining
 pub mod Lead
 pub mod Ticks
 pub mod Watch
+pub mod Steady
 pub mod Players
 pub mod Places
 pub mod Passing

@@ -1,5 +1,5 @@
 -- What a player sees of the others in its game: by its link, and by how long it was silent there.
-use Rattle.std.specs.Prelude.{ℕ, ◌==◌, ◌&&◌, ◌||◌, Bool, not, true, false, nat_le, nat_lt, if◌then◌else◌, List, [], ◌∷◌, map, slice_index_or, Option, Some, None}
+use Rattle.std.specs.Prelude.{ℕ, ◌+◌, ◌==◌, ◌&&◌, ◌||◌, Bool, not, true, false, nat_le, nat_lt, if◌then◌else◌, List, [], ◌∷◌, map, slice_index_or, Option, Some, None}
 use Rattle.std.specs.List.{list_any, list_all}
 use Rattle.dn_machine.specs.declared.answers.Phase.{Phase}
 use Rattle.dn_lockstep.specs.{Contents.Contents, Told.got, Told.made}
@@ -46,6 +46,16 @@ standing_of link player =
 -- the own command of the next tic is there, and this player's is not
 abbrev pub lacks : Contents → ℕ → Bool
 lacks n player = nat_lt n.ran (made n) && nat_le (count_in n player) n.ran
+
+-- a player's command of the tic after the next is there
+abbrev pub has_second : Contents → ℕ → Bool
+has_second n player = nat_lt (n.ran + 1) (count_in n player)
+
+-- the row of the tic after the next is complete here: the own command, and that of each other who gives one
+abbrev pub has_row_behind : Linked → Bool
+has_row_behind link =
+    has_second link.node link.node.me
+    && list_all (λ player. is_gone_from link player || (is_whole link player || has_second link.node player)) four
 
 -- somebody is given up
 abbrev pub has_gone : Linked → Bool

@@ -1,5 +1,5 @@
 -- A player's part in its game: what each call makes of it.
-use Rattle.std.specs.Prelude.{◌≡◌, ◌⊎◌, ℕ, ℤ, ◌&&◌, ◌||◌, ◌+◌, Bool, not, true, false, nat_le, nat_lt, if◌then◌else◌, List, [], ◌∷◌, map, position, slice_index_or, slice_set, replicate, Option, Some, None, is_some}
+use Rattle.std.specs.Prelude.{◌≡◌, ◌⊎◌, ℕ, ℤ, ◌&&◌, ◌||◌, ◌+◌, ◌%◌, Bool, not, true, false, nat_le, if◌then◌else◌, List, [], ◌∷◌, map, slice_index_or, slice_set, replicate, Option, Some, None, is_some}
 use Rattle.std.specs.Option.{option_map, option_or}
 use Rattle.dn_tic.specs.{declared.command.Move.Move, declared.input.Input.Input}
 use Rattle.dn_machine.specs.{Running.on_quit, Running.row_held, Sending.on_build, declared.answers.Made.Made, declared.answers.Ran.Ran}
@@ -10,15 +10,17 @@ use Rattle.dn_link.specs.{Pace.lean, Pace.still_owed, Pace.wants_second, Pacing.
 use Rattle.dn_link.specs.declared.received.Received.TheVariants as received
 use Rattle.dn_session.specs.Coming.{counts_in, has_more, heard_of, is_late_in, is_new_in, is_news_of, line_of, lines_in}
 use Rattle.dn_session.specs.{Ending.ended_by, Ending.ending_of, Ending.is_unneeded, Ending.may_give_up, Ending.patience, Ending.waits, Joining.has_come, Lead.due, Passing.passed_on, Passing.sent_of}
-use Rattle.dn_session.specs.{Places.heard_at, Places.is_since, Places.place_of, Players.four, Players.is_any_awaited, Players.view_of, Ticks.half_taken, Ticks.is_due, Ticks.passed, Ticks.resumed}
+use Rattle.dn_session.specs.{Places.heard_at, Places.is_since, Places.place_of, Players.four, Players.has_row_behind, Players.is_any_awaited, Players.view_of, Ticks.half_taken, Ticks.is_due, Ticks.passed, Ticks.resumed}
+use Rattle.dn_session.specs.{Steady.after_tic, Steady.holds, Steady.ticked, declared.steady.Steady.Steady}
 use Rattle.dn_session.specs.{Watch.looked_at, declared.ending.Ending.Ending, declared.ending.Progress.Progress, declared.greeting.Address.Address, declared.lead.View.View}
 use Rattle.dn_session.specs.declared.{part.Exclusion.Exclusion, part.Part.Part, part.hearing.Known.Known, places.Places.Places, terms.Policy.Policy, ticks.Ticks.Ticks, watch.Watch.Watch}
+use Rattle.dn_machine.specs.declared.answers.Ran.TheVariants as answer
 use Rattle.dn_session.specs.declared.ending.Ending.TheVariants as ending
 use Rattle.dn_session.specs.declared.ending.Progress.TheVariants as progress
 
 -- its link; when ticks are due; for how long others were silent; where they are; who has told that it has given up
--- this player; whom it is to tell so; to whom a datagram is owed; who carries one to a player that is not near; what is
--- to be passed on; how far it is; and what becomes of a player who vanishes
+-- this player; whom it is to tell so; to whom a datagram is owed; whose turn it is; how evenly tics come; what is to be
+-- passed on; how far it is; and what becomes of a player who vanishes
 pub record Playing : Type 0 where
   pub link : Link
   pub ticks : Ticks
@@ -27,7 +29,8 @@ pub record Playing : Type 0 where
   pub excluders : List Bool
   pub exclusions : List Exclusion
   pub owed : List Bool
-  pub carrier : ℕ
+  pub turn : ℕ
+  pub steady : Steady
   pub passing : Option (Address × List ℕ)
   pub progress : Progress
   pub policy : Policy
@@ -42,7 +45,8 @@ playing part =
       excluders = part.excluders;
       exclusions = part.exclusions;
       owed = part.owed;
-      carrier = part.carrier;
+      turn = part.turn;
+      steady = part.steady;
       passing = option_map sent_of part.passing;
       progress = part.progress;
       policy = part.policy;
@@ -133,6 +137,11 @@ HearsBytes from bytes now old new =
 
 -- Ticks.
 
+-- its player gives commands
+abbrev pub is_giving : Progress → Bool
+is_giving progress.Playing = true
+is_giving progress = false
+
 -- a datagram is owed to each
 abbrev pub owes_all : List Bool
 owes_all = replicate 4 true
@@ -146,36 +155,38 @@ Leans old new by =
     KeepsGame old new × (linked new ≡ linked old) × (pace_of new ≡ after_tick (linked old) (pace_of old))
     × (by ≡ lean (linked old) (pace_of old))
 
--- the next player, around
-abbrev pub carrier_after : ℕ → ℕ
-carrier_after carrier = if nat_lt carrier 3 then carrier + 1 else 0
+-- the player so many places behind one, around
+abbrev pub from_turn : (turn place : ℕ) → ℕ
+from_turn turn place = (turn + place) % 4
 
--- the tick that is due goes by: all are owed a datagram
+-- the tick that is due goes by: all are owed a datagram, it is the next one's turn, and the next tic may be run
 abbrev pub PassesTick : Playing → Playing → Type 0
 PassesTick old new =
     (by : ℤ) × Leans old.link new.link by
-    × (new ≡ record old { link = new.link; ticks = passed by old.ticks; owed = owes_all; carrier = carrier_after old.carrier })
+    × (new ≡ record old {
+      link = new.link;
+      ticks = passed by old.ticks;
+      owed = owes_all;
+      turn = from_turn old.turn 1;
+      steady = ticked old.steady;
+    })
 
 -- the input of a tick is built, and what was owed before is dropped
-abbrev pub Builds : Input → Link → Link → Type 0
-Builds input old new =
+abbrev pub Builds : Input → Link → Link → Made → Type 0
+Builds input old new made =
     KeepsGame old new
-    × ((made : Made) × Steps (linked old).node (linked new).node (λ limits me m. on_build limits me m input)
+    × (Steps (linked old).node (linked new).node (λ limits me m. on_build limits me m input)
     (λ answer. made ≡ answer) × (pace_of new ≡ after_input input made (pace_of old)))
     × ((linked new).others ≡ (linked old).others) × ((linked new).peers ≡ (linked old).peers)
 
 -- its player gives the input of a tick: one is due while it plays, or nothing changes
-abbrev pub is_giving : Progress → Bool
-is_giving progress.Playing = true
-is_giving progress = false
-
 abbrev pub may_give : ℕ → Playing → Bool
 may_give now p = is_giving p.progress && is_due now p.ticks
 
 abbrev pub GivesWhen : Bool → ℕ → Input → Playing → Playing → Type 0
 GivesWhen false now input old new = new ≡ old
 GivesWhen true now input old new =
-    (mid : Link) × Builds input old.link mid
+    (mid : Link) × (made : Made) × Builds input old.link mid made
     × PassesTick (record old { link = mid; ticks = resumed now old.ticks }) new
 
 -- Tics.
@@ -189,10 +200,13 @@ CatchesUp old new result =
     × Steps (linked old).node (linked new).node (λ limits me m. on_build limits me m input) (λ answer. made ≡ answer)
     × (pace_of new ≡ record (pace_of old) { owed = still_owed made (pace_of old).owed }))
 
--- if one was built, all are owed a datagram
-abbrev pub owed_by : Option Made → List Bool → List Bool
-owed_by (Some (Made.Made tic)) owed = owes_all
-owed_by result owed = owed
+abbrev pub is_made : Option Made → Bool
+is_made (Some (Made.Made tic)) = true
+is_made result = false
+
+-- if one was built, all are owed a datagram now
+abbrev pub after_catching_up : Option Made → Playing → Playing
+after_catching_up made p = if is_made made then record p { owed = owes_all } else p
 
 -- a tic is run, or not
 abbrev pub RunsTic : List ℤ → Link → Link → Ran → Option (List (Option Move)) → Type 0
@@ -205,11 +219,20 @@ RunsTic marks old new ran row =
 abbrev pub WritesRow : List (Option Move) → Playing → Type 0
 WritesRow row p = Tells (linked p.link).node (λ limits me m. row ≡ row_held limits m)
 
+-- while its player plays, the next tic should wait for the next tick
+abbrev pub holds_back : Playing → Bool
+holds_back p = is_giving p.progress && holds (has_row_behind (linked p.link)) p.steady
+
+-- a tic was run, or none could be
+abbrev pub after_answer : Ran → Steady → Steady
+after_answer (answer.Ran tic) steady = after_tic steady
+after_answer result steady = steady
+
 -- the next tic is run with the marks of the world, and then the command is built that is owed
 abbrev pub RunsNext : List ℤ → Playing → Playing → Ran → Option (List (Option Move)) → Type 0
 RunsNext marks old new ran row =
     (mid : Link) × (made : Option Made) × RunsTic marks old.link mid ran row × CatchesUp mid new.link made
-    × (new ≡ record old { link = new.link; owed = owed_by made old.owed })
+    × (new ≡ after_catching_up made (record old { link = new.link; steady = after_answer ran old.steady }))
 
 -- Time.
 
@@ -269,7 +292,8 @@ owed_second p =
 
 abbrev pub after_half : ℕ → Playing → Playing
 after_half now p =
-    if has_come now p.ticks.half then record p { ticks = half_taken now p.ticks; owed = owed_second p } else p
+    if has_come now p.ticks.half
+    then record p { ticks = half_taken now p.ticks; owed = owed_second p } else p
 
 abbrev pub Polls : ℕ → Playing → Playing → Type 0
 Polls now old new = (mid : Playing) × PassesTime old.progress now old mid × (new ≡ after_half now mid)

@@ -1,8 +1,8 @@
 -- What a player's part sends, and where to.
-use Rattle.std.specs.Prelude.{◌≡◌, ℕ, ◌+◌, ◌==◌, ◌&&◌, ◌||◌, Bool, not, true, false, nat_lt, if◌then◌else◌, List, position, slice_index_or, slice_set, Option, Some, None, IfSome, is_none, is_some}
+use Rattle.std.specs.Prelude.{◌≡◌, ℕ, ◌+◌, ◌==◌, ◌&&◌, ◌||◌, Bool, not, true, false, nat_lt, if◌then◌else◌, List, option_map, position, slice_index_or, slice_set, Option, Some, None, IfSome, is_none, is_some}
 use Rattle.dn_lockstep.specs.{Sent.IsFair, Sent.sent_to, Steps.Tells}
 use Rattle.dn_link.specs.{Linked.Gives, Linked.Linked, Linked.exclusion, Linked.exclusion_for, Linked.has_given_up, Linked.is_peer, Linked.probe, Linked.probe_for, Linked.probed, Linked.remains, Linking.linked, Linking.seal_of, Pacing.pace_of, Text.IsBundle}
-use Rattle.dn_session.specs.{Places.is_near_at, Places.is_since, Places.place_of, Places.probed_at, Players.four, Playing.KeepsGame, Playing.Playing, Playing.ended_as, Playing.exclusion_of}
+use Rattle.dn_session.specs.{Places.is_near_at, Places.is_since, Places.place_of, Places.probed_at, Players.four, Playing.KeepsGame, Playing.Playing, Playing.ended_as, Playing.exclusion_of, Playing.from_turn}
 use Rattle.dn_session.specs.{Watch.silence, declared.greeting.Address.Address, declared.places.Place.Place}
 
 -- by the last look, a player is near
@@ -13,9 +13,10 @@ is_near p player = is_near_at p.watch.looked (place_of player p.places)
 abbrev pub can_pass : Playing → (other player : ℕ) → Bool
 can_pass p other player = not (other == player) && (remains (linked p.link) other && is_near p other)
 
--- who gets the datagram to a player: that one; or while it is not near, the carrier, if that one can pass it on
+-- who gets the datagram to a player: that one; or while it is not near, the one whose turn it is, if that one can pass
+-- it on
 abbrev pub way_to : Playing → ℕ → ℕ
-way_to p player = if not (is_near p player) && can_pass p p.carrier player then p.carrier else player
+way_to p player = if not (is_near p player) && can_pass p p.turn player then p.turn else player
 
 -- where that is, as far as it is known
 abbrev pub place_to : Playing → ℕ → Place
@@ -34,9 +35,9 @@ is_owed p player =
     && (remains (linked p.link) player
     && (is_some (place_to p player).address && ((place_to p player).is_confirmed || is_probed p player))))
 
--- the lowest to whom one is
+-- the first to whom one is, from the one whose turn it is on
 abbrev pub first_owed : Playing → Option ℕ
-first_owed p = position (is_owed p) four
+first_owed p = option_map (from_turn p.turn) (position (λ place. is_owed p (from_turn p.turn place)) four)
 
 -- the packet of the moment, if there is one, is one that a datagram can carry
 abbrev pub IsFairTo : ℕ → Linked → Type 0

@@ -7,10 +7,10 @@ use Rattle.dn_lockstep.specs.{Contents.whose, Opening.IsAdmittedWithin, Opening.
 use Rattle.dn_lockstep.specs.declared.{config.Config.Config, config.NodeFault.NodeFault}
 use Rattle.dn_survivor.specs.OfOthers.{nothing_kept}
 use Rattle.dn_link.specs.{Linking.linked, Linking.new_peer, Linking.seal_of, Pacing.new_pace, Pacing.pace_of, declared.link.Link.Link}
-use Rattle.dn_session.specs.Playing.{GivesUpBy, GivesWhen, HearsBytes, Playing, Polls, QuitsBy, RunsNext, WritesRow, given_up_at, may_give, owes_nobody, playing}
+use Rattle.dn_session.specs.Playing.{GivesUpBy, GivesWhen, HearsBytes, Playing, Polls, QuitsBy, RunsNext, WritesRow, given_up_at, holds_back, may_give, owes_nobody, playing}
 use Rattle.dn_session.specs.Hosting.{HearsCall, IsHostOf, Lobby, game_told, holder_of, kicked, lobby}
 use Rattle.dn_session.specs.{Events.none_announced, Joining.HearsHost, Joining.IsJoinerOf, Joining.Joining, Joining.game_now, Joining.is_heard, Joining.joining, Joining.on_time, Places.places_of}
-use Rattle.dn_session.specs.{Reading.is_greeting, Sent.SendsNext, Passing.sent_of, Text.game_seal, Ticks.new_ticks, Watch.new_watch, declared.event.Announced.Announced, declared.greeting.Address.Address}
+use Rattle.dn_session.specs.{Reading.is_greeting, Sent.SendsNext, Passing.sent_of, Steady.new_steady, Text.game_seal, Ticks.new_ticks, Watch.new_watch, declared.event.Announced.Announced, declared.greeting.Address.Address}
 use Rattle.dn_session.specs.declared.{greeting.Seating.Seating, greeting.Shown.Shown, host.Host.Host, host.HostConfig.HostConfig, joiner.JoinConfig.JoinConfig, joiner.Joiner.Joiner, part.Part.Part}
 use Rattle.dn_session.specs.declared.{seats.Seat.Seat, session.Session.Session, side.Begun.Begun, side.Side.Side, terms.LobbyFault.LobbyFault, terms.Terms.Terms}
 use Rattle.dn_machine.specs.declared.answers.Ran.TheVariants as ran
@@ -87,7 +87,8 @@ pub record IsPartOf (secret : Option (List ℕ)) (b : Begun) (now : ℕ) (p : Pl
   pub excluders : p.excluders ≡ replicate 4 false
   pub exclusions : p.exclusions ≡ replicate 4 (record { to = None; told = None })
   pub owed : p.owed ≡ owes_nobody
-  pub carrier : p.carrier ≡ 0
+  pub turn : p.turn ≡ 0
+  pub steady : p.steady ≡ new_steady
   pub passing : p.passing ≡ None
   pub progress : p.progress ≡ progress.Playing
   pub policy : p.policy ≡ b.terms.policy
@@ -230,6 +231,11 @@ abbrev pub RunsPart : List ℤ → Option Part → Option Part → Ran → Optio
 RunsPart marks None new answer row = (new ≡ None) × (answer ≡ ran.NotPlaying) × (row ≡ None)
 RunsPart marks (Some old) None answer row = ⊥
 RunsPart marks (Some old) (Some new) answer row = RunsNext marks (playing old) (playing new) answer row
+
+-- the next tic should wait for the next tick
+abbrev pub holds_back_in : Option Part → Bool
+holds_back_in None = false
+holds_back_in (Some part) = holds_back (playing part)
 
 -- a part that was to run has the row of the next tic
 abbrev pub HasRow : List (Option Move) → Option Part → Type 0

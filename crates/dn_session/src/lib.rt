@@ -26,6 +26,7 @@ mod seats;
 mod session;
 mod side;
 mod sorts;
+mod steady;
 mod terms;
 mod ticks;
 mod watch;

@@ -2,7 +2,7 @@
 
 ghost use Rattle.std.specs.Prelude.{◌≡◌, map, false, replicate, None, ◌<◌, ◌^◌, ℕ};
 ghost use Rattle.dn_link.specs.{Linked.has_given_up, Linking.linked};
-ghost use Rattle.dn_session.specs.{Players.four, Events.part_due, Joining.has_come, Playing.ended_as, Playing.owes_nobody, Playing.playing, Ticks.new_ticks, Watch.new_watch};
+ghost use Rattle.dn_session.specs.{Players.four, Events.part_due, Joining.has_come, Playing.ended_as, Playing.owes_nobody, Playing.playing, Steady.new_steady, Ticks.new_ticks, Watch.new_watch};
 ghost use Rattle.dn_session.specs.declared.ending.Progress.TheVariants as progress;
 
 mod ending;
@@ -17,6 +17,7 @@ use crate::ending::{Ending, Progress};
 use crate::greeting::Address;
 use crate::places::Places;
 use crate::polling::earlier;
+use crate::steady::Steady;
 use crate::terms::Policy;
 use crate::ticks::Ticks;
 use crate::watch::Watch;
@@ -50,7 +51,7 @@ const NO_EXCLUSION: Exclusion = Exclusion {
 };
 
 /// A player's part in its game: its link, when its ticks are due, where the others are, whom it waits for, to whom
-/// a datagram is owed, what it passes on between others, and how far it is.
+/// a datagram is owed, whose turn it is, how evenly tics come, what it passes on between others, and how far it is.
 #[derive(Drop)]
 pub struct Part {
     link: Link,
@@ -60,7 +61,8 @@ pub struct Part {
     excluders: [bool; 4],
     exclusions: [Exclusion; 4],
     owed: [bool; 4],
-    carrier: u8,
+    turn: u8,
+    steady: Steady,
     passing: Option<Transmit>,
     progress: Progress,
     policy: Policy,
@@ -78,7 +80,8 @@ impl Part {
           excluders = replicate 4 false;
           exclusions = replicate 4 (record { to = None; told = None });
           owed = owes_nobody;
-          carrier = 0;
+          turn = 0;
+          steady = new_steady;
           passing = None;
           progress = progress.Playing;
           policy = policy;
@@ -92,7 +95,8 @@ impl Part {
             excluders: [false; 4],
             exclusions: [NO_EXCLUSION; 4],
             owed: [false; 4],
-            carrier: 0,
+            turn: 0,
+            steady: Steady::new(),
             passing: None,
             progress: Progress::Playing,
             policy,

@@ -1,10 +1,10 @@
 //! What a player sees of the others in its game.
 
-ghost use Rattle.std.specs.Prelude.{◌≡◌, ◌&&◌, ◌==◌, not, ◌<◌};
+ghost use Rattle.std.specs.{Prelude.{◌≡◌, ◌&&◌, ◌==◌, not, ◌<◌, ◌||◌}, List.list_all};
 ghost use Rattle.dn_lockstep.specs.Contents.{contents};
 ghost use Rattle.dn_link.specs.{Linked.is_peer, Linking.linked};
 ghost use Rattle.dn_session.specs.Cookies.{is_one};
-ghost use Rattle.dn_session.specs.Players.{count_in, ends_by, has_gone, is_abandoned, is_any_awaited, is_awaited, is_gone_from, is_whole, lacks, names_by, owes_report, own_standing, seen_of, standing_beside, standing_of, view_of};
+ghost use Rattle.dn_session.specs.Players.{count_in, ends_by, has_gone, four, has_row_behind, has_second, is_abandoned, is_any_awaited, is_awaited, is_gone_from, is_whole, lacks, names_by, owes_report, own_standing, seen_of, standing_beside, standing_of, view_of};
 
 use crate::lead::{Seen, Standing, View};
 use crate::watch::Watch;
@@ -92,6 +92,43 @@ fn lacks(lockstep: &Lockstep, player: u8) -> bool
 {
     let ran = lockstep.ran();
     ran < lockstep.made() && count_in(lockstep, player) <= ran
+}
+
+/// Whether a player's command of the tic after the next is here.
+fn has_second(lockstep: &Lockstep, player: u8) -> bool
+    ensures { result ≡ has_second (contents lockstep.now) player }
+{
+    u64::from(count_in(lockstep, player)) > u64::from(lockstep.ran()) + 1
+}
+
+/// The same of a link's.
+fn has_second_in(link: &Link, player: u8) -> bool
+    ensures { result ≡ has_second (linked link.now).node player }
+{
+    has_second(link.lockstep(), player)
+}
+
+/// Whether it is here, or another player gives no more.
+fn is_behind(link: &Link, player: u8) -> bool
+    ensures { result ≡ (is_gone_from (linked link.now) player || (is_whole (linked link.now) player
+        || has_second (linked link.now).node player)) }
+{
+    is_gone_from(link, player) || is_whole(link, player) || has_second_in(link, player)
+}
+
+/// Whether that is so of all.
+fn are_behind(link: &Link) -> bool
+    ensures { result ≡ list_all (λ player. is_gone_from (linked link.now) player || (is_whole (linked link.now) player
+        || has_second (linked link.now).node player)) four }
+{
+    is_behind(link, 0) && is_behind(link, 1) && is_behind(link, 2) && is_behind(link, 3)
+}
+
+/// Whether the row of the tic after the next is here.
+pub(crate) fn has_row_behind(link: &Link) -> bool
+    ensures { result ≡ has_row_behind (linked link.now) }
+{
+    has_second_in(link, link.lockstep().me()) && are_behind(link)
 }
 
 /// Whether somebody is given up.

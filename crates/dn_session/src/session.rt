@@ -1,7 +1,7 @@
 //! A session of one player: its lobby, and then its part in the game.
 
 ghost use Rattle.std.specs.{Prelude.◌≡◌, Prelude.IfOk, Option.option_map};
-ghost use Rattle.dn_session.specs.Session.{IsMadeAs, meeting, new_meeting, Begins, HearsAny, IsHostSession, IsJoinSession, PassesTo, Sends};
+ghost use Rattle.dn_session.specs.Session.{IsMadeAs, meeting, new_meeting, Begins, HearsAny, IsHostSession, IsJoinSession, PassesTo, Sends, SendsPart};
 ghost use Rattle.dn_session.specs.{Passing.sent_of, Roster.IsSide};
 
 mod playing;
@@ -48,6 +48,16 @@ pub struct Session {
     reply: Option<Transmit>,
     call: Option<Transmit>,
     announced: Announced,
+}
+
+/// What a part sends next, if there is one.
+fn transmit_of(part: &mut Option<Part>) -> Option<Transmit>
+    ensures { SendsPart part.old part.new (option_map sent_of result) }
+{
+    match part {
+        Some(part) => part.transmit(),
+        None => None,
+    }
 }
 
 impl Session {
@@ -138,9 +148,6 @@ impl Session {
         if self.call.is_some() {
             return self.call.take();
         }
-        match &mut self.part {
-            Some(part) => part.transmit(),
-            None => None,
-        }
+        transmit_of(&mut self.part)
     }
 }

@@ -1,5 +1,5 @@
 -- A session behind a handle, and what its calls do.
-use Rattle.std.specs.Prelude.{◌≡◌, ℕ, ℤ, Bool, if◌then◌else◌, List, [], ◌∷◌, map, Option, Some, None, Result}
+use Rattle.std.specs.Prelude.{◌≡◌, ℕ, ℤ, Bool, true, false, if◌then◌else◌, List, [], ◌∷◌, map, Option, Some, None, Result}
 use Rattle.std.specs.Option.{option_map}
 use Rattle.dn_tic.specs.declared.command.Move.{Move}
 use Rattle.dn_tic.specs.declared.command.TicCmd.{TicCmd}
@@ -14,7 +14,7 @@ use Rattle.dn_session.specs.declared.greeting.Address.{Address}
 use Rattle.dn_session.specs.declared.part.Part.{Part}
 use Rattle.dn_session.specs.Players.{four}
 use Rattle.dn_session.specs.Playing.{playing}
-use Rattle.dn_session.specs.Session.{meeting, Begins, Meeting, PassesTo, RunsPart, Sends}
+use Rattle.dn_session.specs.Session.{holds_back_in, meeting, Begins, Meeting, PassesTo, RunsPart, Sends}
 use Rattle.zirmegat.specs.declared.answers.RanAnswer.{RanAnswer}
 use Rattle.zirmegat.specs.declared.calls.KnownCommand.{KnownCommand}
 use Rattle.zirmegat.specs.declared.session_handle.SessionHandle.{SessionHandle}
@@ -82,8 +82,17 @@ tic_code (Ran.Inconsistent player was should) = 4
 abbrev pub tic_told : Ran → RanAnswer
 tic_told ran = record (ran_told ran) { code = tic_code ran }
 
-abbrev pub RunsSession : List ℤ → List KnownCommand → List KnownCommand → RanAnswer → Meeting → Meeting → Type 0
-RunsSession marks row written answer n k =
+-- 5 is for a tic that waits for the next tick
+abbrev pub held_told : RanAnswer
+held_told = record (tic_told Ran.NotPlaying) { code = 5 }
+
+-- where the next tic should wait for the next tick, nothing changes
+abbrev pub RunsWhen : Bool → List ℤ → List KnownCommand → List KnownCommand → RanAnswer → Meeting → Meeting → Type 0
+RunsWhen true marks row written answer n k = (answer ≡ held_told) × (written ≡ row) × (k ≡ n)
+RunsWhen false marks row written answer n k =
     (ran : Ran) × (moves : List (Option Move)) × (answer ≡ tic_told ran)
     × (written ≡ row_over row (next_commands n.part) (told_by ran moves))
     × Plays (λ old new. RunsPart marks old new ran (told_by ran moves)) n k
+
+abbrev pub RunsSession : List ℤ → List KnownCommand → List KnownCommand → RanAnswer → Meeting → Meeting → Type 0
+RunsSession marks row written answer n k = RunsWhen (holds_back_in n.part) marks row written answer n k

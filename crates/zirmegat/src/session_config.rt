@@ -113,14 +113,14 @@ impl GameSettings {
 }
 
 impl TermsFields {
-    /// Two players, a window of eight commands and full speed; the others wait for one who vanishes.
+    /// Two players, a window of twelve commands and full speed; the others wait for one who vanishes.
     const DEFAULT: TermsFields = TermsFields {
         limit: 16_777_216,
         policy: 1,
         seconds: 0,
         players: 2,
         extra: 0,
-        ahead: 8,
+        ahead: 12,
         rate: 35,
         settings: GameSettings {
             skill: 2,
@@ -198,7 +198,7 @@ impl JoinFields {
     }
 }
 
-/// Fills in what a host has that sets nothing else: two players, a window of eight commands, 35 tics a second,
+/// Fills in what a host has that sets nothing else: two players, a window of twelve commands, 35 tics a second,
 /// a demo of 16 MiB, the first map at skill 2, and a game that waits for whoever vanishes. The key and the
 /// random bytes are to be set.
 #[unsafe(no_mangle)]

@@ -1,10 +1,11 @@
 //! Running the tics of a session.
 
-ghost use Rattle.std.specs.Prelude.{◌≡◌};
+ghost use Rattle.std.specs.Prelude.{◌≡◌, false};
+ghost use Rattle.dn_session.specs.Session.{meeting};
 ghost use Rattle.dn_lockstep.specs.{Contents.contents, Steps.told_by};
 ghost use Rattle.dn_machine.specs.declared.answers.Ran.TheVariants.{NotPlaying};
 ghost use Rattle.zirmegat.specs.Calls.{Calls};
-ghost use Rattle.zirmegat.specs.Sessions.{RunsSession, next_commands, next_in, next_of, row_over, session_of, tic_code, tic_told, whole_of, whole_row};
+ghost use Rattle.zirmegat.specs.Sessions.{RunsSession, RunsWhen, next_commands, next_in, next_of, row_over, session_of, tic_code, tic_told, whole_of, whole_row};
 
 use crate::answers::RanAnswer;
 use crate::ask::ask;
@@ -12,7 +13,7 @@ use crate::calls::KnownCommand;
 use crate::session_handle::SessionHandle;
 use dn_lockstep::Lockstep;
 use dn_machine::Ran;
-use dn_session::Part;
+use dn_session::{Part, Session};
 use dn_tic::{Move, TicCmd};
 
 /// A command of each player in one tic.
@@ -103,8 +104,31 @@ fn tic_code(ran: Ran) -> u32
     }
 }
 
-/// Runs the next tic by the four players' marks in the caller's world as it stands. Where it was run, `row` has
-/// the whole commands by which the world goes on.
+/// Runs the next tic of a session.
+fn run_next(held: &mut Session, marks: &[i16; 4], row: &mut Commands) -> RanAnswer
+    ensures { RunsWhen false marks.now row.old row.new result (meeting held.old) (meeting held.new) }
+{
+    let commands = next_commands(held.part());
+    let mut moves = [None; 4];
+    let ran = held.run(marks, &mut moves);
+    tell_tic(row, ran, &moves, &commands)
+}
+
+/// The same, unless it should wait for the next tick.
+fn run_when_due(held: &mut Session, marks: &[i16; 4], row: &mut Commands) -> RanAnswer
+    ensures { RunsSession marks.now row.old row.new result (meeting held.old) (meeting held.new) }
+{
+    if held.holds_back() {
+        return RanAnswer {
+            code: 5,
+            ..RanAnswer::of(Ran::NotPlaying)
+        };
+    }
+    run_next(held, marks, row)
+}
+
+/// Runs the next tic by the four players' marks in the caller's world as it stands, unless it should wait for the
+/// next tick. Where it was run, `row` has the whole commands by which the world goes on.
 #[unsafe(no_mangle)]
 pub extern "C" fn zmg_session_run(
     session: &mut SessionHandle,
@@ -115,9 +139,6 @@ pub extern "C" fn zmg_session_run(
         (RunsSession marks.now row.old row.new result) ((result ≡ tic_told NotPlaying) × (row.new ≡ row.old)) }
 {
     ask!(session, held => {
-        let commands = next_commands(held.part());
-        let mut moves = [None; 4];
-        let ran = held.run(marks, &mut moves);
-        tell_tic(row, ran, &moves, &commands)
+        run_when_due(held, marks, row)
     }, RanAnswer { code: 0, ..RanAnswer::of(Ran::NotPlaying) })
 }

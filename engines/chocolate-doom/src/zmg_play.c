@@ -112,7 +112,6 @@ boolean ZMG_Responder(event_t *event)
 
 /* ---- a tick ---- */
 
-static boolean may_run;   /* the tic of this tick was not run yet */
 static zmg_command owed;  /* the command for which there was no room */
 static boolean owes;
 
@@ -165,7 +164,6 @@ static void tick(void)
     zmg_loop->RunMenu();
     give();
     send_all();
-    may_run = true;
 }
 
 static void end(void)
@@ -231,36 +229,11 @@ static boolean run_one(void)
     return true;
 }
 
-/* How many tics could be run now. */
-static uint32_t ready(void)
-{
-    uint32_t ran = zmg_the_state.game.ran, least = zmg_the_state.game.made - ran;
-    for (int p = 0; p < zmg_the_state.terms.players; p++)
-    {
-        zmg_player_in_game who = ZMG_Player(p).game;
-        if (p == (int) zmg_the_state.me || (who.end.known && who.got.value >= who.end.value)) continue;
-        if (who.got.value - ran < least) least = who.got.value - ran;
-    }
-    return least;
-}
-
-/* What came late together is not run together, unless more than one tic would be left over. */
-static boolean holds_back(void)
-{
-    if (!zmg_the_options.steady || may_run) return false;
-    ZMG_Look();
-    return ready() <= 1;
-}
-
 static int run_all(void)
 {
     int steps = 0;
     uint32_t made = zmg_the_state.game.made;
-    while (!holds_back() && run_one())
-    {
-        steps++;
-        may_run = false;
-    }
+    while (run_one()) steps++;
     ZMG_Look();
     if (zmg_the_state.game.made != made) owes = false;
     send_all();

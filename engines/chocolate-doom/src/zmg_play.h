@@ -5,9 +5,9 @@
 #include "doomtype.h"
 #include "zirmegat.h"
 
-/* on: there is a netgame of ours. steady: run one tic a tick. record: the demo's file, or NULL. */
+/* on: there is a netgame of ours. record: the demo's file, or NULL. */
 typedef struct {
-    boolean on, steady;
+    boolean on;
     const char *record;
 } zmg_options;
 

@@ -7,11 +7,10 @@
  *   -zmg-port PORT           where the host listens (5029), or where a joiner does (any)
  *   -zmg-me N                the place that a joiner asks for, 2 to 4
  *   -zmg-name NAME           what the others call this player, up to 16 bytes
- *   -zmg-steady              for a line whose delay varies: run one tic a tick, where that leaves no more than one
  *   -zmg-show                show how the line is
  *   -record NAME             the library's demo, in NAME.lmp
  * and of the host, for all:
- *   -zmg-window N            how many commands may wait to be run, 1 to 12 (8)
+ *   -zmg-window N            how many commands may wait to be run, 1 to 12 (12)
  *   -zmg-give-up SECONDS     play on without a player who was missing for so long
  *   -zmg-patience SECONDS    end the game then
  */
@@ -30,7 +29,7 @@
 #include "zmg_udp.h"
 #include "zmg_world.h"
 
-enum { PORT = 5029, WINDOW = 8 };
+enum { PORT = 5029, WINDOW = 12 };
 
 static zmg_host_config hosts;
 static zmg_join_config joins;
@@ -119,7 +118,6 @@ boolean ZMG_Init(void)
     ZMG_SignalsTake();
     refuse_options();
     take_record();
-    zmg_the_options.steady = M_CheckParm("-zmg-steady") > 0;
     port = number("-zmg-port", is_host ? PORT : 0, 0, 65535);
     if (!ZMG_UdpOpen((uint16_t) port)) I_Error("zmg: port %d cannot be opened", port);
     zmg_the_options.on = true;

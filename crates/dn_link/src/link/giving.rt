@@ -17,7 +17,7 @@ impl Link {
     /// and the one of the moment, oldest first, up to where there may be no room for one more, and how far this
     /// player is. After the end it says why; and then, or while somebody is given up, it has the report to the peer.
     /// None to a number that is no peer's, nor to one who is given up.
-    #[tactic(auto, using(crate::proofs::Places::peer_at, crate::proofs::Places::peers_put))]
+    #[tactic(auto, using(crate::proofs::Places::peer_at, crate::proofs::Places::peers_put, crate::proofs::Rooms::parts_fit))]
     pub fn datagram(&mut self, to: u8) -> Option<ArrayVec<u8, 1200>>
         ensures gives { IfSome result (λ bytes. Gives (seal_of self.old) (pace_of self.old) to
             (linked self.old) (linked self.new) bytes.items) }

@@ -14,6 +14,7 @@ impl Link {
     ghost use Rattle.std.specs.Prelude.{◌≡◌, ◌<◌, ◌≤◌, ◌||◌, ◌∷◌, take, All, length, slice_index, true, false, IfSome};
     ghost use Rattle.dn_link.specs.{Counting.held_of, Linking.overdue_of, Linked.HasBehind, Linked.has_given_up, Linked.is_peer, Linked.remains, Linking.linked, Linking.seal_of, Surviving.IsHandedFor, Surviving.may_hand, Surviving.shares_gone};
     ghost use Rattle.dn_link.specs.{Pacing.pace_of, Text.IsPart, Text.parts_bytes};
+    ghost use Rattle.dn_link.specs.Packing.{parts_room};
 
     /// Whether a player is not given up, or a peer has reported to have given it up too.
     fn shares_gone(&self, to: u8, player: u8) -> bool
@@ -114,9 +115,9 @@ impl Link {
         requires peer { to < (linked self.now).node.players }
         requires few { to < 4 }
         requires fit { All IsPart own.items }
-        requires short { length (parts_bytes own.items) ≤ 1118 }
+        requires short { parts_room own.items ≤ 1118 }
         ensures fit { All IsPart result.items }
-        ensures short { length (parts_bytes result.items) ≤ 1118 }
+        ensures short { parts_room result.items ≤ 1118 }
         ensures behind { (behind : HasBehind (linked self.now) to 0 own.items result.items) × (length behind.handed ≤ 2) }
     {
         if !is_first || !self.hands_on(to) {

@@ -5,7 +5,7 @@ use super::Link;
 use crate::bundle::{Bundle, Part};
 use crate::counting::counts_of;
 use crate::ends::{EXCLUDES, told_cause};
-use crate::relaying::parts_len;
+use crate::room::parts_room;
 use crate::writing::seal_bundle;
 use arrayvec::ArrayVec;
 use dn_survivor::report::{MAX_REPORT, decode};
@@ -18,13 +18,14 @@ impl Link {
     ghost use Rattle.dn_survivor.specs.{ReportBytes.{IsReadAs, IsReport}, declared.report.{Report.Report, ReportFault.ReportFault}};
     ghost use Rattle.dn_link.specs.{Linked.{TakesRead, exclusion, exclusion_for, probe, probe_for, probed, remains, report_beside, surviving_of, written}, Linking.{linked, overdue_of, seal_of}};
     ghost use Rattle.dn_link.specs.{Pacing.pace_of, Text.{IsBundle, parts_bytes}};
+    ghost use Rattle.dn_link.specs.Packing.{parts_room};
 
     /// The bytes of the report to a peer, if there is one, and room for it beside these parts.
     pub(super) fn report_beside(&self, to: u8, parts: &[Part]) -> ArrayVec<u8, MAX_REPORT>
-        requires { length (parts_bytes parts.now) ≤ 1118 }
+        requires { parts_room parts.now ≤ 1118 }
         ensures bytes { result.items ≡ written (report_beside (surviving_of (linked self.now)) to parts.now) }
         ensures proper { IfSome (report_beside (surviving_of (linked self.now)) to parts.now) IsReport }
-        ensures room { length result.items + length (parts_bytes parts.now) ≤ 1139 }
+        ensures room { length result.items + parts_room parts.now ≤ 1139 }
     {
         let mut bytes = ArrayVec::new();
         let Some(report) = self.survivor.report(to) else {
@@ -32,7 +33,7 @@ impl Link {
         };
         let mut room = [0; MAX_REPORT];
         let size = report.encode(&mut room);
-        if size <= ROOM - parts_len(parts) {
+        if size <= ROOM - parts_room(parts) {
             dn_seal::append(&mut bytes, &room[..size]);
         }
         bytes

@@ -1,16 +1,17 @@
 //! Reading the parts of a datagram.
 
-ghost use Rattle.std.specs.{Prelude.◌≤◌, Prelude.◌≡◌, Prelude.◌+◌, Prelude.IfSome, Prelude.length, Option.option_map};
-ghost use Rattle.dn_link.specs.{Text.part_bytes, Told.told_all, Told.told_part, Told.told_parts, Told.told_relay, Told.told_run, Told.told_whole};
+ghost use Rattle.std.specs.{Prelude.◌≤◌, Prelude.◌≡◌, Prelude.◌+◌, Prelude.◌%◌, Prelude.IfSome, Prelude.length, Option.option_map};
+ghost use Rattle.dn_link.specs.{Text.part_bytes, Told.told_all, Told.told_as, Told.told_commands, Told.told_part, Told.told_parts, Told.told_relay, Told.told_run, Told.told_whole};
 
 use crate::bundle::{Carried, Part, Relay, Run};
+use crate::differences::differences_in;
+use crate::writing::{DIFFERENCES, part_bytes};
 use arrayvec::ArrayVec;
-use dn_seal::{ask_in, tic_at};
+use dn_seal::{append, ask_in, tic_at};
 
 /// The packet at the front of bytes.
 fn whole_in(bytes: &[u8]) -> Option<Carried>
-    ensures told { result ≡ told_whole bytes.now }
-    ensures room { IfSome result (λ packet. 10 + length packet.datagram.items ≤ length bytes.now) }
+    ensures { result ≡ told_whole bytes.now }
 {
     if bytes.len() < 10 {
         return None;
@@ -29,65 +30,74 @@ fn whole_in(bytes: &[u8]) -> Option<Carried>
     })
 }
 
-/// The run of so many commands at the front of bytes.
-fn run_in(count: u8, bytes: &[u8]) -> Option<Run>
-    ensures told { result ≡ told_run count bytes.now }
-    ensures room { IfSome result (λ run. 4 + length run.commands.items ≤ length bytes.now) }
+/// The commands of a run behind its first byte, as differences or whole.
+fn commands_in(head: u8, bytes: &[u8]) -> ArrayVec<u8, 192>
+    requires { head % 32 ≤ 24 }
+    ensures { result.items ≡ told_commands head (head % 32) bytes.now }
 {
-    let size = 8 * usize::from(count);
-    if count > 24 || bytes.len() < 4 + size {
+    let count = head % 32;
+    if head >= DIFFERENCES {
+        return differences_in(count, bytes);
+    }
+    let size = bytes.len().min(8 * usize::from(count));
+    let mut commands = ArrayVec::new();
+    append(&mut commands, &bytes[..size]);
+    commands
+}
+
+/// The run behind its first byte, whatever follows.
+fn run_in(head: u8, bytes: &[u8]) -> Option<Run>
+    ensures { result ≡ told_run head bytes.now }
+{
+    let count = head % 32;
+    if count == 0 || count > 24 || bytes.len() < 4 {
         return None;
     }
-    let mut commands = ArrayVec::new();
-    let _ = commands.try_extend_from_slice(&bytes[4..4 + size]);
     Some(Run {
         start: tic_at(bytes, 0),
-        commands,
+        commands: commands_in(head, &bytes[4..]),
     })
 }
 
-/// The run of a third player at the front of bytes.
+/// The run of a third player behind its first byte, whatever follows.
 fn relay_in(head: u8, bytes: &[u8]) -> Option<Relay>
-    requires { 32 ≤ head }
-    ensures told { result ≡ told_relay head bytes.now }
-    ensures room { IfSome result (λ relay. 4 + length relay.run.commands.items ≤ length bytes.now) }
+    ensures { result ≡ told_relay head bytes.now }
 {
-    if head > 159 || head % 32 == 0 {
+    let (player, rest) = bytes.split_first()?;
+    if *player > 3 {
         return None;
     }
-    let run = run_in(head % 32, bytes)?;
+    let run = run_in(head, rest)?;
     Some(Relay {
-        player: head / 32 - 1,
+        player: *player,
         run,
     })
 }
 
-/// The part at the front of bytes.
+/// The part that the first byte tells, whatever follows.
+fn part_as(bytes: &[u8]) -> Option<Part>
+    ensures { result ≡ told_as bytes.now }
+{
+    let (head, rest) = bytes.split_first()?;
+    if *head == 0 {
+        return whole_in(rest).map(Part::Whole);
+    }
+    if head / 32 % 2 == 0 {
+        return run_in(*head, rest).map(Part::Run);
+    }
+    relay_in(*head, rest).map(Part::Relay)
+}
+
+/// The part whose bytes these begin with.
 fn part_in(bytes: &[u8]) -> Option<Part>
     ensures told { result ≡ told_part bytes.now }
     ensures room { IfSome result (λ part. length (part_bytes part) ≤ length bytes.now) }
 {
-    if bytes.is_empty() {
+    let part = part_as(bytes)?;
+    if !bytes.starts_with(part_bytes(&part).as_slice()) {
         return None;
     }
-    if bytes[0] > 31 {
-        return relay_in(bytes[0], &bytes[1..]).map(Part::Relay);
-    }
-    if bytes[0] != 0 {
-        return run_in(bytes[0], &bytes[1..]).map(Part::Run);
-    }
-    whole_in(&bytes[1..]).map(Part::Whole)
-}
-
-/// How many bytes it takes.
-pub(crate) fn part_len(part: &Part) -> usize
-    ensures { result ≡ length (part_bytes part.now) }
-{
-    match part {
-        Part::Whole(packet) => 11 + packet.datagram.len(),
-        Part::Run(run) => 5 + run.commands.len(),
-        Part::Relay(relay) => 5 + relay.run.commands.len(),
-    }
+    Some(part)
 }
 
 /// So many parts, and nothing after them.
@@ -101,7 +111,7 @@ fn all_in(bytes: &[u8], count: u8) -> Option<ArrayVec<Part, 24>>
         let Some(part) = part_in(rest) else {
             return None;
         };
-        rest = &rest[part_len(&part)..];
+        rest = &rest[part_bytes(&part).len()..];
         found.push(part);
     }
     if !rest.is_empty() {

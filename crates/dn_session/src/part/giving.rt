@@ -1,11 +1,12 @@
 //! Ticks: the commands that its player gives.
 
 ghost use Rattle.std.specs.Prelude.{◌≡◌, true};
-ghost use Rattle.dn_session.specs.Playing.{carrier_after, is_giving, Builds, playing, may_give, GivesWhen, PassesTick};
+ghost use Rattle.dn_session.specs.Playing.{from_turn, is_giving, playing, may_give, Builds, GivesWhen, PassesTick};
 
 use super::Part;
 use crate::ending::Progress;
 use dn_link::Link;
+use dn_machine::Made;
 use dn_tic::Input;
 
 /// Whether it plays.
@@ -16,24 +17,20 @@ pub(super) fn is_giving(progress: Progress) -> bool
 }
 
 /// The input of a tick is built.
-fn build(link: &mut Link, input: Input)
-    ensures { Builds input link.old link.new }
+fn build(link: &mut Link, input: Input) -> Made
+    ensures { Builds input link.old link.new result }
 {
     match input {
-        Input::Pressed(keys) => {
-            let _ = link.build(keys);
-        }
-        Input::Given(command) => {
-            let _ = link.give(command);
-        }
+        Input::Pressed(keys) => link.build(keys),
+        Input::Given(command) => link.give(command),
     }
 }
 
-/// The next player, around.
-fn carrier_after(carrier: u8) -> u8
-    ensures { result ≡ carrier_after carrier }
+/// The player so many places behind one, around.
+pub(super) fn from_turn(turn: u8, place: u8) -> u8
+    ensures { result ≡ from_turn turn place }
 {
-    if carrier < 3 { carrier + 1 } else { 0 }
+    ((u16::from(turn) + u16::from(place)) % 4) as u8
 }
 
 impl Part {
@@ -44,7 +41,8 @@ impl Part {
         let lean = self.link.lean();
         self.ticks.pass(lean);
         self.owed = [true; 4];
-        self.carrier = carrier_after(self.carrier);
+        self.turn = from_turn(self.turn, 1);
+        self.steady.tick();
     }
 
     /// Whether its player is to give a command now.
@@ -59,7 +57,7 @@ impl Part {
         ensures { GivesWhen true now input (playing self.old) (playing self.new) }
     {
         self.ticks.resume(now);
-        build(&mut self.link, input);
+        let _ = build(&mut self.link, input);
         self.pass_tick();
     }
 

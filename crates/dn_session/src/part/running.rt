@@ -1,25 +1,54 @@
 //! How tics are run.
 
-ghost use Rattle.std.specs.Prelude.{◌≡◌, ℕ, ℤ};
+ghost use Rattle.std.specs.Prelude.{◌≡◌, ℕ, ℤ, Option};
 ghost use Rattle.dn_lockstep.specs.Steps.{told_by};
-ghost use Rattle.dn_session.specs.Playing.{owed_by, playing, RunsNext, WritesRow};
+ghost use Rattle.dn_session.specs.Playing.{after_answer, after_catching_up, holds_back, is_made, playing, CatchesUp, RunsNext, WritesRow};
+ghost use Rattle.dn_machine.specs.declared.answers.Made.{Made as AnyMade};
 ghost use Rattle.dn_machine.specs.declared.answers.Ran.TheVariants as ran;
 
 use super::Part;
+use super::giving::is_giving;
+use crate::players::has_row_behind;
+use crate::steady::Steady;
 use dn_machine::{Made, Ran};
 use dn_tic::Move;
 
-/// To whom a datagram is owed, where this command was built.
-fn owed_by(made: Option<Made>, owed: [bool; 4]) -> [bool; 4]
-    ensures { result ≡ owed_by made owed }
+/// Whether a command was built.
+fn is_made(made: Option<Made>) -> bool
+    ensures { result ≡ is_made made }
 {
-    match made {
-        Some(Made::Made(_)) => [true; 4],
-        _ => owed,
+    matches!(made, Some(Made::Made(_)))
+}
+
+/// How evenly tics come after this answer.
+fn after_answer(ran: Ran, steady: Steady) -> Steady
+    ensures { result ≡ after_answer ran steady }
+{
+    let mut steady = steady;
+    if let Ran::Ran(_) = ran {
+        steady.run();
     }
+    steady
 }
 
 impl Part {
+    /// Whether its player plays, and the next tic should wait for the next tick.
+    pub(crate) fn holds_back(&self) -> bool
+        ensures { result ≡ holds_back (playing self.now) }
+    {
+        is_giving(self.progress) && self.steady.holds(has_row_behind(&self.link))
+    }
+
+    /// Builds the command that was owed, if there is room for it now: then all are owed a datagram.
+    fn catch_up(&mut self)
+        ensures { (made : Option AnyMade) × CatchesUp (playing self.old).link (playing self.new).link made
+            × (playing self.new ≡ after_catching_up made (record (playing self.old) { link = (playing self.new).link })) }
+    {
+        if is_made(self.link.catch_up()) {
+            self.owed = [true; 4];
+        }
+    }
+
     /// Runs the next tic, if it can be run, with the marks of the world; and builds the command that was owed,
     /// if there is room for it now. Call it again while it runs.
     pub(crate) fn run(&mut self, marks: &[i16; 4], row: &mut [Option<Move>; 4]) -> Ran
@@ -31,7 +60,8 @@ impl Part {
         ensures full { result ≡ ran.DemoFull → WritesRow row.new (playing self.old) }
     {
         let ran = self.link.run_into(marks, row);
-        self.owed = owed_by(self.link.catch_up(), self.owed);
+        self.steady = after_answer(ran, self.steady);
+        self.catch_up();
         ran
     }
 }

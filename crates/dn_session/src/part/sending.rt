@@ -1,10 +1,11 @@
 //! What goes out.
 
-ghost use Rattle.std.specs.{Prelude.◌≡◌, Prelude.◌<◌, Prelude.◌≤◌, Prelude.◌&&◌, Prelude.◌||◌, Prelude.IfSome, Prelude.is_some, Prelude.length, Prelude.true, Prelude.false, Prelude.Some, Option.option_map, Option.option_or};
+ghost use Rattle.std.specs.{Prelude.◌≡◌, Prelude.◌<◌, Prelude.◌≤◌, Prelude.◌&&◌, Prelude.◌||◌, Prelude.IfSome, Prelude.is_some, Prelude.length, Prelude.true, Prelude.false, Prelude.Some, Prelude.position, Option.option_map, Option.option_or};
 ghost use Rattle.dn_session.specs.Sent.{first_owed, first_owed_exclusion, is_owed, is_owed_exclusion, is_probed, place_to, Excludes, SendsFirst, SendsNext, SendsTo, SendsWhen};
-ghost use Rattle.dn_session.specs.{Passing.sent_of, Playing.playing};
+ghost use Rattle.dn_session.specs.{Passing.sent_of, Players.four, Playing.from_turn, Playing.playing};
 
 use super::Part;
+use super::giving::from_turn;
 use crate::greeting::Address;
 use crate::players::is_gone_from;
 use arrayvec::ArrayVec;
@@ -59,12 +60,22 @@ impl Part {
             && self.is_open(player)
     }
 
-    /// The lowest player to whom a datagram is owed.
-    fn first_owed(&self) -> Option<usize>
+    /// How many places behind the one whose turn it is the first stands to whom a datagram is owed.
+    fn first_place(&self) -> Option<usize>
+        ensures value { result ≡ position (λ place. is_owed (playing self.now) (from_turn (playing self.now).turn place)) four }
+        ensures within { IfSome result (λ n. n < 4) }
+    {
+        [0, 1, 2, 3]
+            .iter()
+            .position(|place| self.is_owed(from_turn(self.turn, *place)))
+    }
+
+    /// The first player to whom a datagram is owed, from the one whose turn it is.
+    fn first_owed(&self) -> Option<u8>
         ensures value { result ≡ first_owed (playing self.now) }
         ensures within { IfSome result (λ n. n < 4) }
     {
-        [0, 1, 2, 3].iter().position(|player| self.is_owed(*player))
+        Some(from_turn(self.turn, self.first_place()? as u8))
     }
 
     /// The datagram that is owed to a player.
@@ -153,7 +164,7 @@ impl Part {
             (option_map sent_of result) }
     {
         match self.first_owed() {
-            Some(player) => self.send(player as u8),
+            Some(player) => self.send(player),
             None => self.exclude(),
         }
     }

@@ -29,8 +29,8 @@ impl Part {
     fn way_to(&self, player: u8) -> u8
         ensures { result ≡ way_to (playing self.now) player }
     {
-        if !self.is_near(player) && self.can_pass(self.carrier, player) {
-            self.carrier
+        if !self.is_near(player) && self.can_pass(self.turn, player) {
+            self.turn
         } else {
             player
         }

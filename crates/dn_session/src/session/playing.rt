@@ -7,7 +7,7 @@ use dn_tic::{Input, Move};
 impl Session {
     ghost use Rattle.std.specs.Prelude.{◌≡◌, ℕ, ℤ};
     ghost use Rattle.dn_lockstep.specs.Steps.{told_by};
-    ghost use Rattle.dn_session.specs.{Roster.IsSide, Session.can_give, Session.meeting, Session.GivesPart, Session.GivesUpPart, Session.Kicks, Session.QuitsPart, Session.RunsPart, Session.HasRow};
+    ghost use Rattle.dn_session.specs.{Roster.IsSide, Session.can_give, Session.holds_back_in, Session.meeting, Session.GivesPart, Session.GivesUpPart, Session.Kicks, Session.QuitsPart, Session.RunsPart, Session.HasRow};
     ghost use Rattle.dn_machine.specs.declared.answers.Ran.TheVariants as ran;
 
     /// Its player gives the input of the tick that is due: whether one was. Else nothing changes.
@@ -27,6 +27,18 @@ impl Session {
     {
         match &self.part {
             Some(part) => part.wants_input(now),
+            None => false,
+        }
+    }
+
+    /// Whether the next tic should wait for the next tick, so that tics that come together are run one by one. That
+    /// begins with the third gap of three to eight ticks within 320 ticks or so, and ends 960 ticks after the last at
+    /// the latest.
+    pub fn holds_back(&self) -> bool
+        ensures { result ≡ holds_back_in (meeting self.now).part }
+    {
+        match &self.part {
+            Some(part) => part.holds_back(),
             None => false,
         }
     }

@@ -12,6 +12,7 @@ use Rattle.dn_lockstep.specs.{declared.lockstep.aiming.Aim.Aim, Sent.{IsFair, ai
 use Rattle.dn_lockstep.specs.Told.{command_told}
 use Rattle.dn_link.specs.{RemainingLinks.{AreRemainingLinks, KeepsGiven, WasSealedIn, WasTold, after_datagram}, Linked.{Gives, Linked, is_peer, remains, report_beside, surviving_of}, Pacing.PaceState}
 use Rattle.dn_link.specs.{declared.bundle.Carried.Carried, Hearing.{carried_of, SendsCarried}, Relays.{Handed, flights_of}, Text.parts_bytes}
+use Rattle.dn_link.specs.Packing.{parts_room}
 use Rattle.dn_lockstep.proofs.OneGame.{GoesBetween}
 use Rattle.dn_survivor.specs.{OneGame.{AreRemaining, Session, after_packet, after_relays, after_report, reports_on}, Telling.{MayRelay, report_for}, declared.report.Report.Report}
 use Rattle.dn_survivor.specs.Surviving.{Surviving, has_given_up}
@@ -165,7 +166,7 @@ module _ (marking : Marking) (limits : Limits) (settings : Settings) (session : 
         → AreRemainingLinks marking limits settings (after_all packet) (put links player new)
         → AreRemainingLinks marking limits settings (after_report (after_all packet) player to told_now)
         (put links player new)
-    tells_on packet are = elim (fits_or_not (1139 - length (parts_bytes gives.bundle.parts.items)) (report_for (surviving_of new) to)) [
+    tells_on packet are = elim (fits_or_not (1139 - parts_room gives.bundle.parts.items) (report_for (surviving_of new) to)) [
       | inl none ↦ subst (λ (o : Option Report). AreRemainingLinks marking limits settings
           (after_report (after_all packet) player to o) (put links player new)) (sym none) are
       | inr fits ↦

@@ -1,4 +1,5 @@
 use Rattle.std.proofs.{Common.{◌≡◌, length, ap, sym, ◌∙◌, arith, Some}, lemmas.List.{take_rest, length_push}}
+use Rattle.std.proofs.Common.{ℕ}
 use Rattle.dn_link.specs.{declared.bundle.Part.Part, Told.told_part}
 use Rattle.dn_link.proofs.Wholes.{begins, goes_on_to, fails}
 use Rattle.dn_link.proofs.reading.parts.all_in.Goals as goal
@@ -12,8 +13,9 @@ parts-preserved c =
     let at : told_part rest ≡ Some c.in-Some.part = sym c.part_in.ensures.told ∙ c.in-Some.is in
     record {
       so_far = goes_on_to c.args.count c.args.bytes.now c.parts.done rest c.parts.found.items c.in-Some.part
-          c.part_len.result _ _ c.parts-test.true c.parts.invariant.so_far at c.part_len.ensures
-          (take_rest rest c.part_len.result) c.push.ensures.items;
+          c.len.result _ _ c.parts-test.true c.parts.invariant.so_far at
+          (c.len.ensures.value ∙ ap (length {A = ℕ}) c.part_bytes.ensures)
+          (take_rest rest c.len.result) c.push.ensures.items;
       many = omega (
         arith,
         ap (length {A = Part}) c.push.ensures.items,

@@ -13,6 +13,7 @@ returns c =
         link = c.lean-lean.new.self;
         ticks = ticks i;
         owed = owes_all;
-        carrier = c.carrier_after-self.ensures i;
+        turn = c.from_turn-self.ensures i;
+        steady = c.tick.ensures i;
       },
     )
