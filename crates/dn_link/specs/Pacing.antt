@@ -1,8 +1,8 @@
 -- What a link keeps for its pace.
 use Rattle.std.specs.Prelude.{ℕ, None, pos, Option, get_or}
 use Rattle.dn_tic.specs.declared.input.Input.{Input}
-use Rattle.dn_link.specs.{declared.line.Line.Line, declared.link.Link.Link, declared.pace.Pace.Pace, Line.new_line, Leaning.LeaningState}
-use Rattle.dn_link.specs.{Leaning.StretchingState, declared.leaning.Leaning.Leaning, declared.stretching.Stretching.Stretching}
+use Rattle.dn_link.specs.{declared.line.Line.Line, declared.link.Link.Link, declared.pace.Pace.Pace, Line.new_line, Leaning.LeaningState, Leaning.TrimState}
+use Rattle.dn_link.specs.{Leaning.StretchingState, declared.leaning.Leaning.Leaning, declared.stretching.Stretching.Stretching, declared.trimming.Trim.Trim}
 
 -- the line from each player, the input of which a command is owed, how the ticks lean and stretch, and how many
 -- bytes came that were no datagram
@@ -14,8 +14,12 @@ pub record PaceState : Type 0 where
   pub refused : ℕ
 
 -- what each of these is, of what the link holds
+abbrev pub trim_state : Trim → TrimState
+trim_state t = record { by = t.by; carried = t.carried }
+
 abbrev pub leaning_of : Leaning → LeaningState
-leaning_of l = record { rest = l.rest; looked = l.looked; sum = l.sum; left = l.left }
+leaning_of l =
+    record { rest = l.rest; looked = l.looked; sum = l.sum; left = l.left; trim = trim_state l.trim }
 
 abbrev pub stretching_of : Stretching → StretchingState
 stretching_of s = record { ticks = s.ticks; dropped = s.dropped; blocks = s.blocks; slow = s.slow }
@@ -36,7 +40,13 @@ new_pace =
     record {
       lines = λ player. new_line;
       owed = None;
-      leaning = record { rest = 0; looked = 0; sum = pos 0; left = pos 0 };
+      leaning = record {
+        rest = 0;
+        looked = 0;
+        sum = pos 0;
+        left = pos 0;
+        trim = record { by = pos 0; carried = pos 16 };
+      };
       stretching = record { ticks = 0; dropped = 0; blocks = 0; slow = 0 };
       refused = 0;
     }

@@ -25,6 +25,7 @@ mod remaining;
 mod short;
 mod stretching;
 mod tally;
+mod trimming;
 mod writing;
 
 pub use bundle::{Bundle, BundleFault, Carried, Counts, Part, Relay, Run};

@@ -1,9 +1,9 @@
 //! What a link keeps for its pace.
 
-ghost use Rattle.std.specs.Prelude.{◌≡◌, ◌<◌, ◌≤◌, ◌+ℤ◌, pos, nat_abs, Some};
+ghost use Rattle.std.specs.Prelude.{◌≡◌, ◌<◌, ◌≤◌, ◌+ℤ◌, ◌≤ℤ◌, pos, nat_abs, Some};
 ghost use Rattle.dn_machine.specs.declared.answers.Made.{Made as AnyMade};
 ghost use Rattle.dn_lockstep.specs.Contents.{contents};
-ghost use Rattle.dn_link.specs.{Leaning.looks, Leaning.step_of, Leaning.worked_off, Pace.after_datagram, Pace.after_input, Pace.after_refusal, Pace.still_owed};
+ghost use Rattle.dn_link.specs.{Leaning.IsLean, Leaning.looks, Leaning.step_of, Leaning.worked_off, Pace.after_datagram, Pace.after_input, Pace.after_refusal, Pace.still_owed};
 ghost use Rattle.dn_link.specs.{Pace.with_leads, Pacing.new_pace, Pacing.state_of, Leaning.stretches};
 
 use crate::bundle::Bundle;
@@ -26,10 +26,11 @@ fn owed_after(input: Input, made: Made) -> Option<Input>
 
 /// Two parts of a tick.
 fn together(lean: i8, slow: i8) -> i8
-    requires lean { nat_abs lean ≤ 2 }
+    requires lean { nat_abs lean ≤ 17 }
     requires slow { nat_abs slow ≤ 32 }
+    requires longer { pos 0 ≤ℤ slow }
     ensures value { result ≡ lean +ℤ slow }
-    ensures range { nat_abs result ≤ 34 }
+    ensures range { IsLean result }
 {
     lean + slow
 }
@@ -143,7 +144,7 @@ impl Pace {
         requires small { nat_abs differences ≤ 1024 }
         ensures leans { result ≡ step_of (looks differences playing (state_of self.old).leaning)
             +ℤ pos (stretches lossy (state_of self.old).stretching).slow }
-        ensures range { nat_abs result ≤ 34 }
+        ensures range { IsLean result }
         ensures next { state_of self.new ≡ record (with_leads (contents lockstep.now) (state_of self.old)) {
           leaning = worked_off (looks differences playing (state_of self.old).leaning);
           stretching = stretches lossy (state_of self.old).stretching;

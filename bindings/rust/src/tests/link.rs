@@ -349,7 +349,7 @@ fn a_build_without_room_is_owed() {
     assert_eq!(key.catch_up(), Some(Made::Made(u32::from(MOST_AHEAD))));
     assert_eq!(key.catch_up(), None);
     assert!(key.command(0, 5).unwrap().forward < 0);
-    assert!((-2..=34).contains(&key.lean()));
+    assert!((-17..=49).contains(&key.lean()));
     assert_eq!(key.build(Keys::BACK), Made::Full);
     assert!(key.quit());
     assert_eq!(key.catch_up(), Some(Made::NotPlaying));

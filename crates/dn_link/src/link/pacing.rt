@@ -5,7 +5,7 @@ use crate::line::{apart, lead_over, total};
 
 impl Link {
     ghost use Rattle.std.specs.Prelude.{◌<◌, ◌≤◌, ◌+◌, ◌&&◌, nat_abs, nat_lt, ◌≡◌};
-    ghost use Rattle.dn_link.specs.{Linking.linked, Linking.seal_of, Pace.after_tick, Pace.difference, Pace.is_paced, Pace.lean, Pace.playing, Pace.differences, Pace.is_lossy};
+    ghost use Rattle.dn_link.specs.{Leaning.IsLean, Linking.linked, Linking.seal_of, Pace.after_tick, Pace.difference, Pace.is_paced, Pace.lean, Pace.playing, Pace.differences, Pace.is_lossy};
     ghost use Rattle.dn_link.specs.{Pace.is_lossy_to, Pace.wants_second, Pacing.pace_of};
 
     /// Whether a player is a peer that was heard, and has not left as far as it was.
@@ -78,7 +78,7 @@ impl Link {
     /// a while.
     pub fn lean(&mut self) -> i8
         ensures leans { result ≡ lean (linked self.old) (pace_of self.old) }
-        ensures range { nat_abs result ≤ 34 }
+        ensures range { IsLean result }
         ensures pace { pace_of self.new ≡ after_tick (linked self.old) (pace_of self.old) }
         ensures link { linked self.new ≡ linked self.old }
         ensures seal { seal_of self.new ≡ seal_of self.old }
