@@ -19,7 +19,8 @@ pub struct Ticks {
 }
 
 impl Ticks {
-    ghost use Rattle.std.specs.Prelude.{◌<◌, ◌≤◌, ◌^◌, nat_abs};
+    ghost use Rattle.std.specs.Prelude.{◌<◌, ◌≤◌, ◌^◌};
+    ghost use Rattle.dn_link.specs.Leaning.{IsLean};
     ghost use Rattle.dn_session.specs.Joining.{has_come};
     ghost use Rattle.dn_session.specs.Ticks.{half_taken, is_due, is_late, later, new_ticks, next, parts_of_tick, parts_to_next, passed, resumed};
 
@@ -61,16 +62,16 @@ impl Ticks {
 
     /// How many parts a tick has that is by so many 32nds longer than usual.
     fn parts_of_tick(lean: i8) -> u64
-        requires { nat_abs lean ≤ 34 }
+        requires { IsLean lean }
         ensures value { result ≡ parts_of_tick lean }
-        ensures range { result ≤ 66000 }
+        ensures range { result ≤ 81000 }
     {
         1000 * u64::from((32 + lean).max(1).unsigned_abs())
     }
 
     /// How many parts after the millisecond in which this tick was due the next one is.
     fn parts_to_next(&self, lean: i8) -> u64
-        requires { nat_abs lean ≤ 34 }
+        requires { IsLean lean }
         ensures value { result ≡ parts_to_next lean self.now }
         ensures range { result < 2 ^ 33 }
     {
@@ -87,7 +88,7 @@ impl Ticks {
 
     /// The tick that was due has passed, and the next comes by so many 32nds of a tick later than usual.
     pub fn pass(&mut self, lean: i8)
-        requires { nat_abs lean ≤ 34 }
+        requires { IsLean lean }
         ensures { self.new ≡ passed lean self.old }
     {
         let parts = self.parts_to_next(lean);

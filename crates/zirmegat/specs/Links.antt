@@ -24,6 +24,7 @@ use Rattle.dn_seal.specs.declared.seal.Seal.{Seal}
 use Rattle.dn_link.specs.declared.link.Link.{Link}
 use Rattle.dn_link.specs.declared.received.Received.{Received}
 use Rattle.dn_link.specs.declared.tally.Figures.{Figures}
+use Rattle.dn_link.specs.Leaning.{IsLean}
 use Rattle.dn_link.specs.Linked.{figures_of}
 use Rattle.dn_link.specs.Linked.{IsWhole, Linked, Gives, Receives, has_given_up, is_peer, remains}
 use Rattle.dn_link.specs.Linking.{linked, new_peer, seal_of}
@@ -130,7 +131,7 @@ TakesBytes bytes n k answer =
 -- a tick goes by
 abbrev pub Leans : Joined → Joined → ℤ → Type 0
 Leans n k answer =
-    (answer ≡ lean n.link n.pace) × (nat_abs answer ≤ 34) × (k.link ≡ n.link) × (k.pace ≡ after_tick n.link n.pace) × StaysOf n k
+    (answer ≡ lean n.link n.pace) × IsLean answer × (k.link ≡ n.link) × (k.pace ≡ after_tick n.link n.pace) × StaysOf n k
 
 -- a player is given up for good
 abbrev pub GivesUpIn : ℕ → Joined → Joined → GivenUp → Type 0
