@@ -8,7 +8,7 @@ use Rattle.std.specs.List.{flat_map}
 use Rattle.dn_seal.specs.{declared.opened.Opened.Opened, declared.seal.Seal.Seal}
 use Rattle.dn_machine.proofs.Put.{put_at}
 use Rattle.dn_link.specs.Kept.{IsCovering, Reaches, Unacknowledged, acknowledged, end_of, going, has_tic, is_news, kept_after, taken_by, without, IsKeptRising, IsRising}
-use Rattle.dn_link.specs.{declared.bundle.Carried.Carried, declared.peer.Peer.Peer, Linked.Gives, Linked.Linked, Linked.PeerState, Linking.peers_of, Pacing.PaceState}
+use Rattle.dn_link.specs.{declared.bundle.Carried.Carried, declared.peer.Peer.Peer, Linked.Gives, Linked.Linked, Linked.PeerState, Linking.peers_of, Pacing.PaceState, Pacing.is_brief}
 use Rattle.dn_link.specs.{Packets.opened_from, Packets.packets_of, Packing.ArePacked, Text.parts_bytes}
 
 -- Each packet that is kept for a peer ends past those before it.
@@ -144,16 +144,16 @@ reached kept packet = grind (arith, and_parts, leb-true, ltb-true, and_from, le-
 
 -- and a datagram has all of them, where it has room
 pub carries : (seal : Seal) (pace : PaceState) (to : ℕ) (old new : Linked) (bytes : List ℕ)
-    (gives : Gives seal pace to old new bytes)
+    (gives : Gives seal pace to old new bytes) → is_brief pace (old.peers to).number to ≡ false
     → IsCovering (old.peers to).kept → length gives.own < 22 → length (parts_bytes gives.own) ≤ 998
     → (packets : List Carried) × (flat_map (packets_of gives.bundle.from) gives.own
     ≡ map (opened_from old.node.me) packets)
     × ((tic : ℕ) → (old.peers to).kept.done ≤ tic → tic < (new.peers to).kept.covered → has_tic tic packets ≡ true)
-carries seal pace to old new bytes gives covers few short =
+carries seal pace to old new bytes gives full covers few short =
     let kept : Unacknowledged = (old.peers to).kept in
     let taken : Option Carried = taken_by (old.peers to).left gives.given in
     let packets : List Carried = going kept taken in
-    let packed : ArePacked old.node.me packets gives.own = gives.packed in
+    let packed : ArePacked old.node.me packets gives.own = gives.packed full in
     let told : List Opened = map (opened_from old.node.me) packets in
     let long = length-map packets (opened_from old.node.me) in
     let all : length packets ≤ packed.count = elim (cases_lt packed.count (length packets)) [

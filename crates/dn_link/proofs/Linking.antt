@@ -1,5 +1,5 @@
 -- A link of one game, and what calls leave that keep what it knows of its peers.
-use Rattle.std.proofs.Common.{◌≡◌, ℕ, true, refl, ap, sym, ◌∙◌, ◌≤◌, List, arith, ◌<◌, subst, [], ◌∷◌, Some, All, ◌++◌, Option, None}
+use Rattle.std.proofs.Common.{◌≡◌, ℕ, true, refl, ap, sym, ◌∙◌, ◌≤◌, List, arith, ◌<◌, subst, [], ◌∷◌, Some, All, ◌++◌, Option, None, Bool, false}
 use Rattle.std.proofs.lemmas.List.Elements.{All-nil, All-cons, All-head, All-tail, All-append}
 use Rattle.std.proofs.{lemmas.Option.same_Some, lemmas.Option.none-some, lemmas.Grind.flat_map-append}
 use Rattle.std.specs.Prelude.{max, slice_index, slice_get, map}
@@ -16,7 +16,7 @@ use Rattle.dn_open.specs.Sealed.{sealing_of}
 use Rattle.dn_link.specs.{Linked.Linked, Linked.PeerState, Linked.larger, Linked.Gives, Kept.Unacknowledged, Kept.going, Kept.taken_by, Counting.has_ended}
 use Rattle.dn_link.specs.{LinkedGame.AreLinked, LinkedGame.IsLater, LinkedGame.WasGiven, LinkedGame.WasBundled, declared.bundle.Bundle.Bundle, Packets.packets_in}
 use Rattle.dn_link.specs.{Packets.packets_of, Reading.IsDatagramOf, Text.IsBundle, Text.sealed_bytes, declared.bundle.Carried.Carried, Hearing.carried_of}
-use Rattle.dn_link.specs.{Pacing.PaceState, Relays.flights_of, Relays.handed_part, declared.bundle.Part.Part, Packing.ArePacked}
+use Rattle.dn_link.specs.{Pacing.PaceState, Pacing.is_brief, Relays.flights_of, Relays.handed_part, declared.bundle.Part.Part, Packing.ArePacked}
 use Rattle.dn_link.proofs.Relinking.{AreGiven, all_later, later_by, relinked, AreKept, put_kept, all_stay, found_on, keeps_given, packs_given}
 use Rattle.dn_link.proofs.{Growing.HasAsMuch, Growing.as_much, Growing.grows, Growing.Holds, Wholes.its_bundle, Handing.all_given}
 
@@ -162,8 +162,15 @@ module _ (given : List Flight) (flight : Option Flight) (player : ℕ) (old new 
   is_given carried is = taken_given (old.peers to).left gives.given carried is ∙ answer
 
   own_given : All (WasGiven (given_on given flight) to) (flat_map (packets_of player) gives.own)
-  own_given = packs_given given flight player to (old.peers to).kept taken between is_given (all to) gives.own
-      (subst (λ (k : ℕ). ArePacked k (going (old.peers to).kept taken) gives.own) own gives.packed)
+  own_given = go (is_brief pace (old.peers to).number to) refl
+    where
+      go : (brief : Bool) → is_brief pace (old.peers to).number to ≡ brief
+          → All (WasGiven (given_on given flight) to) (flat_map (packets_of player) gives.own)
+      go true brief =
+          subst (λ (parts : List Part). All (WasGiven (given_on given flight) to) (flat_map (packets_of player) parts))
+          (sym (gives.none brief)) (All-nil (WasGiven (given_on given flight) to))
+      go false full = packs_given given flight player to (old.peers to).kept taken between is_given (all to) gives.own
+          (subst (λ (k : ℕ). ArePacked k (going (old.peers to).kept taken) gives.own) own (gives.packed full))
 
   -- what was given before was given with what is handed on
   pub with_handed : (which : ℕ) (one : Flight) → slice_get (given_on given flight) which ≡ Some one

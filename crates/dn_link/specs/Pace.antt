@@ -1,5 +1,5 @@
 -- How the pace of a link changes.
-use Rattle.std.specs.Prelude.{◌≡◌, ℕ, ◌+◌, ◌&&◌, ◌||◌, not, if◌then◌else◌, Bool, List, nat_le, is_none, is_some, ◌+ℤ◌, ◌-ℤ◌, ℤ, pos, Option, None, Some, Result, Ok, Err}
+use Rattle.std.specs.Prelude.{◌≡◌, ℕ, ◌+◌, ◌&&◌, ◌||◌, not, true, false, if◌then◌else◌, Bool, List, nat_le, is_none, is_some, ◌+ℤ◌, ◌-ℤ◌, ℤ, pos, Option, None, Some, Result, Ok, Err}
 use Rattle.dn_tic.specs.declared.input.Input.{Input}
 use Rattle.dn_machine.specs.{declared.answers.Made.Made, declared.answers.Made.TheVariants.Full, Node.put}
 use Rattle.dn_lockstep.specs.Contents.{Contents}
@@ -15,10 +15,11 @@ abbrev pub still_owed : Made → Option Input → Option Input
 still_owed Full owed = owed
 still_owed made owed = None
 
--- the input of a tick: one that is still owed is dropped for it
+-- the input of a tick: one that is still owed is dropped for it, and nobody was given a datagram since
 abbrev pub after_input : Input → Made → PaceState → PaceState
 after_input input made pace =
     record pace {
+      given = λ player. false;
       owed = still_owed made (Some input);
       stretching = if is_some pace.owed then drops pace.stretching else pace.stretching;
     }
@@ -27,6 +28,14 @@ after_input input made pace =
 abbrev pub after_datagram : Bundle → PaceState → PaceState
 after_datagram bundle pace =
     record pace { lines = put pace.lines bundle.from (heard_on bundle (pace.lines bundle.from)) }
+
+-- a datagram is given to a peer
+abbrev pub given_to : ℕ → PaceState → PaceState
+given_to to pace = record pace { given = put pace.given to true }
+
+-- one is asked for, which only a peer gets who is not given up
+abbrev pub after_giving : Linked → ℕ → PaceState → PaceState
+after_giving link to pace = if remains link to then given_to to pace else pace
 
 -- bytes came that were no datagram
 abbrev pub after_refusal : PaceState → PaceState
@@ -98,7 +107,11 @@ stretched link pace = stretches (is_lossy link pace) pace.stretching
 -- a tick
 abbrev pub after_tick : Linked → PaceState → PaceState
 after_tick link pace =
-    record (with_leads link.node pace) { leaning = worked_off (leaned link pace); stretching = stretched link pace }
+    record (with_leads link.node pace) {
+      given = λ player. false;
+      leaning = worked_off (leaned link pace);
+      stretching = stretched link pace;
+    }
 
 -- by how many 32nds of a tick the next tick comes later
 abbrev pub lean : Linked → PaceState → ℤ

@@ -1,13 +1,14 @@
 -- What a link keeps for its pace.
-use Rattle.std.specs.Prelude.{ℕ, None, pos, Option, get_or}
+use Rattle.std.specs.Prelude.{ℕ, Bool, false, None, pos, Option, get_or}
 use Rattle.dn_tic.specs.declared.input.Input.{Input}
 use Rattle.dn_link.specs.{declared.line.Line.Line, declared.link.Link.Link, declared.pace.Pace.Pace, Line.new_line, Leaning.LeaningState, Leaning.TrimState}
 use Rattle.dn_link.specs.{Leaning.StretchingState, declared.leaning.Leaning.Leaning, declared.stretching.Stretching.Stretching, declared.trimming.Trim.Trim}
 
--- the line from each player, the input of which a command is owed, how the ticks lean and stretch, and how many
--- bytes came that were no datagram
+-- the line from each player, who was given a datagram since the last tick, the input of which a command is owed,
+-- how the ticks lean and stretch, and how many bytes came that were no datagram
 pub record PaceState : Type 0 where
   pub lines : ℕ → Line
+  pub given : ℕ → Bool
   pub owed : Option Input
   pub leaning : LeaningState
   pub stretching : StretchingState
@@ -28,24 +29,31 @@ abbrev pub state_of : Pace → PaceState
 state_of p =
     record {
       lines = λ player. get_or p.lines player new_line;
+      given = λ player. get_or p.given player false;
       owed = p.owed;
       leaning = leaning_of p.leaning;
       stretching = stretching_of p.stretching;
       refused = p.refused;
     }
 
+-- a datagram to a peer is a brief one, which carries the newest commands alone: another was given to the peer since
+-- the last tick
+abbrev pub is_brief : PaceState → (number to : ℕ) → Bool
+is_brief pace number to = pace.given to
+
 -- the pace at first
 abbrev pub new_pace : PaceState
 new_pace =
     record {
       lines = λ player. new_line;
+      given = λ player. false;
       owed = None;
       leaning = record {
         rest = 0;
         looked = 0;
         sum = pos 0;
         left = pos 0;
-        trim = record { by = pos 0; carried = pos 16 };
+        trim = record { by = pos 0; carried = pos 0 };
       };
       stretching = record { ticks = 0; dropped = 0; blocks = 0; slow = 0 };
       refused = 0;

@@ -1,6 +1,6 @@
 //! The packets that a peer has not acknowledged.
 
-ghost use Rattle.std.specs.{Prelude.◌≡◌, Prelude.◌≤◌, Prelude.◌<◌, Prelude.◌+◌, Prelude.◌∷◌, Prelude.[], Prelude.ℕ, Prelude.All, Prelude.length, Prelude.nat_le, Prelude.slice_index, Prelude.Option};
+ghost use Rattle.std.specs.{Prelude.◌≡◌, Prelude.◌≤◌, Prelude.◌<◌, Prelude.◌+◌, Prelude.◌∷◌, Prelude.[], Prelude.ℕ, Prelude.All, Prelude.length, Prelude.nat_le, Prelude.slice_index, Prelude.Option, Prelude.true, Prelude.false};
 ghost use Rattle.std.specs.{Option.option_map};
 ghost use Rattle.dn_link.specs.{Kept.IsCovering, Kept.IsRising, Kept.IsRising-prop, Kept.acknowledged, Kept.commands_in, Kept.end_of, Kept.going, Kept.is_idle, Kept.is_news, Kept.kept_after};
 ghost use Rattle.dn_link.specs.{Kept.takes_packet, Kept.without, Packing.ArePacked, Text.IsPart, Text.parts_bytes};
@@ -118,26 +118,56 @@ impl Kept {
             && self.packets.len() < MOST_KEPT
     }
 
-    /// What goes to the peer now, of this player: these packets, and the one of the moment, which is kept if it
-    /// has news.
-    pub(crate) fn parts(&mut self, from: u8, packet: Option<Carried>) -> ArrayVec<Part, 24>
-        ensures kept { kept self.new ≡ kept_after (kept self.old) packet }
-        ensures fit { All IsPart result.items }
-        ensures short { length (parts_bytes result.items) ≤ 1118 }
-        ensures packed { ArePacked from (going (kept self.old) packet) result.items }
+    /// The packet of the moment is kept if it has news.
+    fn keep(&mut self, packet: Option<Carried>)
+        ensures { kept self.new ≡ kept_after (kept self.old) packet }
     {
         let Some(packet) = packet else {
-            return pack(from, self.packets.as_slice());
+            return;
         };
         let news = self.is_news(&packet);
         let end = end_of(&packet);
+        if news {
+            self.packets.push(packet);
+            self.covered = end;
+        }
+    }
+
+    /// What goes to the peer now, of this player: these packets, and the one of the moment.
+    fn going(&mut self, from: u8, packet: Option<Carried>) -> (ArrayVec<Part, 24>, Option<Carried>)
+        ensures kept { kept self.new ≡ kept self.old }
+        ensures packet { result.1 ≡ packet }
+        ensures fit { All IsPart result.0.items }
+        ensures short { length (parts_bytes result.0.items) ≤ 1118 }
+        ensures packed { ArePacked from (going (kept self.old) packet) result.0.items }
+    {
+        let Some(packet) = packet else {
+            return (pack(from, self.packets.as_slice()), None);
+        };
         self.packets.push(packet);
         let parts = pack(from, self.packets.as_slice());
-        if news {
-            self.covered = end;
-        } else {
-            self.packets.pop();
+        (parts, self.packets.pop())
+    }
+
+    /// The same, and the packet of the moment is kept if it has news; but in a brief datagram nothing of that goes.
+    pub(crate) fn parts(
+        &mut self,
+        from: u8,
+        packet: Option<Carried>,
+        brief: bool,
+    ) -> ArrayVec<Part, 24>
+        ensures kept { kept self.new ≡ kept_after (kept self.old) packet }
+        ensures fit { All IsPart result.items }
+        ensures short { length (parts_bytes result.items) ≤ 1118 }
+        ensures packed { brief ≡ false → ArePacked from (going (kept self.old) packet) result.items }
+        ensures none { brief ≡ true → result.items ≡ [] }
+    {
+        if brief {
+            self.keep(packet);
+            return ArrayVec::new();
         }
+        let (parts, packet) = self.going(from, packet);
+        self.keep(packet);
         parts
     }
 

@@ -95,7 +95,7 @@ impl Leaning {
           looked = 0;
           sum = pos 0;
           left = pos 0;
-          trim = record { by = pos 0; carried = pos 16 };
+          trim = record { by = pos 0; carried = pos 0 };
         } }
     {
         Leaning {

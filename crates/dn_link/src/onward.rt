@@ -1,7 +1,7 @@
 //! What is kept for a peer has what the peer needs; and a peer is to be sent commands from where those end
 //! that are kept for it, or from earlier on.
 
-ghost use Rattle.std.specs.Prelude.{◌≡◌, ◌≢◌, ◌<◌, ◌≤◌, ◌⊎◌, ◌+◌, ℕ, ℤ, Bool, List, Option, Some, ◌↔◌, true, length, map};
+ghost use Rattle.std.specs.Prelude.{◌≡◌, ◌≢◌, ◌<◌, ◌≤◌, ◌⊎◌, ◌+◌, ℕ, ℤ, Bool, List, Option, Some, ◌↔◌, true, false, length, map};
 ghost use Rattle.std.specs.List.{flat_map};
 ghost use Rattle.dn_tic.specs.{declared.command.Move.Move, declared.input.Input.Input};
 ghost use Rattle.dn_packet.specs.Read.{AreBytes};
@@ -11,15 +11,15 @@ ghost use Rattle.dn_lockstep.specs.{Represents.Represents, Steps.RunsBy, Steps.S
 ghost use Rattle.dn_seal.specs.declared.seal.Seal.{Seal};
 ghost use Rattle.dn_link.specs.Kept.{end_of, taken_by, Reaches, IsCovering, IsKeptRising, Unacknowledged, has_tic};
 ghost use Rattle.dn_link.specs.{declared.bundle.Carried.Carried, declared.received.Received.Received, Linked.Gives, Linked.Linked, Linked.Receives, Linking.new_peer};
-ghost use Rattle.dn_link.specs.{Linking.linked, CaughtUp.AsksWithin, CaughtUp.GoesOn, CaughtUp.IsInTime, CaughtUp.StillGoesOn, Pacing.PaceState, declared.link.Link.Link};
+ghost use Rattle.dn_link.specs.{Linking.linked, CaughtUp.AsksWithin, CaughtUp.GoesOn, CaughtUp.IsInTime, CaughtUp.StillGoesOn, Pacing.PaceState, Pacing.is_brief, declared.link.Link.Link};
 ghost use Rattle.dn_link.specs.{Packets.opened_from, Packets.packets_of, Text.parts_bytes};
 
 use dn_packet::every_datagram_is_read;
 use dn_setup::every_packet_is_told;
 
 /// The packets that any link keeps for a peer have each command from the first that the peer still needs to the
-/// last that they cover. And a datagram carries all of these, unless it has no room for some: then it has
-/// twenty-two parts or more, or these have more than 998 bytes. What they cover reaches the end of a packet
+/// last that they cover. And a datagram that is no brief one carries all of these, unless it has no room for some: then it
+/// has twenty-two parts or more, or these have more than 998 bytes. What they cover reaches the end of a packet
 /// that is given exactly if it did before, or if the packet begins there or before and fewer than twenty-four
 /// are kept. Each kept packet ends past those before it, so no more are kept than commands are covered that the
 /// peer still needs.
@@ -28,7 +28,7 @@ pub fn kept_covers()
     ensures rising { (link : Link) (peer : ℕ) → IsKeptRising ((linked link).peers peer).kept }
     ensures few { (kept : Unacknowledged) → IsKeptRising kept → kept.done + length kept.packets ≤ kept.covered }
     ensures carried { (seal : Seal) (pace : PaceState) (to : ℕ) (old new : Linked) (bytes : List ℕ)
-        (gives : Gives seal pace to old new bytes)
+        (gives : Gives seal pace to old new bytes) → is_brief pace (old.peers to).number to ≡ false
         → IsCovering (old.peers to).kept → length gives.own < 22 → length (parts_bytes gives.own) ≤ 998
         → (packets : List Carried) × (flat_map (packets_of gives.bundle.from) gives.own
         ≡ map (opened_from old.node.me) packets)

@@ -1,6 +1,6 @@
 //! What a link keeps to decide which commands of third players it hands on.
 
-ghost use Rattle.std.specs.Prelude.{◌≡◌, ◌<◌, ◌≤◌, IfSome, false, slice_index, ◌∷◌, take};
+ghost use Rattle.std.specs.Prelude.{◌≡◌, ◌<◌, ◌≤◌, IfSome, slice_index, ◌∷◌, take};
 ghost use Rattle.dn_link.specs.Relays.{counted_down, four_of, lag_of, is_on, learned};
 
 use crate::bundle::Part;
@@ -16,8 +16,6 @@ const ROUND_TRIP_AT_FIRST: u8 = 28;
 struct Towards {
     /// How late it reports the commands of each player; of this player itself that is the round trip.
     lags: [Lag; 4],
-    /// Whether it was given a datagram since the last tick.
-    given: bool,
 }
 
 /// How long the lag of a player's commands is taken to be at first.
@@ -39,7 +37,6 @@ impl Towards {
                 first_lag(me, 2),
                 first_lag(me, 3),
             ],
-            given: false,
         }
     }
 
@@ -75,7 +72,6 @@ impl Towards {
                 self.lag_after(history, 2, reported),
                 self.lag_after(history, 3, reported),
             ],
-            given: false,
         }
     }
 
@@ -106,9 +102,8 @@ impl Towards {
     /// A tick, before which it had reported so many.
     fn tick(&self, history: &History, me: u8, reported: &Had) -> Towards
         requires { me < 4 }
-        ensures lags { result.lags ≡ four_of (λ player.
+        ensures { result.lags ≡ four_of (λ player.
             counted_down (is_on history.now.ticks.items me reported.now self.now.lags player) (lag_of self.now.lags player)) }
-        ensures given { result.given ≡ false }
     {
         Towards {
             lags: [
@@ -117,7 +112,6 @@ impl Towards {
                 self.counted_down(history, me, 2, reported),
                 self.counted_down(history, me, 3, reported),
             ],
-            given: false,
         }
     }
 }
@@ -161,15 +155,6 @@ impl Overdue {
             learned[2].tick(&self.history, me, &reported[2]),
             learned[3].tick(&self.history, me, &reported[3]),
         ];
-    }
-
-    /// A peer is given a datagram. Whether it is the first since the last tick.
-    pub(crate) fn give(&mut self, to: u8) -> bool
-        requires { to < 4 }
-    {
-        let is_first = !self.peers[to as usize].given;
-        self.peers[to as usize].given = true;
-        is_first
     }
 
     /// A datagram to a peer hands on what it has of third players among these parts.

@@ -1,10 +1,10 @@
 //! What a link keeps for its pace.
 
-ghost use Rattle.std.specs.Prelude.{◌≡◌, ◌<◌, ◌≤◌, ◌+ℤ◌, ◌≤ℤ◌, pos, nat_abs, Some};
+ghost use Rattle.std.specs.Prelude.{◌≡◌, ◌<◌, ◌≤◌, ◌+ℤ◌, ◌≤ℤ◌, pos, nat_abs, Some, false};
 ghost use Rattle.dn_machine.specs.declared.answers.Made.{Made as AnyMade};
 ghost use Rattle.dn_lockstep.specs.Contents.{contents};
-ghost use Rattle.dn_link.specs.{Leaning.IsLean, Leaning.looks, Leaning.step_of, Leaning.worked_off, Pace.after_datagram, Pace.after_input, Pace.after_refusal, Pace.still_owed};
-ghost use Rattle.dn_link.specs.{Pace.with_leads, Pacing.new_pace, Pacing.state_of, Leaning.stretches};
+ghost use Rattle.dn_link.specs.{Leaning.IsLean, Leaning.looks, Leaning.step_of, Leaning.worked_off, Pace.after_datagram, Pace.after_input, Pace.after_refusal, Pace.given_to, Pace.still_owed};
+ghost use Rattle.dn_link.specs.{Pace.with_leads, Pacing.is_brief, Pacing.new_pace, Pacing.state_of, Leaning.stretches};
 
 use crate::bundle::Bundle;
 use crate::leaning::Leaning;
@@ -40,6 +40,8 @@ fn together(lean: i8, slow: i8) -> i8
 pub(crate) struct Pace {
     /// The line from each player.
     lines: [Line; 4],
+    /// Whether each was given a datagram since the last tick.
+    given: [bool; 4],
     /// The input of which a command is owed.
     owed: Option<Input>,
     leaning: Leaning,
@@ -55,6 +57,7 @@ impl Pace {
     {
         Pace {
             lines: [Line::new(), Line::new(), Line::new(), Line::new()],
+            given: [false; 4],
             owed: None,
             leaning: Leaning::new(),
             stretching: Stretching::new(),
@@ -79,6 +82,23 @@ impl Pace {
         self.lines[bundle.from as usize].hear(bundle);
     }
 
+    /// Whether a datagram to a peer, of this number, is a brief one.
+    pub(crate) fn is_brief(&self, number: u32, to: u8) -> bool
+        requires { to < 4 }
+        ensures { result ≡ is_brief (state_of self.now) number to }
+    {
+        let _ = number;
+        self.given[to as usize]
+    }
+
+    /// A peer is given a datagram.
+    pub(crate) fn give(&mut self, to: u8)
+        requires { to < 4 }
+        ensures { state_of self.new ≡ given_to to (state_of self.old) }
+    {
+        self.given[to as usize] = true;
+    }
+
     /// The input of which a command is owed.
     pub(crate) fn owed(&self) -> Option<Input>
         ensures { result ≡ (state_of self.now).owed }
@@ -94,6 +114,7 @@ impl Pace {
             self.stretching.drop_input();
         }
         self.owed = owed_after(input, made);
+        self.given = [false; 4];
     }
 
     /// What came of the input that was owed.
@@ -146,11 +167,13 @@ impl Pace {
             +ℤ pos (stretches lossy (state_of self.old).stretching).slow }
         ensures range { IsLean result }
         ensures next { state_of self.new ≡ record (with_leads (contents lockstep.now) (state_of self.old)) {
+          given = λ player. false;
           leaning = worked_off (looks differences playing (state_of self.old).leaning);
           stretching = stretches lossy (state_of self.old).stretching;
         } }
     {
         self.see_leads(lockstep);
+        self.given = [false; 4];
         let lean = self.leaning.tick(differences, playing);
         together(lean, self.stretching.tick(lossy))
     }

@@ -33,7 +33,7 @@ fn larger(one: &[u32; 4], other: &[u32; 4]) -> [u32; 4]
 }
 
 impl Peer {
-    ghost use Rattle.std.specs.Prelude.{All, length, ◌≤◌, ◌<◌, ◌+◌, ◌%◌, ◌^◌, slice_index};
+    ghost use Rattle.std.specs.Prelude.{All, length, ◌≤◌, ◌<◌, ◌+◌, ◌%◌, ◌^◌, slice_index, [], true, false};
     ghost use Rattle.dn_link.specs.{Kept.acknowledged, Kept.going, Kept.kept_after, Kept.taken_by, Linking.new_peer, Linking.state_of, Packing.ArePacked, Text.IsPart};
     ghost use Rattle.dn_link.specs.{Text.parts_bytes};
 
@@ -81,8 +81,13 @@ impl Peer {
         }
     }
 
-    /// What goes to it now, of this player, and the number of the datagram.
-    pub(crate) fn parts(&mut self, from: u8, packet: Option<Carried>) -> (u32, ArrayVec<Part, 24>)
+    /// What goes to it now, of this player, and the number of the datagram, which may be a brief one.
+    pub(crate) fn parts(
+        &mut self,
+        from: u8,
+        packet: Option<Carried>,
+        brief: bool,
+    ) -> (u32, ArrayVec<Part, 24>)
         ensures number { result.0 ≡ (state_of self.old).number }
         ensures peer { state_of self.new ≡ record (state_of self.old) {
           kept = kept_after (state_of self.old).kept (taken_by (state_of self.old).left packet);
@@ -90,11 +95,12 @@ impl Peer {
         } }
         ensures fit { All IsPart result.1.items }
         ensures short { length (parts_bytes result.1.items) ≤ 1118 }
-        ensures packed { ArePacked from
+        ensures packed { brief ≡ false → ArePacked from
             (going (state_of self.old).kept (taken_by (state_of self.old).left packet)) result.1.items }
+        ensures none { brief ≡ true → result.1.items ≡ [] }
     {
         let taken = self.taken(packet);
-        let parts = self.kept.parts(from, taken);
+        let parts = self.kept.parts(from, taken, brief);
         (self.next_number(), parts)
     }
 

@@ -18,9 +18,6 @@ const MOST: i32 = 96;
 /// How many of these are a 32nd.
 const WHOLE: i32 = 32;
 
-/// What is carried at first: half a 32nd, so that the whole ones are the nearest.
-const HALF: i32 = 16;
-
 /// A trim with a part of an offset.
 fn fed(offset: i32, by: i32) -> i32
     requires { nat_abs by ≤ 96 }
@@ -60,12 +57,9 @@ impl Trim {
 
     /// Of the usual length.
     pub(crate) fn new() -> Trim
-        ensures { trim_state result ≡ record { by = pos 0; carried = pos 16 } }
+        ensures { trim_state result ≡ record { by = pos 0; carried = pos 0 } }
     {
-        Trim {
-            by: 0,
-            carried: HALF,
-        }
+        Trim { by: 0, carried: 0 }
     }
 
     /// The player was found to be so far from the mean.

@@ -378,7 +378,7 @@ fn players_of_links_agree() {
     for round in 0..50 {
         key.build(Keys(round * 977));
         other.build(Keys(round * 331));
-        assert!(key.lean() == 0 && !key.wants_second(1));
+        assert!(key.lean() == 0 && other.lean() == 0 && !key.wants_second(1));
         other.receive(&key.datagram(1).unwrap());
         key.receive(&other.datagram(0).unwrap());
         key.run_all();

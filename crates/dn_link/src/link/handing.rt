@@ -1,4 +1,4 @@
-//! What a player hands on to a peer of third players' commands.
+//! What a player hands on to a peer: commands of third players, or its newest own.
 
 use super::Link;
 use crate::bundle::{Part, Relay};
@@ -10,9 +10,12 @@ use arrayvec::ArrayVec;
 /// How many commands of a third player a datagram hands on at most.
 const MOST_HANDED: u8 = 24;
 
+/// How many of the player's own commands a brief datagram has.
+const MOST_BRIEF: u32 = 4;
+
 impl Link {
-    ghost use Rattle.std.specs.Prelude.{◌≡◌, ◌<◌, ◌≤◌, ◌||◌, ◌∷◌, take, All, length, not, slice_index, true, false, IfSome};
-    ghost use Rattle.dn_link.specs.{Counting.held_of, Linking.history_of, Linked.has_given_up, Linked.is_peer, Linked.remains, Linking.linked, Linking.seal_of, Surviving.HasTwoBehind, Surviving.IsHandedFor, Surviving.may_hand, Surviving.shares_gone};
+    ghost use Rattle.std.specs.Prelude.{◌≡◌, ◌≢◌, ◌<◌, ◌≤◌, ◌||◌, ◌∷◌, ◌==◌, [], take, All, is_some, length, not, slice_index, true, false, IfSome};
+    ghost use Rattle.dn_link.specs.{Counting.held_of, Linking.history_of, Linked.has_given_up, Linked.is_peer, Linked.remains, Linking.linked, Linking.seal_of, Surviving.HasTwoBehind, Surviving.IsHandedFor, Surviving.IsNewestFor, Surviving.IsRunFor, Surviving.may_hand, Surviving.shares_gone};
     ghost use Rattle.dn_link.specs.{Pacing.pace_of, Text.IsPart, Text.parts_bytes};
 
     /// Whether a player is not given up, or a peer has reported to have given it up too.
@@ -109,11 +112,31 @@ impl Link {
         self.overdue.handed_from(to, player, reported, got)
     }
 
-    /// What is handed on of a player to a peer, if anything is.
+    /// Commands of a player from a tic on, none of which a peer has reported, as many as this at most, if there are
+    /// any.
+    fn commands_for(&self, to: u8, player: u8, start: u32, most: u8) -> Option<Relay>
+        requires peer { to < (linked self.now).node.players }
+        requires maker { player < (linked self.now).node.players }
+        requires small { player < 4 }
+        requires apart { player ≢ to }
+        requires stays { has_given_up (linked self.now) player ≡ false }
+        requires lacked { slice_index ((linked self.now).peers to).reported player ≤ start }
+        requires few { most ≤ 24 }
+        ensures { IsRunFor (linked self.now) to player start most result }
+    {
+        let relay = relay_of(self.lockstep(), player, start, most);
+        if relay.run.commands.is_empty() {
+            return None;
+        }
+        Some(relay)
+    }
+
+    /// What is handed on of a third player to a peer, if anything is.
     fn hand(&self, to: u8, player: u8) -> Option<Relay>
         requires peer { to < (linked self.now).node.players }
         requires few { to < 4 }
-        ensures { IfSome result (IsHandedFor (linked self.now) to player) }
+        ensures handed { IfSome result (IsHandedFor (linked self.now) to player) }
+        ensures third { is_some result ≡ true → (player == (linked self.now).node.me) ≡ false }
     {
         if player == to || !self.remains(player) {
             return None;
@@ -121,35 +144,81 @@ impl Link {
         let Some(start) = self.first_handed(to, player) else {
             return None;
         };
-        let relay = relay_of(self.lockstep(), player, start, MOST_HANDED);
-        if relay.run.commands.is_empty() {
-            return None;
-        }
-        Some(relay)
+        self.commands_for(to, player, start, MOST_HANDED)
     }
 
-    /// The parts of a datagram to a peer, and behind them what is handed on of each third player, as far as
-    /// there is room. Nothing is but in the first datagram of a tick.
-    pub(super) fn with_handed(
-        &self,
-        to: u8,
-        is_first: bool,
-        own: ArrayVec<Part, 24>,
-    ) -> ArrayVec<Part, 24>
+    /// The newest of its own commands that a peer has not reported, if it may be handed any.
+    fn newest(&self, to: u8) -> Option<Relay>
+        requires peer { is_peer (linked self.now).node to ≡ true }
+        requires few { to < 4 }
+        ensures { IsNewestFor (linked self.now) to result }
+    {
+        let me = self.me();
+        if !self.may_hand(to) || self.has_given_up(me) {
+            return None;
+        }
+        let newest = self.made().saturating_sub(MOST_BRIEF);
+        let start = self.peer(to).reported_of(me).max(newest);
+        self.commands_for(to, me, start, MOST_BRIEF as u8)
+    }
+
+    /// These as the only part of a brief datagram.
+    fn with_newest(&self, to: u8, own: ArrayVec<Part, 24>) -> ArrayVec<Part, 24>
+        requires peer { is_peer (linked self.now).node to ≡ true }
+        requires few { to < 4 }
+        requires none { own.items ≡ [] }
+        ensures fit { All IsPart result.items }
+        ensures short { length (parts_bytes result.items) ≤ 1118 }
+        ensures behind { HasTwoBehind (linked self.now) to true own.items result.items }
+    {
+        let Some(relay) = self.newest(to) else {
+            return own;
+        };
+        let mut all = own;
+        all.push(Part::Relay(relay));
+        all
+    }
+
+    /// The parts of a datagram to a peer that is no brief one, and behind them what is handed on of each third player,
+    /// as far as there is room.
+    fn with_thirds(&self, to: u8, own: ArrayVec<Part, 24>) -> ArrayVec<Part, 24>
         requires peer { to < (linked self.now).node.players }
         requires few { to < 4 }
         requires fit { All IsPart own.items }
         requires short { length (parts_bytes own.items) ≤ 1118 }
         ensures fit { All IsPart result.items }
         ensures short { length (parts_bytes result.items) ≤ 1118 }
-        ensures behind { HasTwoBehind (linked self.now) to own.items result.items }
+        ensures behind { HasTwoBehind (linked self.now) to false own.items result.items }
     {
-        if !is_first || !self.hands_on(to) {
+        if !self.hands_on(to) {
             return own;
         }
         let first = with_relay(own, self.hand(to, 0));
         let second = with_relay(first, self.hand(to, 1));
         let third = with_relay(second, self.hand(to, 2));
         with_relay(third, self.hand(to, 3))
+    }
+
+    /// The parts of a datagram to a peer, and behind them what is handed on.
+    pub(super) fn with_handed(
+        &self,
+        to: u8,
+        brief: bool,
+        own: ArrayVec<Part, 24>,
+    ) -> ArrayVec<Part, 24>
+        requires peer { is_peer (linked self.now).node to ≡ true }
+        requires few { to < 4 }
+        requires none { brief ≡ true → own.items ≡ [] }
+        requires fit { All IsPart own.items }
+        requires short { length (parts_bytes own.items) ≤ 1118 }
+        ensures fit { All IsPart result.items }
+        ensures short { length (parts_bytes result.items) ≤ 1118 }
+        ensures behind { HasTwoBehind (linked self.now) to brief own.items result.items }
+    {
+        if brief {
+            self.with_newest(to, own)
+        } else {
+            self.with_thirds(to, own)
+        }
     }
 }

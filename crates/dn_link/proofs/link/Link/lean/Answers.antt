@@ -1,5 +1,5 @@
 use Rattle.std.proofs.Common.{rules, ◌≡◌, ◌+ℤ◌, w8, w32, to_z, of_z, ap, ◌∙◌}
-use Rattle.std.specs.Prelude.{pos}
+use Rattle.std.specs.Prelude.{pos, false}
 use Rattle.dn_link.specs.{Leaning.looks, Leaning.step_of, Leaning.worked_off, Pace.with_leads, Leaning.stretches, Linked.Linked}
 use Rattle.dn_link.proofs.link.Link.lean.Goals as goal
 
@@ -16,6 +16,7 @@ returns-clause-pace c =
     let old = c.look_back.ensures.pace in
     let seen : to_z w32 (of_z w32 c.differences-differences.result) ≡ c.differences-differences.result = search rules in
     c.tick.ensures.next ∙ (λ i. record (with_leads ((c.lockstep.ensures ∙ ap (λ (l : Linked). l.node) c.look_back.ensures.link) i) (old i)) {
+      given = λ player. false;
       leaning = worked_off (looks ((seen ∙ c.differences-differences.ensures.value) i)
           (c.playing-playing.ensures.value i) (old i).leaning);
       stretching = stretches (c.is_lossy-lossy.ensures i) (old i).stretching;

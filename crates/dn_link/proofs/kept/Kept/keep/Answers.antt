@@ -2,7 +2,7 @@ use Rattle.std.proofs.Common.{◌≡◌, ◌<◌, ◌∷◌, [], ℕ, List, leng
 use Rattle.std.proofs.lemmas.{Bool.and_parts, Bool.ltb-true, List.length-append}
 use Rattle.dn_link.specs.{declared.bundle.Carried.Carried, Linking.kept, Kept.IsRising, Kept.Unacknowledged, Kept.end_of, Kept.has_tic, Kept.is_news}
 use Rattle.dn_link.proofs.{Covered.covers_more, Covered.news_rises}
-use Rattle.dn_link.proofs.kept.Kept.parts.Goals as goal
+use Rattle.dn_link.proofs.kept.Kept.keep.Goals as goal
 
 pub invariant_of-self : goal.invariant_of-self
 invariant_of-self c =
