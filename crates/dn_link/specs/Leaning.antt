@@ -45,9 +45,9 @@ carried_on trim = record trim { carried = int_rem_euclid (trim.carried +ℤ trim
 abbrev pub offset_of : ℤ → ℕ → ℤ
 offset_of sum players = int_div sum (pos players)
 
--- what is worth to be worked off: more than an eighth of a tick, and at most four ticks
+-- what is worth to be worked off: more than an eighth of a tick, and at most two ticks
 abbrev pub worth : ℤ → ℤ
-worth offset = if nat_le (nat_abs offset) 4 then pos 0 else within 128 offset
+worth offset = if nat_le (nat_abs offset) 4 then pos 0 else within 64 offset
 
 -- it looks away for as long as it looked, while there is something to work off
 abbrev pub rest_for : ℤ → ℕ
@@ -85,9 +85,9 @@ abbrev pub worked_off : LeaningState → LeaningState
 worked_off leaning =
     record leaning { left = leaning.left -ℤ work_of leaning.left; trim = carried_on leaning.trim }
 
--- by so many 32nds a tick is longer at most, or shorter: by 14 of work and 3 of trim, and 32 more of stretching
+-- by so many 32nds a tick is longer at most, or shorter: by 6 of work and 3 of trim, and 32 more of stretching
 abbrev pub IsLean : ℤ → Type 0
-IsLean lean = (negsuc 16 ≤ℤ lean) × (lean ≤ℤ pos 49)
+IsLean lean = (negsuc 8 ≤ℤ lean) × (lean ≤ℤ pos 41)
 
 -- How ticks are stretched on a line that is longer than the window, and loses little.
 

@@ -1,17 +1,19 @@
 -- What a link keeps for its pace.
-use Rattle.std.specs.Prelude.{ℕ, Bool, false, None, pos, Option, get_or}
+use Rattle.std.specs.Prelude.{ℕ, Bool, ◌||◌, false, None, pos, Option, get_or}
 use Rattle.dn_tic.specs.declared.input.Input.{Input}
 use Rattle.dn_link.specs.{declared.line.Line.Line, declared.link.Link.Link, declared.pace.Pace.Pace, Line.new_line, Leaning.LeaningState, Leaning.TrimState}
+use Rattle.dn_link.specs.{declared.congestion.Congestion.Congestion, Congestion.new_congestion, Congestion.shortens}
 use Rattle.dn_link.specs.{Leaning.StretchingState, declared.leaning.Leaning.Leaning, declared.stretching.Stretching.Stretching, declared.trimming.Trim.Trim}
 
 -- the line from each player, who was given a datagram since the last tick, the input of which a command is owed,
--- how the ticks lean and stretch, and how many bytes came that were no datagram
+-- how the ticks lean and stretch, how full the line is, and how many bytes came that were no datagram
 pub record PaceState : Type 0 where
   pub lines : ℕ → Line
   pub given : ℕ → Bool
   pub owed : Option Input
   pub leaning : LeaningState
   pub stretching : StretchingState
+  pub congestion : Congestion
   pub refused : ℕ
 
 -- what each of these is, of what the link holds
@@ -33,13 +35,14 @@ state_of p =
       owed = p.owed;
       leaning = leaning_of p.leaning;
       stretching = stretching_of p.stretching;
+      congestion = p.congestion;
       refused = p.refused;
     }
 
 -- a datagram to a peer is a brief one, which carries the newest commands alone: another was given to the peer since
--- the last tick
+-- the last tick, or the line is full, and this is one of two
 abbrev pub is_brief : PaceState → (number to : ℕ) → Bool
-is_brief pace number to = pace.given to
+is_brief pace number to = pace.given to || shortens pace.congestion number
 
 -- the pace at first
 abbrev pub new_pace : PaceState
@@ -56,6 +59,7 @@ new_pace =
         trim = record { by = pos 0; carried = pos 0 };
       };
       stretching = record { ticks = 0; dropped = 0; blocks = 0; slow = 0 };
+      congestion = new_congestion;
       refused = 0;
     }
 

@@ -117,12 +117,12 @@ abbrev pub counted_down : Bool → Lag → Lag
 counted_down is_on lag = record lag { left = if is_on then 512 else lag.left - 1 }
 
 -- the first command that is handed on: the oldest that the peer has not reported if it is overdue; else, for as
--- long, the first that was not handed on before, or one of the newest two
-abbrev pub handed_from : List Had → (player reported got : ℕ) → Lag → Option ℕ
-handed_from history player reported got lag =
+-- long, the first that was not handed on before, or one of the newest two, if more than what is overdue is
+abbrev pub handed_from : List Had → (player reported got : ℕ) → (more : Bool) → Lag → Option ℕ
+handed_from history player reported got more lag =
     if is_overdue history player reported lag
     then Some reported
-    else (if nat_lt 0 lag.left then Some (max reported (min (got - 2) lag.end)) else None)
+    else (if more && nat_lt 0 lag.left then Some (max reported (min (got - 2) lag.end)) else None)
 
 -- commands of a run are handed on
 abbrev pub handed : Run → Lag → Lag

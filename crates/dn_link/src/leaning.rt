@@ -12,7 +12,7 @@ const LOOKS: u8 = 16;
 const IDLE: u32 = 4;
 
 /// How much is worked off at most, in 32nds of a tick.
-const MOST: i32 = 128;
+const MOST: i32 = 64;
 
 /// How much is worked off at a tick, and of what is more than a tick this part besides.
 const STEP: u32 = 2;
@@ -32,7 +32,7 @@ fn offset_of(sum: i32, players: u8) -> i32
 /// What is worth to be worked off.
 fn worth(offset: i32) -> i32
     ensures value { result ≡ worth offset }
-    ensures small { nat_abs result ≤ 128 }
+    ensures small { nat_abs result ≤ 64 }
 {
     if offset.unsigned_abs() <= IDLE {
         0
@@ -50,9 +50,9 @@ fn rest_for(left: i32) -> u8
 
 /// What a tick works off of so much.
 fn work(left: i32) -> i32
-    requires { nat_abs left ≤ 128 }
+    requires { nat_abs left ≤ 64 }
     ensures value { result ≡ work_of left }
-    ensures small { nat_abs result ≤ 14 }
+    ensures small { nat_abs result ≤ 6 }
 {
     let most = (STEP + left.unsigned_abs().saturating_sub(TICK) / PART) as i32;
     left.clamp(-most, most)
@@ -60,10 +60,10 @@ fn work(left: i32) -> i32
 
 /// Two parts of a step.
 fn together(work: i32, trim: i8) -> i8
-    requires work { nat_abs work ≤ 14 }
+    requires work { nat_abs work ≤ 6 }
     requires trim { nat_abs trim ≤ 3 }
     ensures value { result ≡ work +ℤ trim }
-    ensures small { nat_abs result ≤ 17 }
+    ensures small { nat_abs result ≤ 9 }
 {
     work as i8 + trim
 }
@@ -82,7 +82,7 @@ pub(crate) struct Leaning {
     trim: Trim,
     ghost looking: { looked < 16 },
     ghost summed: { nat_abs sum ≤ looked * 1024 },
-    ghost leaning: { nat_abs left ≤ 128 },
+    ghost leaning: { nat_abs left ≤ 64 },
 }
 
 impl Leaning {
@@ -149,7 +149,7 @@ impl Leaning {
     /// Works off a step, and answers how long it is.
     fn step(&mut self) -> i8
         ensures value { result ≡ step_of (leaning_of self.old) }
-        ensures small { nat_abs result ≤ 17 }
+        ensures small { nat_abs result ≤ 9 }
         ensures next { leaning_of self.new ≡ worked_off (leaning_of self.old) }
     {
         let work = work(self.left);
@@ -162,7 +162,7 @@ impl Leaning {
         requires few { 1 ≤ players }
         requires small { nat_abs difference ≤ 1024 }
         ensures leans { result ≡ step_of (looks difference players (leaning_of self.old)) }
-        ensures small { nat_abs result ≤ 17 }
+        ensures small { nat_abs result ≤ 9 }
         ensures next { leaning_of self.new ≡ worked_off (looks difference players (leaning_of self.old)) }
     {
         self.look(difference, players);

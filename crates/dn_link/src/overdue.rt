@@ -7,7 +7,7 @@ use crate::bundle::Part;
 use crate::lag::{Had, History, Lag};
 
 /// How long lags are taken to be at first, in ticks: that of a third player's commands, and the round trip.
-const LAG_AT_FIRST: u8 = 16;
+const LAG_AT_FIRST: u8 = 8;
 
 const ROUND_TRIP_AT_FIRST: u8 = 28;
 
@@ -179,15 +179,33 @@ impl Overdue {
         }
     }
 
+    /// Whether commands of a third player are handed on to a peer though not overdue: where this player's line is
+    /// tight, only if they come earlier from this player.
+    pub(crate) fn hands_more(&self, me: u8, to: u8, player: u8, is_tight: bool) -> bool
+        requires few { me < 4 }
+        requires peer { to < 4 }
+        requires third { player < 4 }
+    {
+        let towards = &self.peers[to as usize];
+        !is_tight || towards.lag(player).is_slow(&towards.lag(me))
+    }
+
     /// From which on commands of a third player are handed on to a peer, of those that it has not reported, if any
-    /// are.
-    pub(crate) fn handed_from(&self, to: u8, player: u8, reported: u32, got: u32) -> Option<u32>
+    /// are, and if more than what is overdue is.
+    pub(crate) fn handed_from(
+        &self,
+        to: u8,
+        player: u8,
+        reported: u32,
+        got: u32,
+        more: bool,
+    ) -> Option<u32>
         requires peer { to < 4 }
         requires third { player < 4 }
         ensures { IfSome result (λ start. reported ≤ start) }
     {
         self.peers[to as usize]
             .lag(player)
-            .handed_from(&self.history, player, reported, got)
+            .handed_from(&self.history, player, reported, got, more)
     }
 }

@@ -1,12 +1,13 @@
 //! What a link keeps for its pace.
 
-ghost use Rattle.std.specs.Prelude.{◌≡◌, ◌<◌, ◌≤◌, ◌+ℤ◌, ◌≤ℤ◌, pos, nat_abs, Some, false};
+ghost use Rattle.std.specs.Prelude.{◌≡◌, ◌<◌, ◌≤◌, ◌+ℤ◌, ◌≤ℤ◌, pos, nat_abs, slice_index, slice_index_or, Some, false};
 ghost use Rattle.dn_machine.specs.declared.answers.Made.{Made as AnyMade};
 ghost use Rattle.dn_lockstep.specs.Contents.{contents};
-ghost use Rattle.dn_link.specs.{Leaning.IsLean, Leaning.looks, Leaning.step_of, Leaning.worked_off, Pace.after_datagram, Pace.after_input, Pace.after_refusal, Pace.given_to, Pace.still_owed};
+ghost use Rattle.dn_link.specs.{Leaning.IsLean, Leaning.looks, Leaning.step_of, Leaning.worked_off, Pace.after_datagram, Pace.after_input, Congestion.ticked, Pace.after_refusal, Pace.given_to, Pace.still_owed};
 ghost use Rattle.dn_link.specs.{Pace.with_leads, Pacing.is_brief, Pacing.new_pace, Pacing.state_of, Leaning.stretches};
 
 use crate::bundle::Bundle;
+use crate::congestion::Congestion;
 use crate::leaning::Leaning;
 use crate::line::Line;
 use crate::stretching::Stretching;
@@ -26,7 +27,7 @@ fn owed_after(input: Input, made: Made) -> Option<Input>
 
 /// Two parts of a tick.
 fn together(lean: i8, slow: i8) -> i8
-    requires lean { nat_abs lean ≤ 17 }
+    requires lean { nat_abs lean ≤ 9 }
     requires slow { nat_abs slow ≤ 32 }
     requires longer { pos 0 ≤ℤ slow }
     ensures value { result ≡ lean +ℤ slow }
@@ -46,6 +47,7 @@ pub(crate) struct Pace {
     owed: Option<Input>,
     leaning: Leaning,
     stretching: Stretching,
+    congestion: Congestion,
     /// How often bytes came that were no datagram.
     refused: u32,
 }
@@ -61,6 +63,7 @@ impl Pace {
             owed: None,
             leaning: Leaning::new(),
             stretching: Stretching::new(),
+            congestion: Congestion::new(),
             refused: 0,
         }
     }
@@ -87,8 +90,7 @@ impl Pace {
         requires { to < 4 }
         ensures { result ≡ is_brief (state_of self.now) number to }
     {
-        let _ = number;
-        self.given[to as usize]
+        self.given[to as usize] || self.congestion.shortens(number)
     }
 
     /// A peer is given a datagram.
@@ -150,6 +152,23 @@ impl Pace {
             self.line(2).at_tick(lockstep, 2),
             self.line(3).at_tick(lockstep, 3),
         ];
+    }
+
+    /// How full the line is: it is before a tick, at which this player has made so many commands, these peers play, and
+    /// each player has reported so many of them.
+    pub(crate) fn time(&mut self, made: u32, plays: &[bool; 4], reported: &[u32; 4])
+        ensures { state_of self.new ≡ record (state_of self.old) {
+          congestion = ticked made (λ p. slice_index_or plays.now p false) (slice_index reported.now) (state_of self.old).congestion;
+        } }
+    {
+        self.congestion.tick(made, plays, reported);
+    }
+
+    /// How full the line is.
+    pub(crate) fn congestion(&self) -> &Congestion
+        ensures { result.now ≡ (state_of self.now).congestion }
+    {
+        &self.congestion
     }
 
     /// A tick, at which the leads of so many players differ by so much in all, and on whose lines datagrams are

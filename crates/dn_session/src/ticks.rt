@@ -64,7 +64,7 @@ impl Ticks {
     fn parts_of_tick(lean: i8) -> u64
         requires { IsLean lean }
         ensures value { result ≡ parts_of_tick lean }
-        ensures range { result ≤ 81000 }
+        ensures range { result ≤ 73000 }
     {
         1000 * u64::from((32 + lean).max(1).unsigned_abs())
     }

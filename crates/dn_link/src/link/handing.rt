@@ -1,4 +1,4 @@
-//! What a player hands on to a peer: commands of third players, or its newest own.
+//! What a player hands on to a peer of third players' commands, or of its own.
 
 use super::Link;
 use crate::bundle::{Part, Relay};
@@ -9,9 +9,6 @@ use arrayvec::ArrayVec;
 
 /// How many commands of a third player a datagram hands on at most.
 const MOST_HANDED: u8 = 24;
-
-/// How many of the player's own commands a brief datagram has.
-const MOST_BRIEF: u32 = 4;
 
 impl Link {
     ghost use Rattle.std.specs.Prelude.{◌≡◌, ◌≢◌, ◌<◌, ◌≤◌, ◌||◌, ◌∷◌, ◌==◌, [], take, All, is_some, length, not, slice_index, true, false, IfSome};
@@ -27,7 +24,7 @@ impl Link {
 
     /// Whether it may hand on commands to a peer: one who is not given up, and has given up all whom this
     /// player has.
-    fn may_hand(&self, to: u8) -> bool
+    pub(super) fn may_hand(&self, to: u8) -> bool
         ensures { result ≡ may_hand (linked self.now) to }
     {
         !self.has_given_up(to)
@@ -109,12 +106,14 @@ impl Link {
     {
         let got = self.lockstep().got(player).unwrap_or(0);
         let reported = self.peer(to).reported_of(player);
-        self.overdue.handed_from(to, player, reported, got)
+        let tight = self.pace.congestion().is_tight();
+        let more = self.overdue.hands_more(self.me(), to, player, tight);
+        self.overdue.handed_from(to, player, reported, got, more)
     }
 
     /// Commands of a player from a tic on, none of which a peer has reported, as many as this at most, if there are
     /// any.
-    fn commands_for(&self, to: u8, player: u8, start: u32, most: u8) -> Option<Relay>
+    pub(super) fn commands_for(&self, to: u8, player: u8, start: u32, most: u8) -> Option<Relay>
         requires peer { to < (linked self.now).node.players }
         requires maker { player < (linked self.now).node.players }
         requires small { player < 4 }
@@ -145,38 +144,6 @@ impl Link {
             return None;
         };
         self.commands_for(to, player, start, MOST_HANDED)
-    }
-
-    /// The newest of its own commands that a peer has not reported, if it may be handed any.
-    fn newest(&self, to: u8) -> Option<Relay>
-        requires peer { is_peer (linked self.now).node to ≡ true }
-        requires few { to < 4 }
-        ensures { IsNewestFor (linked self.now) to result }
-    {
-        let me = self.me();
-        if !self.may_hand(to) || self.has_given_up(me) {
-            return None;
-        }
-        let newest = self.made().saturating_sub(MOST_BRIEF);
-        let start = self.peer(to).reported_of(me).max(newest);
-        self.commands_for(to, me, start, MOST_BRIEF as u8)
-    }
-
-    /// These as the only part of a brief datagram.
-    fn with_newest(&self, to: u8, own: ArrayVec<Part, 24>) -> ArrayVec<Part, 24>
-        requires peer { is_peer (linked self.now).node to ≡ true }
-        requires few { to < 4 }
-        requires none { own.items ≡ [] }
-        ensures fit { All IsPart result.items }
-        ensures short { length (parts_bytes result.items) ≤ 1118 }
-        ensures behind { HasTwoBehind (linked self.now) to true own.items result.items }
-    {
-        let Some(relay) = self.newest(to) else {
-            return own;
-        };
-        let mut all = own;
-        all.push(Part::Relay(relay));
-        all
     }
 
     /// The parts of a datagram to a peer that is no brief one, and behind them what is handed on of each third player,

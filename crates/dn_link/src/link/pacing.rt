@@ -4,9 +4,9 @@ use super::Link;
 use crate::line::{apart, lead_over, total};
 
 impl Link {
-    ghost use Rattle.std.specs.Prelude.{◌<◌, ◌≤◌, ◌+◌, ◌&&◌, nat_abs, nat_lt, ◌≡◌};
-    ghost use Rattle.dn_link.specs.{Leaning.IsLean, Linking.linked, Linking.seal_of, Pace.after_tick, Pace.difference, Pace.is_paced, Pace.lean, Pace.playing, Pace.differences, Pace.is_lossy};
-    ghost use Rattle.dn_link.specs.{Pace.is_lossy_to, Pace.wants_second, Pacing.pace_of};
+    ghost use Rattle.std.specs.Prelude.{[], ◌∷◌, ◌<◌, ◌≤◌, ◌+◌, ◌&&◌, nat_abs, nat_lt, ◌≡◌};
+    ghost use Rattle.dn_link.specs.{Leaning.IsLean, Linking.history_of, Linking.linked, Linking.seal_of, Pace.after_tick, Pace.difference, Pace.is_paced, Pace.lean, Pace.playing, Pace.differences, Pace.is_lossy};
+    ghost use Rattle.dn_link.specs.{Pace.congested, Pace.is_lossy_to, Pace.is_resting, Pace.reported_by, Pace.tells_lead, Pace.wants_second, Pacing.pace_of};
 
     /// Whether a player is a peer that was heard, and has not left as far as it was.
     fn is_paced(&self, player: u8) -> bool
@@ -18,13 +18,21 @@ impl Link {
             && self.peer(player).left().is_none()
     }
 
+    /// Whether it is such a one of which a datagram came lately.
+    fn tells_lead(&self, player: u8) -> bool
+        requires { player < 4 }
+        ensures { result ≡ tells_lead (linked self.now) (pace_of self.now) player }
+    {
+        self.is_paced(player) && self.pace.line(player).is_fresh()
+    }
+
     /// The difference between this player's lead and a peer's, as each saw its own at its last tick.
     fn difference(&self, player: u8) -> i32
         requires { player < 4 }
         ensures value { result ≡ difference (linked self.now) (pace_of self.now) player }
         ensures small { nat_abs result ≤ 255 }
     {
-        if !self.is_paced(player) {
+        if !self.tells_lead(player) {
             return 0;
         }
         apart(
@@ -72,6 +80,55 @@ impl Link {
         self.is_lossy_to(0) || self.is_lossy_to(1) || self.is_lossy_to(2) || self.is_lossy_to(3)
     }
 
+    /// Which players are peers that play.
+    fn plays(&self) -> [bool; 4]
+        ensures { result ≡ is_paced (linked self.now) (pace_of self.now) 0
+            ∷ is_paced (linked self.now) (pace_of self.now) 1 ∷ is_paced (linked self.now) (pace_of self.now) 2
+            ∷ is_paced (linked self.now) (pace_of self.now) 3 ∷ [] }
+    {
+        [
+            self.is_paced(0),
+            self.is_paced(1),
+            self.is_paced(2),
+            self.is_paced(3),
+        ]
+    }
+
+    /// How many of this player's commands a player has reported.
+    fn reports(&self, player: u8) -> u32
+        requires { player < 4 }
+        ensures { result ≡ reported_by (linked self.now) player }
+    {
+        self.peer(player).reported_of(self.me())
+    }
+
+    /// Of each.
+    fn reports_of_each(&self) -> [u32; 4]
+        ensures { result ≡ reported_by (linked self.now) 0 ∷ reported_by (linked self.now) 1
+            ∷ reported_by (linked self.now) 2 ∷ reported_by (linked self.now) 3 ∷ [] }
+    {
+        [
+            self.reports(0),
+            self.reports(1),
+            self.reports(2),
+            self.reports(3),
+        ]
+    }
+
+    /// A tick, for how full the line is.
+    fn time(&mut self)
+        ensures pace { pace_of self.new
+            ≡ record (pace_of self.old) { congestion = congested (linked self.old) (pace_of self.old) } }
+        ensures link { linked self.new ≡ linked self.old }
+        ensures history { history_of self.new ≡ history_of self.old }
+        ensures seal { seal_of self.new ≡ seal_of self.old }
+    {
+        let made = self.made();
+        let plays = self.plays();
+        let reported = self.reports_of_each();
+        self.pace.time(made, &plays, &reported);
+    }
+
     /// For each tick, after the build: by how many 32nds of a tick the next tick comes later than usual;
     /// earlier where it is below 0. So players whose clocks differ come to lead each other by the same, and on
     /// a line that is longer than the window, and loses little, ticks are stretched once input was dropped for
@@ -87,15 +144,27 @@ impl Link {
         let playing = self.playing();
         let lossy = self.is_lossy();
         self.look_back();
+        self.time();
         self.pace
             .tick(self.survivor.lockstep(), differences, playing, lossy)
     }
 
     /// Whether a peer that plays reports that two or more of the last datagrams to it did not come, or came
-    /// after newer ones: then one more goes half a tick after the tick's own, in case that one is lost too.
+    /// after newer ones: then one more goes half a tick after the tick's own, in case that one is lost too; but not
+    /// where all round trips are so long that this player's line seems full.
     pub fn wants_second(&self, player: u8) -> bool
         ensures { result ≡ wants_second (linked self.now) (pace_of self.now) player }
     {
-        self.is_paced(player) && self.pace.line(player).misses()
+        self.is_paced(player)
+            && self.pace.line(player).misses()
+            && self.pace.congestion().allows_second(self.me(), player)
+    }
+
+    /// Whether no datagram goes to a player at this tick, since this player's line is full. Of four ticks in a row one is
+    /// no such one.
+    pub fn is_resting(&self, player: u8) -> bool
+        ensures { result ≡ is_resting (linked self.now) (pace_of self.now) player }
+    {
+        self.pace.congestion().rests(self.me(), player)
     }
 }
