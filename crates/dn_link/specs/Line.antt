@@ -2,6 +2,7 @@
 use Rattle.std.specs.{Prelude.{ℕ, ◌+◌, ◌-◌, ◌/◌, ◌==◌, ◌-ℤ◌, if◌then◌else◌, nat_lt, min, max, ℤ, pos, negsuc, None, Some}, Int.{int_max, int_min}}
 use Rattle.dn_lockstep.specs.{Contents.Contents, Told.{got, made}}
 use Rattle.dn_link.specs.{declared.{bundle.Bundle.Bundle, line.Line.Line}, Tally.tallied}
+use Rattle.std.specs.Prelude.{Bool, is_some}
 
 -- a line from which nothing came
 abbrev pub new_line : Line
@@ -13,6 +14,7 @@ new_line =
       reported_holes = 0;
       lead = pos 0;
       own_lead = pos 0;
+      age = 0;
       tally = record { came = 0; lost = 0; repeated = 0; too_old = 0; seen = 0 };
     }
 
@@ -29,7 +31,7 @@ with_tally bundle line = record line { tally = tallied line.newest bundle.number
 -- what it reports is the newest
 abbrev pub after_newest : Bundle → Line → Line
 after_newest bundle line =
-    record line { newest = Some bundle.number; reported_holes = bundle.holes; lead = bundle.lead }
+    record line { newest = Some bundle.number; reported_holes = bundle.holes; lead = bundle.lead; age = 0 }
 
 -- a datagram came: the first of all, a newer one, or an old one, which tells nothing
 abbrev pub heard_on : Bundle → Line → Line
@@ -41,6 +43,14 @@ heard_on bundle line =
           then after_newest bundle (counted newest bundle.number (with_tally bundle line))
           else with_tally bundle line
     ]
+
+-- how many ticks ago its newest datagram came, at the next tick
+abbrev pub older : Line → ℕ
+older line = if is_some line.newest then min (line.age + 1) 255 else line.age
+
+-- that was at one of the last four
+abbrev pub is_fresh : Line → Bool
+is_fresh line = nat_lt line.age 4
 
 -- how many of the peer's datagrams are missing
 abbrev pub missing : Line → ℕ

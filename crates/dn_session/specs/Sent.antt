@@ -3,6 +3,7 @@ use Rattle.std.specs.Prelude.{◌≡◌, ℕ, ◌+◌, ◌==◌, ◌&&◌, ◌||
 use Rattle.dn_lockstep.specs.{Sent.IsFair, Sent.sent_to, Steps.Tells}
 use Rattle.dn_link.specs.{Linked.Gives, Linked.Linked, Linked.exclusion, Linked.exclusion_for, Linked.has_given_up, Linked.is_peer, Linked.probe, Linked.probe_for, Linked.probed, Linked.remains, Linking.linked, Linking.seal_of, Pacing.pace_of, Text.IsBundle}
 use Rattle.dn_session.specs.{Places.is_near_at, Places.is_since, Places.place_of, Places.probed_at, Players.four, Playing.KeepsGame, Playing.Playing, Playing.ended_as, Playing.exclusion_of, Playing.from_turn}
+use Rattle.dn_link.specs.Pace.{after_giving}
 use Rattle.dn_session.specs.{Watch.silence, declared.greeting.Address.Address, declared.places.Place.Place}
 
 -- by the last look, a player is near
@@ -50,7 +51,7 @@ SendsWhen true player old new sent =
     (address : Address) × (bytes : List ℕ) × ((place_to old player).address ≡ Some address)
     × (sent ≡ Some (address, bytes)) × IsFairTo player (linked old.link)
     × Gives (seal_of old.link) (pace_of old.link) player (linked old.link) (linked new.link) bytes
-    × KeepsGame old.link new.link × (pace_of new.link ≡ pace_of old.link)
+    × KeepsGame old.link new.link × (pace_of new.link ≡ after_giving (linked old.link) player (pace_of old.link))
     × (new ≡ record old { link = new.link; owed = slice_set old.owed player false })
 SendsWhen false player old new sent =
     (address : Address) × (bytes : List ℕ) × ((place_to old player).address ≡ Some address)
