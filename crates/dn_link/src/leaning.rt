@@ -4,6 +4,8 @@ ghost use Rattle.std.specs.Prelude.{◌≡◌, ◌≤◌, ◌<◌, ◌+◌, ◌*
 ghost use Rattle.dn_link.specs.Leaning.{decided, looks, step_of, worked_off, worth};
 ghost use Rattle.dn_link.specs.Leaning.{offset_of, rest_for, work_of};
 
+use crate::trimming::Trim;
+
 /// At how many ticks a player looks before it leans, and for how many it then looks away.
 const LOOKS: u8 = 16;
 
