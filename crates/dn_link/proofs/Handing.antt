@@ -4,7 +4,7 @@ use Rattle.std.proofs.{lemmas.{List.{Elements.{All-nil, All-cons, All-append}, l
 use Rattle.std.specs.{Prelude.{◌⊎◌, IfSome, not, slice_get}, List.flat_map}
 use Rattle.dn_tic.specs.{Command.{IsCommand, command_bytes}, declared.command.TicCmd.TicCmd}
 use Rattle.dn_link.specs.Relays.{IsFrom, newest_from}
-use Rattle.dn_link.specs.Surviving.{IsNewestFor, IsRunFor}
+use Rattle.dn_link.specs.Surviving.{HasTwoBehind, IsNewestFor, IsRunFor}
 use Rattle.std.proofs.lemmas.Bool.{and_from, eq-eqb, eqb-false, true≢false}
 use Rattle.std.proofs.lemmas.List.Elements.{All-head, All-tail}
 use Rattle.std.specs.Prelude.{is_some, ◌==◌}

@@ -29,6 +29,16 @@ fn together(lean: i8, slow: i8) -> i8
     lean + slow
 }
 
+/// An input for which there was no room is owed.
+fn owed_after(input: Input, made: Made) -> Option<Input>
+    ensures { result ≡ still_owed made (Some input) }
+{
+    match made {
+        Made::Full => Some(input),
+        _ => None,
+    }
+}
+
 /// What a link keeps for its pace.
 #[derive(Drop)]
 pub(crate) struct Pace {
@@ -101,8 +111,7 @@ impl Pace {
         if self.owed.is_some() {
             self.stretching.drop_input();
         }
-        self.owed = Some(input);
-        self.settle(made);
+        self.owed = owed_after(input, made);
         self.given = [false; 4];
     }
 

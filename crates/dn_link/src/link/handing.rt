@@ -12,8 +12,7 @@ const MOST_HANDED: u8 = 24;
 
 impl Link {
     ghost use Rattle.std.specs.Prelude.{◌≡◌, ◌<◌, ◌≤◌, ◌||◌, ◌∷◌, take, All, length, slice_index, true, false, IfSome};
-    ghost use Rattle.dn_link.specs.{Counting.held_of, Linking.overdue_of, Linked.HasBehind, Linked.has_given_up, Linked.is_peer, Linked.remains, Linking.linked, Linking.seal_of, Surviving.IsHandedFor, Surviving.may_hand, Surviving.shares_gone};
-    ghost use Rattle.dn_link.specs.Surviving.{IsNewestFor, IsRunFor};
+    ghost use Rattle.dn_link.specs.{Counting.held_of, Linking.overdue_of, Linked.HasBehind, Linked.has_given_up, Linked.is_peer, Linked.remains, Linking.linked, Linking.seal_of, Surviving.{HasTwoBehind, IsHandedFor, IsNewestFor, IsRunFor, may_hand, shares_gone}};
     ghost use Rattle.std.specs.Prelude.{[], is_some, ◌==◌, ◌≢◌};
     ghost use Rattle.dn_link.specs.{Pacing.pace_of, Text.IsPart, Text.parts_bytes};
     ghost use Rattle.dn_link.specs.Packing.{parts_room};
@@ -120,7 +119,9 @@ impl Link {
         if player == to || !self.remains(player) {
             return None;
         }
-        let start = self.first_handed(to, player)?;
+        let Some(start) = self.first_handed(to, player) else {
+            return None;
+        };
         self.commands_for(to, player, start, MOST_HANDED)
     }
 

@@ -27,6 +27,7 @@ impl Link {
     }
 
     /// These as the only part of a brief datagram.
+    #[tactic(auto, using(crate::proofs::Packings::pushed_room))]
     pub(super) fn with_newest(&self, to: u8, own: ArrayVec<Part, 24>) -> ArrayVec<Part, 24>
         requires peer { is_peer (linked self.now).node to ≡ true }
         requires few { to < 4 }
