@@ -5,7 +5,7 @@ use Rattle.dn_machine.specs.{declared.answers.Ran.Ran, Running.on_run_but}
 use Rattle.dn_lockstep.specs.Steps.{RunsBy}
 use Rattle.dn_survivor.specs.{declared.{report.Report.Report, answers.GivenUp.GivenUp}, OfOthers.{has, newest_of}, Calls.GivesUp, Surviving.Surviving}
 use Rattle.dn_link.specs.{Relays.{Handed, IsHandedOn, handed_part}, Linked.{Linked, has_given_up, surviving_of}, declared.bundle.Part.{Part, TheVariants.Relay}, Text.IsRun}
-use Rattle.dn_link.specs.Linked.{HandsNewest}
+use Rattle.dn_link.specs.Linked.{HandsNewest, HasBehind}
 use Rattle.dn_link.specs.Relays.{IsFrom}
 use Rattle.dn_lockstep.specs.Told.{command_told}
 use Rattle.dn_survivor.specs.Telling.{MayRelay}
