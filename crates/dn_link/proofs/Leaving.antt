@@ -14,21 +14,21 @@ use Rattle.dn_link.specs.declared.bundle.{Bundle.Bundle, Part.{Part, TheVariants
 -- Who is known to have left.
 
 -- how far a lockstep says that it is, it is
-pub counts_reach : (n : Contents) (which : ℕ) → slice_index (counts_of n).got which ≤ has_of n which
-counts_reach n zero = omega arith
-counts_reach n (suc zero) = omega arith
-counts_reach n (suc (suc zero)) = omega arith
-counts_reach n (suc (suc (suc zero))) = omega arith
-counts_reach n (suc (suc (suc (suc which)))) = omega arith
+pub counts_reach : (n : Contents) (echo which : ℕ) → slice_index (counts_of n echo).got which ≤ has_of n which
+counts_reach n echo zero = omega arith
+counts_reach n echo (suc zero) = omega arith
+counts_reach n echo (suc (suc zero)) = omega arith
+counts_reach n echo (suc (suc (suc zero))) = omega arith
+counts_reach n echo (suc (suc (suc (suc which)))) = omega arith
 
 -- one that has not ended knows no end of its own
 pub unended : (n : Contents) (player : ℕ) → n.me ≡ player → has_ended n ≡ false → end_in n player ≡ None
 unended n player own not_so = grind (arith, eq-eqb)
 
 -- and a lockstep that tells one more than it made has ended
-pub tells_own : (n : Contents) → nat_lt (counts_of n).made (slice_index (counts_of n).got n.me) ≡ true
+pub tells_own : (n : Contents) (echo : ℕ) → nat_lt (counts_of n echo).made (slice_index (counts_of n echo).got n.me) ≡ true
     → has_ended n ≡ true
-tells_own n tells = go (has_ended n) refl
+tells_own n echo tells = go (has_ended n) refl
   where
     most : (end : Option ℕ) → end ≡ None → (test : Bool)
         → (if test then with_end (count_of n.rings n.me) end else 0) ≤ made n
@@ -39,8 +39,8 @@ tells_own n tells = go (has_ended n) refl
     go : (test : Bool) → has_ended n ≡ test → has_ended n ≡ true
     go true is = is
     go false is =
-        let less = ltb-true (made n) (slice_index (counts_of n).got n.me) tells in
-        let reach = counts_reach n n.me in
+        let less = ltb-true (made n) (slice_index (counts_of n echo).got n.me) tells in
+        let reach = counts_reach n echo n.me in
         let few = most (end_in n n.me) (unended n n.me refl is) (nat_lt n.me n.players) in
         absurd (omega (arith, less, reach, few))
 

@@ -18,7 +18,7 @@ abbrev pub told_counts : List ℕ → Counts
 told_counts bytes =
     record {
       made = number_at 0 bytes;
-      ran = number_at 4 bytes;
+      echo = number_at 4 bytes;
       got = number_at 8 bytes ∷ number_at 12 bytes ∷ number_at 16 bytes ∷ number_at 20 bytes ∷ [];
     }
 

@@ -65,8 +65,8 @@ impl Default for Part {
 pub struct Counts {
     /// How many commands it has made.
     pub made: u32,
-    /// How many tics it has run.
-    pub ran: u32,
+    /// The number after that of the receiver's newest datagram that came to it; 0 while none did.
+    pub echo: u32,
     /// How many commands it has of each player; a known end counts as one more.
     pub got: [u32; 4],
 }

@@ -31,7 +31,7 @@ fn counts_in(bytes: &[u8]) -> Counts
 {
     Counts {
         made: tic_at(bytes, 0),
-        ran: tic_at(bytes, 4),
+        echo: tic_at(bytes, 4),
         got: [
             tic_at(bytes, 8),
             tic_at(bytes, 12),

@@ -30,7 +30,7 @@ fn append_counts(bytes: &mut ArrayVec<u8, 1200>, counts: &Counts)
 {
     let [a, b, c, d] = counts.got;
     append(bytes, &counts.made.to_le_bytes());
-    append(bytes, &counts.ran.to_le_bytes());
+    append(bytes, &counts.echo.to_le_bytes());
     append(bytes, &a.to_le_bytes());
     append(bytes, &b.to_le_bytes());
     append(bytes, &c.to_le_bytes());

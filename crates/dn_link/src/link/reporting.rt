@@ -64,7 +64,7 @@ impl Link {
             lead: 0,
             holes: 0,
             cause: EXCLUDES,
-            counts: counts_of(self.lockstep()),
+            counts: counts_of(self.lockstep(), 0),
             report: ArrayVec::new(),
             parts: ArrayVec::new(),
         }
@@ -95,6 +95,7 @@ impl Link {
             lead: line.own_lead,
             holes: line.missing(),
             cause: told_cause(self.lockstep().phase()),
+            counts: counts_of(self.lockstep(), line.own_echo()),
             ..self.exclusion(to)
         }
     }
