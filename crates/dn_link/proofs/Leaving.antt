@@ -47,17 +47,19 @@ tells_own n echo tells = go (has_ended n) refl
 -- one that has left by now had left, or its datagram tells its end
 pub has_left : {A : Type 0} (bundle : Bundle) (old : Option ℕ) (cause : ℕ) → left_by bundle old ≡ Some cause
     → (old ≡ Some cause → A) → (tells_end bundle ≡ true → A) → A
-has_left {A} bundle old cause is was told = go (nat_lt 0 bundle.cause) (tells_end bundle) refl is
+has_left {A} bundle old cause is was told =
+    go (nat_lt 0 bundle.cause) (nat_lt bundle.cause 4) (tells_end bundle) refl is
   where
-    go : (some ends : Bool) → tells_end bundle ≡ ends
-        → (if some && ends then Some bundle.cause else old) ≡ Some cause → A
-    go true true so is = told so
-    go true false so is = was is
-    go false ends so is = was is
+    go : (some left ends : Bool) → tells_end bundle ≡ ends
+        → (if some && (left && ends) then Some bundle.cause else old) ≡ Some cause → A
+    go true true true so is = told so
+    go true true false so is = was is
+    go true false ends so is = was is
+    go false left ends so is = was is
 
 -- and one that has left stays so
 pub stays_left : (bundle : Bundle) (old : Option ℕ) → IsGone old → IsGone (left_by bundle old)
-stays_left bundle old gone = go (nat_lt 0 bundle.cause && tells_end bundle)
+stays_left bundle old gone = go (nat_lt 0 bundle.cause && (nat_lt bundle.cause 4 && tells_end bundle))
   where
     go : (test : Bool) → IsGone (if test then Some bundle.cause else old)
     go true = (bundle.cause, refl)

@@ -200,14 +200,15 @@ abbrev pub exclusion_for : Seal → Linked → ℕ → Option (List ℕ)
 exclusion_for seal link to =
     if is_peer link.node to && has_given_up link to then Some (sealed_bytes seal (exclusion link to)) else None
 
--- what goes to where a peer may be, before it is known to be there: how far the node is, and no packets
+-- what goes to where a peer may be, before it has shown that it receives there: how far the node is, and no packets. It
+-- says that it is a probe, so that nobody passes it on
 abbrev pub probe : PaceState → Linked → ℕ → Bundle
 probe pace link to =
     record (exclusion link to) {
       number = (link.peers to).number;
       lead = (pace.lines to).own_lead;
       holes = missing (pace.lines to);
-      cause = told_cause link.node.phase;
+      cause = 5;
       counts = counts_of link.node (own_echo (pace.lines to));
     }
 

@@ -87,7 +87,7 @@ pub record AreCounts (counts : Counts) : Type 0 where
 pub record IsBundle (bundle : Bundle) : Type 0 where
   pub number : bundle.number < 2 ^ 32
   pub lead : FitsSigned w8 bundle.lead
-  pub cause : bundle.cause ≤ 4
+  pub cause : bundle.cause ≤ 5
   pub counts : AreCounts bundle.counts
   pub report : length bundle.report.items ≤ 397
   pub few : length bundle.parts.items ≤ 24

