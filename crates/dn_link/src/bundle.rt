@@ -85,7 +85,8 @@ pub struct Bundle {
     /// How many datagrams of the receiver the sender misses.
     pub holes: u8,
     /// Why the sender has ended: that it quit (1), that its demo is full (2), or that it found another's world
-    /// to differ (3); 0 while it plays. Or that it has given up the receiver (4): then the rest does not count.
+    /// to differ (3); 0 while it plays. Or that it has given up the receiver (4): then the rest does not count. Or
+    /// that this is a probe (5).
     pub cause: u8,
     /// How far the sender is.
     pub counts: Counts,
