@@ -51,7 +51,7 @@ pub use laws::{
 pub use lead::{Seen, Standing, View, due, is_given_up};
 pub use meetings::{sessions_play, sessions_stay};
 pub use part::{Part, Transmit};
-pub use places::{Place, Places};
+pub use places::{News, Place, Places, Probe, Spot};
 pub use reading::{is_greeting, open, read_hinted};
 pub use roster::{one_link_a_place, places_are_ones_own};
 pub use seats::{Held, Seat};
