@@ -21,8 +21,7 @@ abbrev pub echo_of : Option Figures → ℕ
 echo_of None = 0
 echo_of (Some figures) = figures.echo
 
--- what a datagram tells: that it is one of the last 64, and came for the first time or again; that its player's newest
--- echo is above the one before; and what that is
+-- it is one of the last 64, and came for the first time or again
 abbrev pub is_recent_in : (before after : Option Figures) → Bool
 is_recent_in (Some before) (Some after) = nat_lt before.came after.came || nat_lt before.repeated after.repeated
 is_recent_in before after = false

@@ -1,6 +1,5 @@
 -- Where the players are.
-use Rattle.std.specs.Prelude.{ℕ, ◌+◌, ◌==◌, ◌&&◌, ◌||◌, Bool, not, true, false, nat_lt, if◌then◌else◌, List, ◌∷◌, find, map, replicate, slice_index_or, slice_set, take, Option, Some, None, is_none, is_some}
-use Rattle.std.specs.{List.list_any, Option.option_map, Str.bytes_eq}
+use Rattle.std.specs.{Prelude.{ℕ, ◌+◌, ◌==◌, ◌&&◌, ◌||◌, Bool, not, true, false, nat_lt, if◌then◌else◌, List, [], ◌∷◌, find, map, replicate, slice_index_or, slice_set, take, Option, Some, None, is_none, is_some}, List.list_any, Option.option_map, Str.bytes_eq}
 use Rattle.dn_session.specs.{Players.four, declared.{greeting.Address.Address, places.{News.News, Place.Place, Places.Places, Probe.Probe, Spot.Spot}}}
 
 -- something was done less than so many milliseconds ago, if it was
@@ -20,10 +19,6 @@ spot_at spot = option_map (λ s. s.address) spot
 abbrev pub new_spot : (is_found : Bool) → ℕ → Address → Spot
 new_spot is_found now address = record { address = address; since = now; is_due = is_found; probed = None }
 
--- a datagram came from there: a probe is due
-abbrev pub asked : Spot → Spot
-asked s = record s { is_due = true }
-
 -- one of the last eight probes went there
 abbrev pub was_probed : Address → Place → Bool
 was_probed from place = list_any (λ p. is_this from p.to) place.probes
@@ -38,13 +33,13 @@ may_move from now place =
       | Some c ↦ not (is_since 1000 now (Some c.since)) && not (is_since 1000 now c.probed && was_probed from place)
     ]
 
--- one of its last datagrams came from there
+-- one of its last datagrams came from there: a probe is due
 abbrev pub sought_at : Address → ℕ → Place → Place
 sought_at from now place =
     if is_this from (spot_at place.told)
-    then record place { told = option_map asked place.told }
+    then record place { told = option_map (λ s. record s { is_due = true }) place.told }
     else (if is_this from (spot_at place.candidate)
-    then record place { candidate = option_map asked place.candidate }
+    then record place { candidate = option_map (λ s. record s { is_due = true }) place.candidate }
     else (if may_move from now place then record place { candidate = Some (new_spot true now from) } else place))
 
 -- a datagram of the player came from this address. A newer echo shows that the player still receives where it did; from
@@ -104,12 +99,15 @@ is_near_at now place =
     is_some place.address && (is_since 1000 now (Some place.heard) && not (is_since 1000 now place.passed))
 
 -- a datagram of a player came from this address: from its own, through another, or from where it may be
+abbrev pub heard_by : (is_passed : Bool) → Address → ℕ → News → Place → Place
+heard_by is_passed from now news place =
+    answered now news (if is_passed then passed_by now news.is_recent place else heard_from from now news place)
+
 abbrev pub heard_at : ℕ → Address → ℕ → News → Places → Places
 heard_at player from now news places = record {
-  at = slice_set places.at player (answered now news
-      (if not (is_this from (place_of player places).address) && is_anothers player from places
-      then passed_by now news.is_recent (place_of player places)
-      else heard_from from now news (place_of player places)));
+  at = slice_set places.at player
+      (heard_by (not (is_this from (place_of player places).address) && is_anothers player from places)
+      from now news (place_of player places));
 }
 
 -- a datagram came from there since the last probe, and that was sent 250 ms ago or more
@@ -146,3 +144,27 @@ after_probe to now echo place =
 abbrev pub probed_at : ℕ → Address → ℕ → ℕ → Places → Places
 probed_at player to now echo places =
     record { at = slice_set places.at player (after_probe to now echo (place_of player places)) }
+
+-- what happens to a place: a datagram of its player comes; or a look, at which a probe is sent if one is due
+pub data Happening : Type 0 where
+  Comes : (is_passed : Bool) → Address → ℕ → News → Happening
+  Looks : (looked silence echo : ℕ) → Happening
+
+abbrev pub happened : Happening → Place → Place
+happened (Comes is_passed from now news) place = heard_by is_passed from now news place
+happened (Looks looked silence echo) place = elim probe_to looked silence place [
+  | None ↦ place
+  | Some to ↦ after_probe to looked echo place
+]
+
+-- of all, those that come from an address; and how many probes go there
+abbrev pub comes_from : Address → Happening → Bool
+comes_from at (Comes is_passed from now news) = is_this at (Some from)
+comes_from at (Looks looked silence echo) = false
+
+abbrev pub probes_to : Address → Place → List Happening → ℕ
+probes_to at place [] = 0
+probes_to at place (Comes is_passed from now news ∷ rest) = probes_to at (heard_by is_passed from now news place) rest
+probes_to at place (Looks looked silence echo ∷ rest) =
+    (if is_this at (probe_to looked silence place) then 1 else 0)
+    + probes_to at (happened (Looks looked silence echo) place) rest

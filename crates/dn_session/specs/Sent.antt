@@ -2,8 +2,7 @@
 use Rattle.std.specs.Prelude.{◌≡◌, ℕ, ◌==◌, ◌&&◌, Bool, not, false, if◌then◌else◌, List, option_map, position, slice_index_or, slice_set, Option, Some, None, IfSome, is_none, is_some}
 use Rattle.dn_lockstep.specs.{Sent.IsFair, Sent.sent_to, Steps.Tells}
 use Rattle.dn_link.specs.{Linked.Gives, Linked.Linked, Linked.exclusion, Linked.exclusion_for, Linked.has_given_up, Linked.is_peer, Linked.probe, Linked.probe_for, Linked.probed, Linked.remains, Linking.linked, Linking.seal_of, Pacing.pace_of, Text.IsBundle}
-use Rattle.dn_session.specs.{Places.is_near_at, Places.place_of, Places.probe_to, Places.probed_at, Players.four, Playing.KeepsGame, Playing.Playing, Playing.ended_as, Playing.exclusion_of, Playing.from_turn}
-use Rattle.dn_session.specs.{Watch.silence, declared.greeting.Address.Address}
+use Rattle.dn_session.specs.{Places.is_near_at, Places.place_of, Places.probe_to, Places.probed_at, Players.four, Playing.KeepsGame, Playing.Playing, Playing.ended_as, Playing.exclusion_of, Playing.from_turn, Watch.silence, declared.greeting.Address.Address}
 
 -- by the last look, a player is near
 abbrev pub is_near : Playing → ℕ → Bool

@@ -1,7 +1,7 @@
 //! Where the players are.
 
 ghost use Rattle.std.specs.{Prelude.{◌≡◌, ◌==◌, ◌&&◌, find, true, Some}, Option.option_map};
-ghost use Rattle.dn_session.specs.Places.{after_probe, answered, asked, heard_at, heard_from, is_anothers, is_due_at, is_echoed, is_near_at, is_since, is_this, is_told_due, may_move, new_place, new_spot, passed_by, place_of, places_of, probe_to, probed, probed_at, sought_at, spot_at, was_probed};
+ghost use Rattle.dn_session.specs.Places.{after_probe, answered, heard_at, heard_from, is_anothers, is_due_at, is_echoed, is_near_at, is_since, is_this, is_told_due, may_move, new_place, new_spot, passed_by, place_of, places_of, probe_to, probed, probed_at, sought_at, spot_at, was_probed};
 
 use crate::greeting::Address;
 
@@ -122,7 +122,7 @@ impl Spot {
 
     /// A datagram came from there.
     fn asked(self) -> Spot
-        ensures { result ≡ asked self }
+        ensures { result ≡ record self { is_due = true } }
     {
         Spot {
             is_due: true,
@@ -228,7 +228,11 @@ impl Place {
     fn answer(&mut self, now: u32, news: &News)
         ensures { self.new ≡ answered now news.now self.old }
     {
-        let probe = self.probes.iter().find(|probe| probe.is_echoed(news)).copied();
+        let probe = self
+            .probes
+            .iter()
+            .find(|probe| probe.is_echoed(news))
+            .copied();
         if let Some(probe) = probe {
             self.address = probe.to;
             self.heard = now;
@@ -322,9 +326,8 @@ impl Places {
     fn is_anothers(&self, player: u8, from: &Address) -> bool
         ensures { result ≡ is_anothers player from.now self.now }
     {
-        [0, 1, 2, 3]
-            .iter()
-            .any(|other| *other != player && is_this(from, self.place(*other).address))
+        [0, 1, 2, 3].iter().any(|other| *other != player
+            && is_this(from, self.place(*other).address))
     }
 
     /// A datagram of a player came from this address.
@@ -334,8 +337,8 @@ impl Places {
         if player >= 4 {
             return;
         }
-        let is_passed =
-            !is_this(from, self.place(player).address) && self.is_anothers(player, from);
+        let is_passed = !is_this(from, self.place(player).address)
+            && self.is_anothers(player, from);
         let place = &mut self.at[usize::from(player)];
         if is_passed {
             place.pass(now, news.is_recent);

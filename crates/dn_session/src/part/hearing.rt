@@ -113,8 +113,7 @@ impl Part {
         if let Some(player) = heard {
             let old = line_of(&before.lines, player);
             let new = line_of(&after.lines, player);
-            self.places
-                .hear(player, from, now, &news_of(&old, &new));
+            self.places.hear(player, from, now, &news_of(&old, &new));
         }
     }
 

@@ -110,8 +110,7 @@ impl Part {
         let to = self.probe_of(player)?;
         let bytes = self.link.probe(player)?;
         let echo = self.link.next_number(player)?;
-        self.places
-            .note_probe(player, &to, self.watch.looked, echo);
+        self.places.note_probe(player, &to, self.watch.looked, echo);
         Some(Transmit { to, bytes })
     }
 
