@@ -55,7 +55,7 @@ abbrev pub is_echoed : News → Probe → Bool
 is_echoed news p = news.is_answer && (is_some p.to && p.echo == news.echo)
 
 abbrev pub answered : ℕ → News → Place → Place
-answered now news place = elim find (is_echoed news) place.probes [
+answered now news place = elim (find (is_echoed news) place.probes) [
   | None ↦ place
   | Some p ↦ record place { address = p.to; heard = now; told = None; candidate = None }
 ]
@@ -152,7 +152,7 @@ pub data Happening : Type 0 where
 
 abbrev pub happened : Happening → Place → Place
 happened (Comes is_passed from now news) place = heard_by is_passed from now news place
-happened (Looks looked silence echo) place = elim probe_to looked silence place [
+happened (Looks looked silence echo) place = elim (probe_to looked silence place) [
   | None ↦ place
   | Some to ↦ after_probe to looked echo place
 ]
