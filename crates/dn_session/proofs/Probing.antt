@@ -11,10 +11,10 @@ one_if test = if test then 1 else 0
 abbrev due : Spot → Spot
 due s = record s { is_due = true }
 
-either : {P : Place → Type 0} (test : Bool) (one two : Place) → (test ≡ true → P one) → P two
+either : (P : Place → Type 0) (test : Bool) (one two : Place) → (test ≡ true → P one) → P two
     → P (if test then one else two)
-either true one two this that = this refl
-either false one two this that = that
+either P true one two this that = this refl
+either P false one two this that = that
 
 counted : {A : Type 0} (test : Bool) (x : A) (xs : List A) → length (if test then x ∷ xs else xs) ≡ one_if test + length xs
 counted true x xs = omega arith
@@ -53,8 +53,8 @@ module _ (at : Address) where
   credit spot = one_if (is_asked spot)
 
   nothing : (s : Option Spot) → is_this at (spot_at s) ≡ false → credit s ≡ 0
-  nothing None no = refl
-  nothing (Some s) no = rw no refl
+  nothing None off = refl
+  nothing (Some s) off = rw off refl
 
   -- A datagram gives one probe at most to where it came from.
   module _ (from : Address) (now : ℕ) (news : News) (place : Place) where
@@ -68,35 +68,35 @@ module _ (at : Address) where
         → credit (option_map due s) ≤ one_if (is_this at (Some from)) + credit s
     again None here = absurd (cc)
     again (Some s) here = elim (cases_Bool (is_this at (Some s.address))) [
-      | inl yes ↦
-          let there : is_this at (Some from) ≡ true =
-          sym (ap (λ (b : List ℕ). bytes_eq b at.bytes) ((bytes_eq-Decides s.address.bytes from.bytes).0 here)) ∙ yes in
-          rw (yes, there) (omega arith)
-      | inr no ↦ rw no (omega arith)
+      | inl so ↦
+          let also : is_this at (Some from) ≡ true =
+          sym (ap (λ (b : List ℕ). bytes_eq b at.bytes) ((bytes_eq-Decides s.address.bytes from.bytes).0 here)) ∙ so in
+          rw (so, also) (omega arith)
+      | inr off ↦ rw off (omega arith)
     ]
 
     first : IsWithin (record place { candidate = Some (new_spot true now from) })
     first = elim (cases_Bool (is_this at (Some from))) [
-      | inl yes ↦ rw yes (omega arith)
-      | inr no ↦ rw no (omega arith)
+      | inl so ↦ rw so (omega arith)
+      | inr off ↦ rw off (omega arith)
     ]
 
     sought : IsWithin (sought_at from now place)
     sought =
-        either {P = IsWithin} (is_this from (spot_at place.told)) _ _ (λ told. same)
-        (either {P = IsWithin} (is_this from (spot_at place.candidate)) _ _ (λ here. again place.candidate here)
-        (either {P = IsWithin} (may_move from now place) _ _ (λ may. first) same))
+        either IsWithin (is_this from (spot_at place.told)) _ _ (λ told. same)
+        (either IsWithin (is_this from (spot_at place.candidate)) _ _ (λ here. again place.candidate here)
+        (either IsWithin (may_move from now place) _ _ (λ may. first) same))
 
     heard : IsWithin (heard_from from now news place)
     heard =
-        either {P = IsWithin} (is_this from place.address) _ _
-        (λ own. either {P = IsWithin} news.is_answer _ _ (λ is. omega arith) same)
-        (either {P = IsWithin} news.is_recent _ _ (λ is. sought) same)
+        either IsWithin (is_this from place.address) _ _
+        (λ own. either IsWithin news.is_answer _ _ (λ is. omega arith) same)
+        (either IsWithin news.is_recent _ _ (λ is. sought) same)
 
     passes : IsWithin (passed_by now news.is_recent place)
-    passes = either {P = IsWithin} _ _ _ (λ is. same) same
+    passes = either IsWithin _ _ _ (λ is. same) same
 
-    answers : (probe : Option Probe) (new : Place) → credit (elim probe [
+    answers : (probe : Option Probe) (new : Place) → credit (elim probe as (λ _. Place) [
       | None ↦ new
       | Some p ↦ record new { address = p.to; heard = now; told = None; candidate = None }
     ]).candidate ≤ credit new.candidate
@@ -106,7 +106,7 @@ module _ (at : Address) where
     comes : (is_passed : Bool) → IsWithin (heard_by is_passed from now news place)
     comes is_passed =
         let new = if is_passed then passed_by now news.is_recent place else heard_from from now news place in
-        let before : IsWithin new = either {P = IsWithin} is_passed _ _ (λ is. passes) heard in
+        let before : IsWithin new = either IsWithin is_passed _ _ (λ is. passes) heard in
         omega (arith, before, answers (find (is_echoed news) new.probes) new)
 
     -- And the roster tells no other address by it.
@@ -119,14 +119,14 @@ module _ (at : Address) where
 
       told : IsElse (heard_from from now news place)
       told =
-          either {P = IsElse} (is_this from place.address) _ _
-          (λ own. either {P = IsElse} news.is_answer _ _ (λ is. other) other)
-          (either {P = IsElse} news.is_recent _ _ (λ is.
-          either {P = IsElse} (is_this from (spot_at place.told)) _ _ (λ here. told_again)
-          (either {P = IsElse} (is_this from (spot_at place.candidate)) _ _ (λ here. other)
-          (either {P = IsElse} (may_move from now place) _ _ (λ may. other) other))) other)
+          either IsElse (is_this from place.address) _ _
+          (λ own. either IsElse news.is_answer _ _ (λ is. other) other)
+          (either IsElse news.is_recent _ _ (λ is.
+          either IsElse (is_this from (spot_at place.told)) _ _ (λ here. told_again)
+          (either IsElse (is_this from (spot_at place.candidate)) _ _ (λ here. other)
+          (either IsElse (may_move from now place) _ _ (λ may. other) other))) other)
 
-      answers_else : (probe : Option Probe) (new : Place) → IsElse new → IsElse (elim probe [
+      answers_else : (probe : Option Probe) (new : Place) → IsElse new → IsElse (elim probe as (λ _. Place) [
         | None ↦ new
         | Some p ↦ record new { address = p.to; heard = now; told = None; candidate = None }
       ])
@@ -136,8 +136,8 @@ module _ (at : Address) where
       comes_else : (is_passed : Bool) → IsElse (heard_by is_passed from now news place)
       comes_else is_passed =
           let new = if is_passed then passed_by now news.is_recent place else heard_from from now news place in
-          answers_else (find (is_echoed news) new.probes) new (either {P = IsElse} is_passed _ _
-          (λ is. either {P = IsElse} _ _ _ (λ passed. other) other) told)
+          answers_else (find (is_echoed news) new.probes) new (either IsElse is_passed _ _
+          (λ is. either IsElse _ _ _ (λ passed. other) other) told)
 
   -- A probe takes the one that was given.
   module _ (looked silence echo : ℕ) (place : Place) (other : is_this at (spot_at place.told) ≡ false) where
@@ -145,8 +145,8 @@ module _ (at : Address) where
     fewer to None = omega arith
     fewer to (Some s) = elim (cases_Bool (is_this to (Some s.address))) [
       | inl here ↦ elim (cases_Bool (is_this at (Some s.address))) [
-        | inl yes ↦ rw (here, yes) (omega arith)
-        | inr no ↦ rw (here, no) (omega arith)
+        | inl so ↦ rw (here, so) (omega arith)
+        | inr off ↦ rw (here, off) (omega arith)
       ]
       | inr there ↦ rw there (omega arith)
     ]
@@ -161,24 +161,24 @@ module _ (at : Address) where
         let due : s.is_due ≡ true = (and_parts s.is_due _ asked).0 in
         let alike : is_this at (Some to) ≡ is_this at (Some s.address) = ap (λ (a : Address). is_this at (Some a)) (sym same) in
         elim (cases_Bool (is_this at (Some s.address))) [
-          | inl yes ↦ let there = alike ∙ yes in rw (here, yes, there, due) (omega arith)
-          | inr no ↦ let there = alike ∙ no in rw (here, no, there, due) (omega arith)
+          | inl so ↦ let also = alike ∙ so in rw (here, so, also, due) (omega arith)
+          | inr off ↦ let also = alike ∙ off in rw (here, off, also) (omega arith)
         ]
 
-    sends : (to : Option Address) → probe_to looked silence place ≡ to → one_if (is_this at to) + credit (elim to [
+    sends : (to : Option Address) → probe_to looked silence place ≡ to → one_if (is_this at to) + credit (elim to as (λ _. Place) [
       | None ↦ place
       | Some to ↦ after_probe to looked echo place
     ]).candidate ≤ credit place.candidate
     sends None none = omega arith
     sends (Some to) is = elim (why looked silence place to is) [
-      | inl told ↦
-          let off : is_this at (Some to) ≡ false = ap (is_this at) (sym told) ∙ other in
+      | inl here ↦
+          let off : is_this at (Some to) ≡ false = ap (is_this at) (sym here) ∙ other in
           let less = fewer to place.candidate in
           rw off (omega (arith, less))
       | inr found ↦ taken to place.candidate found.0 found.1
     ]
 
-    looks_else : (to : Option Address) → is_this at (spot_at (elim to [
+    looks_else : (to : Option Address) → is_this at (spot_at (elim to as (λ _. Place) [
       | None ↦ place
       | Some to ↦ after_probe to looked echo place
     ]).told) ≡ false

@@ -37,9 +37,9 @@ may_move from now place =
 abbrev pub sought_at : Address → ℕ → Place → Place
 sought_at from now place =
     if is_this from (spot_at place.told)
-    then record place { told = option_map (λ s. record s { is_due = true }) place.told }
+    then record place { told = option_map (λ (s : Spot). record s { is_due = true }) place.told }
     else (if is_this from (spot_at place.candidate)
-    then record place { candidate = option_map (λ s. record s { is_due = true }) place.candidate }
+    then record place { candidate = option_map (λ (s : Spot). record s { is_due = true }) place.candidate }
     else (if may_move from now place then record place { candidate = Some (new_spot true now from) } else place))
 
 -- a datagram of the player came from this address. A newer echo shows that the player still receives where it did; from

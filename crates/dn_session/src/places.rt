@@ -147,7 +147,7 @@ impl Spot {
 }
 
 impl Probe {
-    /// Whether a datagram is the first that echoes it.
+    /// Whether a datagram is the first to echo it.
     fn is_echoed(&self, news: &News) -> bool
         ensures { result ≡ is_echoed news.now self.now }
     {
@@ -224,16 +224,21 @@ impl Place {
         }
     }
 
-    /// A datagram of the player came. It receives where that probe went which it echoes first.
+    /// Which of the last probes a datagram is the first to echo, if it is one.
+    fn echoed(&self, news: &News) -> Option<Probe>
+        ensures { result ≡ find (is_echoed news.now) self.now.probes }
+    {
+        self.probes
+            .iter()
+            .find(|probe| probe.is_echoed(news))
+            .copied()
+    }
+
+    /// A datagram of the player came. It receives where the probe went that is echoed.
     fn answer(&mut self, now: u32, news: &News)
         ensures { self.new ≡ answered now news.now self.old }
     {
-        let probe = self
-            .probes
-            .iter()
-            .find(|probe| probe.is_echoed(news))
-            .copied();
-        if let Some(probe) = probe {
+        if let Some(probe) = self.echoed(news) {
             self.address = probe.to;
             self.heard = now;
             self.told = None;
