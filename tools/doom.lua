@@ -100,7 +100,7 @@ local l = {
     holes = P.uint8("doom_link.holes", "Datagrams missing"),
     cause = named("doom_link.cause", "Why its sender ended, or that it gave up the receiver", CAUSES),
     made = P.uint32("doom_link.made", "Commands made"),
-    ran = P.uint32("doom_link.ran", "Tics run"),
+    echo = P.uint32("doom_link.echo", "Number after that of the newest datagram that came"),
     got = P.uint32("doom_link.got", "Commands that it has"),
     report = P.uint16("doom_link.report", "Bytes of the report"),
     parts = P.uint8("doom_link.parts", "Number of parts"),
@@ -483,10 +483,10 @@ local function add_link(tree, r, sender)
     root:add(l.holes, r(5, 1))
     root:add(l.cause, r(6, 1))
     root:add_le(l.made, r(7, 4))
-    root:add_le(l.ran, r(11, 4))
+    root:add_le(l.echo, r(11, 4))
     for player = 0, 3 do root:add_le(l.got, r(15 + 4 * player, 4)):append_text(" of player " .. player) end
     root:add_le(l.report, r(REPORT_SIZE, 2))
-    local words = ("number %d, %s, made %d, ran %d"):format(r(0, 4):le_uint(), CAUSES[r(6, 1):uint()] or "?",
+    local words = ("number %d, %s, made %d, echo %d"):format(r(0, 4):le_uint(), CAUSES[r(6, 1):uint()] or "?",
         r(7, 4):le_uint(), r(11, 4):le_uint())
     if parts:len() == 0 then return words end
     if report_size(r) > 0 then words = words .. "; " .. add_report(root, r(REPORT, report_size(r))) end

@@ -25,7 +25,7 @@ SETUP = ["doom.setup." + name for name in
 EXACT = ["doom.exact." + name for name in ("start", "asked", "ask")]
 SEAL = ["doom_seal." + name for name in ("suite", "kind", "from", "to")]
 LINK = ["doom_link." + name for name in
-        ("number", "lead", "holes", "cause", "made", "ran", "got", "report", "parts", "part.run", "part.player",
+        ("number", "lead", "holes", "cause", "made", "echo", "got", "report", "parts", "part.run", "part.player",
          "part.length")]
 REPORT = ["doom_report." + name for name in
           ("gone", "gone.player0", "gone.player1", "gone.player2", "gone.player3", "left", "player", "count",
@@ -252,9 +252,9 @@ def report_info(line, wanted):
 
 def link_info(line, wanted):
     """The words of a link's datagram in the Info column, up to its parts."""
-    number, cause, made, ran, size = (wanted["doom_link." + name][0]
-                                      for name in ("number", "cause", "made", "ran", "report"))
-    words = f"number {number}, {CAUSES[cause]}, made {made}, ran {ran}"
+    number, cause, made, echo, size = (wanted["doom_link." + name][0]
+                                      for name in ("number", "cause", "made", "echo", "report"))
+    words = f"number {number}, {CAUSES[cause]}, made {made}, echo {echo}"
     return words + ("; " + report_info(line, wanted) if size else "")
 
 

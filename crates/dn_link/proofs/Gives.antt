@@ -9,7 +9,7 @@ use Rattle.dn_lockstep.specs.Told.{command_told}
 use Rattle.dn_lockstep.proofs.OneGame.{GoesBetween, sent_between, gave, relays}
 use Rattle.dn_seal.specs.declared.seal.Seal.{Seal}
 use Rattle.dn_link.specs.{declared.bundle.{Bundle.Bundle, Carried.Carried, Counts.Counts}, Counting.{counts_of, has_ended, has_of}, Ends.tells_end, LinkedGame.{WasBundled, AreLinked, IsLater}}
-use Rattle.dn_link.specs.{Hearing.carried_of, Kept.{kept_after, taken_by}, Linked.{Linked, Gives, PeerState}, Pacing.PaceState, Relays.{AreHandedOn, Handed, flights_of}}
+use Rattle.dn_link.specs.{Hearing.carried_of, Kept.{kept_after, taken_by}, Line.own_echo, Linked.{Linked, Gives, PeerState}, Pacing.PaceState, Relays.{AreHandedOn, Handed, flights_of}}
 use Rattle.dn_link.proofs.{Growing.{HasAsMuch, grows, Holds, holds_same, send_holds}, Linking.{goes_given, stays_kept, at_most, same_reported, same_left}, Leaving.{counts_reach, tells_own}}
 use Rattle.dn_link.proofs.{Relinking.{AreKept, found_later, found_on, later_by, relinked}, Handing.gives_all}
 use Rattle.dn_survivor.specs.declared.others.Others.{Others}
@@ -98,11 +98,11 @@ module _ (marking : Marking) (limits : Limits) (settings : Settings) (session : 
           goes_given session.given flight player old new own seal pace to bytes gives between answer all,
           record {
             got = λ which apart. at_most (ap (λ (c : Counts). slice_index c.got which) gives.counts)
-                (counts_reach new.node which) (at_most refl self (equal (ap (λ (n : Contents). has_of n which)
+                (counts_reach new.node (own_echo (pace.lines to)) which) (at_most refl self (equal (ap (λ (n : Contents). has_of n which)
                 (put_at session.locksteps player gives.bundle.from new.node (gives.from ∙ own)))));
             end = λ tells. ap has_ended (put_at session.locksteps player gives.bundle.from new.node (gives.from ∙ own))
-                ∙ tells_own new.node
-                (told_same gives.bundle new.node gives.counts (gives.from ∙ own ∙ sym (own_after new.node game)) tells);
+                ∙ tells_own new.node (own_echo (pace.lines to))
+                (told_same gives.bundle new.node (own_echo (pace.lines to)) gives.counts (gives.from ∙ own ∙ sym (own_after new.node game)) tells);
           },
         ),
         relinked marking limits settings session later links player new linked handed_game refl is
@@ -120,9 +120,9 @@ module _ (marking : Marking) (limits : Limits) (settings : Settings) (session : 
           ap (λ (n : Contents). n.me) (sym (put_at session.locksteps player player now refl))
           ∙ (game.nodes player mine).whose.number
 
-      told_same : (bundle : Bundle) (now : Contents) → bundle.counts ≡ counts_of now → bundle.from ≡ now.me
-          → tells_end bundle ≡ true → nat_lt (counts_of now).made (slice_index (counts_of now).got now.me) ≡ true
-      told_same bundle now counts from tells =
+      told_same : (bundle : Bundle) (now : Contents) (echo : ℕ) → bundle.counts ≡ counts_of now echo → bundle.from ≡ now.me
+          → tells_end bundle ≡ true → nat_lt (counts_of now echo).made (slice_index (counts_of now echo).got now.me) ≡ true
+      told_same bundle now echo counts from tells =
           (λ i. nat_lt (sym counts i).made (slice_index (sym counts i).got (sym from i))) ∙ tells
 
       equal : {a b : ℕ} → a ≡ b → b ≤ a

@@ -14,21 +14,21 @@ use Rattle.dn_link.specs.declared.bundle.{Bundle.Bundle, Part.{Part, TheVariants
 -- Who is known to have left.
 
 -- how far a lockstep says that it is, it is
-pub counts_reach : (n : Contents) (which : ℕ) → slice_index (counts_of n).got which ≤ has_of n which
-counts_reach n zero = omega arith
-counts_reach n (suc zero) = omega arith
-counts_reach n (suc (suc zero)) = omega arith
-counts_reach n (suc (suc (suc zero))) = omega arith
-counts_reach n (suc (suc (suc (suc which)))) = omega arith
+pub counts_reach : (n : Contents) (echo which : ℕ) → slice_index (counts_of n echo).got which ≤ has_of n which
+counts_reach n echo zero = omega arith
+counts_reach n echo (suc zero) = omega arith
+counts_reach n echo (suc (suc zero)) = omega arith
+counts_reach n echo (suc (suc (suc zero))) = omega arith
+counts_reach n echo (suc (suc (suc (suc which)))) = omega arith
 
 -- one that has not ended knows no end of its own
 pub unended : (n : Contents) (player : ℕ) → n.me ≡ player → has_ended n ≡ false → end_in n player ≡ None
 unended n player own not_so = grind (arith, eq-eqb)
 
 -- and a lockstep that tells one more than it made has ended
-pub tells_own : (n : Contents) → nat_lt (counts_of n).made (slice_index (counts_of n).got n.me) ≡ true
+pub tells_own : (n : Contents) (echo : ℕ) → nat_lt (counts_of n echo).made (slice_index (counts_of n echo).got n.me) ≡ true
     → has_ended n ≡ true
-tells_own n tells = go (has_ended n) refl
+tells_own n echo tells = go (has_ended n) refl
   where
     most : (end : Option ℕ) → end ≡ None → (test : Bool)
         → (if test then with_end (count_of n.rings n.me) end else 0) ≤ made n
@@ -39,25 +39,27 @@ tells_own n tells = go (has_ended n) refl
     go : (test : Bool) → has_ended n ≡ test → has_ended n ≡ true
     go true is = is
     go false is =
-        let less = ltb-true (made n) (slice_index (counts_of n).got n.me) tells in
-        let reach = counts_reach n n.me in
+        let less = ltb-true (made n) (slice_index (counts_of n echo).got n.me) tells in
+        let reach = counts_reach n echo n.me in
         let few = most (end_in n n.me) (unended n n.me refl is) (nat_lt n.me n.players) in
         absurd (omega (arith, less, reach, few))
 
 -- one that has left by now had left, or its datagram tells its end
 pub has_left : {A : Type 0} (bundle : Bundle) (old : Option ℕ) (cause : ℕ) → left_by bundle old ≡ Some cause
     → (old ≡ Some cause → A) → (tells_end bundle ≡ true → A) → A
-has_left {A} bundle old cause is was told = go (nat_lt 0 bundle.cause) (tells_end bundle) refl is
+has_left {A} bundle old cause is was told =
+    go (nat_lt 0 bundle.cause) (nat_lt bundle.cause 4) (tells_end bundle) refl is
   where
-    go : (some ends : Bool) → tells_end bundle ≡ ends
-        → (if some && ends then Some bundle.cause else old) ≡ Some cause → A
-    go true true so is = told so
-    go true false so is = was is
-    go false ends so is = was is
+    go : (some left ends : Bool) → tells_end bundle ≡ ends
+        → (if some && (left && ends) then Some bundle.cause else old) ≡ Some cause → A
+    go true true true so is = told so
+    go true true false so is = was is
+    go true false ends so is = was is
+    go false left ends so is = was is
 
 -- and one that has left stays so
 pub stays_left : (bundle : Bundle) (old : Option ℕ) → IsGone old → IsGone (left_by bundle old)
-stays_left bundle old gone = go (nat_lt 0 bundle.cause && tells_end bundle)
+stays_left bundle old gone = go (nat_lt 0 bundle.cause && (nat_lt bundle.cause 4 && tells_end bundle))
   where
     go : (test : Bool) → IsGone (if test then Some bundle.cause else old)
     go true = (bundle.cause, refl)

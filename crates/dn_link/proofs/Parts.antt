@@ -25,7 +25,7 @@ counts_back counts rest are = go counts.got are.four are.got
     go (a ∷ b ∷ c ∷ d ∷ []) four all =
         let P : ℕ → Type 0 = λ count. count < 2 ^ 32 in
         let m = from_le_bytes-to_le_bytes_4 counts.made are.made in
-        let r = from_le_bytes-to_le_bytes_4 counts.ran are.ran in
+        let r = from_le_bytes-to_le_bytes_4 counts.echo are.echo in
         let ta = All-tail P a (b ∷ c ∷ d ∷ []) all in
         let tb = All-tail P b (c ∷ d ∷ []) ta in
         let tc = All-tail P c (d ∷ []) tb in
@@ -33,7 +33,7 @@ counts_back counts rest are = go counts.got are.four are.got
         let pb = from_le_bytes-to_le_bytes_4 b (All-head P b (c ∷ d ∷ []) ta) in
         let pc = from_le_bytes-to_le_bytes_4 c (All-head P c (d ∷ []) tb) in
         let pd = from_le_bytes-to_le_bytes_4 d (All-head P d [] tc) in
-        λ i. record { made = m i; ran = r i; got = pa i ∷ pb i ∷ pc i ∷ pd i ∷ [] }
+        λ i. record { made = m i; echo = r i; got = pa i ∷ pb i ∷ pc i ∷ pd i ∷ [] }
     go _ four all = absurd (omega arith)
 
 pub length-counts : (counts : Counts) → length counts.got ≡ 4 → length (counts_bytes counts) ≡ 24
@@ -67,7 +67,7 @@ counts_is (m0 ∷ m1 ∷ m2 ∷ m3 ∷ r0 ∷ r1 ∷ r2 ∷ r3 ∷ a0 ∷ a1 ∷
     record {
       are = record {
         made = small m0 m1 m2 m3 (fits 0) (fits 1) (fits 2) (fits 3);
-        ran = small r0 r1 r2 r3 (fits 4) (fits 5) (fits 6) (fits 7);
+        echo = small r0 r1 r2 r3 (fits 4) (fits 5) (fits 6) (fits 7);
         four = refl;
         got = All-cons P _ (nb ∷ nc ∷ nd ∷ []) (small a0 a1 a2 a3 (fits 8) (fits 9) (fits 10) (fits 11)) sb;
       };

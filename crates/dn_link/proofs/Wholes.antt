@@ -251,7 +251,7 @@ module _ (seal : Seal) (body : List ℕ) (fits : Fit body) (long : 46 ≤ length
   abbrev rest : List ℕ
   rest = drop (45 + size) body
 
-  with_parts : slice_index body 18 ≤ 4 → size ≤ 397 → (b : Bundle) (o : Option (List Part)) → told_parts rest ≡ o
+  with_parts : slice_index body 18 ≤ 5 → size ≤ 397 → (b : Bundle) (o : Option (List Part)) → told_parts rest ≡ o
       → option_map (bundle_with body) o ≡ Some b → IsWhole seal body b
   with_parts low short b None is e = absurd (none-some b e)
   with_parts low short b (Some parts) is e =
@@ -301,10 +301,10 @@ module _ (seal : Seal) (body : List ℕ) (fits : Fit body) (long : 46 ≤ length
           some_left (x ∷ xs) told go = go (omega arith)
 
   bundle_is : (b : Bundle) → told_bundle body ≡ Some b → IsWhole seal body b
-  bundle_is b e = elim (cases_lt 4 (slice_index body 18)) [
-    | inl many ↦ let on = lt-ltb 4 (slice_index body 18) many in
+  bundle_is b e = elim (cases_lt 5 (slice_index body 18)) [
+    | inl many ↦ let on = lt-ltb 5 (slice_index body 18) many in
         let none : ◌≡◌ {A = Option Bundle} None (Some b) = rw on at e in absurd (none-some b none)
-    | inr few ↦ let off = le-ltb 4 (slice_index body 18) few in elim (cases_lt 397 size) [
+    | inr few ↦ let off = le-ltb 5 (slice_index body 18) few in elim (cases_lt 397 size) [
       | inl long ↦ let on = lt-ltb 397 size long in
           let none : ◌≡◌ {A = Option Bundle} None (Some b) = rw (off, on) at e in absurd (none-some b none)
       | inr short ↦ let fit = le-ltb 397 size short in
@@ -317,23 +317,23 @@ module _ (body : List ℕ) where
   abbrev its_size : ℕ
   its_size = report_size body
 
-  pub no_cause : 4 < slice_index body 18 → None ≡ told_bundle body
-  no_cause many = let on = lt-ltb 4 (slice_index body 18) many in rw on refl
+  pub no_cause : 5 < slice_index body 18 → None ≡ told_bundle body
+  no_cause many = let on = lt-ltb 5 (slice_index body 18) many in rw on refl
 
-  pub no_report : slice_index body 18 ≤ 4 → 397 < its_size → None ≡ told_bundle body
+  pub no_report : slice_index body 18 ≤ 5 → 397 < its_size → None ≡ told_bundle body
   no_report few many =
-      let off = le-ltb 4 (slice_index body 18) few in
+      let off = le-ltb 5 (slice_index body 18) few in
       let on = lt-ltb 397 its_size many in
       rw (off, on) refl
 
-  pub no_parts : slice_index body 18 ≤ 4 → its_size ≤ 397 → told_parts (drop (45 + its_size) body) ≡ None
+  pub no_parts : slice_index body 18 ≤ 5 → its_size ≤ 397 → told_parts (drop (45 + its_size) body) ≡ None
       → None ≡ told_bundle body
   no_parts few short none =
-      let off = le-ltb 4 (slice_index body 18) few in
+      let off = le-ltb 5 (slice_index body 18) few in
       let fit = le-ltb 397 its_size short in
       rw (off, fit, none) refl
 
-  pub too_short : slice_index body 18 ≤ 4 → its_size ≤ 397 → length body < 45 + its_size → None ≡ told_bundle body
+  pub too_short : slice_index body 18 ≤ 5 → its_size ≤ 397 → length body < 45 + its_size → None ≡ told_bundle body
   too_short few short long =
       no_parts few short (of_none (drop (45 + its_size) body) (omega (arith, length-drop (45 + its_size) body, long)))
     where
@@ -341,14 +341,14 @@ module _ (body : List ℕ) where
       of_none [] none = refl
       of_none (x ∷ xs) none = absurd (omega (arith, none))
 
-  pub all_told : (b : Bundle) → slice_index body 18 ≤ 4 → its_size ≤ 397
+  pub all_told : (b : Bundle) → slice_index body 18 ≤ 5 → its_size ≤ 397
       → told_parts (drop (45 + its_size) body) ≡ Some b.parts.items
       → b.from ≡ slice_index body 10 → b.to ≡ slice_index body 11 → b.number ≡ number_at 12 body
       → b.lead ≡ cast_signed w8 (slice_index body 16) → b.holes ≡ slice_index body 17 → b.cause ≡ slice_index body 18
       → b.counts ≡ told_counts (drop 19 body) → b.report.items ≡ take its_size (drop 45 body)
       → Some b ≡ told_bundle body
   all_told b few short all from to number lead holes cause counts report =
-      let off = le-ltb 4 (slice_index body 18) few in
+      let off = le-ltb 5 (slice_index body 18) few in
       let fit = le-ltb 397 its_size short in
       rw (off, fit, all) (λ i. Some (record {
         from = from i;

@@ -31,10 +31,10 @@ reached n player = held n player - n.ahead
 abbrev pub has_ended : Contents → Bool
 has_ended n = n.played && is_ended n.phase
 
-abbrev pub counts_of : Contents → Counts
-counts_of n =
+abbrev pub counts_of : Contents → ℕ → Counts
+counts_of n echo =
     record {
       made = made n;
-      ran = n.ran;
+      echo = echo;
       got = has_of n 0 ∷ has_of n 1 ∷ has_of n 2 ∷ has_of n 3 ∷ [];
     }

@@ -20,4 +20,5 @@ tells_end bundle = nat_lt bundle.counts.made (slice_index bundle.counts.got bund
 
 -- why its sender has left, as far as its datagrams told
 abbrev pub left_by : Bundle → Option ℕ → Option ℕ
-left_by bundle left = if nat_lt 0 bundle.cause && tells_end bundle then Some bundle.cause else left
+left_by bundle left =
+    if nat_lt 0 bundle.cause && (nat_lt bundle.cause 4 && tells_end bundle) then Some bundle.cause else left

@@ -1,5 +1,5 @@
 -- What is known of the line from a peer, and of the leads.
-use Rattle.std.specs.{Prelude.{ℕ, ◌+◌, ◌-◌, ◌/◌, ◌==◌, ◌-ℤ◌, if◌then◌else◌, nat_lt, min, max, ℤ, pos, negsuc, None, Some}, Int.{int_max, int_min}}
+use Rattle.std.specs.{Prelude.{ℕ, ◌+◌, ◌-◌, ◌/◌, ◌%◌, ◌^◌, ◌==◌, ◌-ℤ◌, if◌then◌else◌, nat_lt, min, max, ℤ, pos, negsuc, None, Some}, Int.{int_max, int_min}}
 use Rattle.dn_lockstep.specs.{Contents.Contents, Told.{got, made}}
 use Rattle.dn_link.specs.{declared.{bundle.Bundle.Bundle, line.Line.Line}, Tally.tallied}
 
@@ -13,6 +13,7 @@ new_line =
       reported_holes = 0;
       lead = pos 0;
       own_lead = pos 0;
+      echo = 0;
       tally = record { came = 0; lost = 0; repeated = 0; too_old = 0; seen = 0 };
     }
 
@@ -29,7 +30,12 @@ with_tally bundle line = record line { tally = tallied line.newest bundle.number
 -- what it reports is the newest
 abbrev pub after_newest : Bundle → Line → Line
 after_newest bundle line =
-    record line { newest = Some bundle.number; reported_holes = bundle.holes; lead = bundle.lead }
+    record line {
+      newest = Some bundle.number;
+      reported_holes = bundle.holes;
+      lead = bundle.lead;
+      echo = bundle.counts.echo;
+    }
 
 -- a datagram came: the first of all, a newer one, or an old one, which tells nothing
 abbrev pub heard_on : Bundle → Line → Line
@@ -41,6 +47,10 @@ heard_on bundle line =
           then after_newest bundle (counted newest bundle.number (with_tally bundle line))
           else with_tally bundle line
     ]
+
+-- what is echoed: the number after that of the newest datagram that came; 0 before
+abbrev pub own_echo : Line → ℕ
+own_echo line = elim line.newest [ None ↦ 0 | Some newest ↦ (newest + 1) % 2 ^ 32 ]
 
 -- how many of the peer's datagrams are missing
 abbrev pub missing : Line → ℕ

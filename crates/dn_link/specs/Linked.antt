@@ -8,7 +8,7 @@ use Rattle.dn_survivor.specs.{Telling.{MayRelay, report_for}, Calls.HearsReport,
 use Rattle.dn_open.specs.Sealed.{sealing_of}
 use Rattle.dn_link.specs.declared.{received.Received.{TheVariants.{Unopened, Stranger, GivenUp, Excluded, Heard}, Received}, bundle.{Bundle.Bundle, BundleFault.BundleFault, Carried.Carried, Part.Part}, line.Line.Line, tally.Figures.Figures}
 use Rattle.dn_link.specs.{Kept.{Unacknowledged, acknowledged, going, kept_after, taken_by}, Reading.IsBundledAs, Counting.{counts_of, held_of, reached}, Hearing.{SendsCarried, ByTest, HearsAll}}
-use Rattle.dn_link.specs.{Line.missing, Pacing.PaceState, Packets.{heard_in, takes_relay}, Packing.ArePacked, Relays.{AreHandedOn, AreLacked, Handed, handed_part}}
+use Rattle.dn_link.specs.{Line.{missing, own_echo}, Pacing.PaceState, Packets.{heard_in, takes_relay}, Packing.ArePacked, Relays.{AreHandedOn, AreLacked, Handed, handed_part}}
 use Rattle.dn_link.specs.{Ends.{excludes, left_by, told_cause}, Text.{IsBundle, parts_bytes, sealed_bytes}}
 use Rattle.dn_link.specs.Packing.{parts_room}
 use Rattle.dn_link.specs.declared.bundle.Relay as relay
@@ -88,7 +88,7 @@ pub record Gives (seal : Seal) (pace : PaceState) (to : ℕ) (old new : Linked) 
   pub lead : bundle.lead ≡ (pace.lines to).own_lead
   pub holes : bundle.holes ≡ missing (pace.lines to)
   pub cause : bundle.cause ≡ told_cause old.node.phase
-  pub counts : bundle.counts ≡ counts_of new.node
+  pub counts : bundle.counts ≡ counts_of new.node (own_echo (pace.lines to))
   pub report : bundle.report.items ≡ written (report_beside (surviving_of new) to bundle.parts.items)
   pub proper : IfSome (report_beside (surviving_of new) to bundle.parts.items) IsReport
   pub own : List Part
@@ -190,7 +190,7 @@ exclusion link to =
       lead = pos 0;
       holes = 0;
       cause = 4;
-      counts = counts_of link.node;
+      counts = counts_of link.node 0;
       report = record { items = [] };
       parts = record { items = [] };
     }
@@ -200,14 +200,16 @@ abbrev pub exclusion_for : Seal → Linked → ℕ → Option (List ℕ)
 exclusion_for seal link to =
     if is_peer link.node to && has_given_up link to then Some (sealed_bytes seal (exclusion link to)) else None
 
--- what goes to where a peer may be, before it is known to be there: how far the node is, and no packets
+-- what goes to where a peer may be, before it has shown that it receives there: how far the node is, and no packets. It
+-- says that it is a probe, so that nobody passes it on
 abbrev pub probe : PaceState → Linked → ℕ → Bundle
 probe pace link to =
     record (exclusion link to) {
       number = (link.peers to).number;
       lead = (pace.lines to).own_lead;
       holes = missing (pace.lines to);
-      cause = told_cause link.node.phase;
+      cause = 5;
+      counts = counts_of link.node (own_echo (pace.lines to));
     }
 
 -- sealed; of one who remains
@@ -248,6 +250,7 @@ figures_of line =
       missing_there = line.reported_holes;
       lead = line.own_lead;
       lead_there = line.lead;
+      echo = line.echo;
     }
 
 -- how many of the node's commands a player has acknowledged; all, of one that needs nothing

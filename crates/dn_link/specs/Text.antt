@@ -7,10 +7,10 @@ use Rattle.std.specs.Prelude.{if◌then◌else◌}
 use Rattle.dn_link.specs.declared.bundle.Relay as relay
 use Rattle.dn_link.specs.declared.bundle.Run as run
 
--- how many commands the sender made, how many tics it ran, and what it has of each of four players
+-- how many commands the sender made, its echo, and what it has of each of four players
 abbrev pub counts_bytes : Counts → List ℕ
 counts_bytes counts =
-    to_le_bytes w32 counts.made ++ to_le_bytes w32 counts.ran ++ flat_map (to_le_bytes w32) counts.got
+    to_le_bytes w32 counts.made ++ to_le_bytes w32 counts.echo ++ flat_map (to_le_bytes w32) counts.got
 
 -- a packet, with its exact numbers and its length in front
 abbrev pub carried_bytes : Carried → List ℕ
@@ -79,7 +79,7 @@ IsPart (Relay relay) = IsRelay relay
 
 pub record AreCounts (counts : Counts) : Type 0 where
   pub made : counts.made < 2 ^ 32
-  pub ran : counts.ran < 2 ^ 32
+  pub echo : counts.echo < 2 ^ 32
   pub four : length counts.got ≡ 4
   pub got : All (λ count. count < 2 ^ 32) counts.got
 
@@ -87,7 +87,7 @@ pub record AreCounts (counts : Counts) : Type 0 where
 pub record IsBundle (bundle : Bundle) : Type 0 where
   pub number : bundle.number < 2 ^ 32
   pub lead : FitsSigned w8 bundle.lead
-  pub cause : bundle.cause ≤ 4
+  pub cause : bundle.cause ≤ 5
   pub counts : AreCounts bundle.counts
   pub report : length bundle.report.items ≤ 397
   pub few : length bundle.parts.items ≤ 24

@@ -18,7 +18,7 @@ abbrev pub told_counts : List ℕ → Counts
 told_counts bytes =
     record {
       made = number_at 0 bytes;
-      ran = number_at 4 bytes;
+      echo = number_at 4 bytes;
       got = number_at 8 bytes ∷ number_at 12 bytes ∷ number_at 16 bytes ∷ number_at 20 bytes ∷ [];
     }
 
@@ -127,6 +127,6 @@ bundle_with body parts =
 -- what stands under a tag
 abbrev pub told_bundle : List ℕ → Option Bundle
 told_bundle body =
-    if nat_lt 4 (slice_index body 18) || nat_lt 397 (report_size body)
+    if nat_lt 5 (slice_index body 18) || nat_lt 397 (report_size body)
     then None
     else option_map (bundle_with body) (told_parts (drop (45 + report_size body) body))

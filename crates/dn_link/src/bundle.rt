@@ -65,8 +65,8 @@ impl Default for Part {
 pub struct Counts {
     /// How many commands it has made.
     pub made: u32,
-    /// How many tics it has run.
-    pub ran: u32,
+    /// The number after that of the receiver's newest datagram that came to it; 0 while none did.
+    pub echo: u32,
     /// How many commands it has of each player; a known end counts as one more.
     pub got: [u32; 4],
 }
@@ -85,7 +85,8 @@ pub struct Bundle {
     /// How many datagrams of the receiver the sender misses.
     pub holes: u8,
     /// Why the sender has ended: that it quit (1), that its demo is full (2), or that it found another's world
-    /// to differ (3); 0 while it plays. Or that it has given up the receiver (4): then the rest does not count.
+    /// to differ (3); 0 while it plays. Or that it has given up the receiver (4): then the rest does not count. Or
+    /// that this is a probe (5).
     pub cause: u8,
     /// How far the sender is.
     pub counts: Counts,

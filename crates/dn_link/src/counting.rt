@@ -19,13 +19,13 @@ fn has_of(lockstep: &Lockstep, player: u8) -> u32
     }
 }
 
-/// How far a lockstep is.
-pub(crate) fn counts_of(lockstep: &Lockstep) -> Counts
-    ensures { result ≡ counts_of (contents lockstep.now) }
+/// How far a lockstep is, with what is echoed.
+pub(crate) fn counts_of(lockstep: &Lockstep, echo: u32) -> Counts
+    ensures { result ≡ counts_of (contents lockstep.now) echo }
 {
     Counts {
         made: lockstep.made(),
-        ran: lockstep.ran(),
+        echo,
         got: [
             has_of(lockstep, 0),
             has_of(lockstep, 1),

@@ -9,6 +9,9 @@ use dn_machine::{Cause, Phase};
 /// The cause of one that has given up the receiver.
 pub(crate) const EXCLUDES: u8 = 4;
 
+/// The cause of a probe, which tells no end.
+pub const PROBE: u8 = 5;
+
 /// The byte that tells why a player in this phase has ended; 0 of one that has not.
 pub(crate) fn told_cause(phase: Phase) -> u8
     ensures { result ≡ told_cause phase }
@@ -42,7 +45,7 @@ fn tells_end(bundle: &Bundle) -> bool
 pub(crate) fn left_by(bundle: &Bundle, left: Option<u8>) -> Option<u8>
     ensures { result ≡ left_by bundle.now left }
 {
-    if bundle.cause > 0 && tells_end(bundle) {
+    if bundle.cause > 0 && bundle.cause < EXCLUDES && tells_end(bundle) {
         Some(bundle.cause)
     } else {
         left

@@ -34,6 +34,7 @@ pub use caught_up::{
     caught_up_links_cover, links_bring_all, links_open_caught_up, links_run_on,
     links_stay_caught_up,
 };
+pub use ends::PROBE;
 pub use laws::{
     acknowledged_is_there, bundles_are_read_back, datagrams_keep_one_game, leaving_is_safe,
     linked_game_goes_on, linked_game_starts, links_agree, sealed_datagrams_are_genuine,

@@ -2,7 +2,7 @@
 
 ghost use Rattle.std.specs.Prelude.{◌≡◌, ◌<◌, ◌≤◌, ◌+ℤ◌, ◌-ℤ◌, ◌||◌, None, min, nat_abs, nat_le};
 ghost use Rattle.dn_lockstep.specs.Contents.{contents};
-ghost use Rattle.dn_link.specs.{Line.counted, Line.heard_on, Line.lead_over, Line.missing, Line.after_newest, Line.new_line};
+ghost use Rattle.dn_link.specs.{Line.counted, Line.heard_on, Line.lead_over, Line.missing, Line.own_echo, Line.after_newest, Line.new_line};
 
 use crate::bundle::Bundle;
 use crate::tally::Tally;
@@ -59,6 +59,8 @@ pub(crate) struct Line {
     pub(crate) lead: i8,
     /// By how many commands this player led at its last tick.
     pub(crate) own_lead: i8,
+    /// What its sender echoed.
+    pub(crate) echo: u32,
     /// What came.
     pub(crate) tally: Tally,
 }
@@ -75,6 +77,7 @@ impl Line {
             reported_holes: 0,
             lead: 0,
             own_lead: 0,
+            echo: 0,
             tally: Tally::default(),
         }
     }
@@ -87,6 +90,13 @@ impl Line {
             own_lead: lead_over(lockstep, player),
             ..*self
         }
+    }
+
+    /// What is echoed: the number after that of the newest datagram that came; 0 before.
+    pub(crate) fn own_echo(&self) -> u32
+        ensures { result ≡ own_echo self.now }
+    {
+        self.newest.map_or(0, |newest| newest.wrapping_add(1))
     }
 
     /// How many of the peer's datagrams are missing.
@@ -131,6 +141,7 @@ impl Line {
         self.newest = Some(bundle.number);
         self.reported_holes = bundle.holes;
         self.lead = bundle.lead;
+        self.echo = bundle.counts.echo;
     }
 
     /// A datagram came. An old one tells nothing.

@@ -7,6 +7,7 @@ ghost use Rattle.dn_link.specs.{declared.bundle.Bundle.Bundle, declared.bundle.B
 mod parts;
 
 use crate::bundle::{Bundle, BundleFault, Counts};
+use crate::ends::PROBE;
 use crate::writing::KIND;
 use arrayvec::ArrayVec;
 use dn_seal::{Sealer, append, tic_at};
@@ -14,7 +15,7 @@ use dn_survivor::report::MAX_REPORT;
 use parts::parts_in;
 
 /// The highest byte of a cause.
-const MOST_CAUSE: u8 = 4;
+const MOST_CAUSE: u8 = PROBE;
 
 /// How many bytes of a report stand behind the counts.
 fn report_size(body: &[u8]) -> usize
@@ -31,7 +32,7 @@ fn counts_in(bytes: &[u8]) -> Counts
 {
     Counts {
         made: tic_at(bytes, 0),
-        ran: tic_at(bytes, 4),
+        echo: tic_at(bytes, 4),
         got: [
             tic_at(bytes, 8),
             tic_at(bytes, 12),

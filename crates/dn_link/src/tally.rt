@@ -94,6 +94,9 @@ pub struct Figures {
     pub lead: i8,
     /// By how many commands it led this player, as its newest datagram reported.
     pub lead_there: i8,
+    /// The number after that of the newest datagram to it that had come there, as its newest datagram reported; 0 while
+    /// none had.
+    pub echo: u32,
 }
 
 impl Figures {
@@ -109,6 +112,7 @@ impl Figures {
             missing_there: line.reported_holes,
             lead: line.own_lead,
             lead_there: line.lead,
+            echo: line.echo,
         }
     }
 }

@@ -30,7 +30,7 @@ fn append_counts(bytes: &mut ArrayVec<u8, 1200>, counts: &Counts)
 {
     let [a, b, c, d] = counts.got;
     append(bytes, &counts.made.to_le_bytes());
-    append(bytes, &counts.ran.to_le_bytes());
+    append(bytes, &counts.echo.to_le_bytes());
     append(bytes, &a.to_le_bytes());
     append(bytes, &b.to_le_bytes());
     append(bytes, &c.to_le_bytes());
@@ -114,7 +114,7 @@ fn append_parts(bytes: &mut ArrayVec<u8, 1200>, parts: &[Part])
 pub fn seal_bundle(sealer: &Sealer, bundle: &Bundle) -> ArrayVec<u8, 1200>
     requires from { bundle.now.from ≡ (sealing sealer.now).me }
     requires fit { All IsPart bundle.now.parts.items }
-    requires cause { bundle.now.cause ≤ 4 }
+    requires cause { bundle.now.cause ≤ 5 }
     requires room { length bundle.now.report.items + length (parts_bytes bundle.now.parts.items) ≤ 1139 }
     ensures text { result.items ≡ sealed_bytes (sealing sealer.now).seal bundle.now }
     ensures fits { IsBundle bundle.now }

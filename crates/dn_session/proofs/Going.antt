@@ -1,16 +1,14 @@
 -- The parts of the players of one game go on.
-use Rattle.std.proofs.Common.{◌≡◌, ◌≢◌, ◌<◌, ◌⊎◌, ℕ, ℤ, zero, suc, List, [], ◌∷◌, Option, Some, None, Bool, true, false, length, get_or, pos, refl, ap, sym, subst, ◌∙◌, arith, inl, inr, Ok, Err, Result}
-use Rattle.std.proofs.{lemmas.Bool.and_parts, lemmas.Bool.both_ways, lemmas.Bool.cases_Bool, lemmas.Bool.cases_eq, lemmas.List.Quantifiers.position-Some}
-use Rattle.std.specs.Prelude.{IfSome, ◌&&◌, ◌==◌, if◌then◌else◌, position, is_some, not}
+use Rattle.std.proofs.Common.{◌≡◌, ◌<◌, ℕ, ℤ, List, Option, Some, None, Bool, true, false, refl, ap, sym, subst, ◌∙◌, inl, inr}
+use Rattle.std.proofs.{lemmas.Bool.cases_Bool, lemmas.Bool.cases_eq}
 use Rattle.dn_tic.specs.{declared.command.Move.Move, declared.input.Input.Input}
 use Rattle.dn_setup.specs.Settings.{Settings}
 use Rattle.dn_machine.specs.{Limits.Limits, Node.put, declared.answers.Made.Made, declared.answers.Ran.Ran}
 use Rattle.dn_machine.proofs.Put.{put_at, put_off, same_functions}
 use Rattle.dn_lockstep.specs.{Marking.Marking, OneGame.told_on}
-use Rattle.dn_open.specs.Sealed.{sealing_of}
 use Rattle.dn_seal.specs.declared.seal.Seal.{Seal}
 use Rattle.dn_survivor.specs.OneGame.{Session, after_build, after_run, with_survivor}
-use Rattle.dn_link.specs.{Linked.Linked, Linked.surviving_of, Linking.linked, Linking.seal_of, Pacing.pace_of, RemainingLinks.AreRemainingLinks}
+use Rattle.dn_link.specs.{Linked.surviving_of, Linking.linked, Linking.seal_of, Pacing.pace_of, RemainingLinks.AreRemainingLinks}
 use Rattle.dn_link.specs.{Linked.Receives, RemainingLinks.IsGenuineIn, RemainingLinks.KeepsGiven, RemainingLinks.StayRemaining, declared.link.Link.Link}
 use Rattle.dn_link.proofs.RemainingCalls as calls
 use Rattle.dn_link.proofs.RemainingReceives.{received}

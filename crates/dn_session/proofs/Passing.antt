@@ -3,7 +3,7 @@ use Rattle.std.proofs.Common.{◌≡◌, ◌≤◌, arith, ℕ, List, Bool, true
 use Rattle.std.proofs.lemmas.Option.{none-some, same_Some}
 use Rattle.dn_seal.specs.{declared.seal.Seal.Seal, Opening.IsSized}
 use Rattle.dn_open.specs.Sealed.{sealing_of}
-use Rattle.dn_link.specs.{Ends.excludes, Hearing.ByTest, Linked.HearsPeer, Linked.Linked, Linked.Receives, Linked.ReceivesAs, Linked.TakesIn, Linked.has_given_up, Linked.is_peer}
+use Rattle.dn_link.specs.{Ends.excludes, Hearing.ByTest, Linked.Linked, Linked.Receives, Linked.ReceivesAs, Linked.has_given_up, Linked.is_peer}
 use Rattle.dn_link.specs.{Reading.IsBundledAs, Reading.bundles, declared.bundle.Bundle.Bundle, declared.bundle.BundleFault.BundleFault, declared.received.Received.Received}
 use Rattle.dn_link.specs.declared.bundle.BundleFault.TheVariants as fault
 use Rattle.dn_link.specs.declared.received.Received.TheVariants as received

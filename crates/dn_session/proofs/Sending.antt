@@ -11,7 +11,7 @@ use Rattle.dn_link.specs.{Linked.Gives, Linked.Linked, Linked.exclusion, Linked.
 use Rattle.dn_link.specs.{Pacing.pace_of, RemainingLinks.StayRemaining, RemainingLinks.WasSealedIn, RemainingLinks.after_datagram, Text.IsBundle, Text.sealed_bytes, declared.bundle.Bundle.Bundle}
 use Rattle.dn_link.proofs.RemainingCalls.{counted}
 use Rattle.dn_session.specs.{Parts.AreParts, Parts.links_of, Playing.Playing, Playing.ended_as, Playing.from_turn, declared.greeting.Address.Address}
-use Rattle.dn_session.specs.Sent.{Excludes, IsFairTo, SendsFirst, SendsNext, SendsOn, SendsWhen, first_owed, first_owed_exclusion, is_owed, place_to}
+use Rattle.dn_session.specs.Sent.{Excludes, IsFairTo, SendsFirst, SendsNext, SendsOn, SendsTo, Probes, ProbesFirst, first_owed, first_owed_exclusion, first_owed_probe, is_owed, is_owed_probe}
 use Rattle.dn_session.proofs.{Firsts.first_counted_passes, Going.GoOn, Going.kept, Going.silently, Going.silently_and}
 
 -- a datagram goes to one who remains
@@ -20,8 +20,14 @@ owed_remains part player owed =
     (and_parts (remains (linked part.link) player) _
     (and_parts (is_none (ended_as part.progress)) _ (and_parts (slice_index_or part.owed player false) _ owed).1).1).0
 
+-- and so does a probe
+pub probed_remains : (part : Playing) (player : ℕ) → is_owed_probe part player ≡ true
+    → remains (linked part.link) player ≡ true
+probed_remains part player owed =
+    (and_parts (remains (linked part.link) player) _ (and_parts (is_none (ended_as part.progress)) _ owed).1).0
+
 -- what is given under a test is that
-given_if : {A : Type 0} (test : Bool) (one other : A) → (if test then Some one else None) ≡ Some other
+pub given_if : {A : Type 0} (test : Bool) (one other : A) → (if test then Some one else None) ≡ Some other
     → other ≡ one
 given_if false one other is = absurd (none-some other is)
 given_if true one other is = sym (same_Some one other is)
@@ -86,25 +92,30 @@ module _ (marking : Marking) (limits : Limits) (settings : Settings) (seal : Sea
         is.1 is.4 is.5 refl refl is.3
         (same (ap (λ (q : Playing). linked q.link) is.6) (ap (λ (q : Playing). seal_of q.link) is.6))
 
-    sends_to : (player : ℕ) → remains (links p) player ≡ true → (whole : Bool)
-        → SendsWhen whole player (parts p) new sent → Sends
-    sends_to player remaining true is =
+    sends_to : (player : ℕ) → remains (links p) player ≡ true → SendsTo player (parts p) new sent → Sends
+    sends_to player remaining is =
         let given = gave player is.1 remaining is.4 is.5 in
         let later = after_datagram session p player given.0 is.5 in
         silently_and marking limits settings seal session parts p are few IsOfGame new later is.6 given.2 refl
         (was_sealed later is.0 is.1 is.3 (subst (λ (k : Seal). WasSealedIn k later is.1) (are.sealed p few) given.1))
-    sends_to player remaining false is =
-        sends_empty (remains (links p) player) (probe (pace_of (parts p).link) (links p) player) is.0 is.1 is.4 is.5
+
+    probes : (player : ℕ) → Probes player (parts p) new sent → Sends
+    probes player is =
+        sends_empty (remains (links p) player) (probe (pace_of (parts p).link) (links p) player) is.0.address is.1 is.4 is.5
         refl refl is.3
         (silently marking limits settings seal session parts p are few new
         (with_survivor session p (surviving_of (linked new.link))) is.7
         (counted marking limits settings session links are.links p few player (linked new.link) is.6) refl)
 
+    probes_first : (first : Option ℕ) → ProbesFirst first (parts p) new sent → Sends
+    probes_first None is = excludes (first_owed_exclusion (parts p)) is
+    probes_first (Some player) is = probes player is
+
     first : (first : Option ℕ) → first_owed (parts p) ≡ first → SendsFirst first (parts p) new sent → Sends
-    first None none is = excludes (first_owed_exclusion (parts p)) is
+    first None none is = probes_first (first_owed_probe (parts p)) is
     first (Some player) some is =
         sends_to player (owed_remains (parts p) player (first_counted_passes (is_owed (parts p)) (from_turn (parts p).turn) player some))
-        (place_to (parts p) player).is_confirmed is
+        is
 
     passes : (passing : Option (Address × List ℕ)) → (parts p).passing ≡ passing
         → SendsOn passing (parts p) new sent → Sends

@@ -21,6 +21,11 @@ abbrev pub is_new_in : (before after : Option Figures) → Bool
 is_new_in (Some before) (Some after) = nat_lt before.came after.came && not (nat_lt after.lost before.lost)
 is_new_in before after = false
 
+-- the newest echo of its player
+abbrev pub echo_of : Option Figures → ℕ
+echo_of None = 0
+echo_of (Some figures) = figures.echo
+
 -- it is one of the last 64, and came for the first time or again
 abbrev pub is_late_in : (before after : Option Figures) → Bool
 is_late_in (Some before) (Some after) = nat_lt before.came after.came || nat_lt before.repeated after.repeated
@@ -31,11 +36,11 @@ abbrev pub heard_of : Received → Option ℕ
 heard_of (Heard from) = Some from
 heard_of received = None
 
--- a new datagram of this player was heard
-abbrev pub is_news_of : Option ℕ → (before after : List (Option Figures)) → ℕ → Bool
-is_news_of None before after player = false
-is_news_of (Some from) before after player =
-    (player == from) && is_new_in (line_of before from) (line_of after from)
+-- a datagram of this player was heard that has a newer echo
+abbrev pub is_answer_of : Option ℕ → (before after : List (Option Figures)) → ℕ → Bool
+is_answer_of None before after player = false
+is_answer_of (Some from) before after player =
+    (player == from) && nat_lt (echo_of (line_of before from)) (echo_of (line_of after from))
 
 -- how many commands of each player are there
 abbrev pub counts_in : Contents → List ℕ

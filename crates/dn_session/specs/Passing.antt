@@ -9,12 +9,12 @@ use Rattle.dn_session.specs.{Places.is_at, Places.place_of, declared.greeting.Ad
 abbrev pub sent_of : Transmit → Address × List ℕ
 sent_of transmit = (transmit.to, transmit.bytes.items)
 
--- where it goes on to, if two other players remain: it came from where its sender is, and its receiver was heard where
--- that one is
+-- where it goes on to, if two other players remain: it came from where its sender is, or may be, and it is known where
+-- its receiver receives
 abbrev pub next_hop : Linked → Places → Address → (from to : ℕ) → Option Address
 next_hop link places here from to =
     if not (from == to) && (remains link from && is_at here (place_of from places)
-    && (remains link to && (place_of to places).is_confirmed))
+    && remains link to)
     then (place_of to places).address else None
 
 -- a datagram of this game that is sealed to another player goes on as it came

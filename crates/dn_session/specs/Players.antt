@@ -1,5 +1,5 @@
 -- What a player sees of the others in its game: by its link, and by how long it was silent there.
-use Rattle.std.specs.Prelude.{ℕ, ◌+◌, ◌==◌, ◌&&◌, ◌||◌, Bool, not, true, false, nat_le, nat_lt, if◌then◌else◌, List, [], ◌∷◌, map, slice_index_or, Option, Some, None}
+use Rattle.std.specs.Prelude.{ℕ, ◌+◌, ◌==◌, ◌&&◌, ◌||◌, Bool, not, false, nat_le, nat_lt, if◌then◌else◌, List, [], ◌∷◌, map, slice_index_or, Option, Some, None}
 use Rattle.std.specs.List.{list_any, list_all}
 use Rattle.dn_machine.specs.declared.answers.Phase.{Phase}
 use Rattle.dn_lockstep.specs.{Contents.Contents, Told.got, Told.made}

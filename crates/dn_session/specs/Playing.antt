@@ -1,16 +1,16 @@
 -- A player's part in its game: what each call makes of it.
-use Rattle.std.specs.Prelude.{◌≡◌, ◌⊎◌, ℕ, ℤ, ◌&&◌, ◌||◌, ◌+◌, ◌%◌, Bool, not, true, false, nat_le, if◌then◌else◌, List, [], ◌∷◌, map, slice_index_or, slice_set, replicate, Option, Some, None, is_some}
+use Rattle.std.specs.Prelude.{◌≡◌, ℕ, ℤ, ◌&&◌, ◌||◌, ◌+◌, ◌%◌, Bool, true, false, if◌then◌else◌, List, map, slice_index_or, slice_set, replicate, Option, Some, None}
 use Rattle.std.specs.Option.{option_map, option_or}
 use Rattle.dn_tic.specs.{declared.command.Move.Move, declared.input.Input.Input}
 use Rattle.dn_machine.specs.{Running.on_quit, Running.row_held, Sending.on_build, declared.answers.Made.Made, declared.answers.Ran.Ran}
 use Rattle.dn_lockstep.specs.Steps.{Steps, Tells}
 use Rattle.dn_survivor.specs.declared.answers.GivenUp.{GivenUp}
-use Rattle.dn_link.specs.{Linked.Receives, Linked.has_given_up, Linked.remains, Linking.linked, Linking.seal_of, Pace.Paces, Pace.after_input, Pace.after_tick}
+use Rattle.dn_link.specs.{Linked.Receives, Linked.has_given_up, Linking.linked, Linking.seal_of, Pace.Paces, Pace.after_input, Pace.after_tick}
 use Rattle.dn_link.specs.{Pace.lean, Pace.still_owed, Pace.wants_second, Pacing.pace_of, Surviving.GivesUpPeer, Surviving.RunsBut, declared.link.Link.Link, declared.received.Received.Received}
 use Rattle.dn_link.specs.declared.received.Received.TheVariants as received
-use Rattle.dn_session.specs.Coming.{counts_in, has_more, heard_of, is_late_in, is_new_in, is_news_of, line_of, lines_in}
+use Rattle.dn_session.specs.Coming.{counts_in, echo_of, has_more, heard_of, is_answer_of, is_late_in, is_new_in, line_of, lines_in}
 use Rattle.dn_session.specs.{Ending.ended_by, Ending.ending_of, Ending.is_unneeded, Ending.may_give_up, Ending.patience, Ending.waits, Joining.has_come, Lead.due, Passing.passed_on, Passing.sent_of}
-use Rattle.dn_session.specs.{Places.heard_at, Places.is_since, Places.place_of, Players.four, Players.has_row_behind, Players.is_any_awaited, Players.view_of, Ticks.half_taken, Ticks.is_due, Ticks.passed, Ticks.resumed}
+use Rattle.dn_session.specs.{Places.heard_at, Places.is_since, Players.four, Players.has_row_behind, Players.is_any_awaited, Players.view_of, Ticks.half_taken, Ticks.is_due, Ticks.passed, Ticks.resumed}
 use Rattle.dn_session.specs.{Steady.after_tic, Steady.holds, Steady.ticked, declared.steady.Steady.Steady}
 use Rattle.dn_session.specs.{Watch.looked_at, declared.ending.Ending.Ending, declared.ending.Progress.Progress, declared.greeting.Address.Address, declared.lead.View.View}
 use Rattle.dn_session.specs.declared.{part.Exclusion.Exclusion, part.Part.Part, part.hearing.Known.Known, places.Places.Places, terms.Policy.Policy, ticks.Ticks.Ticks, watch.Watch.Watch}
@@ -77,10 +77,10 @@ abbrev pub known_by : Link → Known
 known_by link =
     record { lines = lines_in (linked link) (pace_of link); counts = counts_in (linked link).node }
 
--- a new datagram of a player is a sign of life of it, and so are more of its commands
+-- a newer echo of a player is a sign of life of it, and so are more of its commands
 abbrev pub is_alive : Received → (before after : Known) → ℕ → Bool
 is_alive received before after player =
-    is_news_of (heard_of received) before.lines after.lines player || has_more before.counts after.counts player
+    is_answer_of (heard_of received) before.lines after.lines player || has_more before.counts after.counts player
 
 abbrev pub hears_if : Bool → ℕ → ℕ → Watch → Watch
 hears_if true player now watch = record watch { heard = slice_set watch.heard player now }
@@ -98,7 +98,7 @@ abbrev pub place_after : Option ℕ → Address → ℕ → (before after : Know
 place_after None from now before after places = places
 place_after (Some player) from now before after places =
     heard_at player from now (is_new_in (line_of before.lines player) (line_of after.lines player))
-    (is_late_in (line_of before.lines player) (line_of after.lines player)) places
+    (is_late_in (line_of before.lines player) (line_of after.lines player)) (echo_of (line_of after.lines player)) places
 
 -- who has told that it has given up this player
 abbrev pub excluders_by : Received → List Bool → List Bool

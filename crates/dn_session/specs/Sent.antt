@@ -1,9 +1,9 @@
 -- What a player's part sends, and where to.
-use Rattle.std.specs.Prelude.{◌≡◌, ℕ, ◌+◌, ◌==◌, ◌&&◌, ◌||◌, Bool, not, true, false, nat_lt, if◌then◌else◌, List, option_map, position, slice_index_or, slice_set, Option, Some, None, IfSome, is_none, is_some}
+use Rattle.std.specs.Prelude.{◌≡◌, ℕ, ◌==◌, ◌&&◌, Bool, not, false, if◌then◌else◌, List, option_map, position, slice_index_or, slice_set, Option, Some, None, IfSome, is_none, is_some}
 use Rattle.dn_lockstep.specs.{Sent.IsFair, Sent.sent_to, Steps.Tells}
 use Rattle.dn_link.specs.{Linked.Gives, Linked.Linked, Linked.exclusion, Linked.exclusion_for, Linked.has_given_up, Linked.is_peer, Linked.probe, Linked.probe_for, Linked.probed, Linked.remains, Linking.linked, Linking.seal_of, Pacing.pace_of, Text.IsBundle}
-use Rattle.dn_session.specs.{Places.is_near_at, Places.is_since, Places.place_of, Places.probed_at, Players.four, Playing.KeepsGame, Playing.Playing, Playing.ended_as, Playing.exclusion_of, Playing.from_turn}
-use Rattle.dn_session.specs.{Watch.silence, declared.greeting.Address.Address, declared.places.Place.Place}
+use Rattle.dn_session.specs.{Places.is_near_at, Places.place_of, Places.is_probe_due, Places.probed_at, Players.four, Playing.KeepsGame, Playing.Playing, Playing.ended_as, Playing.exclusion_of, Playing.from_turn}
+use Rattle.dn_session.specs.{Watch.silence, declared.greeting.Address.Address, declared.places.Candidate.Candidate}
 
 -- by the last look, a player is near
 abbrev pub is_near : Playing → ℕ → Bool
@@ -19,21 +19,14 @@ abbrev pub way_to : Playing → ℕ → ℕ
 way_to p player = if not (is_near p player) && can_pass p p.turn player then p.turn else player
 
 -- where that is, as far as it is known
-abbrev pub place_to : Playing → ℕ → Place
-place_to p player = place_of (way_to p player) p.places
-
--- to a place from which nothing came yet goes a probe a second, until its player has been silent for ten
-abbrev pub is_probed : Playing → ℕ → Bool
-is_probed p player =
-    not (is_since 1000 p.watch.looked (place_of player p.places).probed)
-    && nat_lt (silence player p.watch.looked p.watch) 10000
+abbrev pub address_to : Playing → ℕ → Option Address
+address_to p player = (place_of (way_to p player) p.places).address
 
 -- a datagram is owed to a player who remains, and it is known where it goes; and none by one whose game is over
 abbrev pub is_owed : Playing → ℕ → Bool
 is_owed p player =
     slice_index_or p.owed player false && (is_none (ended_as p.progress)
-    && (remains (linked p.link) player
-    && (is_some (place_to p player).address && ((place_to p player).is_confirmed || is_probed p player))))
+    && (remains (linked p.link) player && is_some (address_to p player)))
 
 -- the first to whom one is, from the one whose turn it is on
 abbrev pub first_owed : Playing → Option ℕ
@@ -44,29 +37,39 @@ abbrev pub IsFairTo : ℕ → Linked → Type 0
 IsFairTo player link =
     Tells link.node (λ limits me m. IfSome (sent_to player limits me m).1 IsFair)
 
--- a datagram to a player is made, or a probe
-abbrev pub SendsWhen : Bool → ℕ → Playing → Playing → Option (Address × List ℕ) → Type 0
-SendsWhen true player old new sent =
-    (address : Address) × (bytes : List ℕ) × ((place_to old player).address ≡ Some address)
+-- a datagram to a player is made
+abbrev pub SendsTo : ℕ → Playing → Playing → Option (Address × List ℕ) → Type 0
+SendsTo player old new sent =
+    (address : Address) × (bytes : List ℕ) × (address_to old player ≡ Some address)
     × (sent ≡ Some (address, bytes)) × IsFairTo player (linked old.link)
     × Gives (seal_of old.link) (pace_of old.link) player (linked old.link) (linked new.link) bytes
     × KeepsGame old.link new.link × (pace_of new.link ≡ pace_of old.link)
     × (new ≡ record old { link = new.link; owed = slice_set old.owed player false })
-SendsWhen false player old new sent =
-    (address : Address) × (bytes : List ℕ) × ((place_to old player).address ≡ Some address)
-    × (sent ≡ Some (address, bytes))
+
+-- where it may be, goes a probe
+abbrev pub candidate_of : Playing → ℕ → Option Candidate
+candidate_of p player = (place_of player p.places).candidate
+
+abbrev pub is_owed_probe : Playing → ℕ → Bool
+is_owed_probe p player =
+    is_none (ended_as p.progress) && (remains (linked p.link) player
+    && is_probe_due p.watch.looked (silence player p.watch.looked p.watch) (candidate_of p player))
+
+abbrev pub first_owed_probe : Playing → Option ℕ
+first_owed_probe p = position (is_owed_probe p) four
+
+-- it is made
+abbrev pub Probes : ℕ → Playing → Playing → Option (Address × List ℕ) → Type 0
+Probes player old new sent =
+    (c : Candidate) × (bytes : List ℕ) × (candidate_of old player ≡ Some c) × (sent ≡ Some (c.address, bytes))
     × (probe_for (seal_of old.link) (pace_of old.link) (linked old.link) player ≡ Some bytes)
     × IsBundle (probe (pace_of old.link) (linked old.link) player)
     × (linked new.link ≡ probed (linked old.link) player) × KeepsGame old.link new.link
     × (pace_of new.link ≡ pace_of old.link)
     × (new ≡ record old {
       link = new.link;
-      owed = slice_set old.owed player false;
-      places = probed_at player old.watch.looked old.places;
+      places = probed_at player old.watch.looked ((linked new.link).peers player).number old.places;
     })
-
-abbrev pub SendsTo : ℕ → Playing → Playing → Option (Address × List ℕ) → Type 0
-SendsTo player old new sent = SendsWhen (place_to old player).is_confirmed player old new sent
 
 -- one is to be told that it is given up
 abbrev pub is_owed_exclusion : Playing → ℕ → Bool
@@ -88,9 +91,14 @@ Excludes (Some player) old new sent =
       exclusions = slice_set old.exclusions player (record (exclusion_of old.exclusions player) { to = None });
     })
 
--- that goes behind the datagrams that are owed
+-- that goes behind the probes
+abbrev pub ProbesFirst : Option ℕ → Playing → Playing → Option (Address × List ℕ) → Type 0
+ProbesFirst None old new sent = Excludes (first_owed_exclusion old) old new sent
+ProbesFirst (Some player) old new sent = Probes player old new sent
+
+-- these go behind the datagrams that are owed
 abbrev pub SendsFirst : Option ℕ → Playing → Playing → Option (Address × List ℕ) → Type 0
-SendsFirst None old new sent = Excludes (first_owed_exclusion old) old new sent
+SendsFirst None old new sent = ProbesFirst (first_owed_probe old) old new sent
 SendsFirst (Some player) old new sent = SendsTo player old new sent
 
 -- and what is passed on goes before them

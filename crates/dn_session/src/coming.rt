@@ -2,7 +2,7 @@
 
 ghost use Rattle.std.specs.Prelude.{◌≡◌};
 ghost use Rattle.dn_link.specs.{Linking.linked, Pacing.pace_of};
-ghost use Rattle.dn_session.specs.Coming.{heard_of, is_late_in, is_new_in, is_news_of, line_of, lines_in};
+ghost use Rattle.dn_session.specs.Coming.{echo_of, heard_of, is_answer_of, is_late_in, is_new_in, line_of, lines_in};
 
 use dn_link::{Figures, Link, Received};
 use dn_lockstep::Lockstep;
@@ -42,6 +42,13 @@ pub(crate) fn is_new_in(before: &Option<Figures>, after: &Option<Figures>) -> bo
     }
 }
 
+/// The newest echo of its player.
+pub(crate) fn echo_of(figures: &Option<Figures>) -> u32
+    ensures { result ≡ echo_of figures.now }
+{
+    figures.map_or(0, |figures| figures.echo)
+}
+
 /// Whether it is one of the last 64, and came for the first time or again.
 pub(crate) fn is_late_in(before: &Option<Figures>, after: &Option<Figures>) -> bool
     ensures { result ≡ is_late_in before.now after.now }
@@ -64,11 +71,11 @@ pub(crate) fn heard_of(received: &Received) -> Option<u8>
     }
 }
 
-/// Whether a new datagram of this player was heard.
-pub(crate) fn is_news_of(heard: Option<u8>, before: &Lines, after: &Lines, player: u8) -> bool
-    ensures { result ≡ is_news_of heard before.now after.now player }
+/// Whether a datagram of this player was heard that has a newer echo.
+pub(crate) fn is_answer_of(heard: Option<u8>, before: &Lines, after: &Lines, player: u8) -> bool
+    ensures { result ≡ is_answer_of heard before.now after.now player }
 {
     heard.is_some_and(|from| {
-        player == from && is_new_in(&line_of(before, from), &line_of(after, from))
+        player == from && echo_of(&line_of(before, from)) < echo_of(&line_of(after, from))
     })
 }

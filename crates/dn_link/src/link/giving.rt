@@ -48,7 +48,7 @@ impl Link {
             lead: line.own_lead,
             holes: line.missing(),
             cause,
-            counts: counts_of(self.lockstep()),
+            counts: counts_of(self.lockstep(), line.own_echo()),
             report,
             parts,
         };

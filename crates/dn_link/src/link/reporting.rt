@@ -4,7 +4,7 @@
 use super::Link;
 use crate::bundle::{Bundle, Part};
 use crate::counting::counts_of;
-use crate::ends::{EXCLUDES, told_cause};
+use crate::ends::{EXCLUDES, PROBE};
 use crate::room::parts_room;
 use crate::writing::seal_bundle;
 use arrayvec::ArrayVec;
@@ -64,7 +64,7 @@ impl Link {
             lead: 0,
             holes: 0,
             cause: EXCLUDES,
-            counts: counts_of(self.lockstep()),
+            counts: counts_of(self.lockstep(), 0),
             report: ArrayVec::new(),
             parts: ArrayVec::new(),
         }
@@ -87,14 +87,15 @@ impl Link {
         requires few { to < 4 }
         ensures is { result ≡ probe (pace_of self.now) (linked self.now) to }
         ensures from { result.from ≡ (linked self.now).node.me }
-        ensures cause { result.cause ≤ 4 }
+        ensures cause { result.cause ≤ 5 }
     {
         let line = self.pace.line(to);
         Bundle {
             number: self.peer(to).number,
             lead: line.own_lead,
             holes: line.missing(),
-            cause: told_cause(self.lockstep().phase()),
+            cause: PROBE,
+            counts: counts_of(self.lockstep(), line.own_echo()),
             ..self.exclusion(to)
         }
     }
@@ -110,8 +111,8 @@ impl Link {
         let _ = self.peers[to as usize].next_number();
     }
 
-    /// What goes to where a peer may be, before it is known to be there: how far this player is, and no packets. It
-    /// has 62 bytes. None to a number that is no peer's, nor to one who is given up.
+    /// What goes to where a peer may be, before it has shown that it receives there: how far this player is, and no
+    /// packets. It has 62 bytes, and its cause is [`PROBE`]. None to a number that is no peer's, nor to one who is given up.
     pub fn probe(&mut self, to: u8) -> Option<ArrayVec<u8, 1200>>
         ensures sealed { option_map (λ bytes. bytes.items) result
             ≡ probe_for (seal_of self.old) (pace_of self.old) (linked self.old) to }

@@ -21,6 +21,19 @@ impl Link {
         }
     }
 
+    /// The number of the next datagram to a peer: what the peer echoes once the one before has come. None for a
+    /// number that is no peer's.
+    pub fn next_number(&self, player: u8) -> Option<u32>
+        ensures { result ≡ (if is_peer (linked self.now).node player
+            then Some ((linked self.now).peers player).number else None) }
+    {
+        if self.is_peer(player) {
+            Some(self.peer(player).number)
+        } else {
+            None
+        }
+    }
+
     /// How often bytes came that were no datagram: of another game, damaged, forged.
     pub fn refused(&self) -> u32
         ensures { result ≡ (pace_of self.now).refused }

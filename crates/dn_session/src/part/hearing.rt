@@ -9,7 +9,9 @@ ghost use Rattle.dn_session.specs.Playing.{is_alive, known_by, told_at, excluder
 ghost use Rattle.dn_session.specs.{Coming.counts_in, Coming.has_more, Passing.next_hop, Passing.passed_on, Passing.sent_of};
 
 use super::{Exclusion, Part, Transmit, copied, keep};
-use crate::coming::{Lines, heard_of, is_late_in, is_new_in, is_news_of, line_of, lines_of};
+use crate::coming::{
+    Lines, echo_of, heard_of, is_answer_of, is_late_in, is_new_in, line_of, lines_of,
+};
 use crate::greeting::Address;
 use crate::places::is_since;
 use crate::players::{count_in, is_gone_from};
@@ -56,7 +58,7 @@ fn known_by(link: &Link) -> Known
 fn is_alive(received: &Received, before: &Known, after: &Known, player: u8) -> bool
     ensures { result ≡ is_alive received.now before.now after.now player }
 {
-    is_news_of(heard_of(received), &before.lines, &after.lines, player)
+    is_answer_of(heard_of(received), &before.lines, &after.lines, player)
         || has_more(&before.counts, &after.counts, player)
 }
 
@@ -116,7 +118,8 @@ impl Part {
                 line_of(&after.lines, player),
             );
             let (is_new, is_late) = (is_new_in(&old, &new), is_late_in(&old, &new));
-            self.places.hear(player, from, now, is_new, is_late);
+            self.places
+                .hear(player, from, now, is_new, is_late, echo_of(&new));
         }
     }
 
@@ -152,14 +155,13 @@ impl Part {
         ensures { result ≡ next_hop (linked (playing self.now).link) (playing self.now).places here.now from to }
     {
         let sender = self.places.place(from);
-        let receiver = self.places.place(to);
         if from == to || is_gone_from(&self.link, from) || !sender.is_at(here) {
             return None;
         }
-        if is_gone_from(&self.link, to) || !receiver.is_confirmed {
+        if is_gone_from(&self.link, to) {
             return None;
         }
-        receiver.address
+        self.places.place(to).address
     }
 
     /// What goes on as it came, if it is a datagram to another player.

@@ -1,7 +1,7 @@
 //! What goes out.
 
-ghost use Rattle.std.specs.{Prelude.◌≡◌, Prelude.◌<◌, Prelude.◌≤◌, Prelude.◌&&◌, Prelude.◌||◌, Prelude.IfSome, Prelude.is_some, Prelude.length, Prelude.true, Prelude.false, Prelude.Some, Prelude.position, Option.option_map, Option.option_or};
-ghost use Rattle.dn_session.specs.Sent.{first_owed, first_owed_exclusion, is_owed, is_owed_exclusion, is_probed, place_to, Excludes, SendsFirst, SendsNext, SendsTo, SendsWhen};
+ghost use Rattle.std.specs.{Prelude.◌≡◌, Prelude.◌<◌, Prelude.◌≤◌, Prelude.IfSome, Prelude.length, Prelude.true, Prelude.Some, Prelude.position, Option.option_map, Option.option_or};
+ghost use Rattle.dn_session.specs.Sent.{first_owed, first_owed_exclusion, first_owed_probe, is_owed, is_owed_exclusion, is_owed_probe, Excludes, Probes, ProbesFirst, SendsFirst, SendsNext, SendsTo};
 ghost use Rattle.dn_session.specs.{Passing.sent_of, Players.four, Playing.from_turn, Playing.playing};
 
 use super::Part;
@@ -40,15 +40,6 @@ pub(crate) fn keep(waiting: &mut Option<Transmit>, new: Option<Transmit>)
 }
 
 impl Part {
-    /// Whether it is known where a datagram to a player goes, and one may go there now.
-    fn is_open(&self, player: u8) -> bool
-        ensures { result ≡ (is_some (place_to (playing self.now) player).address
-            && ((place_to (playing self.now) player).is_confirmed || is_probed (playing self.now) player)) }
-    {
-        let place = self.place_to(player);
-        place.address.is_some() && (place.is_confirmed || self.is_probed(player))
-    }
-
     /// Whether a datagram is owed to a player. One whose game is over owes none.
     fn is_owed(&self, player: u8) -> bool
         requires { player < 4 }
@@ -57,7 +48,7 @@ impl Part {
         self.owed[player as usize]
             && self.ending().is_none()
             && !is_gone_from(&self.link, player)
-            && self.is_open(player)
+            && self.address_to(player).is_some()
     }
 
     /// How many places behind the one whose turn it is the first stands to whom a datagram is owed.
@@ -79,41 +70,49 @@ impl Part {
     }
 
     /// The datagram that is owed to a player.
-    fn send_whole(&mut self, player: u8) -> Option<Transmit>
-        requires few { player < 4 }
-        requires owed { is_owed (playing self.old) player ≡ true }
-        ensures { SendsWhen true player (playing self.old) (playing self.new) (option_map sent_of result) }
-    {
-        let to = self.place_to(player).address?;
-        self.owed[player as usize] = false;
-        let bytes = self.link.datagram(player)?;
-        Some(Transmit { to, bytes })
-    }
-
-    /// The probe that is sent in its place.
-    fn send_probe(&mut self, player: u8) -> Option<Transmit>
-        requires few { player < 4 }
-        requires owed { is_owed (playing self.old) player ≡ true }
-        ensures { SendsWhen false player (playing self.old) (playing self.new) (option_map sent_of result) }
-    {
-        let to = self.place_to(player).address?;
-        self.owed[player as usize] = false;
-        self.places.note_probe(player, self.watch.looked);
-        let bytes = self.link.probe(player)?;
-        Some(Transmit { to, bytes })
-    }
-
-    /// One or the other.
     fn send(&mut self, player: u8) -> Option<Transmit>
         requires few { player < 4 }
         requires owed { is_owed (playing self.old) player ≡ true }
         ensures { SendsTo player (playing self.old) (playing self.new) (option_map sent_of result) }
     {
-        if self.place_to(player).is_confirmed {
-            self.send_whole(player)
-        } else {
-            self.send_probe(player)
-        }
+        let to = self.address_to(player)?;
+        self.owed[player as usize] = false;
+        let bytes = self.link.datagram(player)?;
+        Some(Transmit { to, bytes })
+    }
+
+    /// Whether a probe is owed to where a player may be.
+    fn is_owed_probe(&self, player: u8) -> bool
+        requires { player < 4 }
+        ensures { result ≡ is_owed_probe (playing self.now) player }
+    {
+        self.ending().is_none() && !is_gone_from(&self.link, player) && self.is_probed(player)
+    }
+
+    /// The lowest who is.
+    fn first_owed_probe(&self) -> Option<usize>
+        ensures value { result ≡ first_owed_probe (playing self.now) }
+        ensures within { IfSome result (λ n. n < 4) }
+    {
+        [0, 1, 2, 3]
+            .iter()
+            .position(|player| self.is_owed_probe(*player))
+    }
+
+    /// The probe.
+    fn probe(&mut self, player: u8) -> Option<Transmit>
+        requires few { player < 4 }
+        requires owed { is_owed_probe (playing self.old) player ≡ true }
+        ensures { Probes player (playing self.old) (playing self.new) (option_map sent_of result) }
+    {
+        let candidate = self.places.place(player).candidate?;
+        let bytes = self.link.probe(player)?;
+        let echo = self.link.next_number(player)?;
+        self.places.note_probe(player, self.watch.looked, echo);
+        Some(Transmit {
+            to: candidate.address,
+            bytes,
+        })
     }
 
     /// Whether a player is to be told that it is given up.
@@ -158,6 +157,17 @@ impl Part {
         }
     }
 
+    /// A probe if one is owed, or what one is told who is given up.
+    fn probe_first(&mut self) -> Option<Transmit>
+        ensures { ProbesFirst (first_owed_probe (playing self.old)) (playing self.old) (playing self.new)
+            (option_map sent_of result) }
+    {
+        match self.first_owed_probe() {
+            Some(player) => self.probe(player as u8),
+            None => self.exclude(),
+        }
+    }
+
     /// What is owed, if anything is.
     fn send_first(&mut self) -> Option<Transmit>
         ensures { SendsFirst (first_owed (playing self.old)) (playing self.old) (playing self.new)
@@ -165,7 +175,7 @@ impl Part {
     {
         match self.first_owed() {
             Some(player) => self.send(player),
-            None => self.exclude(),
+            None => self.probe_first(),
         }
     }
 

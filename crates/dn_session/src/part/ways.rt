@@ -1,14 +1,11 @@
 //! By which way a datagram goes to a player: straight there, or through another.
 
 ghost use Rattle.std.specs.Prelude.{◌≡◌};
-ghost use Rattle.dn_session.specs.{Playing.playing, Sent.can_pass, Sent.is_near, Sent.is_probed, Sent.place_to, Sent.way_to};
+ghost use Rattle.dn_session.specs.{Playing.playing, Sent.address_to, Sent.can_pass, Sent.candidate_of, Sent.is_near, Places.is_probe_due, Sent.way_to, Watch.silence};
 
 use super::Part;
-use crate::places::{Place, is_since};
+use crate::greeting::Address;
 use crate::players::is_gone_from;
-
-/// For how many milliseconds a player that gives no sign of life is probed.
-const PROBED_FOR: u32 = 10_000;
 
 impl Part {
     /// Whether a player is near, by the last look.
@@ -36,19 +33,23 @@ impl Part {
         }
     }
 
-    /// Where that one is, as far as it is known.
-    pub(super) fn place_to(&self, player: u8) -> Place
-        ensures { result ≡ place_to (playing self.now) player }
+    /// Where that is, as far as it is known.
+    pub(super) fn address_to(&self, player: u8) -> Option<Address>
+        ensures { result ≡ address_to (playing self.now) player }
     {
-        self.places.place(self.way_to(player))
+        self.places.place(self.way_to(player)).address
     }
 
     /// Whether a probe is due to where a player may be.
     pub(super) fn is_probed(&self, player: u8) -> bool
-        ensures { result ≡ is_probed (playing self.now) player }
+        ensures { result ≡ is_probe_due (playing self.now).watch.looked
+            (silence player (playing self.now).watch.looked (playing self.now).watch) (candidate_of (playing self.now) player) }
     {
         let looked = self.watch.looked;
-        !is_since(1000, looked, self.places.place(player).probed)
-            && self.watch.silence(player, looked) < PROBED_FOR
+        let silence = self.watch.silence(player, looked);
+        match self.places.place(player).candidate {
+            Some(candidate) => candidate.is_probed(looked, silence),
+            None => false,
+        }
     }
 }

@@ -1,7 +1,7 @@
 use Rattle.std.proofs.Common.{rules, ◌≡◌, ◌<◌, ◌+◌, List, ◌%◌, ◌^◌, ℕ, length, get_or, w8, to_z, of_z, refl, ap, ◌∙◌, subst, arith}
 use Rattle.std.specs.Prelude.{IfSome}
 use Rattle.dn_survivor.specs.{ReportBytes.IsReport, Surviving.Surviving}
-use Rattle.dn_link.specs.{Linked.{report_beside, written, PeerState}, declared.{bundle.Part.Part, line.Line.Line}, Counting.counts_of, Ends.told_cause, Hearing.SendsCarried, Line.missing}
+use Rattle.dn_link.specs.{Linked.{report_beside, written, PeerState}, declared.{bundle.Part.Part, line.Line.Line}, Counting.counts_of, Ends.told_cause, Hearing.SendsCarried, Line.{missing, own_echo}}
 use Rattle.dn_link.specs.{Kept.{going, kept_after, taken_by}, Linking.{linked, peers_of, state_of}, Packing.ArePacked}
 use Rattle.dn_machine.specs.Node.{put}
 use Rattle.dn_lockstep.specs.Contents.{Contents, contents}
@@ -53,7 +53,8 @@ returns-clause-gives c =
       holes = c.missing.ensures ∙ ap missing c.line-line.ensures;
       cause = c.told_cause-cause.ensures ∙ ap told_cause
           (c.phase.ensures ∙ ap (λ (n : Contents). n.phase) c.lockstep.ensures);
-      counts = c.counts_of.ensures ∙ ap counts_of c.lockstep-2.ensures;
+      counts = c.counts_of.ensures ∙ (λ i. counts_of (c.lockstep-2.ensures i)
+          ((c.own_echo.ensures ∙ ap own_echo c.line-line.ensures) i));
       report = subst (λ (parts : List Part). c.report_beside-report.result.items ≡ written (report_beside now c.args.to parts))
           c.as_slice-2.ensures.value c.report_beside-report.ensures.bytes;
       proper = subst (λ (parts : List Part). IfSome (report_beside now c.args.to parts) IsReport)

@@ -1,4 +1,4 @@
-use Rattle.std.proofs.Common.{◌≡◌, subst, ◌∙◌, Option, ℕ}
+use Rattle.std.proofs.Common.{subst, ◌∙◌, Option, ℕ}
 use Rattle.dn_session.specs.{Lead.due, Playing.GivesUpNow, Playing.playing}
 use Rattle.dn_session.proofs.part.Part.give_up_due.Goals as goal
 

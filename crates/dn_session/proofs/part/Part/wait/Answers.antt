@@ -1,5 +1,4 @@
-use Rattle.std.proofs.Common.{◌≡◌, ap, subst, ◌∙◌, Bool}
-use Rattle.dn_link.specs.Linking.{linked}
+use Rattle.std.proofs.Common.{ap, subst, ◌∙◌, Bool}
 use Rattle.dn_session.specs.{Ending.waits, Playing.Playing, Playing.TicksWhen, Playing.playing, Ticks.is_due, declared.ending.Progress.Progress}
 use Rattle.dn_session.proofs.part.Part.wait.Goals as goal
 

@@ -1,5 +1,5 @@
 use Rattle.std.proofs.Common.{ap, ◌∙◌}
-use Rattle.dn_session.specs.{Coming.counts_in, declared.part.hearing.Known.Known}
+use Rattle.dn_session.specs.{Coming.counts_in}
 use Rattle.dn_session.proofs.part.hearing.known_by.Goals as goal
 
 pub returns : goal.returns

@@ -1,4 +1,4 @@
-use Rattle.std.proofs.Common.{◌≡◌, refl, subst, sym, ◌∙◌, Option, Some, None, Ok, true, false, Bool}
+use Rattle.std.proofs.Common.{◌≡◌, refl, subst, sym, ◌∙◌, Option, Some, None, Ok, true, false}
 use Rattle.std.specs.Prelude.{if◌then◌else◌, is_some}
 use Rattle.dn_session.specs.{Session.BeginsAs, Session.begins_now, Session.begun_in, Session.meeting, declared.side.Begun.Begun}
 use Rattle.dn_session.proofs.session.Session.begin.Goals as goal
