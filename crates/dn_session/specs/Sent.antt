@@ -3,6 +3,7 @@ use Rattle.std.specs.Prelude.{◌≡◌, ℕ, ◌==◌, ◌&&◌, Bool, not, fal
 use Rattle.dn_lockstep.specs.{Sent.IsFair, Sent.sent_to, Steps.Tells}
 use Rattle.dn_link.specs.{Linked.Gives, Linked.Linked, Linked.exclusion, Linked.exclusion_for, Linked.has_given_up, Linked.is_peer, Linked.probe, Linked.probe_for, Linked.probed, Linked.remains, Linking.linked, Linking.seal_of, Pacing.pace_of, Text.IsBundle}
 use Rattle.dn_session.specs.{Places.is_near_at, Places.place_of, Places.is_probe_due, Places.probed_at, Players.four, Playing.KeepsGame, Playing.Playing, Playing.ended_as, Playing.exclusion_of, Playing.from_turn}
+use Rattle.dn_link.specs.Pace.{after_giving}
 use Rattle.dn_session.specs.{Watch.silence, declared.greeting.Address.Address, declared.places.Candidate.Candidate}
 
 -- by the last look, a player is near
@@ -43,7 +44,7 @@ SendsTo player old new sent =
     (address : Address) × (bytes : List ℕ) × (address_to old player ≡ Some address)
     × (sent ≡ Some (address, bytes)) × IsFairTo player (linked old.link)
     × Gives (seal_of old.link) (pace_of old.link) player (linked old.link) (linked new.link) bytes
-    × KeepsGame old.link new.link × (pace_of new.link ≡ pace_of old.link)
+    × KeepsGame old.link new.link × (pace_of new.link ≡ after_giving (linked old.link) player (pace_of old.link))
     × (new ≡ record old { link = new.link; owed = slice_set old.owed player false })
 
 -- where it may be, goes a probe
