@@ -8,7 +8,6 @@ use Rattle.dn_lockstep.specs.Contents.{Contents, contents}
 use Rattle.dn_link.proofs.Places.{peer_at, peers_put}
 use Rattle.dn_link.specs.Pacing.{PaceState, is_brief, pace_of}
 use Rattle.dn_link.specs.Surviving.{HasTwoBehind}
-use Rattle.std.proofs.Common.{Bool, set}
 use Rattle.dn_link.proofs.link.Link.datagram.Goals as goal
 
 pub returns-clause-gives : goal.returns-clause-gives
@@ -65,7 +64,7 @@ returns-clause-gives c =
       cause = c.told_cause-cause.ensures ∙ ap told_cause
           (c.phase.ensures ∙ ap (λ (n : Contents). n.phase) c.lockstep.ensures);
       counts = c.counts_of.ensures ∙ (λ i. counts_of (c.lockstep-2.ensures i)
-          ((c.own_echo.ensures ∙ ap own_echo c.line-line.ensures) i));
+          ((c.own_echo.ensures ∙ ap own_echo same_line) i));
       report = subst (λ (parts : List Part). c.report_beside-report.result.items ≡ written (report_beside now c.args.to parts))
           c.as_slice-2.ensures.value c.report_beside-report.ensures.bytes;
       proper = subst (λ (parts : List Part). IfSome (report_beside now c.args.to parts) IsReport)
