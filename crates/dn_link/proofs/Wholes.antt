@@ -171,8 +171,8 @@ module _ (seal : Seal) (b : Bundle) (long : 8 ≤ length seal.game) (is : IsBund
 
   bundle_back : told_bundle (bundle_bytes seal b) ≡ Some b
   bundle_back =
-      let few : nat_lt 4 (slice_index (bundle_bytes seal b) 18) ≡ false =
-      ap (nat_lt 4) cause ∙ le-ltb 4 b.cause is.cause in
+      let few : nat_lt 5 (slice_index (bundle_bytes seal b) 18) ≡ false =
+      ap (nat_lt 5) cause ∙ le-ltb 5 b.cause is.cause in
       let short : nat_lt 397 (report_size (bundle_bytes seal b)) ≡ false =
       ap (nat_lt 397) size_back ∙ le-ltb 397 (length report) is.report in
       let parts : told_parts (drop (45 + report_size (bundle_bytes seal b)) (bundle_bytes seal b)) ≡ Some b.parts.items =
