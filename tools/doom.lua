@@ -28,8 +28,8 @@ local PROTOCOLS = { [PACKET] = seal, [LINK] = link }
 local SIZES = { [PACKET] = { 37, 141 }, [LINK] = { 62, 1200 } }
 -- behind the head of a link's datagram: where the number of a report's bytes stands, and these; the most of
 -- them, and the highest cause
-local REPORT_SIZE, REPORT, MAX_REPORT, MAX_CAUSE = 31, 33, 397, 4
-local CAUSES = { [0] = "plays", "quit", "full demo", "world differs", "has given up the receiver" }
+local REPORT_SIZE, REPORT, MAX_REPORT, MAX_CAUSE = 31, 33, 397, 5
+local CAUSES = { [0] = "plays", "quit", "full demo", "world differs", "has given up the receiver", "probe" }
 local NAME, VERSION = "zirmegat", 2 -- of greetings
 local CALL, SEATING, REFUSAL, HINT = 1, 2, 3, 4 -- their sorts
 local SORTS = { "call", "seating", "refusal", "hint" }
@@ -98,7 +98,7 @@ local l = {
     number = P.uint32("doom_link.number", "Number"),
     lead = P.int8("doom_link.lead", "Lead over the receiver"),
     holes = P.uint8("doom_link.holes", "Datagrams missing"),
-    cause = named("doom_link.cause", "Why its sender ended, or that it gave up the receiver", CAUSES),
+    cause = named("doom_link.cause", "Why its sender ended, that it gave up the receiver, or that this is a probe", CAUSES),
     made = P.uint32("doom_link.made", "Commands made"),
     echo = P.uint32("doom_link.echo", "Number after that of the newest datagram that came"),
     got = P.uint32("doom_link.got", "Commands that it has"),

@@ -45,7 +45,7 @@ FIELDS = (FAULTS + PACKET + COMMAND + FLAGS + BUTTONS + SETUP + EXACT + SEAL + L
           + ["doom_seal.tag", "doom_seal.game"])
 NAMES = ["doom." + name for name in ("flags", "ask", "start", "player", "count")]
 PROTOCOLS = {"packet": "DOOM_SEAL", "link": "DOOM_LINK", "greeting": "DOOM_GREETING"}
-CAUSES = ["plays", "quit", "full demo", "world differs", "has given up the receiver"]
+CAUSES = ["plays", "quit", "full demo", "world differs", "has given up the receiver", "probe"]
 REASONS = ["the cookie is not good", "no seat is to be had", "the game has begun", "another number of players",
            "another identity", "turned away"]
 SHOWN = {"dropped 1 short": "doom.short", "dropped 2 many": "doom.many", "dropped 3 length": "doom.length",

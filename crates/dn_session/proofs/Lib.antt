@@ -6,6 +6,7 @@ pub mod Passing
 pub mod Lobbies
 pub mod Numbers
 pub mod Going
+pub mod Probing
 pub mod Sending
 pub mod Readings
 pub mod Rests

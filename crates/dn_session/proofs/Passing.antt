@@ -29,7 +29,7 @@ opened_is bundle old new answer =
 
 -- what is for another player has the size of a datagram
 pub sized : (seal : Seal) (bytes : List ℕ) (old new : Linked) (answer : Received) → Receives seal bytes old new answer
-    → answer ≡ received.Unopened fault.Receiver → (12 ≤ length bytes) × (length bytes ≤ 1200)
+    → answer ≡ received.Unopened fault.Receiver → (19 ≤ length bytes) × (length bytes ≤ 1200)
 sized seal bytes old new answer (opened, read, took) is =
     let long = go opened read took in
     (omega (arith, long.0), long.1)

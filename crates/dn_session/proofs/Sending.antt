@@ -101,7 +101,7 @@ module _ (marking : Marking) (limits : Limits) (settings : Settings) (seal : Sea
 
     probes : (player : ℕ) → Probes player (parts p) new sent → Sends
     probes player is =
-        sends_empty (remains (links p) player) (probe (pace_of (parts p).link) (links p) player) is.0.address is.1 is.4 is.5
+        sends_empty (remains (links p) player) (probe (pace_of (parts p).link) (links p) player) is.0 is.1 is.4 is.5
         refl refl is.3
         (silently marking limits settings seal session parts p are few new
         (with_survivor session p (surviving_of (linked new.link))) is.7

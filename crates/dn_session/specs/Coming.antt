@@ -2,7 +2,7 @@
 use Rattle.std.specs.Prelude.{ℕ, ◌==◌, ◌&&◌, ◌||◌, Bool, not, false, nat_lt, if◌then◌else◌, List, map, Option, Some, None, slice_index_or}
 use Rattle.dn_link.specs.{Linked.Linked, Linked.figures_of, Linked.is_peer, Pacing.PaceState, declared.received.Received.Received, declared.received.Received.TheVariants.Heard, declared.tally.Figures.Figures}
 use Rattle.dn_lockstep.specs.{Contents.Contents}
-use Rattle.dn_session.specs.{Players.count_in, Players.four}
+use Rattle.dn_session.specs.{Players.count_in, Players.four, declared.places.News.News}
 
 -- what a link reports of the line of a player
 abbrev pub figures_in : Linked → PaceState → ℕ → Option Figures
@@ -16,20 +16,23 @@ lines_in link pace = map (figures_in link pace) four
 abbrev pub line_of : List (Option Figures) → ℕ → Option Figures
 line_of lines player = slice_index_or lines player None
 
--- no datagram that was sent later had come: one more came, and none of those that were missing
-abbrev pub is_new_in : (before after : Option Figures) → Bool
-is_new_in (Some before) (Some after) = nat_lt before.came after.came && not (nat_lt after.lost before.lost)
-is_new_in before after = false
-
 -- the newest echo of its player
 abbrev pub echo_of : Option Figures → ℕ
 echo_of None = 0
 echo_of (Some figures) = figures.echo
 
 -- it is one of the last 64, and came for the first time or again
-abbrev pub is_late_in : (before after : Option Figures) → Bool
-is_late_in (Some before) (Some after) = nat_lt before.came after.came || nat_lt before.repeated after.repeated
-is_late_in before after = false
+abbrev pub is_recent_in : (before after : Option Figures) → Bool
+is_recent_in (Some before) (Some after) = nat_lt before.came after.came || nat_lt before.repeated after.repeated
+is_recent_in before after = false
+
+abbrev pub news_of : (before after : Option Figures) → News
+news_of before after =
+    record {
+      is_recent = is_recent_in before after;
+      is_answer = nat_lt (echo_of before) (echo_of after);
+      echo = echo_of after;
+    }
 
 -- whose datagram was heard
 abbrev pub heard_of : Received → Option ℕ
@@ -40,7 +43,7 @@ heard_of received = None
 abbrev pub is_answer_of : Option ℕ → (before after : List (Option Figures)) → ℕ → Bool
 is_answer_of None before after player = false
 is_answer_of (Some from) before after player =
-    (player == from) && nat_lt (echo_of (line_of before from)) (echo_of (line_of after from))
+    (player == from) && (news_of (line_of before from) (line_of after from)).is_answer
 
 -- how many commands of each player are there
 abbrev pub counts_in : Contents → List ℕ

@@ -1,6 +1,5 @@
 -- The number of a session, the cookies of a host, and the number of its game.
-use Rattle.std.specs.Prelude.{ℕ, ◌+◌, ◌&&◌, ◌++◌, Bool, false, nat_le, List, take, codes, Option, Some, None}
-use Rattle.std.specs.{List.concat, Int.w32, Int.to_le_bytes, Int.from_le_bytes, Str.bytes_eq}
+use Rattle.std.specs.{Prelude.{ℕ, ◌+◌, ◌&&◌, ◌++◌, Bool, false, nat_le, List, take, codes, Option, Some, None}, List.concat, Int.w32, Int.to_le_bytes, Int.from_le_bytes, Str.bytes_eq}
 use Rattle.dn_seal.specs.Hmac.{hmac, tag_of}
 use Rattle.dn_session.specs.{Terms.terms_bytes, declared.greeting.Address.Address, declared.terms.Terms.Terms}
 

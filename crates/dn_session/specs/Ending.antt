@@ -1,10 +1,8 @@
 -- How a game ends for a player, whom it gives up under a policy, and how it leaves.
-use Rattle.std.specs.Prelude.{ℕ, ◌-◌, ◌*◌, ◌==◌, ◌&&◌, ◌||◌, Bool, false, nat_le, if◌then◌else◌, Option, Some, None}
-use Rattle.std.specs.{List.list_all, Option.option_map, Option.option_or}
+use Rattle.std.specs.{Prelude.{ℕ, ◌-◌, ◌*◌, ◌==◌, ◌&&◌, ◌||◌, Bool, false, nat_le, if◌then◌else◌, Option, Some, None}, List.list_all, Option.option_map, Option.option_or}
 use Rattle.dn_machine.specs.declared.answers.Phase.{Phase}
 use Rattle.dn_link.specs.Linked.{Linked, needs_nothing}
-use Rattle.dn_session.specs.{Cookies.is_one, Lead.highest, Lead.is_given_up, Lead.is_late, Lead.is_open, Lead.is_there, Lead.lead, Players.four, Players.has_gone, Players.is_abandoned}
-use Rattle.dn_session.specs.declared.{ending.Ending.Ending, ending.Progress.Progress, lead.View.View, terms.Policy.Policy}
+use Rattle.dn_session.specs.{Cookies.is_one, Lead.highest, Lead.is_given_up, Lead.is_late, Lead.is_open, Lead.is_there, Lead.lead, Players.four, Players.has_gone, Players.is_abandoned, declared.{ending.Ending.Ending, ending.Progress.Progress, lead.View.View, terms.Policy.Policy}}
 use Rattle.dn_machine.specs.declared.answers.Cause.TheVariants as cause
 use Rattle.dn_machine.specs.declared.answers.Phase.TheVariants as phase
 use Rattle.dn_session.specs.declared.ending.Ending.TheVariants as ending

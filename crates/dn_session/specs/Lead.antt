@@ -1,9 +1,7 @@
 -- Whom a player gives up. One leads, and gives up whom it waits for too long; the others follow it, and of themselves
 -- give up nobody but the one that leads.
-use Rattle.std.specs.Prelude.{ℕ, ◌+◌, ◌-◌, ◌*◌, ◌==◌, ◌&&◌, ◌||◌, Bool, not, true, false, nat_le, if◌then◌else◌, [], ◌∷◌, position, slice_index_or, Option, Some, None}
-use Rattle.std.specs.{List.list_any, Option.option_map, Option.option_or}
-use Rattle.dn_session.specs.{Cookies.fresh_for, declared.lead.Seen.Seen, declared.lead.Standing.Standing, declared.lead.View.View}
-use Rattle.dn_session.specs.declared.lead.Standing.TheVariants.{Closed, Gone, Open}
+use Rattle.std.specs.{Prelude.{ℕ, ◌+◌, ◌-◌, ◌*◌, ◌==◌, ◌&&◌, ◌||◌, Bool, not, true, false, nat_le, if◌then◌else◌, [], ◌∷◌, position, slice_index_or, Option, Some, None}, List.list_any, Option.option_map, Option.option_or}
+use Rattle.dn_session.specs.{Cookies.fresh_for, declared.lead.Seen.Seen, declared.lead.Standing.Standing, declared.lead.View.View, declared.lead.Standing.TheVariants.{Closed, Gone, Open}}
 
 -- of whom nothing is known there is no player
 abbrev pub nobody : Seen

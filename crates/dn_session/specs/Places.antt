@@ -1,7 +1,6 @@
 -- Where the players are.
-use Rattle.std.specs.Prelude.{ℕ, ◌+◌, ◌==◌, ◌&&◌, ◌||◌, Bool, not, true, false, nat_lt, if◌then◌else◌, List, ◌∷◌, map, replicate, slice_index_or, slice_set, take, Option, Some, None, is_none, is_some}
-use Rattle.std.specs.{List.list_any, Option.option_map, Str.bytes_eq}
-use Rattle.dn_session.specs.{Players.four, declared.{greeting.Address.Address, places.{Candidate.Candidate, Place.Place, Places.Places}}}
+use Rattle.std.specs.{Prelude.{ℕ, ◌+◌, ◌==◌, ◌&&◌, ◌||◌, Bool, not, true, false, nat_lt, if◌then◌else◌, List, [], ◌∷◌, find, map, replicate, slice_index_or, slice_set, take, Option, Some, None, is_none, is_some}, List.list_any, Option.option_map, Str.bytes_eq}
+use Rattle.dn_session.specs.{Players.four, declared.{greeting.Address.Address, places.{News.News, Place.Place, Places.Places, Probe.Probe, Spot.Spot}}}
 
 -- something was done less than so many milliseconds ago, if it was
 abbrev pub is_since : ℕ → ℕ → Option ℕ → Bool
@@ -13,64 +12,65 @@ abbrev pub is_this : Address → Option Address → Bool
 is_this from None = false
 is_this from (Some address) = bytes_eq address.bytes from.bytes
 
--- where the player may be, if it may be elsewhere than where it receives
-abbrev pub candidate_at : Place → Option Address
-candidate_at place = option_map (λ c. c.address) place.candidate
+abbrev pub spot_at : Option Spot → Option Address
+spot_at spot = option_map (λ s. s.address) spot
 
--- the player receives at this address, or may be there
-abbrev pub is_at : Address → Place → Bool
-is_at from place = is_this from place.address || is_this from (candidate_at place)
+-- a player may be there from now on: told by the roster, or found because a datagram came from there
+abbrev pub new_spot : (is_found : Bool) → ℕ → Address → Spot
+new_spot is_found now address = record { address = address; since = now; is_due = is_found; probed = None }
 
--- where a player may be from now on: told by the roster, or found because a datagram came from there
-abbrev pub new_candidate : (is_told : Bool) → ℕ → Address → Candidate
-new_candidate is_told now address =
-    record {
-      address = address;
-      since = now;
-      is_told = is_told;
-      is_due = not is_told;
-      probed = None;
-      echoes = replicate 8 0;
-    }
+-- one of the last eight probes went there
+abbrev pub was_probed : Address → Place → Bool
+was_probed from place = list_any (λ p. is_this from p.to) place.probes
 
--- a datagram came from there: a probe is due
-abbrev pub asked : Candidate → Candidate
-asked c = record c { is_due = true }
+-- a player may be elsewhere, where a datagram came from: it was not heard for a second where it receives; and if there
+-- is a candidate already, that has not answered for a second either. One that is still probed does not give way to an
+-- address that was probed before
+abbrev pub may_move : Address → ℕ → Place → Bool
+may_move from now place =
+    not (is_since 1000 now (Some place.heard)) && elim place.candidate [
+      | None ↦ true
+      | Some c ↦ not (is_since 1000 now (Some c.since)) && not (is_since 1000 now c.probed && was_probed from place)
+    ]
 
--- a player may have moved: a new datagram came from elsewhere, and none of the last ones from where it is for a second;
--- or one of the last, and where it may be the player has not shown that it receives, for a second
-abbrev pub may_move : ℕ → (is_new is_recent : Bool) → Place → Bool
-may_move now is_new is_recent place = elim place.candidate [
-  | None ↦ is_new && not (is_since 1000 now (Some place.heard))
-  | Some c ↦ is_recent && not (is_since 1000 now (Some c.since))
-]
+-- one of its last datagrams came from there: a probe is due
+abbrev pub sought_at : Address → ℕ → Place → Place
+sought_at from now place =
+    if is_this from (spot_at place.told)
+    then record place { told = option_map (λ (s : Spot). record s { is_due = true }) place.told }
+    else (if is_this from (spot_at place.candidate)
+    then record place { candidate = option_map (λ (s : Spot). record s { is_due = true }) place.candidate }
+    else (if may_move from now place then record place { candidate = Some (new_spot true now from) } else place))
 
--- a datagram of the player came from this address. Any of the last ones shows that the player is still where it is, or
--- may be, also one that came before
-abbrev pub heard_from : Address → ℕ → (is_new is_recent : Bool) → Place → Place
-heard_from from now is_new is_recent place =
+-- a datagram of the player came from this address. A newer echo shows that the player still receives where it did; from
+-- elsewhere one of its last ones shows where it may be
+abbrev pub heard_from : Address → ℕ → News → Place → Place
+heard_from from now news place =
     if is_this from place.address
-    then (if is_recent then record place { heard = now; candidate = None } else place)
-    else (if is_this from (candidate_at place)
-    then (if is_recent
-    then record place { heard = now; candidate = option_map asked place.candidate } else place)
-    else (if may_move now is_new is_recent place
-    then record place { heard = now; candidate = Some (new_candidate false now from) } else place))
+    then (if news.is_answer then record place { heard = now; candidate = None } else place)
+    else (if news.is_recent then sought_at from now place else place)
 
--- the player echoes a probe that was sent to where it may be: it receives there
-abbrev pub answered : ℕ → Place → Place
-answered echo place = elim place.candidate [
+-- a newer echo is that of one of the last eight probes: the player receives where that went
+abbrev pub is_echoed : News → Probe → Bool
+is_echoed news p = news.is_answer && (is_some p.to && p.echo == news.echo)
+
+abbrev pub answered : ℕ → News → Place → Place
+answered now news place = elim (find (is_echoed news) place.probes) [
   | None ↦ place
-  | Some c ↦ if nat_lt 0 echo && list_any (λ probe. probe == echo) c.echoes
-      then record place { address = Some c.address; candidate = None }
-      else place
+  | Some p ↦ record place { address = p.to; heard = now; told = None; candidate = None }
 ]
 
 -- an address at which the player receives, as the lobby showed, or which the roster tells
 abbrev pub new_place : (is_shown : Bool) → ℕ → Option Address → Place
-new_place true now address = record { address = address; heard = now; passed = None; candidate = None }
-new_place false now address =
-    record { address = None; heard = now; passed = None; candidate = option_map (new_candidate true now) address }
+new_place is_shown now address =
+    record {
+      address = if is_shown then address else None;
+      heard = now;
+      passed = None;
+      told = if is_shown then None else option_map (new_spot false now) address;
+      candidate = None;
+      probes = replicate 8 (record { echo = 0; to = None });
+    }
 
 -- the host has number 0, and those in the seats theirs. The lobby showed a joiner that its host receives, and the host,
 -- which calls no host, that all do
@@ -82,10 +82,10 @@ places_of host seats now =
 abbrev pub place_of : ℕ → Places → Place
 place_of player places = slice_index_or places.at player (new_place false 0 None)
 
--- another player is known to be at this address
+-- another player than this one receives at this address
 abbrev pub is_anothers : ℕ → Address → Places → Bool
 is_anothers player from places =
-    list_any (λ other. not (other == player) && is_at from (place_of other places)) four
+    list_any (λ other. not (other == player) && is_this from (place_of other places).address) four
 
 -- one of the last datagrams that another passed on says that its sender may not hear this player. That is noted, but
 -- not within two seconds again: it holds for one, so two who hear each other again do not keep each other at it
@@ -96,33 +96,75 @@ passed_by now is_recent place =
 -- the player was heard where it receives in the second before, and no other passed a datagram of it on
 abbrev pub is_near_at : ℕ → Place → Bool
 is_near_at now place =
-    is_some place.address && (is_none place.candidate
-    && (is_since 1000 now (Some place.heard) && not (is_since 1000 now place.passed)))
+    is_some place.address && (is_since 1000 now (Some place.heard) && not (is_since 1000 now place.passed))
 
--- a datagram of a player came from this address, with an echo: from its own, through another, or from a new one
-abbrev pub heard_at : ℕ → Address → ℕ → (is_new is_recent : Bool) → ℕ → Places → Places
-heard_at player from now is_new is_recent echo places = record {
-  at = slice_set places.at player (answered echo
-      (if not (is_at from (place_of player places)) && is_anothers player from places
-      then passed_by now is_recent (place_of player places)
-      else heard_from from now is_new is_recent (place_of player places)));
+-- a datagram of a player came from this address: from its own, through another, or from where it may be
+abbrev pub heard_by : (is_passed : Bool) → Address → ℕ → News → Place → Place
+heard_by is_passed from now news place =
+    answered now news (if is_passed then passed_by now news.is_recent place else heard_from from now news place)
+
+abbrev pub heard_at : ℕ → Address → ℕ → News → Places → Places
+heard_at player from now news places = record {
+  at = slice_set places.at player
+      (heard_by (not (is_this from (place_of player places).address) && is_anothers player from places)
+      from now news (place_of player places));
 }
 
--- where a player may be who is not known to receive there, goes a probe for a datagram that came from there, four a
--- second at most; and where the roster tells that it is, one a second, until the player was silent for ten
-abbrev pub is_probe_due : (looked silence : ℕ) → Option Candidate → Bool
-is_probe_due looked silence None = false
-is_probe_due looked silence (Some c) =
-    (c.is_due && not (is_since 250 looked c.probed))
-    || (c.is_told && (not (is_since 1000 looked c.probed) && nat_lt silence 10000))
+-- a datagram came from there since the last probe, and that was sent 250 ms ago or more
+abbrev pub is_due_at : ℕ → Option Spot → Bool
+is_due_at looked None = false
+is_due_at looked (Some s) = s.is_due && not (is_since 250 looked s.probed)
 
--- a probe was sent to where a player may be, that is echoed so
-abbrev pub probed : ℕ → ℕ → Candidate → Candidate
-probed now echo c = record c { is_due = false; probed = Some now; echoes = take 8 (echo ∷ c.echoes) }
+-- where the roster tells that a player is, goes one a second besides, until the player was silent for ten
+abbrev pub is_told_due : (looked silence : ℕ) → Option Spot → Bool
+is_told_due looked silence None = false
+is_told_due looked silence (Some s) =
+    is_due_at looked (Some s) || (not (is_since 1000 looked s.probed) && nat_lt silence 10000)
 
-abbrev pub probed_at : ℕ → ℕ → ℕ → Places → Places
-probed_at player now echo places = record {
-  at = slice_set places.at player (record (place_of player places) {
-    candidate = option_map (probed now echo) (place_of player places).candidate;
-  });
-}
+-- where a probe is due, which goes nowhere else than to where a player may be, and has not shown that it receives
+abbrev pub probe_to : (looked silence : ℕ) → Place → Option Address
+probe_to looked silence place =
+    if is_told_due looked silence place.told
+    then spot_at place.told
+    else (if is_due_at looked place.candidate then spot_at place.candidate else None)
+
+-- a probe was sent there, that is echoed so
+abbrev pub probed : Address → ℕ → Spot → Spot
+probed to now s =
+    if is_this to (Some s.address) then record s { is_due = false; probed = Some now } else s
+
+abbrev pub after_probe : Address → ℕ → ℕ → Place → Place
+after_probe to now echo place =
+    record place {
+      told = option_map (probed to now) place.told;
+      candidate = option_map (probed to now) place.candidate;
+      probes = take 8 (record { echo = echo; to = Some to } ∷ place.probes);
+    }
+
+abbrev pub probed_at : ℕ → Address → ℕ → ℕ → Places → Places
+probed_at player to now echo places =
+    record { at = slice_set places.at player (after_probe to now echo (place_of player places)) }
+
+-- what happens to a place: a datagram of its player comes; or a look, at which a probe is sent if one is due
+pub data Happening : Type 0 where
+  Comes : (is_passed : Bool) → Address → ℕ → News → Happening
+  Looks : (looked silence echo : ℕ) → Happening
+
+abbrev pub happened : Happening → Place → Place
+happened (Comes is_passed from now news) place = heard_by is_passed from now news place
+happened (Looks looked silence echo) place = elim (probe_to looked silence place) [
+  | None ↦ place
+  | Some to ↦ after_probe to looked echo place
+]
+
+-- of all, those that come from an address; and how many probes go there
+abbrev pub comes_from : Address → Happening → Bool
+comes_from at (Comes is_passed from now news) = is_this at (Some from)
+comes_from at (Looks looked silence echo) = false
+
+abbrev pub probes_to : Address → Place → List Happening → ℕ
+probes_to at place [] = 0
+probes_to at place (Comes is_passed from now news ∷ rest) = probes_to at (heard_by is_passed from now news place) rest
+probes_to at place (Looks looked silence echo ∷ rest) =
+    (if is_this at (probe_to looked silence place) then 1 else 0)
+    + probes_to at (happened (Looks looked silence echo) place) rest

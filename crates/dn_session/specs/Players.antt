@@ -1,12 +1,10 @@
 -- What a player sees of the others in its game: by its link, and by how long it was silent there.
-use Rattle.std.specs.Prelude.{ℕ, ◌+◌, ◌==◌, ◌&&◌, ◌||◌, Bool, not, false, nat_le, nat_lt, if◌then◌else◌, List, [], ◌∷◌, map, slice_index_or, Option, Some, None}
-use Rattle.std.specs.List.{list_any, list_all}
+use Rattle.std.specs.{Prelude.{ℕ, ◌+◌, ◌==◌, ◌&&◌, ◌||◌, Bool, not, false, nat_le, nat_lt, if◌then◌else◌, List, [], ◌∷◌, map, slice_index_or, Option, Some, None}, List.{list_any, list_all}}
 use Rattle.dn_machine.specs.declared.answers.Phase.{Phase}
 use Rattle.dn_lockstep.specs.{Contents.Contents, Told.got, Told.made}
 use Rattle.dn_survivor.specs.Calls.{awaits_report_of}
 use Rattle.dn_link.specs.{Linked.Linked, Linked.end_known, Linked.has_given_up, Linked.remains, Linked.surviving_of, Surviving.reports_gone}
-use Rattle.dn_session.specs.{Cookies.is_one, Watch.silence, Watch.stalled, declared.lead.Seen.Seen, declared.lead.Standing.Standing, declared.lead.View.View, declared.watch.Watch.Watch}
-use Rattle.dn_session.specs.declared.lead.Standing.TheVariants.{Closed, Gone, Open}
+use Rattle.dn_session.specs.{Cookies.is_one, Watch.silence, Watch.stalled, declared.lead.Seen.Seen, declared.lead.Standing.Standing, declared.lead.View.View, declared.watch.Watch.Watch, declared.lead.Standing.TheVariants.{Closed, Gone, Open}}
 use Rattle.dn_machine.specs.declared.answers.Phase.TheVariants as phase
 
 abbrev pub four : List ℕ

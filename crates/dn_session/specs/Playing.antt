@@ -1,17 +1,13 @@
 -- A player's part in its game: what each call makes of it.
-use Rattle.std.specs.Prelude.{◌≡◌, ℕ, ℤ, ◌&&◌, ◌||◌, ◌+◌, ◌%◌, Bool, true, false, if◌then◌else◌, List, map, slice_index_or, slice_set, replicate, Option, Some, None}
-use Rattle.std.specs.Option.{option_map, option_or}
+use Rattle.std.specs.{Prelude.{◌≡◌, ℕ, ℤ, ◌&&◌, ◌||◌, ◌+◌, ◌%◌, Bool, true, false, if◌then◌else◌, List, map, slice_index_or, slice_set, replicate, Option, Some, None}, Option.{option_map, option_or}}
 use Rattle.dn_tic.specs.{declared.command.Move.Move, declared.input.Input.Input}
 use Rattle.dn_machine.specs.{Running.on_quit, Running.row_held, Sending.on_build, declared.answers.Made.Made, declared.answers.Ran.Ran}
 use Rattle.dn_lockstep.specs.Steps.{Steps, Tells}
 use Rattle.dn_survivor.specs.declared.answers.GivenUp.{GivenUp}
-use Rattle.dn_link.specs.{Linked.Receives, Linked.has_given_up, Linking.linked, Linking.seal_of, Pace.Paces, Pace.after_input, Pace.after_tick}
-use Rattle.dn_link.specs.{Pace.lean, Pace.still_owed, Pace.wants_second, Pacing.pace_of, Surviving.GivesUpPeer, Surviving.RunsBut, declared.link.Link.Link, declared.received.Received.Received}
+use Rattle.dn_link.specs.{Linked.Receives, Linked.has_given_up, Linking.linked, Linking.seal_of, Pace.Paces, Pace.after_input, Pace.after_tick, Pace.lean, Pace.still_owed, Pace.wants_second, Pacing.pace_of, Surviving.GivesUpPeer, Surviving.RunsBut, declared.link.Link.Link, declared.received.Received.Received}
 use Rattle.dn_link.specs.declared.received.Received.TheVariants as received
-use Rattle.dn_session.specs.Coming.{counts_in, echo_of, has_more, heard_of, is_answer_of, is_late_in, is_new_in, line_of, lines_in}
-use Rattle.dn_session.specs.{Ending.ended_by, Ending.ending_of, Ending.is_unneeded, Ending.may_give_up, Ending.patience, Ending.waits, Joining.has_come, Lead.due, Passing.passed_on, Passing.sent_of}
-use Rattle.dn_session.specs.{Places.heard_at, Places.is_since, Players.four, Players.has_row_behind, Players.is_any_awaited, Players.view_of, Ticks.half_taken, Ticks.is_due, Ticks.passed, Ticks.resumed}
-use Rattle.dn_session.specs.{Steady.after_tic, Steady.holds, Steady.ticked, declared.steady.Steady.Steady}
+use Rattle.dn_session.specs.{Coming.{counts_in, has_more, heard_of, is_answer_of, line_of, lines_in, news_of}, Ending.ended_by, Ending.ending_of, Ending.is_unneeded, Ending.may_give_up, Ending.patience, Ending.waits, Joining.has_come, Lead.due, Passing.passed_on, Passing.sent_of}
+use Rattle.dn_session.specs.{Places.heard_at, Places.is_since, Players.four, Players.has_row_behind, Players.is_any_awaited, Players.view_of, Ticks.half_taken, Ticks.is_due, Ticks.passed, Ticks.resumed, Steady.after_tic, Steady.holds, Steady.ticked, declared.steady.Steady.Steady}
 use Rattle.dn_session.specs.{Watch.looked_at, declared.ending.Ending.Ending, declared.ending.Progress.Progress, declared.greeting.Address.Address, declared.lead.View.View}
 use Rattle.dn_session.specs.declared.{part.Exclusion.Exclusion, part.Part.Part, part.hearing.Known.Known, places.Places.Places, terms.Policy.Policy, ticks.Ticks.Ticks, watch.Watch.Watch}
 use Rattle.dn_machine.specs.declared.answers.Ran.TheVariants as answer
@@ -97,8 +93,7 @@ watch_after received before after now watch =
 abbrev pub place_after : Option ℕ → Address → ℕ → (before after : Known) → Places → Places
 place_after None from now before after places = places
 place_after (Some player) from now before after places =
-    heard_at player from now (is_new_in (line_of before.lines player) (line_of after.lines player))
-    (is_late_in (line_of before.lines player) (line_of after.lines player)) (echo_of (line_of after.lines player)) places
+    heard_at player from now (news_of (line_of before.lines player) (line_of after.lines player)) places
 
 -- who has told that it has given up this player
 abbrev pub excluders_by : Received → List Bool → List Bool

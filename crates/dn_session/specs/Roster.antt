@@ -1,7 +1,6 @@
 -- Which session plays which place of which game.
 use Rattle.std.specs.Prelude.{◌≡◌, ℕ, ◌-◌, ◌==◌, true, if◌then◌else◌, List, length, replicate, slice_index_or, Option, Some, None, IfSome}
-use Rattle.dn_session.specs.{Cookies.game_of, Cookies.game_text, Hosting.IsLobby, Hosting.Lobby, Hosting.lobby, Hosting.roster, Joining.Joining, Joining.is_own, Joining.joining, Joining.roster_in}
-use Rattle.dn_session.specs.{Text.IsSeating, declared.greeting.Seating.Seating, declared.joiner.Stage.Stage, declared.side.Side.Side, declared.terms.Terms.Terms}
+use Rattle.dn_session.specs.{Cookies.game_of, Cookies.game_text, Hosting.IsLobby, Hosting.Lobby, Hosting.lobby, Hosting.roster, Joining.Joining, Joining.is_own, Joining.joining, Joining.roster_in, Text.IsSeating, declared.greeting.Seating.Seating, declared.joiner.Stage.Stage, declared.side.Side.Side, declared.terms.Terms.Terms}
 use Rattle.dn_session.specs.declared.joiner.Stage.TheVariants as stage
 use Rattle.dn_session.specs.declared.side.Side.TheVariants as side
 

@@ -1,6 +1,5 @@
 -- The seats 1 to 3, as the host keeps them.
-use Rattle.std.specs.Prelude.{ℕ, ◌&&◌, ◌||◌, Bool, not, true, false, max, nat_le, nat_lt, if◌then◌else◌, List, position, replicate, slice_index_or, Option, Some, None, ◌-◌}
-use Rattle.std.specs.{Option.option_or, Str.bytes_eq}
+use Rattle.std.specs.{Prelude.{ℕ, ◌&&◌, ◌||◌, Bool, not, true, false, max, nat_le, nat_lt, if◌then◌else◌, List, position, replicate, slice_index_or, Option, Some, None, ◌-◌}, Option.option_or, Str.bytes_eq}
 use Rattle.dn_session.specs.{Cookies.is_recent, declared.greeting.Address.Address, declared.greeting.Call.Call, declared.greeting.Shown.Shown, declared.seats.Held.Held, declared.seats.Seat.Seat}
 use Rattle.dn_session.specs.declared.seats.Seat.TheVariants as seat
 

@@ -1,10 +1,8 @@
 -- What a player's part sends, and where to.
 use Rattle.std.specs.Prelude.{◌≡◌, ℕ, ◌==◌, ◌&&◌, Bool, not, false, if◌then◌else◌, List, option_map, position, slice_index_or, slice_set, Option, Some, None, IfSome, is_none, is_some}
 use Rattle.dn_lockstep.specs.{Sent.IsFair, Sent.sent_to, Steps.Tells}
-use Rattle.dn_link.specs.{Linked.Gives, Linked.Linked, Linked.exclusion, Linked.exclusion_for, Linked.has_given_up, Linked.is_peer, Linked.probe, Linked.probe_for, Linked.probed, Linked.remains, Linking.linked, Linking.seal_of, Pacing.pace_of, Text.IsBundle}
-use Rattle.dn_session.specs.{Places.is_near_at, Places.place_of, Places.is_probe_due, Places.probed_at, Players.four, Playing.KeepsGame, Playing.Playing, Playing.ended_as, Playing.exclusion_of, Playing.from_turn}
-use Rattle.dn_link.specs.Pace.{after_giving}
-use Rattle.dn_session.specs.{Watch.silence, declared.greeting.Address.Address, declared.places.Candidate.Candidate}
+use Rattle.dn_link.specs.{Linked.Gives, Linked.Linked, Linked.exclusion, Linked.exclusion_for, Linked.has_given_up, Linked.is_peer, Linked.probe, Linked.probe_for, Linked.probed, Linked.remains, Linking.linked, Linking.seal_of, Pace.after_giving, Pacing.pace_of, Text.IsBundle}
+use Rattle.dn_session.specs.{Places.is_near_at, Places.place_of, Places.probe_to, Places.probed_at, Players.four, Playing.KeepsGame, Playing.Playing, Playing.ended_as, Playing.exclusion_of, Playing.from_turn, Watch.silence, declared.greeting.Address.Address}
 
 -- by the last look, a player is near
 abbrev pub is_near : Playing → ℕ → Bool
@@ -47,14 +45,14 @@ SendsTo player old new sent =
     × KeepsGame old.link new.link × (pace_of new.link ≡ after_giving (linked old.link) player (pace_of old.link))
     × (new ≡ record old { link = new.link; owed = slice_set old.owed player false })
 
--- where it may be, goes a probe
-abbrev pub candidate_of : Playing → ℕ → Option Candidate
-candidate_of p player = (place_of player p.places).candidate
+-- where a player may be, goes a probe, by the last look
+abbrev pub probe_of : Playing → ℕ → Option Address
+probe_of p player =
+    probe_to p.watch.looked (silence player p.watch.looked p.watch) (place_of player p.places)
 
 abbrev pub is_owed_probe : Playing → ℕ → Bool
 is_owed_probe p player =
-    is_none (ended_as p.progress) && (remains (linked p.link) player
-    && is_probe_due p.watch.looked (silence player p.watch.looked p.watch) (candidate_of p player))
+    is_none (ended_as p.progress) && (remains (linked p.link) player && is_some (probe_of p player))
 
 abbrev pub first_owed_probe : Playing → Option ℕ
 first_owed_probe p = position (is_owed_probe p) four
@@ -62,14 +60,14 @@ first_owed_probe p = position (is_owed_probe p) four
 -- it is made
 abbrev pub Probes : ℕ → Playing → Playing → Option (Address × List ℕ) → Type 0
 Probes player old new sent =
-    (c : Candidate) × (bytes : List ℕ) × (candidate_of old player ≡ Some c) × (sent ≡ Some (c.address, bytes))
+    (to : Address) × (bytes : List ℕ) × (probe_of old player ≡ Some to) × (sent ≡ Some (to, bytes))
     × (probe_for (seal_of old.link) (pace_of old.link) (linked old.link) player ≡ Some bytes)
     × IsBundle (probe (pace_of old.link) (linked old.link) player)
     × (linked new.link ≡ probed (linked old.link) player) × KeepsGame old.link new.link
     × (pace_of new.link ≡ pace_of old.link)
     × (new ≡ record old {
       link = new.link;
-      places = probed_at player old.watch.looked ((linked new.link).peers player).number old.places;
+      places = probed_at player to old.watch.looked ((linked new.link).peers player).number old.places;
     })
 
 -- one is to be told that it is given up

@@ -1,7 +1,6 @@
 -- The sorts of greetings that have a tag.
 use Rattle.std.specs.Prelude.{ℕ, List}
-use Rattle.dn_session.specs.Text.{IsCall, IsRefused, IsSeating, call_rest, refused_rest, seating_rest}
-use Rattle.dn_session.specs.declared.{greeting.Call.Call, greeting.Refused.Refused, greeting.Seating.Seating}
+use Rattle.dn_session.specs.{Text.{IsCall, IsRefused, IsSeating, call_rest, refused_rest, seating_rest}, declared.{greeting.Call.Call, greeting.Refused.Refused, greeting.Seating.Seating}}
 
 -- a sort: the number in the head, how many bytes a greeting has (twelve of the head, its rest, 16 of the tag),
 -- whether its fields fit, and the bytes of its rest

@@ -1,6 +1,5 @@
 -- The terms of a game.
-use Rattle.std.specs.Prelude.{◌≡◌, ℕ, ◌^◌, ◌<◌, ◌&&◌, ◌++◌, Bool, not, true, false, nat_le, if◌then◌else◌, List, [], ◌∷◌, length, Option, Some, None}
-use Rattle.std.specs.Int.{w32, to_le_bytes}
+use Rattle.std.specs.{Prelude.{◌≡◌, ℕ, ◌^◌, ◌<◌, ◌&&◌, ◌++◌, Bool, not, true, false, nat_le, if◌then◌else◌, List, [], ◌∷◌, length, Option, Some, None}, Int.{w32, to_le_bytes}}
 use Rattle.dn_setup.specs.Settings.{IsSettings, Settings}
 use Rattle.dn_session.specs.declared.{terms.LobbyFault.LobbyFault, terms.Policy.Policy, terms.Terms.Terms, terms.Policy.TheVariants.End, terms.Policy.TheVariants.GiveUp, terms.Policy.TheVariants.Wait}
 use Rattle.dn_session.specs.declared.terms.LobbyFault.TheVariants as fault

@@ -1,7 +1,6 @@
 -- When a player's ticks are due. A tick is counted in parts, of which a millisecond has 32 for each tick of a second:
 -- 32,000 are a tick.
-use Rattle.std.specs.Prelude.{ℕ, ◌+◌, ◌*◌, ◌/◌, ◌%◌, ◌^◌, ◌-◌, ◌+ℤ◌, ℤ, pos, nat_abs, Bool, nat_lt, nat_le, max, min, if◌then◌else◌, Some, None}
-use Rattle.std.specs.Int.{int_max}
+use Rattle.std.specs.{Prelude.{ℕ, ◌+◌, ◌*◌, ◌/◌, ◌%◌, ◌^◌, ◌-◌, ◌+ℤ◌, ℤ, pos, nat_abs, Bool, nat_lt, nat_le, max, min, if◌then◌else◌, Some, None}, Int.{int_max}}
 use Rattle.dn_session.specs.{Joining.has_come, declared.ticks.Ticks.Ticks}
 
 -- the time that comes so much later, or the last that there is

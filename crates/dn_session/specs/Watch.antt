@@ -1,6 +1,5 @@
 -- For how long others were silent, and for how long the game stood still.
-use Rattle.std.specs.Prelude.{ℕ, ◌+◌, ◌-◌, ◌==◌, ◌||◌, Bool, not, nat_lt, if◌then◌else◌, List, map, min, replicate, slice_index_or, false}
-use Rattle.std.specs.{Bool.beq, Cmp.Lexicographic.pointwise}
+use Rattle.std.specs.{Prelude.{ℕ, ◌+◌, ◌-◌, ◌==◌, ◌||◌, Bool, not, nat_lt, if◌then◌else◌, List, map, min, replicate, slice_index_or, false}, Bool.beq, Cmp.Lexicographic.pointwise}
 use Rattle.dn_session.specs.declared.watch.Watch.{Watch}
 
 -- the last look was more than a second ago: the machine slept, or its caller did not call

@@ -2,8 +2,9 @@
 
 ghost use Rattle.std.specs.Prelude.{◌≡◌};
 ghost use Rattle.dn_link.specs.{Linking.linked, Pacing.pace_of};
-ghost use Rattle.dn_session.specs.Coming.{echo_of, heard_of, is_answer_of, is_late_in, is_new_in, line_of, lines_in};
+ghost use Rattle.dn_session.specs.Coming.{echo_of, heard_of, is_answer_of, is_recent_in, line_of, lines_in, news_of};
 
+use crate::places::News;
 use dn_link::{Figures, Link, Received};
 use dn_lockstep::Lockstep;
 
@@ -32,32 +33,33 @@ pub(crate) fn line_of(lines: &Lines, player: u8) -> Option<Figures>
     }
 }
 
-/// Whether no datagram that was sent later had come, by the figures of its line before it and after it.
-pub(crate) fn is_new_in(before: &Option<Figures>, after: &Option<Figures>) -> bool
-    ensures { result ≡ is_new_in before.now after.now }
-{
-    match (before, after) {
-        (Some(before), Some(after)) => before.came < after.came && before.lost <= after.lost,
-        _ => false,
-    }
-}
-
 /// The newest echo of its player.
-pub(crate) fn echo_of(figures: &Option<Figures>) -> u32
+fn echo_of(figures: &Option<Figures>) -> u32
     ensures { result ≡ echo_of figures.now }
 {
     figures.map_or(0, |figures| figures.echo)
 }
 
 /// Whether it is one of the last 64, and came for the first time or again.
-pub(crate) fn is_late_in(before: &Option<Figures>, after: &Option<Figures>) -> bool
-    ensures { result ≡ is_late_in before.now after.now }
+fn is_recent_in(before: &Option<Figures>, after: &Option<Figures>) -> bool
+    ensures { result ≡ is_recent_in before.now after.now }
 {
     match (before, after) {
         (Some(before), Some(after)) => {
             before.came < after.came || before.repeated < after.repeated
         }
         _ => false,
+    }
+}
+
+/// What a datagram tells, by the figures of its line before it and after it.
+pub(crate) fn news_of(before: &Option<Figures>, after: &Option<Figures>) -> News
+    ensures { result ≡ news_of before.now after.now }
+{
+    News {
+        is_recent: is_recent_in(before, after),
+        is_answer: echo_of(before) < echo_of(after),
+        echo: echo_of(after),
     }
 }
 
@@ -76,6 +78,6 @@ pub(crate) fn is_answer_of(heard: Option<u8>, before: &Lines, after: &Lines, pla
     ensures { result ≡ is_answer_of heard before.now after.now player }
 {
     heard.is_some_and(|from| {
-        player == from && echo_of(&line_of(before, from)) < echo_of(&line_of(after, from))
+        player == from && news_of(&line_of(before, from), &line_of(after, from)).is_answer
     })
 }

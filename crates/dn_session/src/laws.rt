@@ -1,11 +1,12 @@
-//! Laws of lobbies.
+//! Laws of lobbies, and of where players are looked for.
 
-ghost use Rattle.std.specs.{Prelude.◌≡◌, Prelude.◌≢◌, Prelude.◌≤◌, Prelude.◌⊎◌, Prelude.ℕ, Prelude.[], Prelude.◌∷◌, Prelude.List, Prelude.Option, Prelude.None, Prelude.Some, Prelude.Result, Prelude.Ok, Prelude.Err, Prelude.position, Prelude.slice_index_or, Prelude.false, Prelude.length, Prelude.true, List.list_all};
+ghost use Rattle.std.specs.{Prelude.◌≡◌, Prelude.◌≢◌, Prelude.◌≤◌, Prelude.◌⊎◌, Prelude.ℕ, Prelude.[], Prelude.◌∷◌, Prelude.List, Prelude.Option, Prelude.None, Prelude.Some, Prelude.Result, Prelude.Ok, Prelude.Err, Prelude.position, Prelude.slice_index_or, Prelude.false, Prelude.filter, Prelude.length, Prelude.true, List.list_all};
 ghost use Rattle.dn_seal.specs.{declared.seal.Seal.Seal, Envelope.Letter, Envelope.body_bytes as letter_bytes};
-ghost use Rattle.dn_session.specs.declared.{greeting.Address.Address, greeting.Call.Call, greeting.GreetingFault.GreetingFault, greeting.Hint.Hint, greeting.Hinted.Hinted, greeting.Refused.Refused, greeting.Seating.Seating, seats.Held.Held, terms.Terms.Terms};
+ghost use Rattle.dn_session.specs.declared.{greeting.Address.Address, greeting.Call.Call, greeting.GreetingFault.GreetingFault, greeting.Hint.Hint, greeting.Hinted.Hinted, greeting.Refused.Refused, greeting.Seating.Seating, places.Place.Place, seats.Held.Held, terms.Terms.Terms};
 ghost use Rattle.dn_session.specs.declared.greeting.Refusal.TheVariants.{Cookie};
 ghost use Rattle.dn_session.specs.declared.joiner.Stage.TheVariants.{Playing};
 ghost use Rattle.dn_session.specs.declared.seats.Seat.TheVariants.{Absent, Taken};
+ghost use Rattle.dn_session.specs.Places.{comes_from, is_this, probes_to, spot_at, Happening};
 ghost use Rattle.dn_session.specs.Reading.{IsCallIn, IsHintedIn, IsRefusedIn, IsSeatingIn};
 ghost use Rattle.dn_session.specs.Text.{body_bytes, call_rest, greeting_bytes, hinted_bytes, refused_rest, seating_rest, told_number, IsCall, IsHinted, IsRefused, IsSeating};
 ghost use Rattle.dn_session.specs.Cookies.{game_of, game_text, is_good, is_recent, time_of};
@@ -143,4 +144,12 @@ pub fn one_game_a_number()
         → game_text host terms (one ∷ two ∷ three ∷ []) ≡ game_text other others (four ∷ five ∷ six ∷ []))
         → game_of key host terms (one ∷ two ∷ three ∷ []) ≡ game_of key other others (four ∷ five ∷ six ∷ [])
         → (host ≡ other) × (terms ≡ others) × (one ≡ four) × (two ≡ five) × (three ≡ six) }
+{}
+
+/// No more probes go to an address than datagrams of their player came from there, from when on it is neither told by
+/// the roster nor the candidate.
+pub fn probes_answer_datagrams()
+    ensures { (at : Address) (place : Place) (happenings : List Happening)
+        → is_this at (spot_at place.told) ≡ false → is_this at (spot_at place.candidate) ≡ false
+        → probes_to at place happenings ≤ length (filter (comes_from at) happenings) }
 {}

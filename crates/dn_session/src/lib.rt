@@ -45,13 +45,13 @@ pub use laws::{
     addresses_move_from_silence, begun_once, calls_without_a_cookie_change_nothing,
     greetings_are_no_envelopes, greetings_are_read_back, heard_is_the_time_of_a_cookie,
     joiners_act_when_due, no_ghost_plays, one_game_a_number, one_greeting,
-    players_are_told_as_often_as_they_call, players_are_told_one_game, replies_are_read_back,
-    seated_joiners_heed_no_refusal,
+    players_are_told_as_often_as_they_call, players_are_told_one_game, probes_answer_datagrams,
+    replies_are_read_back, seated_joiners_heed_no_refusal,
 };
 pub use lead::{Seen, Standing, View, due, is_given_up};
 pub use meetings::{sessions_play, sessions_stay};
 pub use part::{Part, Transmit};
-pub use places::{Place, Places};
+pub use places::{News, Place, Places, Probe, Spot};
 pub use reading::{is_greeting, open, read_hinted};
 pub use roster::{one_link_a_place, places_are_ones_own};
 pub use seats::{Held, Seat};

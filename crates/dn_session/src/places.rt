@@ -1,14 +1,14 @@
 //! Where the players are.
 
-ghost use Rattle.std.specs.{Prelude.{◌≡◌, ◌==◌, ◌&&◌, nat_lt, true, Some}, List.list_any, Option.option_map};
-ghost use Rattle.dn_session.specs.Places.{answered, asked, candidate_at, heard_at, heard_from, is_anothers, is_at, is_near_at, is_probe_due, is_since, is_this, may_move, new_candidate, new_place, passed_by, place_of, places_of, probed, probed_at};
+ghost use Rattle.std.specs.{Prelude.{◌≡◌, ◌==◌, ◌&&◌, find, true, Some}, Option.option_map};
+ghost use Rattle.dn_session.specs.Places.{after_probe, answered, heard_at, heard_from, is_anothers, is_due_at, is_echoed, is_near_at, is_since, is_this, is_told_due, may_move, new_place, new_spot, passed_by, place_of, places_of, probe_to, probed, probed_at, sought_at, spot_at, was_probed};
 
 use crate::greeting::Address;
 
 /// For how many milliseconds a player that was not heard directly, or may not hear this one, is not near; and for how
-/// many it must not have been heard where it is, or have been looked for where it may be, before it is looked for
-/// elsewhere.
-pub(crate) const AWAY: u32 = 1000;
+/// many it must not have been heard where it receives, or have been looked for elsewhere, before it is looked for at
+/// another address.
+const AWAY: u32 = 1000;
 
 /// For how many milliseconds a player that gives no sign of life is probed where the roster tells that it is.
 const PROBED_FOR: u32 = 10_000;
@@ -16,35 +16,54 @@ const PROBED_FOR: u32 = 10_000;
 /// How many of the last probes are known.
 const KNOWN: usize = 8;
 
-/// Where a player may be who is not known to receive there.
+/// What a datagram of a player tells, beside where it came from.
 #[derive(Clone, Copy, Debug, PartialEq, Eq)]
-pub struct Candidate {
+pub struct News {
+    /// Whether it is one of the last 64, and came for the first time or again.
+    pub is_recent: bool,
+    /// Whether the player's newest echo is above the one before it.
+    pub is_answer: bool,
+    /// That echo.
+    pub echo: u32,
+}
+
+/// Where a player may be who has not shown that it receives there.
+#[derive(Clone, Copy, Debug, PartialEq, Eq)]
+pub struct Spot {
     /// The address.
     pub address: Address,
     /// Since when it may be there, in milliseconds of the listener's own clock.
     pub since: u32,
-    /// Whether the roster tells it. Else a datagram of the player came from there.
-    pub is_told: bool,
-    /// Whether one came from there since the last probe.
+    /// Whether a datagram of the player came from there since the last probe.
     pub is_due: bool,
     /// When that was sent, if one was.
     pub probed: Option<u32>,
-    /// What the player echoes if one of the last probes is its newest datagram; zeros for those that were not sent yet.
-    pub echoes: [u32; KNOWN],
+}
+
+/// One of the last probes.
+#[derive(Clone, Copy, Debug, PartialEq, Eq)]
+pub struct Probe {
+    /// What the player echoes if this is its newest datagram.
+    pub echo: u32,
+    /// Where it went; nowhere, if none was sent yet.
+    pub to: Option<Address>,
 }
 
 /// Where a player is.
 #[derive(Clone, Copy, Debug, PartialEq, Eq)]
 pub struct Place {
-    /// The address at which it receives, if one is known.
+    /// The address at which it receives, as it has shown, if one is known.
     pub address: Option<Address>,
-    /// When one of its last datagrams came from there, or from where it may be, in milliseconds of the listener's own
-    /// clock.
+    /// When it showed that, in milliseconds of the listener's own clock.
     pub heard: u32,
     /// When another passed a datagram of the player on, if one did.
     pub passed: Option<u32>,
-    /// Where it may be, if it may be elsewhere.
-    pub candidate: Option<Candidate>,
+    /// Where the roster tells that it is, as long as no address is known.
+    pub told: Option<Spot>,
+    /// Where it may be, because a datagram came from there, if it may be elsewhere.
+    pub candidate: Option<Spot>,
+    /// The last probes, the newest first.
+    pub probes: [Probe; KNOWN],
 }
 
 /// Whether something was done less than so many milliseconds ago, if it was.
@@ -55,50 +74,84 @@ pub(crate) fn is_since(time: u32, now: u32, done: Option<u32>) -> bool
 }
 
 /// Whether an address that may be known is this one.
-fn is_this(from: &Address, address: Option<Address>) -> bool
+pub(crate) fn is_this(from: &Address, address: Option<Address>) -> bool
     ensures { result ≡ is_this from.now address }
 {
     address.is_some_and(|address| address.bytes == from.bytes)
 }
 
-impl Candidate {
+/// Where a player may be, if it may be elsewhere.
+fn spot_at(spot: Option<Spot>) -> Option<Address>
+    ensures { result ≡ spot_at spot }
+{
+    spot.map(|spot| spot.address)
+}
+
+/// Whether a probe is due for a datagram that came from there.
+fn is_due_at(looked: u32, spot: Option<Spot>) -> bool
+    ensures { result ≡ is_due_at looked spot }
+{
+    spot.is_some_and(|spot| spot.is_due && !is_since(250, looked, spot.probed))
+}
+
+/// Whether one is due where the roster tells that a player is, who was silent for so long by the last look.
+fn is_told_due(looked: u32, silence: u32, spot: Option<Spot>) -> bool
+    ensures { result ≡ is_told_due looked silence spot }
+{
+    match spot {
+        Some(told) => {
+            is_due_at(looked, spot)
+                || (!is_since(1000, looked, told.probed) && silence < PROBED_FOR)
+        }
+        None => false,
+    }
+}
+
+impl Spot {
     /// An address that the roster tells, or from which a datagram came.
-    const fn new(is_told: bool, now: u32, address: Address) -> Candidate
-        ensures { result ≡ new_candidate is_told now address }
+    const fn new(is_found: bool, now: u32, address: Address) -> Spot
+        ensures { result ≡ new_spot is_found now address }
     {
-        Candidate {
+        Spot {
             address,
             since: now,
-            is_told,
-            is_due: !is_told,
+            is_due: is_found,
             probed: None,
-            echoes: [0; KNOWN],
         }
     }
 
-    /// Whether the player echoes one of the last probes.
-    fn is_answered(&self, echo: u32) -> bool
-        ensures { result ≡ (nat_lt 0 echo && list_any (λ probe. probe == echo) self.now.echoes) }
+    /// A datagram came from there.
+    fn asked(self) -> Spot
+        ensures { result ≡ record self { is_due = true } }
     {
-        echo > 0 && self.echoes.contains(&echo)
+        Spot {
+            is_due: true,
+            ..self
+        }
     }
 
-    /// Whether a probe is due there, whose player was silent for so long by the last look.
-    pub(crate) fn is_probed(&self, looked: u32, silence: u32) -> bool
-        ensures { result ≡ is_probe_due looked silence (Some self.now) }
+    /// A probe was sent to this address.
+    fn probed(self, to: &Address, now: u32) -> Spot
+        ensures { result ≡ probed to.now now self }
     {
-        (self.is_due && !is_since(250, looked, self.probed))
-            || (self.is_told && !is_since(1000, looked, self.probed) && silence < PROBED_FOR)
+        if is_this(to, Some(self.address)) {
+            Spot {
+                is_due: false,
+                probed: Some(now),
+                ..self
+            }
+        } else {
+            self
+        }
     }
+}
 
-    /// A probe was sent there, that is echoed so.
-    fn probe(&mut self, now: u32, echo: u32)
-        ensures { self.new ≡ probed now echo self.old }
+impl Probe {
+    /// Whether a datagram is the first to echo it.
+    fn is_echoed(&self, news: &News) -> bool
+        ensures { result ≡ is_echoed news.now self.now }
     {
-        self.is_due = false;
-        self.probed = Some(now);
-        let [a, b, c, d, e, f, g, _] = self.echoes;
-        self.echoes = [echo, a, b, c, d, e, f, g];
+        news.is_answer && self.to.is_some() && self.echo == news.echo
     }
 }
 
@@ -111,76 +164,85 @@ impl Place {
             address: if is_shown { address } else { None },
             heard: now,
             passed: None,
-            candidate: if is_shown {
+            told: if is_shown {
                 None
             } else {
-                address.map(|address| Candidate::new(true, now, address))
+                address.map(|address| Spot::new(false, now, address))
             },
+            candidate: None,
+            probes: [Probe { echo: 0, to: None }; KNOWN],
         }
     }
 
-    /// Where the player may be, if it may be elsewhere than where it receives.
-    fn candidate_at(&self) -> Option<Address>
-        ensures { result ≡ candidate_at self.now }
+    /// Whether one of the last probes went to this address.
+    fn was_probed(&self, from: &Address) -> bool
+        ensures { result ≡ was_probed from.now self.now }
     {
-        self.candidate.map(|candidate| candidate.address)
+        self.probes.iter().any(|probe| is_this(from, probe.to))
     }
 
-    /// Whether the player receives at this address, or may be there.
-    pub(crate) fn is_at(&self, from: &Address) -> bool
-        ensures { result ≡ is_at from.now self.now }
+    /// Whether the player may be elsewhere, where one of its last datagrams came from.
+    fn may_move(&self, from: &Address, now: u32) -> bool
+        ensures { result ≡ may_move from.now now self.now }
     {
-        is_this(from, self.address) || is_this(from, self.candidate_at())
-    }
-
-    /// Whether the player may have moved to where a datagram came from, which may be a new one, and one of the last.
-    fn may_move(&self, now: u32, is_new: bool, is_recent: bool) -> bool
-        ensures { result ≡ may_move now is_new is_recent self.now }
-    {
+        if is_since(AWAY, now, Some(self.heard)) {
+            return false;
+        }
         match self.candidate {
-            None => is_new && !is_since(AWAY, now, Some(self.heard)),
-            Some(candidate) => is_recent && !is_since(AWAY, now, Some(candidate.since)),
+            None => true,
+            Some(candidate) => {
+                !is_since(AWAY, now, Some(candidate.since))
+                    && !(is_since(AWAY, now, candidate.probed) && self.was_probed(from))
+            }
         }
     }
 
-    /// One of its last datagrams came from where it may be.
-    fn hear_candidate(&mut self, now: u32)
-        ensures { self.new ≡ record self.old { heard = now; candidate = option_map asked self.old.candidate } }
+    /// One of the last datagrams of the player came from this address, where it is not known to receive.
+    fn seek(&mut self, from: &Address, now: u32)
+        ensures { self.new ≡ sought_at from.now now self.old }
     {
-        self.heard = now;
-        if let Some(candidate) = &mut self.candidate {
-            candidate.is_due = true;
+        if is_this(from, spot_at(self.told)) {
+            self.told = self.told.map(Spot::asked);
+        } else if is_this(from, spot_at(self.candidate)) {
+            self.candidate = self.candidate.map(Spot::asked);
+        } else if self.may_move(from, now) {
+            self.candidate = Some(Spot::new(true, now, *from));
         }
     }
 
-    /// A datagram of the player came from this address. It may be a new one, and one of the last that it sent.
-    pub fn hear(&mut self, from: &Address, now: u32, is_new: bool, is_recent: bool)
-        ensures { self.new ≡ heard_from from.now now is_new is_recent self.old }
+    /// A datagram of the player came from this address.
+    fn hear(&mut self, from: &Address, now: u32, news: &News)
+        ensures { self.new ≡ heard_from from.now now news.now self.old }
     {
         if is_this(from, self.address) {
-            if is_recent {
+            if news.is_answer {
                 self.heard = now;
                 self.candidate = None;
             }
-        } else if is_this(from, self.candidate_at()) {
-            if is_recent {
-                self.hear_candidate(now);
-            }
-        } else if self.may_move(now, is_new, is_recent) {
-            self.heard = now;
-            self.candidate = Some(Candidate::new(false, now, *from));
+        } else if news.is_recent {
+            self.seek(from, now);
         }
     }
 
-    /// The player echoes so; it receives where it may be, if that is the echo of a probe.
-    fn answer(&mut self, echo: u32)
-        ensures { self.new ≡ answered echo self.old }
+    /// Which of the last probes a datagram is the first to echo, if it is one.
+    fn echoed(&self, news: &News) -> Option<Probe>
+        ensures { result ≡ find (is_echoed news.now) self.now.probes }
     {
-        if let Some(candidate) = self.candidate {
-            if candidate.is_answered(echo) {
-                self.address = Some(candidate.address);
-                self.candidate = None;
-            }
+        self.probes
+            .iter()
+            .find(|probe| probe.is_echoed(news))
+            .copied()
+    }
+
+    /// A datagram of the player came. It receives where the probe went that is echoed.
+    fn answer(&mut self, now: u32, news: &News)
+        ensures { self.new ≡ answered now news.now self.old }
+    {
+        if let Some(probe) = self.echoed(news) {
+            self.address = probe.to;
+            self.heard = now;
+            self.told = None;
+            self.candidate = None;
         }
     }
 
@@ -198,9 +260,35 @@ impl Place {
         ensures { result ≡ is_near_at looked self.now }
     {
         self.address.is_some()
-            && self.candidate.is_none()
             && is_since(AWAY, looked, Some(self.heard))
             && !is_since(AWAY, looked, self.passed)
+    }
+
+    /// Where a probe is due to a player that was silent for so long, by the last look.
+    pub fn probe_to(&self, looked: u32, silence: u32) -> Option<Address>
+        ensures { result ≡ probe_to looked silence self.now }
+    {
+        if is_told_due(looked, silence, self.told) {
+            spot_at(self.told)
+        } else if is_due_at(looked, self.candidate) {
+            spot_at(self.candidate)
+        } else {
+            None
+        }
+    }
+
+    /// A probe was sent to this address, that is echoed so.
+    fn note_probe(&mut self, to: &Address, now: u32, echo: u32)
+        ensures { self.new ≡ after_probe to.now now echo self.old }
+    {
+        self.told = self.told.map(|told| told.probed(to, now));
+        self.candidate = self.candidate.map(|candidate| candidate.probed(to, now));
+        let [a, b, c, d, e, f, g, _] = self.probes;
+        let newest = Probe {
+            echo,
+            to: Some(*to),
+        };
+        self.probes = [newest, a, b, c, d, e, f, g];
     }
 }
 
@@ -239,49 +327,38 @@ impl Places {
         }
     }
 
-    /// Whether another player than this one is known to be at this address.
+    /// Whether another player than this one receives at this address.
     fn is_anothers(&self, player: u8, from: &Address) -> bool
         ensures { result ≡ is_anothers player from.now self.now }
     {
-        [0, 1, 2, 3]
-            .iter()
-            .any(|other| *other != player && self.place(*other).is_at(from))
+        [0, 1, 2, 3].iter().any(|other| *other != player
+            && is_this(from, self.place(*other).address))
     }
 
-    /// A datagram of a player came from this address, with an echo. It may be a new one, and one of the last that it
-    /// sent.
-    pub fn hear(
-        &mut self,
-        player: u8,
-        from: &Address,
-        now: u32,
-        is_new: bool,
-        is_recent: bool,
-        echo: u32,
-    )
-        ensures { self.new ≡ heard_at player from.now now is_new is_recent echo self.old }
+    /// A datagram of a player came from this address.
+    pub fn hear(&mut self, player: u8, from: &Address, now: u32, news: &News)
+        ensures { self.new ≡ heard_at player from.now now news.now self.old }
     {
         if player >= 4 {
             return;
         }
-        let is_passed = !self.place(player).is_at(from) && self.is_anothers(player, from);
+        let is_passed = !is_this(from, self.place(player).address)
+            && self.is_anothers(player, from);
         let place = &mut self.at[usize::from(player)];
         if is_passed {
-            place.pass(now, is_recent);
+            place.pass(now, news.is_recent);
         } else {
-            place.hear(from, now, is_new, is_recent);
+            place.hear(from, now, news);
         }
-        place.answer(echo);
+        place.answer(now, news);
     }
 
     /// A probe was sent to where a player may be, that is echoed so.
-    pub fn note_probe(&mut self, player: u8, now: u32, echo: u32)
-        ensures { self.new ≡ probed_at player now echo self.old }
+    pub fn note_probe(&mut self, player: u8, to: &Address, now: u32, echo: u32)
+        ensures { self.new ≡ probed_at player to.now now echo self.old }
     {
         if player < 4 {
-            if let Some(candidate) = &mut self.at[usize::from(player)].candidate {
-                candidate.probe(now, echo);
-            }
+            self.at[usize::from(player)].note_probe(to, now, echo);
         }
     }
 }

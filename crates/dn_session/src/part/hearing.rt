@@ -9,13 +9,11 @@ ghost use Rattle.dn_session.specs.Playing.{is_alive, known_by, told_at, excluder
 ghost use Rattle.dn_session.specs.{Coming.counts_in, Coming.has_more, Passing.next_hop, Passing.passed_on, Passing.sent_of};
 
 use super::{Exclusion, Part, Transmit, copied, keep};
-use crate::coming::{
-    Lines, echo_of, heard_of, is_answer_of, is_late_in, is_new_in, line_of, lines_of,
-};
+use crate::coming::{Lines, heard_of, is_answer_of, line_of, lines_of, news_of};
 use crate::greeting::Address;
-use crate::places::is_since;
+use crate::places::{is_since, is_this};
 use crate::players::{count_in, is_gone_from};
-use dn_link::{BundleFault, Link, Received};
+use dn_link::{BundleFault, Link, PROBE, Received};
 use dn_lockstep::Lockstep;
 
 /// How many commands of each player are here.
@@ -113,13 +111,9 @@ impl Part {
         } }
     {
         if let Some(player) = heard {
-            let (old, new) = (
-                line_of(&before.lines, player),
-                line_of(&after.lines, player),
-            );
-            let (is_new, is_late) = (is_new_in(&old, &new), is_late_in(&old, &new));
-            self.places
-                .hear(player, from, now, is_new, is_late, echo_of(&new));
+            let old = line_of(&before.lines, player);
+            let new = line_of(&after.lines, player);
+            self.places.hear(player, from, now, &news_of(&old, &new));
         }
     }
 
@@ -155,7 +149,7 @@ impl Part {
         ensures { result ≡ next_hop (linked (playing self.now).link) (playing self.now).places here.now from to }
     {
         let sender = self.places.place(from);
-        if from == to || is_gone_from(&self.link, from) || !sender.is_at(here) {
+        if from == to || is_gone_from(&self.link, from) || !is_this(here, sender.address) {
             return None;
         }
         if is_gone_from(&self.link, to) {
@@ -167,11 +161,11 @@ impl Part {
     /// What goes on as it came, if it is a datagram to another player.
     fn passed_on(&self, received: &Received, here: &Address, bytes: &[u8]) -> Option<Transmit>
         requires fits { received.now ≡ answer.Unopened fault.Receiver
-            → (12 ≤ length bytes.now) × (length bytes.now ≤ 1200) }
+            → (19 ≤ length bytes.now) × (length bytes.now ≤ 1200) }
         ensures { option_map sent_of result ≡ passed_on received.now here.now bytes.now
             (linked (playing self.now).link) (playing self.now).places }
     {
-        if !matches!(received, Received::Unopened(BundleFault::Receiver)) {
+        if !matches!(received, Received::Unopened(BundleFault::Receiver)) || bytes[18] == PROBE {
             return None;
         }
         Some(Transmit {
@@ -191,7 +185,7 @@ impl Part {
         after: &Known,
     )
         requires fits { received.now ≡ answer.Unopened fault.Receiver
-            → (12 ≤ length bytes.now) × (length bytes.now ≤ 1200) }
+            → (19 ≤ length bytes.now) × (length bytes.now ≤ 1200) }
         ensures { playing self.new ≡ noted received.now from.now bytes.now now before.now after.now (playing self.old) }
     {
         let passing = self.passed_on(received, from, bytes);

@@ -86,7 +86,9 @@ impl Part {
         requires { player < 4 }
         ensures { result ≡ is_owed_probe (playing self.now) player }
     {
-        self.ending().is_none() && !is_gone_from(&self.link, player) && self.is_probed(player)
+        self.ending().is_none()
+            && !is_gone_from(&self.link, player)
+            && self.probe_of(player).is_some()
     }
 
     /// The lowest who is.
@@ -105,14 +107,11 @@ impl Part {
         requires owed { is_owed_probe (playing self.old) player ≡ true }
         ensures { Probes player (playing self.old) (playing self.new) (option_map sent_of result) }
     {
-        let candidate = self.places.place(player).candidate?;
+        let to = self.probe_of(player)?;
         let bytes = self.link.probe(player)?;
         let echo = self.link.next_number(player)?;
-        self.places.note_probe(player, self.watch.looked, echo);
-        Some(Transmit {
-            to: candidate.address,
-            bytes,
-        })
+        self.places.note_probe(player, &to, self.watch.looked, echo);
+        Some(Transmit { to, bytes })
     }
 
     /// Whether a player is to be told that it is given up.

@@ -1,7 +1,7 @@
 //! By which way a datagram goes to a player: straight there, or through another.
 
 ghost use Rattle.std.specs.Prelude.{◌≡◌};
-ghost use Rattle.dn_session.specs.{Playing.playing, Sent.address_to, Sent.can_pass, Sent.candidate_of, Sent.is_near, Places.is_probe_due, Sent.way_to, Watch.silence};
+ghost use Rattle.dn_session.specs.{Playing.playing, Sent.address_to, Sent.can_pass, Sent.is_near, Sent.probe_of, Sent.way_to};
 
 use super::Part;
 use crate::greeting::Address;
@@ -40,16 +40,12 @@ impl Part {
         self.places.place(self.way_to(player)).address
     }
 
-    /// Whether a probe is due to where a player may be.
-    pub(super) fn is_probed(&self, player: u8) -> bool
-        ensures { result ≡ is_probe_due (playing self.now).watch.looked
-            (silence player (playing self.now).watch.looked (playing self.now).watch) (candidate_of (playing self.now) player) }
+    /// Where a probe is due to a player.
+    pub(super) fn probe_of(&self, player: u8) -> Option<Address>
+        ensures { result ≡ probe_of (playing self.now) player }
     {
         let looked = self.watch.looked;
         let silence = self.watch.silence(player, looked);
-        match self.places.place(player).candidate {
-            Some(candidate) => candidate.is_probed(looked, silence),
-            None => false,
-        }
+        self.places.place(player).probe_to(looked, silence)
     }
 }

@@ -1,5 +1,4 @@
 use Rattle.std.proofs.Common.{rules, ◌≡◌, w8, to_z, of_z, ap, ◌∙◌}
-use Rattle.dn_lockstep.specs.Contents.{Contents}
 use Rattle.dn_link.specs.{Linked.PeerState, declared.line.Line.Line, Counting.counts_of, Line.{missing, own_echo}}
 use Rattle.dn_link.proofs.link.Link.empty.Goals as goal
 

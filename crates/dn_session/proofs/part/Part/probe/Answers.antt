@@ -2,7 +2,7 @@ use Rattle.std.proofs.Common.{refl, ap, sym, ◌∙◌, Bool, ℕ, Some, None, t
 use Rattle.std.proofs.{lemmas.Bool.and_parts, lemmas.Option.none-some}
 use Rattle.std.specs.Prelude.{if◌then◌else◌}
 use Rattle.dn_link.specs.{Linked.Linked, Linked.is_peer, Linked.probed, Linking.linked}
-use Rattle.dn_session.specs.{Places.probed_at, Playing.playing, declared.places.Place.Place}
+use Rattle.dn_session.specs.{Places.probed_at, Playing.playing}
 use Rattle.dn_session.proofs.Sending.{given_if, probed_remains}
 use Rattle.dn_session.proofs.part.Part.probe.Goals as goal
 
@@ -28,9 +28,9 @@ returns c =
     given_if (is_peer (linked next).node player) ((linked next).peers player).number c.in_ok-echo.echo
     (sym c.in_ok-echo.ensures) in
     let sent = c.in_ok-bytes.ensures in (
-      c.in_ok-candidate.candidate,
+      c.in_ok-to.to,
       c.in_ok-bytes.bytes.items,
-      sym (ap (λ (place : Place). place.candidate) c.place.ensures) ∙ c.in_ok-candidate.was,
+      sym c.probe_of.ensures ∙ c.in_ok-to.was,
       refl,
       sym sent.sealed,
       sent.fits,
@@ -40,6 +40,6 @@ returns c =
       sent.pace,
       λ i. record old {
         link = next;
-        places = (c.note_probe.ensures ∙ ap (λ (echo : ℕ). probed_at player old.watch.looked echo old.places) echo) i;
+        places = (c.note_probe.ensures ∙ ap (λ (echo : ℕ). probed_at player c.in_ok-to.to old.watch.looked echo old.places) echo) i;
       },
     )
