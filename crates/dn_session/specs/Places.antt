@@ -181,16 +181,19 @@ happened (Sends looked silence echo) place = elim (probe_to looked silence place
   | Some to ↦ after_probe to looked echo place
 ]
 
--- those that come from an address; and how many probes go there, until the player has shown that it receives there
+-- those that come from an address; those at which a probe goes there; and how many of these, until the player has shown
+-- that it receives there
 abbrev pub comes_from : Address → Happening → Bool
 comes_from at (Comes is_passed from now news) = is_this at (Some from)
 comes_from at (Sends looked silence echo) = false
 
+abbrev pub goes_to : Address → Place → Happening → Bool
+goes_to at place (Comes is_passed from now news) = false
+goes_to at place (Sends looked silence echo) = is_this at (probe_to looked silence place)
+
 abbrev pub probes_to : Address → Place → List Happening → ℕ
 probes_to at place [] = 0
-probes_to at place (Comes is_passed from now news ∷ rest) = probes_to at (heard_by is_passed from now news place) rest
-probes_to at place (Sends looked silence echo ∷ rest) =
+probes_to at place (h ∷ rest) =
     if is_this at place.address
     then 0
-    else (if is_this at (probe_to looked silence place) then 1 else 0)
-    + probes_to at (happened (Sends looked silence echo) place) rest
+    else (if goes_to at place h then 1 else 0) + probes_to at (happened h place) rest
