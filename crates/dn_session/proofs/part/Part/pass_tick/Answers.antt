@@ -12,7 +12,7 @@ returns c =
       λ i. record (playing c.args.self.now) {
         link = c.lean-lean.new.self;
         ticks = ticks i;
-        owed = c.owed_at.ensures i;
+        owed = c.owed_at-self.ensures i;
         turn = c.from_turn-self.ensures i;
         steady = c.tick.ensures i;
       },
