@@ -1,8 +1,8 @@
--- No more probes go to an address than datagrams came from it, unless the roster tells it.
+-- No more probes go to an address than datagrams came from it, where the roster does not tell it.
 use Rattle.std.proofs.Common.{◌≡◌, ◌≤◌, ◌+◌, ◌∙◌, ◌⊎◌, ℕ, List, [], ◌∷◌, length, ap, refl, sym, arith, Bool, true, false, Option, Some, None, inl, inr}
 use Rattle.std.proofs.lemmas.{Bool.and_parts, Bool.cases_Bool, Option.none-some, Option.same_Some, Slice.Eq.bytes_eq-Decides}
 use Rattle.std.specs.{Prelude.{◌&&◌, filter, find, if◌then◌else◌, not}, Option.option_map, Str.bytes_eq}
-use Rattle.dn_session.specs.Places.{Happening, Comes, Looks, after_probe, answered, comes_from, happened, heard_by, heard_from, is_due_at, is_echoed, is_since, is_this, is_told_due, may_move, new_spot, passed_by, probe_to, probed, probes_to, sought_at, spot_at}
+use Rattle.dn_session.specs.Places.{Happening, Comes, Sends, after_probe, answers_at, comes_from, goes_to, happened, heard_by, heard_from, heard_here, is_due_at, is_echoed, is_fallback_due, is_this, may_move, new_spot, passed_by, probe_to, probed, probes_to, sought_at, spot_at}
 use Rattle.dn_session.specs.declared.{greeting.Address.Address, places.{News.News, Place.Place, Probe.Probe, Spot.Spot}}
 
 abbrev one_if : Bool → ℕ
@@ -34,9 +34,9 @@ probed_at to now (Some s) = elim (cases_Bool (is_this to (Some s.address))) [
 
 -- where a probe goes, and why
 why : (looked silence : ℕ) (place : Place) (to : Address) → probe_to looked silence place ≡ Some to
-    → (spot_at place.told ≡ Some to) ⊎ ((is_due_at looked place.candidate ≡ true) × (spot_at place.candidate ≡ Some to))
-why looked silence place to is = elim (cases_Bool (is_told_due looked silence place.told)) [
-  | inl told ↦ inl (rw told at is)
+    → (spot_at place.fallback ≡ Some to) ⊎ ((is_due_at looked place.candidate ≡ true) × (spot_at place.candidate ≡ Some to))
+why looked silence place to is = elim (cases_Bool (is_fallback_due looked silence (answers_at looked place) place.fallback)) [
+  | inl besides ↦ inl (rw besides at is)
   | inr untold ↦ elim (cases_Bool (is_due_at looked place.candidate)) [
     | inl asked ↦ inr (asked, rw (untold, asked) at is)
     | inr idle ↦ absurd (none-some to (rw (untold, idle) at is))
@@ -83,64 +83,89 @@ module _ (at : Address) where
 
     sought : IsWithin (sought_at from now place)
     sought =
-        either IsWithin (is_this from (spot_at place.told)) _ _ (λ told. same)
+        either IsWithin (is_this from (spot_at place.fallback)) _ _ (λ there. same)
         (either IsWithin (is_this from (spot_at place.candidate)) _ _ (λ here. again place.candidate here)
         (either IsWithin (may_move from now place) _ _ (λ may. first) same))
 
+    here : (is_answer : Bool) → IsWithin (heard_here now is_answer place)
+    here true = omega arith
+    here false = same
+
     heard : IsWithin (heard_from from now news place)
     heard =
-        either IsWithin (is_this from place.address) _ _
-        (λ own. either IsWithin news.is_answer _ _ (λ is. omega arith) same)
-        (either IsWithin news.is_recent _ _ (λ is. sought) same)
+        either IsWithin (not news.is_recent) _ _ (λ old. same)
+        (either IsWithin (is_this from place.address) _ _ (λ own. here news.is_answer) sought)
 
-    passes : IsWithin (passed_by now news.is_recent place)
-    passes = either IsWithin _ _ _ (λ is. same) same
-
-    answers : (probe : Option Probe) (new : Place) → credit (elim probe as (λ _. Place) [
-      | None ↦ new
-      | Some p ↦ record new { address = p.to; heard = now; told = None; candidate = None }
+    echoes : (probe : Option Probe) (new : Place) → credit (elim probe as (λ _. Place) [
+      | None ↦ record new { echoed = now }
+      | Some p ↦ record new {
+        address = p.to;
+        heard = now;
+        answered = now;
+        echoed = now;
+        fallback = option_map (new_spot false now) new.address;
+        candidate = None;
+      }
     ]).candidate ≤ credit new.candidate
-    answers None new = omega arith
-    answers (Some p) new = omega arith
+    echoes None new = omega arith
+    echoes (Some p) new = omega arith
 
     comes : (is_passed : Bool) → IsWithin (heard_by is_passed from now news place)
     comes is_passed =
         let new = if is_passed then passed_by now news.is_recent place else heard_from from now news place in
-        let before : IsWithin new = either IsWithin is_passed _ _ (λ is. passes) heard in
-        omega (arith, before, answers (find (is_echoed news) new.probes) new)
+        let before : IsWithin new =
+        either IsWithin is_passed _ _ (λ is. either IsWithin _ _ _ (λ noted. same) same) heard in
+        either IsWithin news.is_answer _ _
+        (λ is. omega (arith, before, echoes (find (is_echoed news.echo) new.probes) new)) before
 
-    -- And the roster tells no other address by it.
+    -- And no other address is looked for by it than those before.
     abbrev IsElse : Place → Type 0
-    IsElse new = is_this at (spot_at new.told) ≡ false
+    IsElse new = (is_this at new.address ≡ false) × (is_this at (spot_at new.fallback) ≡ false)
 
     module _ (other : IsElse place) where
-      told_again : IsElse (record place { told = option_map due place.told })
-      told_again = ap (is_this at) (due_at place.told) ∙ other
+      asked_again : IsElse (record place { fallback = option_map due place.fallback })
+      asked_again = (other.0, ap (is_this at) (due_at place.fallback) ∙ other.1)
 
-      told : IsElse (heard_from from now news place)
-      told =
-          either IsElse (is_this from place.address) _ _
-          (λ own. either IsElse news.is_answer _ _ (λ is. other) other)
-          (either IsElse news.is_recent _ _ (λ is.
-          either IsElse (is_this from (spot_at place.told)) _ _ (λ here. told_again)
+      here_else : (is_answer : Bool) → IsElse (heard_here now is_answer place)
+      here_else true = other
+      here_else false = other
+
+      heard_else : IsElse (heard_from from now news place)
+      heard_else =
+          either IsElse (not news.is_recent) _ _ (λ old. other)
+          (either IsElse (is_this from place.address) _ _ (λ own. here_else news.is_answer)
+          (either IsElse (is_this from (spot_at place.fallback)) _ _ (λ there. asked_again)
           (either IsElse (is_this from (spot_at place.candidate)) _ _ (λ here. other)
-          (either IsElse (may_move from now place) _ _ (λ may. other) other))) other)
+          (either IsElse (may_move from now place) _ _ (λ may. other) other))))
 
-      answers_else : (probe : Option Probe) (new : Place) → IsElse new → IsElse (elim probe as (λ _. Place) [
-        | None ↦ new
-        | Some p ↦ record new { address = p.to; heard = now; told = None; candidate = None }
-      ])
-      answers_else None new is = is
-      answers_else (Some p) new is = refl
+      kept : (s : Option Address) → is_this at s ≡ false → is_this at (spot_at (option_map (new_spot false now) s)) ≡ false
+      kept None off = refl
+      kept (Some a) off = off
 
-      comes_else : (is_passed : Bool) → IsElse (heard_by is_passed from now news place)
+      echoes_else : (probe : Option Probe) (new : Place) → IsElse new → is_this at (spot_at (elim probe as (λ _. Place) [
+        | None ↦ record new { echoed = now }
+        | Some p ↦ record new {
+          address = p.to;
+          heard = now;
+          answered = now;
+          echoed = now;
+          fallback = option_map (new_spot false now) new.address;
+          candidate = None;
+        }
+      ]).fallback) ≡ false
+      echoes_else None new is = is.1
+      echoes_else (Some p) new is = kept new.address is.0
+
+      comes_else : (is_passed : Bool) → is_this at (spot_at (heard_by is_passed from now news place).fallback) ≡ false
       comes_else is_passed =
           let new = if is_passed then passed_by now news.is_recent place else heard_from from now news place in
-          answers_else (find (is_echoed news) new.probes) new (either IsElse is_passed _ _
-          (λ is. either IsElse _ _ _ (λ passed. other) other) told)
+          let before : IsElse new =
+          either IsElse is_passed _ _ (λ is. either IsElse _ _ _ (λ noted. other) other) heard_else in
+          either (λ (p : Place). is_this at (spot_at p.fallback) ≡ false) news.is_answer _ _
+          (λ is. echoes_else (find (is_echoed news.echo) new.probes) new before) before.1
 
   -- A probe takes the one that was given.
-  module _ (looked silence echo : ℕ) (place : Place) (other : is_this at (spot_at place.told) ≡ false) where
+  module _ (looked silence echo : ℕ) (place : Place) (other : is_this at (spot_at place.fallback) ≡ false) where
     fewer : (to : Address) (s : Option Spot) → credit (option_map (probed to looked) s) ≤ credit s
     fewer to None = omega arith
     fewer to (Some s) = elim (cases_Bool (is_this to (Some s.address))) [
@@ -178,30 +203,37 @@ module _ (at : Address) where
       | inr found ↦ taken to place.candidate found.0 found.1
     ]
 
-    looks_else : (to : Option Address) → is_this at (spot_at (elim to as (λ _. Place) [
+    sends_else : (to : Option Address) → is_this at (spot_at (elim to as (λ _. Place) [
       | None ↦ place
       | Some to ↦ after_probe to looked echo place
-    ]).told) ≡ false
-    looks_else None = other
-    looks_else (Some to) = ap (is_this at) (probed_at to looked place.told) ∙ other
+    ]).fallback) ≡ false
+    sends_else None = other
+    sends_else (Some to) = ap (is_this at) (probed_at to looked place.fallback) ∙ other
 
-  all : (happenings : List Happening) (place : Place) → is_this at (spot_at place.told) ≡ false
+  -- one of both, and what follows
+  either_way : (shown : Bool) (n m : ℕ) → (shown ≡ false → n ≤ m) → (if shown then 0 else n) ≤ m
+  either_way true n m less = omega arith
+  either_way false n m less = less refl
+
+  all : (happenings : List Happening) (place : Place) → is_this at (spot_at place.fallback) ≡ false
       → probes_to at place happenings ≤ length (filter (comes_from at) happenings) + credit place.candidate
   all [] place other = omega arith
   all (Comes is_passed from now news ∷ rest) place other =
+      either_way (is_this at place.address) _ _ (λ apart.
       let new = heard_by is_passed from now news place in
-      let later = all rest new (comes_else from now news place other is_passed) in
+      let later = all rest new (comes_else from now news place (apart, other) is_passed) in
       let step = comes from now news place is_passed in
       let count = counted (is_this at (Some from)) (Comes is_passed from now news) (filter (comes_from at) rest) in
-      omega (arith, later, step, count)
-  all (Looks looked silence echo ∷ rest) place other =
+      omega (arith, later, step, count))
+  all (Sends looked silence echo ∷ rest) place other =
+      either_way (is_this at place.address) _ _ (λ apart.
       let to = probe_to looked silence place in
-      let later = all rest (happened (Looks looked silence echo) place) (looks_else looked silence echo place other to) in
+      let later = all rest (happened (Sends looked silence echo) place) (sends_else looked silence echo place other to) in
       let step = sends looked silence echo place other to refl in
-      omega (arith, later, step)
+      omega (arith, later, step))
 
-  pub no_more : (place : Place) (happenings : List Happening) → is_this at (spot_at place.told) ≡ false
+  pub no_more : (place : Place) (happenings : List Happening) → is_this at (spot_at place.fallback) ≡ false
       → is_this at (spot_at place.candidate) ≡ false
       → probes_to at place happenings ≤ length (filter (comes_from at) happenings)
-  no_more place happenings told candidate =
-      omega (arith, all happenings place told, nothing place.candidate candidate)
+  no_more place happenings fallback candidate =
+      omega (arith, all happenings place fallback, nothing place.candidate candidate)

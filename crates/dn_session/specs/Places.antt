@@ -15,7 +15,7 @@ is_this from (Some address) = bytes_eq address.bytes from.bytes
 abbrev pub spot_at : Option Spot → Option Address
 spot_at spot = option_map (λ s. s.address) spot
 
--- a player may be there from now on: told by the roster, or found because a datagram came from there
+-- a player may be there from now on: where a datagram came from, or not
 abbrev pub new_spot : (is_found : Bool) → ℕ → Address → Spot
 new_spot is_found now address = record { address = address; since = now; is_due = is_found; probed = None }
 
@@ -23,12 +23,11 @@ new_spot is_found now address = record { address = address; since = now; is_due 
 abbrev pub was_probed : Address → Place → Bool
 was_probed from place = list_any (λ p. is_this from p.to) place.probes
 
--- a player may be elsewhere, where a datagram came from: it was not heard for a second where it receives; and if there
--- is a candidate already, that has not answered for a second either. One that is still probed does not give way to an
--- address that was probed before
+-- a player may be elsewhere, where a datagram came from: it has not answered for a second from where it receives, and has
+-- had any candidate for a second. One that is still probed does not give way to an address that was probed before
 abbrev pub may_move : Address → ℕ → Place → Bool
 may_move from now place =
-    not (is_since 1000 now (Some place.heard)) && elim place.candidate [
+    not (is_since 1000 now (Some place.answered)) && elim place.candidate [
       | None ↦ true
       | Some c ↦ not (is_since 1000 now (Some c.since)) && not (is_since 1000 now c.probed && was_probed from place)
     ]
@@ -36,28 +35,40 @@ may_move from now place =
 -- one of its last datagrams came from there: a probe is due
 abbrev pub sought_at : Address → ℕ → Place → Place
 sought_at from now place =
-    if is_this from (spot_at place.told)
-    then record place { told = option_map (λ (s : Spot). record s { is_due = true }) place.told }
+    if is_this from (spot_at place.fallback)
+    then record place { fallback = option_map (λ (s : Spot). record s { is_due = true }) place.fallback }
     else (if is_this from (spot_at place.candidate)
     then record place { candidate = option_map (λ (s : Spot). record s { is_due = true }) place.candidate }
     else (if may_move from now place then record place { candidate = Some (new_spot true now from) } else place))
 
--- a datagram of the player came from this address. A newer echo shows that the player still receives where it did; from
--- elsewhere one of its last ones shows where it may be
+-- one of its last datagrams came from where it receives, and if that is an answer, the search ends
+abbrev pub heard_here : ℕ → Bool → Place → Place
+heard_here now true place = record place { heard = now; answered = now; candidate = None }
+heard_here now false place = record place { heard = now }
+
+-- a datagram of the player came from this address: one of its last ones counts
 abbrev pub heard_from : Address → ℕ → News → Place → Place
 heard_from from now news place =
-    if is_this from place.address
-    then (if news.is_answer then record place { heard = now; candidate = None } else place)
-    else (if news.is_recent then sought_at from now place else place)
+    if not news.is_recent
+    then place
+    else (if is_this from place.address then heard_here now news.is_answer place else sought_at from now place)
 
--- a newer echo is that of one of the last eight probes: the player receives where that went
-abbrev pub is_echoed : News → Probe → Bool
-is_echoed news p = news.is_answer && (is_some p.to && p.echo == news.echo)
+-- an answer, from wherever it came. If it echoes one of the last eight probes, the player receives where that went; and
+-- where it received before, it may be still
+abbrev pub is_echoed : ℕ → Probe → Bool
+is_echoed echo p = is_some p.to && p.echo == echo
 
-abbrev pub answered : ℕ → News → Place → Place
-answered now news place = elim (find (is_echoed news) place.probes) [
-  | None ↦ place
-  | Some p ↦ record place { address = p.to; heard = now; told = None; candidate = None }
+abbrev pub echoed : ℕ → ℕ → Place → Place
+echoed now echo place = elim (find (is_echoed echo) place.probes) [
+  | None ↦ record place { echoed = now }
+  | Some p ↦ record place {
+    address = p.to;
+    heard = now;
+    answered = now;
+    echoed = now;
+    fallback = option_map (new_spot false now) place.address;
+    candidate = None;
+  }
 ]
 
 -- an address at which the player receives, as the lobby showed, or which the roster tells
@@ -66,8 +77,10 @@ new_place is_shown now address =
     record {
       address = if is_shown then address else None;
       heard = now;
-      passed = None;
-      told = if is_shown then None else option_map (new_spot false now) address;
+      answered = now;
+      echoed = now;
+      detour = None;
+      fallback = if is_shown then None else option_map (new_spot false now) address;
       candidate = None;
       probes = replicate 8 (record { echo = 0; to = None });
     }
@@ -82,31 +95,37 @@ places_of host seats now =
 abbrev pub place_of : ℕ → Places → Place
 place_of player places = slice_index_or places.at player (new_place false 0 None)
 
--- another player than this one receives at this address
-abbrev pub is_anothers : ℕ → Address → Places → Bool
-is_anothers player from places =
-    list_any (λ other. not (other == player) && is_this from (place_of other places).address) four
+-- the player receives at this address, and was heard there in the second before
+abbrev pub is_heard_at : Address → ℕ → Place → Bool
+is_heard_at from now place = is_this from place.address && is_since 1000 now (Some place.heard)
+
+abbrev pub is_anothers : ℕ → Address → ℕ → Places → Bool
+is_anothers player from now places =
+    list_any (λ other. not (other == player) && is_heard_at from now (place_of other places)) four
 
 -- one of the last datagrams that another passed on says that its sender may not hear this player. That is noted, but
--- not within two seconds again: it holds for one, so two who hear each other again do not keep each other at it
+-- not within two seconds again: it counts for one, so two who hear each other again do not keep each other at it
 abbrev pub passed_by : ℕ → Bool → Place → Place
 passed_by now is_recent place =
-    if is_recent && not (is_since 2000 now place.passed) then record place { passed = Some now } else place
+    if is_recent && not (is_since 2000 now place.detour) then record place { detour = Some now } else place
 
--- the player was heard where it receives in the second before, and no other passed a datagram of it on
+-- in the second before, the player was heard where it receives, and has echoed, from wherever: what goes to it arrives;
+-- and no other passed a datagram of it on
 abbrev pub is_near_at : ℕ → Place → Bool
 is_near_at now place =
-    is_some place.address && (is_since 1000 now (Some place.heard) && not (is_since 1000 now place.passed))
+    is_some place.address && (is_since 1000 now (Some place.heard)
+    && (is_since 1000 now (Some place.echoed) && not (is_since 1000 now place.detour)))
 
 -- a datagram of a player came from this address: from its own, through another, or from where it may be
 abbrev pub heard_by : (is_passed : Bool) → Address → ℕ → News → Place → Place
 heard_by is_passed from now news place =
-    answered now news (if is_passed then passed_by now news.is_recent place else heard_from from now news place)
+    let heard = if is_passed then passed_by now news.is_recent place else heard_from from now news place in
+    if news.is_answer then echoed now news.echo heard else heard
 
 abbrev pub heard_at : ℕ → Address → ℕ → News → Places → Places
 heard_at player from now news places = record {
   at = slice_set places.at player
-      (heard_by (not (is_this from (place_of player places).address) && is_anothers player from places)
+      (heard_by (not (is_this from (place_of player places).address) && is_anothers player from now places)
       from now news (place_of player places));
 }
 
@@ -115,17 +134,22 @@ abbrev pub is_due_at : ℕ → Option Spot → Bool
 is_due_at looked None = false
 is_due_at looked (Some s) = s.is_due && not (is_since 250 looked s.probed)
 
--- where the roster tells that a player is, goes one a second besides, until the player was silent for ten
-abbrev pub is_told_due : (looked silence : ℕ) → Option Spot → Bool
-is_told_due looked silence None = false
-is_told_due looked silence (Some s) =
-    is_due_at looked (Some s) || (not (is_since 1000 looked s.probed) && nat_lt silence 10000)
+-- where the roster tells that a player is, or it received before, goes one a second besides while it does not answer,
+-- until it was silent for ten
+abbrev pub is_fallback_due : (looked silence : ℕ) → (answers : Bool) → Option Spot → Bool
+is_fallback_due looked silence answers None = false
+is_fallback_due looked silence answers (Some s) =
+    is_due_at looked (Some s)
+    || (not answers && (not (is_since 1000 looked s.probed) && nat_lt silence 10000))
 
--- where a probe is due, which goes nowhere else than to where a player may be, and has not shown that it receives
+abbrev pub answers_at : ℕ → Place → Bool
+answers_at looked place = is_some place.address && is_since 1000 looked (Some place.answered)
+
+-- where a probe is due, which goes nowhere else than to where a player may be
 abbrev pub probe_to : (looked silence : ℕ) → Place → Option Address
 probe_to looked silence place =
-    if is_told_due looked silence place.told
-    then spot_at place.told
+    if is_fallback_due looked silence (answers_at looked place) place.fallback
+    then spot_at place.fallback
     else (if is_due_at looked place.candidate then spot_at place.candidate else None)
 
 -- a probe was sent there, that is echoed so
@@ -136,7 +160,7 @@ probed to now s =
 abbrev pub after_probe : Address → ℕ → ℕ → Place → Place
 after_probe to now echo place =
     record place {
-      told = option_map (probed to now) place.told;
+      fallback = option_map (probed to now) place.fallback;
       candidate = option_map (probed to now) place.candidate;
       probes = take 8 (record { echo = echo; to = Some to } ∷ place.probes);
     }
@@ -145,26 +169,31 @@ abbrev pub probed_at : ℕ → Address → ℕ → ℕ → Places → Places
 probed_at player to now echo places =
     record { at = slice_set places.at player (after_probe to now echo (place_of player places)) }
 
--- what happens to a place: a datagram of its player comes; or a look, at which a probe is sent if one is due
+-- what happens to a place: a datagram of its player comes; or a probe is sent, if one is due
 pub data Happening : Type 0 where
   Comes : (is_passed : Bool) → Address → ℕ → News → Happening
-  Looks : (looked silence echo : ℕ) → Happening
+  Sends : (looked silence echo : ℕ) → Happening
 
 abbrev pub happened : Happening → Place → Place
 happened (Comes is_passed from now news) place = heard_by is_passed from now news place
-happened (Looks looked silence echo) place = elim (probe_to looked silence place) [
+happened (Sends looked silence echo) place = elim (probe_to looked silence place) [
   | None ↦ place
   | Some to ↦ after_probe to looked echo place
 ]
 
--- of all, those that come from an address; and how many probes go there
+-- those that come from an address; those at which a probe goes there; and how many of these, until the player has shown
+-- that it receives there
 abbrev pub comes_from : Address → Happening → Bool
 comes_from at (Comes is_passed from now news) = is_this at (Some from)
-comes_from at (Looks looked silence echo) = false
+comes_from at (Sends looked silence echo) = false
+
+abbrev pub goes_to : Address → Place → Happening → Bool
+goes_to at place (Comes is_passed from now news) = false
+goes_to at place (Sends looked silence echo) = is_this at (probe_to looked silence place)
 
 abbrev pub probes_to : Address → Place → List Happening → ℕ
 probes_to at place [] = 0
-probes_to at place (Comes is_passed from now news ∷ rest) = probes_to at (heard_by is_passed from now news place) rest
-probes_to at place (Looks looked silence echo ∷ rest) =
-    (if is_this at (probe_to looked silence place) then 1 else 0)
-    + probes_to at (happened (Looks looked silence echo) place) rest
+probes_to at place (h ∷ rest) =
+    if is_this at place.address
+    then 0
+    else (if goes_to at place h then 1 else 0) + probes_to at (happened h place) rest

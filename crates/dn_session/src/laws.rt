@@ -146,10 +146,10 @@ pub fn one_game_a_number()
         → (host ≡ other) × (terms ≡ others) × (one ≡ four) × (two ≡ five) × (three ≡ six) }
 {}
 
-/// No more probes go to an address than datagrams of their player came from there, from when on it is neither told by
-/// the roster nor the candidate.
+/// From any moment at which an address is neither the fallback nor the candidate of a player, no more probes go there
+/// than datagrams of the player come from there, until the player has shown that it receives there.
 pub fn probes_answer_datagrams()
     ensures { (at : Address) (place : Place) (happenings : List Happening)
-        → is_this at (spot_at place.told) ≡ false → is_this at (spot_at place.candidate) ≡ false
+        → is_this at (spot_at place.fallback) ≡ false → is_this at (spot_at place.candidate) ≡ false
         → probes_to at place happenings ≤ length (filter (comes_from at) happenings) }
 {}

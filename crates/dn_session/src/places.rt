@@ -1,16 +1,15 @@
 //! Where the players are.
 
 ghost use Rattle.std.specs.{Prelude.{◌≡◌, ◌==◌, ◌&&◌, find, true, Some}, Option.option_map};
-ghost use Rattle.dn_session.specs.Places.{after_probe, answered, heard_at, heard_from, is_anothers, is_due_at, is_echoed, is_near_at, is_since, is_this, is_told_due, may_move, new_place, new_spot, passed_by, place_of, places_of, probe_to, probed, probed_at, sought_at, spot_at, was_probed};
+ghost use Rattle.dn_session.specs.Places.{after_probe, answers_at, echoed, heard_at, heard_from, heard_here, is_anothers, is_due_at, is_echoed, is_fallback_due, is_heard_at, is_near_at, is_since, is_this, may_move, new_place, new_spot, passed_by, place_of, places_of, probe_to, probed, probed_at, sought_at, spot_at, was_probed};
 
 use crate::greeting::Address;
 
-/// For how many milliseconds a player that was not heard directly, or may not hear this one, is not near; and for how
-/// many it must not have been heard where it receives, or have been looked for elsewhere, before it is looked for at
-/// another address.
+/// For how many milliseconds a player is near after it was last heard and echoed, and is not after a detour; and for how
+/// many it must not have answered, and have had any candidate, before another address is tried.
 const AWAY: u32 = 1000;
 
-/// For how many milliseconds a player that gives no sign of life is probed where the roster tells that it is.
+/// For how many milliseconds a player that gives no sign of life is probed unasked.
 const PROBED_FOR: u32 = 10_000;
 
 /// How many of the last probes are known.
@@ -54,12 +53,16 @@ pub struct Probe {
 pub struct Place {
     /// The address at which it receives, as it has shown, if one is known.
     pub address: Option<Address>,
-    /// When it showed that, in milliseconds of the listener's own clock.
+    /// When one of its last datagrams came from there, in milliseconds of the listener's own clock.
     pub heard: u32,
-    /// When another passed a datagram of the player on, if one did.
-    pub passed: Option<u32>,
-    /// Where the roster tells that it is, as long as no address is known.
-    pub told: Option<Spot>,
+    /// When it last answered from there.
+    pub answered: u32,
+    /// When it last answered from anywhere.
+    pub echoed: u32,
+    /// When another passed a datagram of the player on, if one did, and that was noted.
+    pub detour: Option<u32>,
+    /// Where it may be besides: where the roster tells, or where it received before.
+    pub fallback: Option<Spot>,
     /// Where it may be, because a datagram came from there, if it may be elsewhere.
     pub candidate: Option<Spot>,
     /// The last probes, the newest first.
@@ -94,14 +97,15 @@ fn is_due_at(looked: u32, spot: Option<Spot>) -> bool
     spot.is_some_and(|spot| spot.is_due && !is_since(250, looked, spot.probed))
 }
 
-/// Whether one is due where the roster tells that a player is, who was silent for so long by the last look.
-fn is_told_due(looked: u32, silence: u32, spot: Option<Spot>) -> bool
-    ensures { result ≡ is_told_due looked silence spot }
+/// Whether one is due where the roster tells that a player is, or it received before, that was silent for so long by the
+/// last look, and may answer from its address.
+fn is_fallback_due(looked: u32, silence: u32, answers: bool, spot: Option<Spot>) -> bool
+    ensures { result ≡ is_fallback_due looked silence answers spot }
 {
     match spot {
-        Some(told) => {
+        Some(fallback) => {
             is_due_at(looked, spot)
-                || (!is_since(1000, looked, told.probed) && silence < PROBED_FOR)
+                || (!answers && !is_since(1000, looked, fallback.probed) && silence < PROBED_FOR)
         }
         None => false,
     }
@@ -147,11 +151,11 @@ impl Spot {
 }
 
 impl Probe {
-    /// Whether a datagram is the first to echo it.
-    fn is_echoed(&self, news: &News) -> bool
-        ensures { result ≡ is_echoed news.now self.now }
+    /// Whether this is its echo.
+    fn is_echoed(&self, echo: u32) -> bool
+        ensures { result ≡ is_echoed echo self.now }
     {
-        news.is_answer && self.to.is_some() && self.echo == news.echo
+        self.to.is_some() && self.echo == echo
     }
 }
 
@@ -163,8 +167,10 @@ impl Place {
         Place {
             address: if is_shown { address } else { None },
             heard: now,
-            passed: None,
-            told: if is_shown {
+            answered: now,
+            echoed: now,
+            detour: None,
+            fallback: if is_shown {
                 None
             } else {
                 address.map(|address| Spot::new(false, now, address))
@@ -172,6 +178,13 @@ impl Place {
             candidate: None,
             probes: [Probe { echo: 0, to: None }; KNOWN],
         }
+    }
+
+    /// Whether the player receives at this address, and was heard there in the second before.
+    fn is_heard_at(&self, from: &Address, now: u32) -> bool
+        ensures { result ≡ is_heard_at from.now now self.now }
+    {
+        is_this(from, self.address) && is_since(AWAY, now, Some(self.heard))
     }
 
     /// Whether one of the last probes went to this address.
@@ -185,7 +198,7 @@ impl Place {
     fn may_move(&self, from: &Address, now: u32) -> bool
         ensures { result ≡ may_move from.now now self.now }
     {
-        if is_since(AWAY, now, Some(self.heard)) {
+        if is_since(AWAY, now, Some(self.answered)) {
             return false;
         }
         match self.candidate {
@@ -201,8 +214,8 @@ impl Place {
     fn seek(&mut self, from: &Address, now: u32)
         ensures { self.new ≡ sought_at from.now now self.old }
     {
-        if is_this(from, spot_at(self.told)) {
-            self.told = self.told.map(Spot::asked);
+        if is_this(from, spot_at(self.fallback)) {
+            self.fallback = self.fallback.map(Spot::asked);
         } else if is_this(from, spot_at(self.candidate)) {
             self.candidate = self.candidate.map(Spot::asked);
         } else if self.may_move(from, now) {
@@ -210,38 +223,51 @@ impl Place {
         }
     }
 
+    /// One of its last datagrams came from where it receives. It may be an answer.
+    fn hear_here(&mut self, now: u32, is_answer: bool)
+        ensures { self.new ≡ heard_here now is_answer self.old }
+    {
+        self.heard = now;
+        if is_answer {
+            self.answered = now;
+            self.candidate = None;
+        }
+    }
+
     /// A datagram of the player came from this address.
     fn hear(&mut self, from: &Address, now: u32, news: &News)
         ensures { self.new ≡ heard_from from.now now news.now self.old }
     {
+        if !news.is_recent {
+            return;
+        }
         if is_this(from, self.address) {
-            if news.is_answer {
-                self.heard = now;
-                self.candidate = None;
-            }
-        } else if news.is_recent {
+            self.hear_here(now, news.is_answer);
+        } else {
             self.seek(from, now);
         }
     }
 
-    /// Which of the last probes a datagram is the first to echo, if it is one.
-    fn echoed(&self, news: &News) -> Option<Probe>
-        ensures { result ≡ find (is_echoed news.now) self.now.probes }
+    /// Which of the last probes has this echo, if one has.
+    fn probe_of(&self, echo: u32) -> Option<Probe>
+        ensures { result ≡ find (is_echoed echo) self.now.probes }
     {
         self.probes
             .iter()
-            .find(|probe| probe.is_echoed(news))
+            .find(|probe| probe.is_echoed(echo))
             .copied()
     }
 
-    /// A datagram of the player came. It receives where the probe went that is echoed.
-    fn answer(&mut self, now: u32, news: &News)
-        ensures { self.new ≡ answered now news.now self.old }
+    /// An answer came, from wherever. The player receives where the probe went that is echoed, if one is.
+    fn answer(&mut self, now: u32, echo: u32)
+        ensures { self.new ≡ echoed now echo self.old }
     {
-        if let Some(probe) = self.echoed(news) {
+        self.echoed = now;
+        if let Some(probe) = self.probe_of(echo) {
+            self.fallback = self.address.map(|address| Spot::new(false, now, address));
             self.address = probe.to;
             self.heard = now;
-            self.told = None;
+            self.answered = now;
             self.candidate = None;
         }
     }
@@ -250,26 +276,35 @@ impl Place {
     fn pass(&mut self, now: u32, is_recent: bool)
         ensures { self.new ≡ passed_by now is_recent self.old }
     {
-        if is_recent && !is_since(2 * AWAY, now, self.passed) {
-            self.passed = Some(now);
+        if is_recent && !is_since(2 * AWAY, now, self.detour) {
+            self.detour = Some(now);
         }
     }
 
-    /// Whether the player was heard where it receives in the second before, and no other passed a datagram of it on.
+    /// Whether in the second before the player was heard where it receives, and answered from anywhere, and no other passed
+    /// a datagram of it on.
     pub(crate) fn is_near(&self, looked: u32) -> bool
         ensures { result ≡ is_near_at looked self.now }
     {
         self.address.is_some()
             && is_since(AWAY, looked, Some(self.heard))
-            && !is_since(AWAY, looked, self.passed)
+            && is_since(AWAY, looked, Some(self.echoed))
+            && !is_since(AWAY, looked, self.detour)
+    }
+
+    /// Whether it answered from where it receives in the second before.
+    fn answers(&self, looked: u32) -> bool
+        ensures { result ≡ answers_at looked self.now }
+    {
+        self.address.is_some() && is_since(AWAY, looked, Some(self.answered))
     }
 
     /// Where a probe is due to a player that was silent for so long, by the last look.
     pub fn probe_to(&self, looked: u32, silence: u32) -> Option<Address>
         ensures { result ≡ probe_to looked silence self.now }
     {
-        if is_told_due(looked, silence, self.told) {
-            spot_at(self.told)
+        if is_fallback_due(looked, silence, self.answers(looked), self.fallback) {
+            spot_at(self.fallback)
         } else if is_due_at(looked, self.candidate) {
             spot_at(self.candidate)
         } else {
@@ -281,7 +316,7 @@ impl Place {
     fn note_probe(&mut self, to: &Address, now: u32, echo: u32)
         ensures { self.new ≡ after_probe to.now now echo self.old }
     {
-        self.told = self.told.map(|told| told.probed(to, now));
+        self.fallback = self.fallback.map(|fallback| fallback.probed(to, now));
         self.candidate = self.candidate.map(|candidate| candidate.probed(to, now));
         let [a, b, c, d, e, f, g, _] = self.probes;
         let newest = Probe {
@@ -327,12 +362,12 @@ impl Places {
         }
     }
 
-    /// Whether another player than this one receives at this address.
-    fn is_anothers(&self, player: u8, from: &Address) -> bool
-        ensures { result ≡ is_anothers player from.now self.now }
+    /// Whether another player than this one receives at this address, and was heard there in the second before.
+    fn is_anothers(&self, player: u8, from: &Address, now: u32) -> bool
+        ensures { result ≡ is_anothers player from.now now self.now }
     {
         [0, 1, 2, 3].iter().any(|other| *other != player
-            && is_this(from, self.place(*other).address))
+            && self.place(*other).is_heard_at(from, now))
     }
 
     /// A datagram of a player came from this address.
@@ -343,14 +378,16 @@ impl Places {
             return;
         }
         let is_passed = !is_this(from, self.place(player).address)
-            && self.is_anothers(player, from);
+            && self.is_anothers(player, from, now);
         let place = &mut self.at[usize::from(player)];
         if is_passed {
             place.pass(now, news.is_recent);
         } else {
             place.hear(from, now, news);
         }
-        place.answer(now, news);
+        if news.is_answer {
+            place.answer(now, news.echo);
+        }
     }
 
     /// A probe was sent to where a player may be, that is echoed so.
