@@ -1,6 +1,5 @@
 -- Addresses of sockets as those of sessions.
-use Rattle.std.specs.Prelude.{ℕ, List, [], ◌∷◌, ◌++◌, replicate}
-use Rattle.std.specs.{Int.w16, Int.to_be_bytes, Net.Addr.ipv4_octets, Net.Addr.ipv6_octets, Net.Socket.socket_ip, Net.Socket.socket_port, declared.net.ip_addr.IpAddr.IpAddr, declared.net.socket_addr.SocketAddr.SocketAddr, declared.net.ip_addr.IpAddr.TheVariants.V4, declared.net.ip_addr.IpAddr.TheVariants.V6}
+use Rattle.std.specs.{Prelude.{ℕ, List, [], ◌∷◌, ◌++◌, replicate}, Int.w16, Int.to_be_bytes, Net.Addr.ipv4_octets, Net.Addr.ipv6_octets, Net.Socket.socket_ip, Net.Socket.socket_port, declared.net.ip_addr.IpAddr.IpAddr, declared.net.socket_addr.SocketAddr.SocketAddr, declared.net.ip_addr.IpAddr.TheVariants.V4, declared.net.ip_addr.IpAddr.TheVariants.V6}
 use Rattle.dn_session.specs.declared.greeting.Address.{Address}
 
 -- the IPv6 address that an IPv4 address is mapped into, as RFC 4291 says

@@ -1,8 +1,7 @@
 -- What came from each player, by what its link reports of the lines.
 use Rattle.std.specs.Prelude.{ℕ, ◌+◌, ◌&&◌, ◌^◌, ◌-◌, min, Bool, false, nat_lt, if◌then◌else◌, List, slice_index, map, Option, Some, option_map}
 use Rattle.dn_link.specs.declared.tally.Figures.{Figures}
-use Rattle.dn_measure.specs.Measure.{IsMeasureOf}
-use Rattle.dn_measure.specs.declared.{arrivals.Arrivals.Arrivals, measure.Measure.Measure, measure.Told.Told, status.PeerStatus.PeerStatus}
+use Rattle.dn_measure.specs.{Measure.{IsMeasureOf}, declared.{arrivals.Arrivals.Arrivals, measure.Measure.Measure, measure.Told.Told, status.PeerStatus.PeerStatus}}
 use Rattle.dn_session.specs.{Coming.line_of, Players.four}
 
 -- a datagram came late over a line: one more came, and one fewer is missing, since a later one had come

@@ -3,8 +3,7 @@ use Rattle.std.specs.Prelude.{◌≡◌, ◌⊎◌, ◌-◌, ◌^◌, ℕ, Bool,
 use Rattle.dn_link.specs.{declared.link.Link.Link, Hearing.ByTest, Linking.linked, Pacing.pace_of}
 use Rattle.dn_measure.specs.{Measure.IsMeasureOf, Measure.IsSummaryOf, declared.measure.Summary.Summary, declared.measure.Told.Told, declared.status.Status.Status}
 use Rattle.dn_session.specs.{Coming.lines_in, Events.over_in, Session.begun_in, Session.link_in, Session.Meeting, declared.ending.Over.Over, declared.greeting.Address.Address, declared.greeting.Refusal.Refusal, declared.side.Begun.Begun, declared.session.Session.Session, declared.terms.LobbyFault.LobbyFault}
-use Rattle.dn_host.specs.{Arrived.came_of_each, Arrived.IsSomeMeasure, Leaving.end_of, Turns.new_turns, Turns.stage_of, Turns.IsTurn, Turns.Repeats, Turns.Stage}
-use Rattle.dn_host.specs.declared.{ends.Ending.Ending, ends.Ending.TheVariants.Ended, ends.Ending.TheVariants.Refused, ends.Ending.TheVariants.Hinted, ends.HostFault.HostFault, ends.HostFault.TheVariants.Clock, ends.HostFault.TheVariants.Random, ends.HostFault.TheVariants.Terms, ends.Outcome.Outcome, game.Game.Game, plan.Plan.Plan}
+use Rattle.dn_host.specs.{Arrived.came_of_each, Arrived.IsSomeMeasure, Leaving.end_of, Turns.new_turns, Turns.stage_of, Turns.IsTurn, Turns.Repeats, Turns.Stage, declared.{ends.Ending.Ending, ends.Ending.TheVariants.Ended, ends.Ending.TheVariants.Refused, ends.Ending.TheVariants.Hinted, ends.HostFault.HostFault, ends.HostFault.TheVariants.Clock, ends.HostFault.TheVariants.Random, ends.HostFault.TheVariants.Terms, ends.Outcome.Outcome, game.Game.Game, plan.Plan.Plan}}
 use Rattle.dn_session.specs.declared.ending.Over.TheVariants as over
 
 -- the host gave no seat, or could not read the calls

@@ -4,8 +4,7 @@ use Rattle.dn_link.specs.{Hearing.ByTest, declared.link.Link.Link}
 use Rattle.dn_lockstep.specs.declared.config.NodeFault.{NodeFault}
 use Rattle.dn_measure.specs.declared.status.Status.{Status}
 use Rattle.dn_session.specs.{declared.greeting.Address.Address, declared.greeting.Refusal.Refusal, declared.session.Session.Session, Reading.is_greeting, Session.can_give, Session.holds_back_in, Session.link_in, Session.meeting, Session.Begins, Session.HearsAny, Session.Meeting, Session.PassesTo, Session.Sends}
-use Rattle.dn_host.specs.{Leaving.Leaves, Playing.come_in, Playing.millis, Playing.InGame, Playing.IsBegun, Playing.NotesIn, Telling.Sight, Telling.Tells, Playing.GivesInput, Playing.RunsWhen}
-use Rattle.dn_host.specs.declared.{ends.HostFault.HostFault, ends.HostFault.TheVariants.Memory, game.Game.Game, plan.Plan.Plan, turns.Turns.Turns}
+use Rattle.dn_host.specs.{Leaving.Leaves, Playing.come_in, Playing.millis, Playing.InGame, Playing.IsBegun, Playing.NotesIn, Telling.Sight, Telling.Tells, Playing.GivesInput, Playing.RunsWhen, declared.{ends.HostFault.HostFault, ends.HostFault.TheVariants.Memory, game.Game.Game, plan.Plan.Plan, turns.Turns.Turns}}
 
 -- something is done again and again, until it was not, or was done so many times; and whether it was done so often
 unfoldable pub Repeats : {A B : Type 0} → (A → B → Bool → A → B → Type 0) → ℕ → A → B → A → B → (all : Bool) → Type 0

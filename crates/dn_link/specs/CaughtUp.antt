@@ -5,8 +5,7 @@ use Rattle.dn_machine.specs.{Limits.Limits, Node.put, Sending.lag}
 use Rattle.dn_machine.specs.Node as machine
 use Rattle.dn_lockstep.specs.{Told.got, Told.made, Contents.Contents, Represents.Represents}
 use Rattle.dn_open.specs.Sealed.{sealing_of}
-use Rattle.dn_link.specs.{declared.bundle.Bundle.Bundle, declared.bundle.Carried.Carried, Counting.has_ended, Ends.excludes, Kept.IsKeptRising, Kept.Unacknowledged}
-use Rattle.dn_link.specs.{Kept.end_of, Linked.Linked, Packets.own_in, Packets.packets_in, Reading.IsDatagramOf, Text.IsBundle, Text.sealed_bytes}
+use Rattle.dn_link.specs.{declared.bundle.Bundle.Bundle, declared.bundle.Carried.Carried, Counting.has_ended, Ends.excludes, Kept.IsKeptRising, Kept.Unacknowledged, Kept.end_of, Linked.Linked, Packets.own_in, Packets.packets_in, Reading.IsDatagramOf, Text.IsBundle, Text.sealed_bytes}
 
 -- from which tic on a peer is to be sent commands: the next packet begins there, unless more were made from
 -- there on than are kept; then it begins with the newest, or behind it where packets repeat none

@@ -5,8 +5,7 @@ use Rattle.dn_seal.specs.{declared.opened.Opened.Opened, declared.seal.Seal.Seal
 use Rattle.dn_machine.specs.{Flight.Flight, Limits.Limits, Node.put}
 use Rattle.dn_lockstep.specs.{Marking.Marking, OneGame.AreOneGame, OneGame.Session, Contents.Contents, Phases.is_waiting}
 use Rattle.dn_open.specs.Sealed.{opened_of, sealing_of}
-use Rattle.dn_link.specs.{Counting.has_ended, Counting.has_of, Linked.IsWhole, Linked.Linked, Packets.opened_from, Packets.packets_in, declared.bundle.Bundle.Bundle}
-use Rattle.dn_link.specs.{Ends.tells_end, Reading.IsDatagramOf, Text.IsBundle, Text.sealed_bytes}
+use Rattle.dn_link.specs.{Counting.has_ended, Counting.has_of, Linked.IsWhole, Linked.Linked, Packets.opened_from, Packets.packets_in, declared.bundle.Bundle.Bundle, Ends.tells_end, Reading.IsDatagramOf, Text.IsBundle, Text.sealed_bytes}
 
 -- What a datagram carries, beside the packets of a game.
 

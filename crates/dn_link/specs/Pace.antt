@@ -5,8 +5,7 @@ use Rattle.dn_machine.specs.{declared.answers.Made.{Made, TheVariants.Full}, Nod
 use Rattle.dn_lockstep.specs.Contents.{Contents}
 use Rattle.dn_seal.specs.declared.seal.Seal.{Seal}
 use Rattle.dn_open.specs.Sealed.{sealing_of}
-use Rattle.dn_link.specs.{Leaning.{LeaningState, looks, step_of, worked_off, StretchingState, drops, stretches}, declared.bundle.{Bundle.Bundle, BundleFault.BundleFault}, Ends.excludes, Tally.stops}
-use Rattle.dn_link.specs.{Hearing.ByTest, Line.{heard_on, lead_over, missing}, Linked.{Linked, end_known, is_peer, remains}, Pacing.PaceState, Reading.IsBundledAs}
+use Rattle.dn_link.specs.{Leaning.{LeaningState, looks, step_of, worked_off, StretchingState, drops, stretches}, declared.bundle.{Bundle.Bundle, BundleFault.BundleFault}, Ends.excludes, Tally.stops, Hearing.ByTest, Line.{heard_on, lead_over, missing}, Linked.{Linked, end_known, is_peer, remains}, Pacing.PaceState, Reading.IsBundledAs}
 
 -- an input that is owed stays so until there is room for it
 abbrev pub still_owed : Made → Option Input → Option Input

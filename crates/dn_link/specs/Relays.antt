@@ -1,6 +1,5 @@
 -- The commands of third players that a player hands on, and which these are.
-use Rattle.std.specs.Prelude.{◌≡◌, ◌≢◌, ◌<◌, ◌≤◌, ℕ, ◌+◌, ◌^◌, negsuc, List, [], ◌∷◌, length, slice_index, Some, ◌-◌, ◌/◌, ◌&&◌, ◌||◌, if◌then◌else◌, nat_lt, nat_le, min, max, Bool, slice_get, get_or, Option, None}
-use Rattle.std.specs.List.{flat_map}
+use Rattle.std.specs.{Prelude.{◌≡◌, ◌≢◌, ◌<◌, ◌≤◌, ℕ, ◌+◌, ◌^◌, negsuc, List, [], ◌∷◌, length, slice_index, Some, ◌-◌, ◌/◌, ◌&&◌, ◌||◌, if◌then◌else◌, nat_lt, nat_le, min, max, Bool, slice_get, get_or, Option, None}, List.{flat_map}}
 use Rattle.dn_tic.specs.{Command.IsCommand, Command.command_bytes, declared.command.TicCmd.TicCmd}
 use Rattle.dn_machine.specs.{Flight.Flight, Relaying.packet_of_one}
 use Rattle.dn_lockstep.specs.{Contents.Contents, Told.command_told}

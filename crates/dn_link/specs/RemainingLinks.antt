@@ -6,8 +6,7 @@ use Rattle.dn_machine.specs.{Flight.Flight, Limits.Limits, Node.put}
 use Rattle.dn_lockstep.specs.Marking.{Marking}
 use Rattle.dn_seal.specs.declared.seal.Seal.{Seal}
 use Rattle.dn_open.specs.Sealed.{sealing_of}
-use Rattle.dn_link.specs.{declared.bundle.Bundle.Bundle, LinkedGame.WasGiven, Linked.{Gives, Linked, report_beside, surviving_of}, Packets.{opened_from, packets_in}, Pacing.PaceState}
-use Rattle.dn_link.specs.{Relays.flights_of, Reading.IsDatagramOf, Text.{IsBundle, sealed_bytes}}
+use Rattle.dn_link.specs.{declared.bundle.Bundle.Bundle, LinkedGame.WasGiven, Linked.{Gives, Linked, report_beside, surviving_of}, Packets.{opened_from, packets_in}, Pacing.PaceState, Relays.flights_of, Reading.IsDatagramOf, Text.{IsBundle, sealed_bytes}}
 
 -- each player's link has the player's survivor of one game, and keeps for each peer nothing but packets that
 -- were given to that peer in it

@@ -5,8 +5,7 @@ use Rattle.dn_setup.specs.Settings.{Settings}
 use Rattle.dn_machine.specs.{declared.answers.Made.Made, declared.answers.Phase.TheVariants.Playing, declared.answers.Ran.Ran, Limits.Limits, Running.on_run}
 use Rattle.dn_lockstep.specs.{Told.Builds, Told.made, Marking.Marking, Steps.RunsBy, OneGame.Session}
 use Rattle.dn_seal.specs.declared.seal.Seal.{Seal}
-use Rattle.dn_link.specs.{declared.received.Received.Received, LinkedGame.IsGenuineDatagram, LinkedGame.AreLinked, CaughtUp.AreCaughtUp, CaughtUp.HasGrown}
-use Rattle.dn_link.specs.{CaughtUp.IsInStepTo, CaughtUp.next_to, Linked.Gives, Linked.Linked, Linked.Receives, Pacing.PaceState, Packing.parts_room}
+use Rattle.dn_link.specs.{declared.received.Received.Received, LinkedGame.IsGenuineDatagram, LinkedGame.AreLinked, CaughtUp.AreCaughtUp, CaughtUp.HasGrown, CaughtUp.IsInStepTo, CaughtUp.next_to, Linked.Gives, Linked.Linked, Linked.Receives, Pacing.PaceState, Packing.parts_room}
 
 -- the links of a game from one moment to another, in which all players play. From each moment to the next they
 -- grow, as they do by any calls on them (`links_stay_caught_up`)

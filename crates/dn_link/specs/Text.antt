@@ -1,9 +1,7 @@
 -- The datagram of a bundle.
-use Rattle.std.specs.{Prelude.{ℕ, ◌+◌, ◌<◌, ◌≡◌, ◌≤◌, ◌^◌, ◌*◌, ◌/◌, List, [], ◌∷◌, ◌++◌, length, All, IfSome, FitsSigned}, Int.{w8, w16, w32, cast_unsigned, to_le_bytes}, List.flat_map}
+use Rattle.std.specs.{Prelude.{ℕ, ◌+◌, ◌<◌, ◌≡◌, ◌≤◌, ◌^◌, ◌*◌, ◌/◌, List, [], ◌∷◌, ◌++◌, length, All, IfSome, FitsSigned}, Int.{w8, w16, w32, cast_unsigned, to_le_bytes}, List.flat_map, Prelude.{if◌then◌else◌}}
 use Rattle.dn_seal.specs.{declared.seal.Seal.Seal, Envelope.ask_bytes, Hmac.tag_of, Sealing.front_bytes}
-use Rattle.dn_link.specs.declared.bundle.{Carried.Carried, Counts.Counts, Part.{Part, TheVariants.{Whole, Run, Relay}}, Bundle.Bundle}
-use Rattle.dn_link.specs.Differences.{are_shorter, commands_bytes}
-use Rattle.std.specs.Prelude.{if◌then◌else◌}
+use Rattle.dn_link.specs.{declared.bundle.{Carried.Carried, Counts.Counts, Part.{Part, TheVariants.{Whole, Run, Relay}}, Bundle.Bundle}, Differences.{are_shorter, commands_bytes}}
 use Rattle.dn_link.specs.declared.bundle.Relay as relay
 use Rattle.dn_link.specs.declared.bundle.Run as run
 

@@ -1,8 +1,7 @@
 -- What has happened in a session, told in order; how it is over; and when it wants to be called.
 use Rattle.std.specs.{Prelude.{ℕ, ◌+◌, ◌==◌, ◌&&◌, Bool, not, true, false, min, if◌then◌else◌, List, slice_index_or, slice_set, replicate, Option, Some, None, is_some}, Option.{option_map, option_or}}
 use Rattle.dn_link.specs.{Linked.Linked, Linked.is_peer, Linking.linked}
-use Rattle.dn_session.specs.{Joining.acts, Joining.has_come, Joining.joining, Players.standing_beside, Playing.Playing, Playing.ended_as, Playing.playing, Ticks.next, declared.{ending.Over.Over, event.Announced.Announced, event.Event.Event, greeting.Seating.Seating, joiner.Stage.Stage, lead.Standing.Standing}}
-use Rattle.dn_session.specs.declared.{lead.Standing.TheVariants.Closed, lead.Standing.TheVariants.Gone, lead.Standing.TheVariants.Open, part.Part.Part, side.Side.Side}
+use Rattle.dn_session.specs.{Joining.acts, Joining.has_come, Joining.joining, Players.standing_beside, Playing.Playing, Playing.ended_as, Playing.playing, Ticks.next, declared.{ending.Over.Over, event.Announced.Announced, event.Event.Event, greeting.Seating.Seating, joiner.Stage.Stage, lead.Standing.Standing}, declared.{lead.Standing.TheVariants.Closed, lead.Standing.TheVariants.Gone, lead.Standing.TheVariants.Open, part.Part.Part, side.Side.Side}}
 use Rattle.dn_session.specs.declared.ending.Over.TheVariants as over
 use Rattle.dn_session.specs.declared.ending.Progress.TheVariants as progress
 use Rattle.dn_session.specs.declared.event.Event.TheVariants as event

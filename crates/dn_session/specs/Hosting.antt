@@ -1,10 +1,7 @@
 -- The host's lobby: who gets which seat, and when the game begins.
 use Rattle.std.specs.{Prelude.{◌≡◌, ◌≤◌, ◌<◌, ◌⊎◌, ℕ, ◌+◌, ◌-◌, ◌==◌, ◌||◌, Bool, not, false, nat_le, if◌then◌else◌, List, [], ◌∷◌, length, map, max, position, slice_index_or, slice_set, Option, Some, None, option_map, Result, Ok, Err}, List.list_all, List.list_any, Str.bytes_eq}
 use Rattle.dn_seal.specs.declared.seal.Seal.{Seal}
-use Rattle.dn_session.specs.{Cookies.cookie_of, Cookies.game_of, Cookies.is_good, Cookies.is_one, Cookies.session_number, Cookies.time_of, Reading.IsCallIn, Reading.IsRefusedIn, Reading.IsSeatingIn, Seats.is_of}
-use Rattle.dn_session.specs.{Seats.is_ready, Seats.number_in, Seats.seat_for, Seats.seat_of, Seats.shown_at, Seats.taken_again, Seats.taken_by, Terms.IsTerms, Terms.terms_fault, Text.IsHolder}
-use Rattle.dn_session.specs.{Text.greeting_bytes, Text.greeting_seal, Text.hinted_bytes, Text.refused_rest, Text.seating_rest, Text.told_number, declared.{greeting.Seating.Seating, host.Host.Host, host.HostConfig.HostConfig, seats.Seat.Seat, terms.LobbyFault.LobbyFault, terms.Terms.Terms}}
-use Rattle.dn_session.specs.declared.{greeting.Address.Address, greeting.Call.Call, greeting.GreetingFault.GreetingFault, greeting.Hint.Hint, greeting.Refusal.Refusal, greeting.Refused.Refused}
+use Rattle.dn_session.specs.{Cookies.cookie_of, Cookies.game_of, Cookies.is_good, Cookies.is_one, Cookies.session_number, Cookies.time_of, Reading.IsCallIn, Reading.IsRefusedIn, Reading.IsSeatingIn, Seats.is_of, Seats.is_ready, Seats.number_in, Seats.seat_for, Seats.seat_of, Seats.shown_at, Seats.taken_again, Seats.taken_by, Terms.IsTerms, Terms.terms_fault, Text.IsHolder, Text.greeting_bytes, Text.greeting_seal, Text.hinted_bytes, Text.refused_rest, Text.seating_rest, Text.told_number, declared.{greeting.Seating.Seating, host.Host.Host, host.HostConfig.HostConfig, seats.Seat.Seat, terms.LobbyFault.LobbyFault, terms.Terms.Terms}, declared.{greeting.Address.Address, greeting.Call.Call, greeting.GreetingFault.GreetingFault, greeting.Hint.Hint, greeting.Refusal.Refusal, greeting.Refused.Refused}}
 use Rattle.dn_session.specs.declared.greeting.GreetingFault.TheVariants as fault
 use Rattle.dn_session.specs.declared.greeting.Hint.TheVariants as hint
 use Rattle.dn_session.specs.declared.greeting.Refusal.TheVariants as refusal

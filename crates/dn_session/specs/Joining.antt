@@ -1,10 +1,7 @@
 -- A joiner: when it calls, and what it makes of replies.
 use Rattle.std.specs.{Prelude.{◌≡◌, ℕ, ◌+◌, ◌-◌, min, ◌==◌, ◌&&◌, ◌||◌, Bool, not, true, false, nat_le, nat_lt, if◌then◌else◌, List, map, slice_index_or, Option, Some, None, Result, Ok, Err, replicate}, Option.option_or, Str.bytes_eq}
 use Rattle.dn_seal.specs.declared.seal.Seal.{Seal}
-use Rattle.dn_session.specs.{Cookies.game_of, Cookies.is_recent, Cookies.session_number, Reading.IsHintedIn, Reading.IsRefusedIn, Reading.IsSeatingIn, Text.call_rest, Text.greeting_bytes}
-use Rattle.dn_session.specs.{Text.greeting_seal, Text.join_fault, declared.greeting.Address.Address, declared.greeting.Call.Call, declared.greeting.GreetingFault.GreetingFault}
-use Rattle.dn_session.specs.{declared.greeting.Hint.Hint, declared.greeting.Hinted.Hinted, declared.greeting.Refusal.Refusal, declared.greeting.Refused.Refused, declared.greeting.Seating.Seating}
-use Rattle.dn_session.specs.{declared.greeting.Shown.Shown, declared.joiner.JoinConfig.JoinConfig, declared.joiner.Joiner.Joiner, declared.joiner.Stage.Stage, declared.terms.LobbyFault.LobbyFault}
+use Rattle.dn_session.specs.{Cookies.game_of, Cookies.is_recent, Cookies.session_number, Reading.IsHintedIn, Reading.IsRefusedIn, Reading.IsSeatingIn, Text.call_rest, Text.greeting_bytes, Text.greeting_seal, Text.join_fault, declared.greeting.Address.Address, declared.greeting.Call.Call, declared.greeting.GreetingFault.GreetingFault, declared.greeting.Hint.Hint, declared.greeting.Hinted.Hinted, declared.greeting.Refusal.Refusal, declared.greeting.Refused.Refused, declared.greeting.Seating.Seating, declared.greeting.Shown.Shown, declared.joiner.JoinConfig.JoinConfig, declared.joiner.Joiner.Joiner, declared.joiner.Stage.Stage, declared.terms.LobbyFault.LobbyFault}
 use Rattle.dn_session.specs.declared.greeting.Refusal.TheVariants as refusal
 use Rattle.dn_session.specs.declared.joiner.Stage.TheVariants as stage
 

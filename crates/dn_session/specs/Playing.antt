@@ -6,10 +6,7 @@ use Rattle.dn_lockstep.specs.Steps.{Steps, Tells}
 use Rattle.dn_survivor.specs.declared.answers.GivenUp.{GivenUp}
 use Rattle.dn_link.specs.{Linked.Receives, Linked.has_given_up, Linking.linked, Linking.seal_of, Pace.Paces, Pace.after_input, Pace.after_tick, Pace.lean, Pace.still_owed, Pace.wants_second, Pacing.pace_of, Surviving.GivesUpPeer, Surviving.RunsBut, declared.link.Link.Link, declared.received.Received.Received}
 use Rattle.dn_link.specs.declared.received.Received.TheVariants as received
-use Rattle.dn_session.specs.{Coming.{counts_in, has_more, heard_of, is_answer_of, line_of, lines_in, news_of}, Ending.ended_by, Ending.ending_of, Ending.is_unneeded, Ending.may_give_up, Ending.patience, Ending.waits, Joining.has_come, Lead.due, Passing.passed_on, Passing.sent_of}
-use Rattle.dn_session.specs.{Places.heard_at, Places.is_since, Players.four, Players.has_row_behind, Players.is_any_awaited, Players.view_of, Ticks.half_taken, Ticks.is_due, Ticks.passed, Ticks.resumed, Steady.after_tic, Steady.holds, Steady.ticked, declared.steady.Steady.Steady}
-use Rattle.dn_session.specs.{Watch.looked_at, declared.ending.Ending.Ending, declared.ending.Progress.Progress, declared.greeting.Address.Address, declared.lead.View.View}
-use Rattle.dn_session.specs.declared.{part.Exclusion.Exclusion, part.Part.Part, part.hearing.Known.Known, places.Places.Places, terms.Policy.Policy, ticks.Ticks.Ticks, watch.Watch.Watch}
+use Rattle.dn_session.specs.{Coming.{counts_in, has_more, heard_of, is_answer_of, line_of, lines_in, news_of}, Ending.ended_by, Ending.ending_of, Ending.is_unneeded, Ending.may_give_up, Ending.patience, Ending.waits, Joining.has_come, Lead.due, Passing.passed_on, Passing.sent_of, Places.heard_at, Places.is_since, Players.four, Players.has_row_behind, Players.is_any_awaited, Players.view_of, Ticks.half_taken, Ticks.is_due, Ticks.passed, Ticks.resumed, Steady.after_tic, Steady.holds, Steady.ticked, declared.steady.Steady.Steady, Watch.looked_at, declared.ending.Ending.Ending, declared.ending.Progress.Progress, declared.greeting.Address.Address, declared.lead.View.View, declared.{part.Exclusion.Exclusion, part.Part.Part, part.hearing.Known.Known, places.Places.Places, terms.Policy.Policy, ticks.Ticks.Ticks, watch.Watch.Watch}}
 use Rattle.dn_machine.specs.declared.answers.Ran.TheVariants as answer
 use Rattle.dn_session.specs.declared.ending.Ending.TheVariants as ending
 use Rattle.dn_session.specs.declared.ending.Progress.TheVariants as progress

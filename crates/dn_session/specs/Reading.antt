@@ -1,8 +1,7 @@
 -- What bytes are read as.
 use Rattle.std.specs.{Prelude.{◌≡◌, ◌≢◌, ◌⊎◌, ℕ, ◌==◌, Bool, not, nat_lt, if◌then◌else◌, List, length, take, drop, slice_index, Option, Some, None, Result, Ok, Err}, Str.{bytes_eq}}
 use Rattle.dn_seal.specs.{Hmac.suite_byte, Hmac.tag_of, Opening.told_body, Opening.told_tag, declared.seal.Seal.Seal}
-use Rattle.dn_session.specs.{Sorts.Sort, Sorts.calls, Sorts.refusals, Sorts.seatings, Text.IsHinted, Text.greeting_bytes, Text.hinted_bytes, Text.kind_bytes, declared.greeting.GreetingFault.TheVariants.{Form, Kind, Length, Short, Suite, Tag, Version, What}}
-use Rattle.dn_session.specs.declared.{greeting.Call.Call, greeting.GreetingFault.GreetingFault, greeting.Hinted.Hinted, greeting.Refused.Refused, greeting.Seating.Seating}
+use Rattle.dn_session.specs.{Sorts.Sort, Sorts.calls, Sorts.refusals, Sorts.seatings, Text.IsHinted, Text.greeting_bytes, Text.hinted_bytes, Text.kind_bytes, declared.greeting.GreetingFault.TheVariants.{Form, Kind, Length, Short, Suite, Tag, Version, What}, declared.{greeting.Call.Call, greeting.GreetingFault.GreetingFault, greeting.Hinted.Hinted, greeting.Refused.Refused, greeting.Seating.Seating}}
 
 -- what fits and has these bytes, or the first fault that they have. Form is the last: they have no other, and nothing
 -- that fits has them

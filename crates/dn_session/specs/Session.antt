@@ -5,10 +5,7 @@ use Rattle.dn_tic.specs.declared.{command.Move.Move, input.Input.Input}
 use Rattle.dn_lockstep.specs.{Contents.whose, Opening.IsAdmittedWithin, Opening.keyed, Opening.limits_within, Opening.whose_within, Represents.Represents, declared.{config.Config.Config, config.NodeFault.NodeFault}}
 use Rattle.dn_survivor.specs.OfOthers.{nothing_kept}
 use Rattle.dn_link.specs.{Linking.linked, Linking.new_peer, Linking.seal_of, Pacing.new_pace, Pacing.pace_of, declared.link.Link.Link}
-use Rattle.dn_session.specs.{Playing.{GivesUpBy, GivesWhen, HearsBytes, Playing, Polls, QuitsBy, RunsNext, WritesRow, given_up_at, holds_back, may_give, owes_nobody, playing}, Hosting.{HearsCall, IsHostOf, Lobby, game_told, holder_of, kicked, lobby}}
-use Rattle.dn_session.specs.{Events.none_announced, Joining.HearsHost, Joining.IsJoinerOf, Joining.Joining, Joining.game_now, Joining.is_heard, Joining.joining, Joining.on_time, Places.places_of, declared.{seats.Seat.Seat, session.Session.Session, side.Begun.Begun, side.Side.Side, terms.LobbyFault.LobbyFault, terms.Terms.Terms}}
-use Rattle.dn_session.specs.{Reading.is_greeting, Sent.SendsNext, Passing.sent_of, Steady.new_steady, Text.game_seal, Ticks.new_ticks, Watch.new_watch, declared.event.Announced.Announced, declared.greeting.Address.Address}
-use Rattle.dn_session.specs.declared.{greeting.Seating.Seating, greeting.Shown.Shown, host.Host.Host, host.HostConfig.HostConfig, joiner.JoinConfig.JoinConfig, joiner.Joiner.Joiner, part.Part.Part}
+use Rattle.dn_session.specs.{Playing.{GivesUpBy, GivesWhen, HearsBytes, Playing, Polls, QuitsBy, RunsNext, WritesRow, given_up_at, holds_back, may_give, owes_nobody, playing}, Hosting.{HearsCall, IsHostOf, Lobby, game_told, holder_of, kicked, lobby}, Events.none_announced, Joining.HearsHost, Joining.IsJoinerOf, Joining.Joining, Joining.game_now, Joining.is_heard, Joining.joining, Joining.on_time, Places.places_of, declared.{seats.Seat.Seat, session.Session.Session, side.Begun.Begun, side.Side.Side, terms.LobbyFault.LobbyFault, terms.Terms.Terms}, Reading.is_greeting, Sent.SendsNext, Passing.sent_of, Steady.new_steady, Text.game_seal, Ticks.new_ticks, Watch.new_watch, declared.event.Announced.Announced, declared.greeting.Address.Address, declared.{greeting.Seating.Seating, greeting.Shown.Shown, host.Host.Host, host.HostConfig.HostConfig, joiner.JoinConfig.JoinConfig, joiner.Joiner.Joiner, part.Part.Part}}
 use Rattle.dn_machine.specs.declared.answers.Ran.TheVariants as ran
 use Rattle.dn_session.specs.declared.ending.Progress.TheVariants as progress
 use Rattle.dn_session.specs.declared.seats.Seat.TheVariants as seat

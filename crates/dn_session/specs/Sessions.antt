@@ -5,8 +5,7 @@ use Rattle.dn_machine.specs.Node.{put}
 use Rattle.dn_lockstep.specs.{Marking.Marking, OneGame.told_on}
 use Rattle.dn_survivor.specs.OneGame.{Session}
 use Rattle.dn_link.specs.RemainingLinks.{KeepsGiven}
-use Rattle.dn_session.specs.{Parts.AreParts, Parts.limits_of, Playing.Playing, Playing.playing, Roster.IsSide, Roster.Place, Roster.key_of, Roster.number_of_game, Roster.place_in, Roster.text_of_game}
-use Rattle.dn_session.specs.{Session.IsLinkOf, Session.Meeting, Session.begun_in, Text.game_seal, declared.part.Part.Part, declared.side.Begun.Begun, declared.side.Side.Side}
+use Rattle.dn_session.specs.{Parts.AreParts, Parts.limits_of, Playing.Playing, Playing.playing, Roster.IsSide, Roster.Place, Roster.key_of, Roster.number_of_game, Roster.place_in, Roster.text_of_game, Session.IsLinkOf, Session.Meeting, Session.begun_in, Text.game_seal, declared.part.Part.Part, declared.side.Begun.Begun, declared.side.Side.Side}
 
 -- a session plays the game that another has begun, as this player: its own has begun, under the same key, with the same
 -- number; and no other text has the code that this number is

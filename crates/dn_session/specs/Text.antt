@@ -1,8 +1,7 @@
 -- The bytes of greetings.
 use Rattle.std.specs.{Prelude.{◌≡◌, ℕ, ◌+◌, ◌^◌, ◌<◌, ◌++◌, ◌&&◌, Bool, not, true, nat_le, nat_lt, if◌then◌else◌, List, [], ◌∷◌, All, IfSome, length, take, drop, replicate, codes, Option, Some, None, unwrap_or}, Int.w32, Int.to_le_bytes, List.flat_map}
 use Rattle.dn_seal.specs.{Hmac.no_secret, Hmac.suite_byte, Hmac.tag_of, Sealing.sealed_with, declared.seal.Seal.Seal, declared.seal.Suite.TheVariants.Open, declared.seal.Suite.TheVariants.Secret}
-use Rattle.dn_session.specs.{Terms.IsTerms, Terms.bit, Terms.is_count, Terms.terms_bytes, declared.greeting.Call.Call, declared.greeting.Hint.Hint, declared.greeting.Hinted.Hinted, declared.greeting.Holder.Holder}
-use Rattle.dn_session.specs.declared.{greeting.Refusal.Refusal, greeting.Refused.Refused, greeting.Seating.Seating, greeting.Shown.Shown, joiner.JoinConfig.JoinConfig, terms.LobbyFault.LobbyFault}
+use Rattle.dn_session.specs.{Terms.IsTerms, Terms.bit, Terms.is_count, Terms.terms_bytes, declared.greeting.Call.Call, declared.greeting.Hint.Hint, declared.greeting.Hinted.Hinted, declared.greeting.Holder.Holder, declared.{greeting.Refusal.Refusal, greeting.Refused.Refused, greeting.Seating.Seating, greeting.Shown.Shown, joiner.JoinConfig.JoinConfig, terms.LobbyFault.LobbyFault}}
 use Rattle.dn_session.specs.declared.greeting.Hint.TheVariants as hint
 use Rattle.dn_session.specs.declared.greeting.Refusal.TheVariants as refusal
 use Rattle.dn_session.specs.declared.terms.LobbyFault.TheVariants as fault
