@@ -8,7 +8,7 @@ use std::random::RandomSource;
 use std::thread;
 use std::time::{Clock, Duration};
 
-/// For how long a session sleeps before it looks at its socket again, in microseconds.
+/// How long a nap is, in microseconds: then the socket is looked at again.
 const NAP: u64 = 500;
 
 /// A clock, random bytes and naps, as their own relations say; where it has none, nothing is said of them.

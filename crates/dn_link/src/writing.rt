@@ -9,13 +9,13 @@ use crate::differences::differences;
 use arrayvec::ArrayVec;
 use dn_seal::{Sealer, append, ask_bytes};
 
-/// The kind of a link's datagrams among envelopes.
+/// The kind of an envelope that holds a link's datagram.
 pub(crate) const KIND: u8 = 5;
 
-/// What the first byte of a run has more for a third player's.
+/// What the first byte of a run has added if the run is of a third player.
 const THIRD: u8 = 32;
 
-/// And for commands that stand as differences.
+/// What it has added if its commands stand as differences.
 pub(crate) const DIFFERENCES: u8 = 64;
 
 /// How many bytes a part has at most: a third player's run of twenty-four commands that stand whole.
@@ -58,7 +58,7 @@ fn append_carried(bytes: &mut ArrayVec<u8, PART_BYTES>, packet: &Carried)
     append(bytes, packet.datagram.as_slice());
 }
 
-/// Appends a run, which is of this player, if of a third.
+/// Appends a run, and before its commands the number of its player if it is of a third.
 fn append_run(bytes: &mut ArrayVec<u8, PART_BYTES>, third: u8, player: &[u8], run: &Run)
     requires third { third ≤ 32 }
     requires room { length bytes.old.items + length player.now ≤ 1 }

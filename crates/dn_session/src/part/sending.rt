@@ -91,7 +91,7 @@ impl Part {
             && self.probe_of(player).is_some()
     }
 
-    /// The lowest who is.
+    /// The lowest player to whom a probe is owed.
     fn first_owed_probe(&self) -> Option<usize>
         ensures value { result ≡ first_owed_probe (playing self.now) }
         ensures within { IfSome result (λ n. n < 4) }
@@ -101,7 +101,7 @@ impl Part {
             .position(|player| self.is_owed_probe(*player))
     }
 
-    /// The probe.
+    /// The probe that is owed to a player.
     fn probe(&mut self, player: u8) -> Option<Transmit>
         requires few { player < 4 }
         requires owed { is_owed_probe (playing self.old) player ≡ true }
@@ -123,7 +123,7 @@ impl Part {
             && self.link.exclusion_datagram(player).is_some()
     }
 
-    /// The lowest who is.
+    /// The lowest player who is to be told that it is given up.
     fn first_owed_exclusion(&self) -> Option<usize>
         ensures value { result ≡ first_owed_exclusion (playing self.now) }
         ensures within { IfSome result (λ n. n < 4) }
@@ -133,7 +133,7 @@ impl Part {
             .position(|player| self.is_owed_exclusion(*player))
     }
 
-    /// It is told so.
+    /// What a player is told who is given up.
     fn exclude_one(&mut self, player: u8) -> Option<Transmit>
         requires few { player < 4 }
         requires owed { is_owed_exclusion (playing self.old) player ≡ true }
@@ -145,7 +145,7 @@ impl Part {
         Some(Transmit { to, bytes })
     }
 
-    /// What one is told who is given up, if one is to be told.
+    /// What the lowest of them is told, if there is one.
     fn exclude(&mut self) -> Option<Transmit>
         ensures { Excludes (first_owed_exclusion (playing self.old)) (playing self.old) (playing self.new)
             (option_map sent_of result) }
@@ -156,7 +156,7 @@ impl Part {
         }
     }
 
-    /// A probe if one is owed, or what one is told who is given up.
+    /// A probe if one is owed, or what a player is told who is given up.
     fn probe_first(&mut self) -> Option<Transmit>
         ensures { ProbesFirst (first_owed_probe (playing self.old)) (playing self.old) (playing self.new)
             (option_map sent_of result) }
@@ -167,7 +167,7 @@ impl Part {
         }
     }
 
-    /// What is owed, if anything is.
+    /// The datagram that is owed, or else a probe, or what a player is told who is given up.
     fn send_first(&mut self) -> Option<Transmit>
         ensures { SendsFirst (first_owed (playing self.old)) (playing self.old) (playing self.new)
             (option_map sent_of result) }
