@@ -804,7 +804,7 @@ zmg_made zmg_link_give(zmg_link *link, const zmg_command *command);
 zmg_made zmg_link_catch_up(zmg_link *link);
 
 /* Call it once a tick, after the build. Returns by how many 32nds of a tick the next tick comes later than one
- * tick after this one, or sooner if it is below 0: -2 to 34. It evens out how far the players are ahead of each
+ * tick after this one, or sooner if it is below 0: -9 to 41. It evens out how far the players are ahead of each
  * other, so that nobody carries another's delay. On a line that is longer than the window, and loses little, it
  * also stretches ticks once input was dropped for a while, so that less is dropped. A caller that does not
  * follow the number loses no more than that; but make the call at each tick all the same: datagrams report the

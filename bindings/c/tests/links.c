@@ -209,7 +209,7 @@ static void tick(uint8_t me) {
     int32_t lean;
     build(me);
     lean = zmg_link_lean(&links[me]);
-    MUST(-2 <= lean && lean <= 34);
+    MUST(-9 <= lean && lean <= 41);
     give_all(me);
     run_and_catch_up(me);
     if (below(200) == 0) all[me].stopped = now + below(STOP);

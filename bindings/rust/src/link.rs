@@ -85,7 +85,7 @@ impl Link {
     }
 
     /// Returns by how many 32nds of a tick the next tick comes later than one tick after this one, or sooner
-    /// if it is below 0: -2 to 34. Call it once a tick, after the build. It evens out how far the players are
+    /// if it is below 0: -9 to 41. Call it once a tick, after the build. It evens out how far the players are
     /// ahead of each other, so that nobody carries another's delay. On a line that is longer than the window,
     /// and loses little, it also stretches ticks once input was dropped for a while, so that less is dropped.
     /// A caller that does not follow the number loses no more than that; but make the call at each tick all

@@ -7,6 +7,9 @@ use Rattle.dn_link.specs.{CaughtUp.{next_to, AreCaughtUp, Brings, HasGrown, IsIn
 use Rattle.dn_link.specs.{Linked.{Gives, Linked}, Pacing.PaceState, Packets.{own_in, packets_of, opened_from}, Packing.IsNeeded, Relays.{Handed, handed_part}, Counting.has_ended, Hearing.carried_of}
 use Rattle.dn_link.specs.{Kept.{going, taken_by, takes_packet}, LinkedGame.AreLinked, Text.parts_bytes}
 use Rattle.dn_link.specs.Packing.{parts_room}
+use Rattle.dn_link.specs.Pacing.{is_brief}
+use Rattle.std.proofs.Common.{subst}
+use Rattle.std.proofs.lemmas.List.Elements.{All-nil}
 use Rattle.dn_setup.specs.Settings.{Settings}
 use Rattle.dn_machine.specs.{declared.{answers.Phase.TheVariants.Playing, peer.Peer.Peer}, Flight.Play, Limits.Limits, Node.put, Sending.{after_sent, commands_flight, on_send, request_to}}
 use Rattle.dn_machine.proofs.Put.{put_off}
@@ -44,7 +47,11 @@ gives_own seal pace to old new bytes gives =
     (λ i. flat_map (own_of (gives.from i)) (gives.behind.parts i))
     ∙ flat_map-append (own_of old.node.me) gives.own (map handed_part gives.behind.handed)
     ∙ ap (λ (ps : List Opened). flat_map (own_of old.node.me) gives.own ++ ps) (none_own old.node.me gives.behind.handed)
-    ∙ append-nil (flat_map (own_of old.node.me) gives.own) ∙ own_only old.node.me gives.own gives.packed.needed
+    ∙ append-nil (flat_map (own_of old.node.me) gives.own) ∙ own_only old.node.me gives.own (needed (is_brief pace (old.peers to).number to) refl)
+  where
+    needed : (brief : Bool) → is_brief pace (old.peers to).number to ≡ brief → All (IsNeeded old.node.me) gives.own
+    needed true brief = subst (All (IsNeeded old.node.me)) (sym (gives.none brief)) (All-nil (IsNeeded old.node.me))
+    needed false full = (gives.packed full).needed
 
 -- they end no earlier behind a later tic
 pub last_up : (tic later : ℕ) (packets : List Opened) → tic ≤ later → last_end tic packets ≤ last_end later packets
@@ -76,7 +83,7 @@ plays_sent limits me m to below apart plays = rw (lt-ltb to limits.players below
 module _ (marking : Marking) (limits : Limits) (settings : Settings) (session : Session) (links : ℕ → Linked)
     (player : ℕ) (linked : AreLinked marking limits settings session links) (mine : player < limits.players)
     (were : AreCaughtUp limits links) (to : ℕ) (below : to < limits.players) (apart : to ≢ player) (seal : Seal)
-    (pace : PaceState) (new : Linked) (bytes : List ℕ)
+    (pace : PaceState) (new : Linked) (bytes : List ℕ) (full : is_brief pace ((links player).peers to).number to ≡ false)
     (gives : Gives seal pace to (links player) new bytes) (in_time : has_ended (links to).node ≡ false
     → made (links player).node ≤ next_to (links player).node to + (links player).node.places)
     (near : made (links player).node ≤ next_to (links player).node to + 12)
@@ -100,12 +107,12 @@ module _ (marking : Marking) (limits : Limits) (settings : Settings) (session : 
       let packets : List Carried = going (old.peers to).kept taken in
       let told : List Opened = map (opened_from old.node.me) packets in
       let long = length-map packets (opened_from old.node.me) in
-      let all : length packets ≤ gives.packed.count = elim (cases_lt gives.packed.count (length packets)) [
-        | inl some ↦ let full = gives.packed.all some (omega (arith, few)) in absurd (omega (arith, full, short))
+      let all : length packets ≤ (gives.packed full).count = elim (cases_lt (gives.packed full).count (length packets)) [
+        | inl some ↦ let full = (gives.packed full).all some (omega (arith, few)) in absurd (omega (arith, full, short))
         | inr none ↦ none
       ] in
-      let count : gives.packed.count ≡ length told = omega (arith, long, all, gives.packed.some) in
-      gives_own seal pace to old new bytes gives ∙ gives.packed.front ∙ ap (λ (k : ℕ). take k told)
+      let count : (gives.packed full).count ≡ length told = omega (arith, long, all, (gives.packed full).some) in
+      gives_own seal pace to old new bytes gives ∙ (gives.packed full).front ∙ ap (λ (k : ℕ). take k told)
       count ∙ ap (take (length told)) (sym (append-nil told)) ∙ take-append_seam told []
 
   -- the packet of the moment

@@ -3,6 +3,9 @@ use Rattle.std.proofs.Common.{◌≡◌, ◌≢◌, ◌<◌, ◌≤◌, ◌+◌,
 use Rattle.std.proofs.lemmas.{Bool.{cases_eq, cond_both, true≢false}, List.Elements.All-take, Option.{none-some, same_Some}}
 use Rattle.std.specs.{Prelude.{◌==◌, if◌then◌else◌, min, nat_lt, unwrap_or}, Option.option_map}
 use Rattle.dn_tic.specs.declared.command.{TicCmd.TicCmd, Move.Move}
+use Rattle.dn_link.specs.Pacing.{is_brief}
+use Rattle.dn_link.specs.Packets.{packets_of}
+use Rattle.std.specs.List.{flat_map}
 use Rattle.dn_setup.specs.Settings.{Settings}
 use Rattle.dn_machine.specs.{declared.peer.Peer.Peer, Flight.Flight, Limits.Limits, Node.put, Sending.{lag, after_sent, set_up_flight}}
 use Rattle.dn_machine.proofs.{Calls.send_cases, Put.{put_at, put_off}}
@@ -341,8 +344,20 @@ module _ (marking : Marking) (limits : Limits) (settings : Settings) (session : 
   abbrev packets : List Carried
   packets = going (old.peers to).kept taken
 
-  sent_is : own_in gives.bundle ≡ take gives.packed.count (map (opened_from old.node.me) packets)
-  sent_is = gives_own seal pace to old new bytes gives ∙ gives.packed.front
+  -- they are the first of these, or none
+  sent_is : (count : ℕ) × (own_in gives.bundle ≡ take count (map (opened_from old.node.me) packets))
+  sent_is = go (is_brief pace (old.peers to).number to) refl
+    where
+      go : (brief : Bool) → is_brief pace (old.peers to).number to ≡ brief
+          → (count : ℕ) × (own_in gives.bundle ≡ take count (map (opened_from old.node.me) packets))
+      go true brief = (
+        0,
+        gives_own seal pace to old new bytes gives ∙ ap (flat_map (packets_of old.node.me)) (gives.none brief),
+      )
+      go false full = (
+        (gives.packed full).count,
+        gives_own seal pace to old new bytes gives ∙ (gives.packed full).front,
+      )
 
   from_is : gives.bundle.from ≡ player
   from_is = gives.from ∙ own
@@ -356,18 +371,18 @@ module _ (marking : Marking) (limits : Limits) (settings : Settings) (session : 
     receiver = omega (arith, gives.goes, below);
     apart = λ e. apart (sym gives.goes ∙ sym e ∙ from_is);
     plain = ap (λ (k : ℕ). k == 4) gives.cause ∙ told_plain old.node.phase;
-    asks = subst (All IsQuiet) (sym sent_is) (All-take IsQuiet gives.packed.count (map (opened_from old.node.me) packets)
+    asks = subst (All IsQuiet) (sym sent_is.1) (All-take IsQuiet sent_is.0 (map (opened_from old.node.me) packets)
         (going_asks old.node.me (old.peers to).kept taken asks_taken was.chain));
     follows = λ e.
         let goes_on : has_ended (links to).node ≡ false = ap (λ (l : Linked). has_ended l.node) (sym theirs) ∙ e in
-        let goes = first_goes gives.packed.count (old.peers to).kept.done (map (opened_from old.node.me) packets)
+        let goes = first_goes sent_is.0 (old.peers to).kept.done (map (opened_from old.node.me) packets)
         (going_goes old.node.me (old.peers to).kept taken (low goes_on) was.chain) in
         let there = was.there goes_on in
         let same : got (links to).node player ≡ got (put links player new gives.bundle.to).node gives.bundle.from =
         (λ i. got (sym theirs i).node (sym from_is i)) in
-        subst (HasNoGap (got (put links player new gives.bundle.to).node gives.bundle.from)) (sym sent_is)
+        subst (HasNoGap (got (put links player new gives.bundle.to).node gives.bundle.from)) (sym sent_is.1)
         (later_goes (old.peers to).kept.done (got (put links player new gives.bundle.to).node gives.bundle.from)
-        (take gives.packed.count (map (opened_from old.node.me) packets)) (omega (arith, there, same)) goes);
+        (take sent_is.0 (map (opened_from old.node.me) packets)) (omega (arith, there, same)) goes);
   }
 
   pub was_in_step : WasInStep seal limits (put links player new) bytes

@@ -10,6 +10,7 @@ use Rattle.dn_link.specs.{Kept.{IsCovering, Reaches, Unacknowledged, acknowledge
 use Rattle.dn_link.specs.{declared.{bundle.Carried.Carried, peer.Peer.Peer}, Linked.{Gives, Linked, PeerState}, Pacing.PaceState, Packets.{opened_from, packets_of}, Packing.ArePacked}
 use Rattle.dn_link.specs.Text.{parts_bytes}
 use Rattle.dn_link.specs.Packing.{parts_room}
+use Rattle.dn_link.specs.Pacing.{is_brief}
 
 -- Each packet that is kept for a peer ends past those before it.
 
@@ -144,16 +145,16 @@ reached kept packet = grind (arith, and_parts, leb-true, ltb-true, and_from, le-
 
 -- and a datagram has all of them, where it has room
 pub carries : (seal : Seal) (pace : PaceState) (to : ℕ) (old new : Linked) (bytes : List ℕ)
-    (gives : Gives seal pace to old new bytes)
+    (gives : Gives seal pace to old new bytes) → is_brief pace (old.peers to).number to ≡ false
     → IsCovering (old.peers to).kept → length gives.own < 22 → parts_room gives.own ≤ 998
     → (packets : List Carried) × (flat_map (packets_of gives.bundle.from) gives.own
     ≡ map (opened_from old.node.me) packets)
     × ((tic : ℕ) → (old.peers to).kept.done ≤ tic → tic < (new.peers to).kept.covered → has_tic tic packets ≡ true)
-carries seal pace to old new bytes gives covers few short =
+carries seal pace to old new bytes gives full covers few short =
     let kept : Unacknowledged = (old.peers to).kept in
     let taken : Option Carried = taken_by (old.peers to).left gives.given in
     let packets : List Carried = going kept taken in
-    let packed : ArePacked old.node.me packets gives.own = gives.packed in
+    let packed : ArePacked old.node.me packets gives.own = gives.packed full in
     let told : List Opened = map (opened_from old.node.me) packets in
     let long = length-map packets (opened_from old.node.me) in
     let all : length packets ≤ packed.count = elim (cases_lt packed.count (length packets)) [

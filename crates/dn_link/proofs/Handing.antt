@@ -3,6 +3,11 @@ use Rattle.std.proofs.Common.{◌≡◌, ◌<◌, ◌≤◌, ◌+◌, ◌||◌, 
 use Rattle.std.proofs.{lemmas.{List.{Elements.{All-nil, All-cons, All-append}, length-append}, Bool.{and_parts, not-true}, Grind.flat_map-append}, Math.Nat.mod-lt}
 use Rattle.std.specs.{Prelude.{◌⊎◌, IfSome, not, slice_get}, List.flat_map}
 use Rattle.dn_tic.specs.{Command.{IsCommand, command_bytes}, declared.command.TicCmd.TicCmd}
+use Rattle.dn_link.specs.Relays.{IsFrom, newest_from}
+use Rattle.dn_link.specs.Surviving.{HasTwoBehind, IsNewestFor, IsRunFor}
+use Rattle.std.proofs.lemmas.Bool.{and_from, eq-eqb, eqb-false, true≢false}
+use Rattle.std.proofs.lemmas.List.Elements.{All-head, All-tail}
+use Rattle.std.specs.Prelude.{is_some, ◌==◌}
 use Rattle.dn_machine.specs.{Flight.Flight, Relaying.packet_of_one}
 use Rattle.dn_lockstep.specs.{Contents.Contents, Sent.IsFair, Told.command_told}
 use Rattle.dn_lockstep.proofs.Keeping.{none_stops}
@@ -47,6 +52,22 @@ may_relay link to may =
         ∙ (and_parts (not (has_given_up link to)) (names (newest_of link.others to) player)
         (second (has_given_up link player) (reports_gone link to player) shares gone)).1
 
+-- and to whom it may relay, it may hand commands on
+pub must_hand : (link : Linked) (to : ℕ) → MayRelay (surviving_of link) to → may_hand link to ≡ true
+must_hand link to may =
+    and_from (not (has_given_up link to)) _ (ap not may.stays)
+    (and_from (shares_gone link to 0) _ (each 0 (omega arith))
+    (and_from (shares_gone link to 1) _ (each 1 (omega arith))
+    (and_from (shares_gone link to 2) (shares_gone link to 3) (each 2 (omega arith)) (each 3 (omega arith)))))
+  where
+    each : (player : ℕ) → player < 4 → shares_gone link to player ≡ true
+    each player low = go (has_given_up link player) refl
+      where
+        go : (gone : Bool) → has_given_up link player ≡ gone → shares_gone link to player ≡ true
+        go false stays = rw stays refl
+        go true gone =
+            rw (gone, may.stays, names_told (newest_of link.others to) player ∙ may.within player low gone) refl
+
 -- what is said of those above a number is said of those above a lower one a lower number
 lower : (reported : List ℕ) (low high : ℕ) (handed : List Handed) → low ≤ high → AreLacked reported high handed
     → AreLacked reported low handed
@@ -55,20 +76,20 @@ lower reported low high (one ∷ handed) le all =
     let above = all.0 in (omega (arith, le, above), all.1, all.2, all.3, all.4)
 
 -- behind the own parts nothing is handed on
-pub none_behind : (link : Linked) (to low : ℕ) (own : List Part) → HasBehind link to low own own
-none_behind link to low own = record {
+pub none_behind : (link : Linked) (to low : ℕ) (brief : Bool) (own : List Part) → HasBehind link to low brief own own
+none_behind link to low brief own = record {
   handed = [];
   parts = sym (append-nil own);
   on = tt;
   lacked = tt;
   stay = All-nil (λ (h : Handed). has_given_up link h.player ≡ false);
+  makers = All-nil (λ (h : Handed). (h.player == link.node.me) ≡ brief);
   may = λ some. absurd (some refl);
 }
 
-pub nothing_behind : (link : Linked) (to : ℕ) (own : List Part)
-    → (behind : HasBehind link to 0 own own) × (length behind.handed ≤ 2)
+pub nothing_behind : (link : Linked) (to : ℕ) (own : List Part) → HasTwoBehind link to false own own
 unfolding none_behind
-nothing_behind link to own = (none_behind link to 0 own, few)
+nothing_behind link to own = (none_behind link to 0 false own, few, λ brief. absurd (true≢false (sym brief)))
   where
     few : 0 ≤ 2
     few = omega arith
@@ -76,18 +97,20 @@ nothing_behind link to own = (none_behind link to 0 own, few)
 -- or what is handed on of a player, and then of those above
 pub joins : (link : Linked) (to player : ℕ) (own next all : List Part) (one : Option relay.Relay)
     → MayRelay (surviving_of link) to → IfSome one (IsHandedFor link to player)
+    → (is_some one ≡ true → (player == link.node.me) ≡ false)
     → (next ≡ own) ⊎ ((r : relay.Relay) × (one ≡ Some r) × (next ≡ own ++ Relay r ∷ []))
-    → HasBehind link to (player + 1) next all → HasBehind link to player own all
-joins link to player own next all one may on (inl e) rest =
+    → HasBehind link to (player + 1) false next all → HasBehind link to player false own all
+joins link to player own next all one may on third (inl e) rest =
     record {
       handed = rest.handed;
       parts = rest.parts ∙ ap (λ (p : List Part). p ++ map handed_part rest.handed) e;
       on = rest.on;
       lacked = lower (link.peers to).reported player (player + 1) rest.handed (omega arith) rest.lacked;
       stay = rest.stay;
+      makers = rest.makers;
       may = rest.may;
     }
-joins link to player own next all one may on (inr (r, is, e)) rest =
+joins link to player own next all one may on third (inr (r, is, e)) rest =
     let it : IsHandedFor link to player r = subst (λ (o : Option relay.Relay). IfSome o (IsHandedFor link to player)) is on in
     let its = it.its in
     record {
@@ -104,8 +127,55 @@ joins link to player own next all one may on (inr (r, is, e)) rest =
         subst (λ (k : ℕ). AreLacked (link.peers to).reported (k + 1) rest.handed) (sym its) rest.lacked,
       );
       stay = All-cons (λ (h : Handed). has_given_up link h.player ≡ false) it.handed rest.handed it.stays rest.stay;
+      makers = All-cons (λ (h : Handed). (h.player == link.node.me) ≡ false) it.handed rest.handed
+          (ap (λ (k : ℕ). k == link.node.me) its ∙ third (ap is_some is)) rest.makers;
       may = λ some. may;
     }
+
+-- Behind a brief one's own parts is a run of the newest commands, or none.
+
+pub newest_is : (link : Linked) (to start : ℕ) (one : Option relay.Relay) → MayRelay (surviving_of link) to
+    → start ≡ newest_from (link.peers to).reported link.node → IsRunFor link to link.node.me start 4 one
+    → IsNewestFor link to one
+newest_is link to start None may e none = λ may stays. ap (command_told link.node link.node.me) (sym e) ∙ none (omega arith)
+newest_is link to start (Some r) may e (is, at, from) = (
+  is,
+  record {
+    own = is.its;
+    start = at ∙ e;
+    all = subst (λ (k : ℕ). IsFrom link.node link.node.me k 4 is.handed.commands) e from;
+  },
+  may,
+)
+
+pub none_newest : (link : Linked) (to : ℕ) (own : List Part) → IsNewestFor link to None
+    → HasTwoBehind link to true own own
+unfolding none_behind
+none_newest link to own none = (none_behind link to 0 true own, few, λ brief. none)
+  where
+    few : 0 ≤ 2
+    few = omega arith
+
+pub one_newest : (link : Linked) (to : ℕ) (own all : List Part) (r : relay.Relay) → IsNewestFor link to (Some r)
+    → all ≡ own ++ Relay r ∷ [] → HasTwoBehind link to true own all
+one_newest link to own all r (is, newest, may) e = (
+  record {
+    handed = is.handed ∷ [];
+    parts = e ∙ ap (λ (p : Part). own ++ p ∷ []) is.is;
+    on = (is.on, tt);
+    lacked = (omega arith, is.lacked, is.some, is.few, tt);
+    stay = All-cons (λ (h : Handed). has_given_up link h.player ≡ false) is.handed [] is.stays
+        (All-nil (λ (h : Handed). has_given_up link h.player ≡ false));
+    makers = All-cons (λ (h : Handed). (h.player == link.node.me) ≡ true) is.handed []
+        (eq-eqb is.handed.player link.node.me is.its) (All-nil (λ (h : Handed). (h.player == link.node.me) ≡ true));
+    may = λ some. may;
+  },
+  few,
+  λ brief. newest,
+)
+  where
+    few : 1 ≤ 2
+    few = omega arith
 
 -- of four players at most two are third ones
 third_of_four : (a b c to me : ℕ) → a + 1 ≤ b → b + 1 ≤ c → c < 4 → to < 4 → me < 4 → (a ≢ to) → (b ≢ to) → (c ≢ to)
@@ -114,13 +184,18 @@ third_of_four a b c to me ab bc low there here at bt ct am bm cm apart =
     omega (arith, ab, bc, low, there, here, at, bt, ct, am, bm, cm, apart)
 
 pub at_most_two : (n : Contents) (to : ℕ) (reported : List ℕ) (handed : List Handed) → n.me < 4 → to < 4
-    → (to ≢ n.me) → AreHandedOn n to handed → AreLacked reported 0 handed → length handed ≤ 2
-at_most_two n to reported [] here there apart on lacked = omega arith
-at_most_two n to reported (a ∷ []) here there apart on lacked = omega arith
-at_most_two n to reported (a ∷ b ∷ []) here there apart on lacked = omega arith
-at_most_two n to reported (a ∷ b ∷ c ∷ handed) here there apart on lacked =
+    → (to ≢ n.me) → AreHandedOn n to handed → AreLacked reported 0 handed
+    → All (λ h. (h.player == n.me) ≡ false) handed → length handed ≤ 2
+at_most_two n to reported [] here there apart on lacked others = omega arith
+at_most_two n to reported (a ∷ []) here there apart on lacked others = omega arith
+at_most_two n to reported (a ∷ b ∷ []) here there apart on lacked others = omega arith
+at_most_two n to reported (a ∷ b ∷ c ∷ handed) here there apart on lacked others =
+    let P : Handed → Type 0 = λ h. (h.player == n.me) ≡ false in
+    let behind = All-tail P a (b ∷ c ∷ handed) others in
     let never = third_of_four a.player b.player c.player to n.me lacked.4.0 lacked.4.4.0 on.1.1.0.small there here
-    on.0.third on.1.0.third on.1.1.0.third on.0.other on.1.0.other on.1.1.0.other apart in
+    on.0.third on.1.0.third on.1.1.0.third (eqb-false a.player n.me (All-head P a (b ∷ c ∷ handed) others))
+    (eqb-false b.player n.me (All-head P b (c ∷ handed) behind))
+    (eqb-false c.player n.me (All-head P c handed (All-tail P b (c ∷ handed) behind))) apart in
     absurd (omega (arith, never))
 
 -- The commands of third players that are handed on were given, and their packets are in the datagram.
@@ -248,6 +323,13 @@ told_more n player start (c ∷ commands) command told here is no_stop =
 bytes_more : (commands : List TicCmd) (command : TicCmd)
     → flat_map command_bytes (commands ++ command ∷ []) ≡ flat_map command_bytes commands ++ command_bytes command
 bytes_more commands command = grind (arith, flat_map-append, append-nil)
+
+-- where none of so many is told, the first is not
+pub none_from : (n : Contents) (player start most : ℕ) (commands : List TicCmd) → length commands ≡ 0
+    → IsFrom n player start most commands → 1 ≤ most → command_told n player start ≡ None
+none_from n player start most (command ∷ commands) none from some = absurd (omega (arith, none))
+none_from n player start most [] none (few, inl all) some = absurd (omega (arith, all, some))
+none_from n player start most [] none (few, inr ends) some = ap (command_told n player) (omega arith) ∙ ends
 
 -- where the loop over the tics is
 pub record SoFar (n : Contents) (player start done : ℕ) (items : List ℕ) : Type 0 where

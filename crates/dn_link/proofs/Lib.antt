@@ -31,3 +31,4 @@ pub mod CatchingIn
 pub mod CatchingOut
 pub mod Bringing
 pub mod Makers
+pub mod Briefly

@@ -2,6 +2,8 @@
 use Rattle.std.proofs.Common.{◌≡◌, ℕ, true, refl, ap, sym, ◌∙◌, ◌≤◌, List, arith, ◌<◌, subst, [], ◌∷◌, Some, All, ◌++◌, Option, None}
 use Rattle.std.proofs.lemmas.{List.Elements.{All-nil, All-cons, All-head, All-tail, All-append}, Option.{same_Some, none-some}, Grind.flat_map-append}
 use Rattle.std.specs.{Prelude.{max, slice_index, slice_get, map}, List.flat_map, Option.option_map}
+use Rattle.dn_link.specs.Pacing.{is_brief}
+use Rattle.std.proofs.Common.{Bool, false}
 use Rattle.dn_setup.specs.Settings.{Settings}
 use Rattle.dn_seal.specs.declared.{opened.Opened.Opened, seal.Seal.Seal}
 use Rattle.dn_machine.specs.{Node.put, Flight.Flight, Limits.Limits}
@@ -158,8 +160,15 @@ module _ (given : List Flight) (flight : Option Flight) (player : ℕ) (old new 
   is_given carried is = taken_given (old.peers to).left gives.given carried is ∙ answer
 
   own_given : All (WasGiven (given_on given flight) to) (flat_map (packets_of player) gives.own)
-  own_given = packs_given given flight player to (old.peers to).kept taken between is_given (all to) gives.own
-      (subst (λ (k : ℕ). ArePacked k (going (old.peers to).kept taken) gives.own) own gives.packed)
+  own_given = go (is_brief pace (old.peers to).number to) refl
+    where
+      go : (brief : Bool) → is_brief pace (old.peers to).number to ≡ brief
+          → All (WasGiven (given_on given flight) to) (flat_map (packets_of player) gives.own)
+      go true brief =
+          subst (λ (parts : List Part). All (WasGiven (given_on given flight) to) (flat_map (packets_of player) parts))
+          (sym (gives.none brief)) (All-nil (WasGiven (given_on given flight) to))
+      go false full = packs_given given flight player to (old.peers to).kept taken between is_given (all to) gives.own
+          (subst (λ (k : ℕ). ArePacked k (going (old.peers to).kept taken) gives.own) own (gives.packed full))
 
   -- what was given before was given with what is handed on
   pub with_handed : (which : ℕ) (one : Flight) → slice_get (given_on given flight) which ≡ Some one

@@ -1,6 +1,7 @@
 -- Things by their place.
 use Rattle.std.proofs.Common.{◌≡◌, ◌<◌, ℕ, List, length, map, set, get_or, sym, ◌∙◌, ap, arith, inl, inr}
 use Rattle.std.proofs.lemmas.{Bool.cases_eq, List.{get_or-map, get_or-set_same, get_or-set_other, length-map, map-set}}
+use Rattle.std.proofs.Common.{Bool, [], false, refl, suc, zero, ◌∷◌}
 use Rattle.dn_machine.specs.Node.{put}
 use Rattle.dn_link.specs.{declared.peer.Peer.Peer, Linking.{new_peer, peers_of, state_of}}
 use Rattle.dn_machine.proofs.Put.{put_at, put_off, same_functions}
@@ -29,3 +30,14 @@ peers_put peers place new below =
     let count = length-map peers state_of in
     (λ i other. get_or (map-set state_of peers place new i) other new_peer)
     ∙ place_put new_peer (map state_of peers) place (state_of new) (omega (arith, count, below))
+
+-- nobody was given a datagram
+pub none_given : ◌≡◌ {A = ℕ → Bool} (λ player. get_or (false ∷ false ∷ false ∷ false ∷ []) player false) (λ player. false)
+none_given = same_functions go
+  where
+    go : (player : ℕ) → get_or (false ∷ false ∷ false ∷ false ∷ []) player false ≡ false
+    go zero = refl
+    go (suc zero) = refl
+    go (suc (suc zero)) = refl
+    go (suc (suc (suc zero))) = refl
+    go (suc (suc (suc (suc player)))) = refl

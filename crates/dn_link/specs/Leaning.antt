@@ -1,32 +1,66 @@
--- How a player leans towards the mean of all, and how ticks are stretched.
-use Rattle.std.specs.{Prelude.{ℕ, ◌+◌, ◌-◌, ◌==◌, ◌+ℤ◌, ◌-ℤ◌, if◌then◌else◌, nat_lt, nat_le, nat_abs, neg_ℤ, ℤ, pos, int_div, ◌*◌, ◌||◌, Bool, min}, Int.{int_max, int_min}}
+-- How a player leans towards the mean of all, how its ticks are trimmed, and how they are stretched.
+use Rattle.std.specs.{Prelude.{ℕ, ◌+◌, ◌-◌, ◌/◌, ◌==◌, ◌+ℤ◌, ◌-ℤ◌, ◌≤ℤ◌, if◌then◌else◌, nat_lt, nat_le, nat_abs, neg_ℤ, negsuc, ℤ, pos, int_div, ◌*◌, ◌||◌, Bool, min}, Int.{int_max, int_min, int_div_euclid, int_rem_euclid}}
 
--- for how many ticks it looks away; at how many it has looked, and the sum of what it saw there; and how much
--- is left to work off, in 32nds of a tick
+-- by how much each tick is longer, in 1,024ths of a tick, and how many of these are carried on to the next one
+pub record TrimState : Type 0 where
+  pub by : ℤ
+  pub carried : ℤ
+
+-- for how many ticks it looks away; at how many it has looked, and the sum of what it saw there; how much is left
+-- to work off, in 32nds of a tick; and by how much each tick is trimmed
 pub record LeaningState : Type 0 where
   pub rest : ℕ
   pub looked : ℕ
   pub sum : ℤ
   pub left : ℤ
+  pub trim : TrimState
 
 -- no more than so much, either way
 abbrev pub within : ℕ → ℤ → ℤ
 within most amount = int_max (neg_ℤ (pos most)) (int_min amount (pos most))
 
--- what is worth to be worked off: more than a quarter of a tick, and at most a whole one
-abbrev pub worth : ℤ → ℤ
-worth offset = if nat_le (nat_abs offset) 8 then pos 0 else within 32 offset
+-- a sixth of an offset that is at most a tick makes each tick longer: what is left once it was worked off, or comes
+-- again, is a difference of the clocks
+abbrev pub fed : ℤ → ℤ → ℤ
+fed offset by = if nat_le (nat_abs offset) 32 then by +ℤ int_div offset (pos 6) else by
+
+-- a 32nd of what it then is leaks, and it stays within three 32nds of a tick
+abbrev pub leaked : ℤ → ℤ
+leaked by = within 96 (by -ℤ int_div by (pos 32))
+
+abbrev pub trims : ℤ → TrimState → TrimState
+trims offset trim = record trim { by = leaked (fed offset trim.by) }
+
+-- the whole 32nds of a tick in the trim and what was carried; the rest is carried on
+abbrev pub trim_of : TrimState → ℤ
+trim_of trim = int_div_euclid (trim.carried +ℤ trim.by) (pos 32)
+
+abbrev pub carried_on : TrimState → TrimState
+carried_on trim = record trim { carried = int_rem_euclid (trim.carried +ℤ trim.by) (pos 32) }
 
 -- sixteen ticks were looked at. Of players who each lead by so much more than they are led by, the sum of the
 -- differences over their number is how far this one is from the mean of all, in 32nds of a tick; half of a
 -- difference is each side's to work off
-abbrev pub decided : ℤ → ℕ → LeaningState
-decided sum players =
+abbrev pub offset_of : ℤ → ℕ → ℤ
+offset_of sum players = int_div sum (pos players)
+
+-- what is worth to be worked off: more than an eighth of a tick, and at most two ticks
+abbrev pub worth : ℤ → ℤ
+worth offset = if nat_le (nat_abs offset) 4 then pos 0 else within 64 offset
+
+-- it looks away for as long as it looked, while there is something to work off
+abbrev pub rest_for : ℤ → ℕ
+rest_for left = if nat_abs left == 0 then 0 else 16
+
+-- so far from the mean, it begins to work that off
+abbrev pub decided : ℤ → LeaningState → LeaningState
+decided offset leaning =
     record {
-      rest = if nat_abs (worth (int_div sum (pos players))) == 0 then 0 else 16;
+      rest = rest_for (worth offset);
       looked = 0;
       sum = pos 0;
-      left = worth (int_div sum (pos players));
+      left = worth offset;
+      trim = trims offset leaning.trim;
     }
 
 -- a tick: it looks away while it works off what it saw, and for as long
@@ -35,15 +69,24 @@ looks difference players leaning =
     if nat_lt 0 leaning.rest
     then record leaning { rest = leaning.rest - 1 }
     else (if leaning.looked == 15
-    then decided (leaning.sum +ℤ difference) players
+    then decided (offset_of (leaning.sum +ℤ difference) players) leaning
     else record leaning { looked = leaning.looked + 1; sum = leaning.sum +ℤ difference })
 
--- a sixteenth of a tick of what is left
+-- a sixteenth of a tick of what is left, and an eighth of what is more than a tick
+abbrev pub work_of : ℤ → ℤ
+work_of left = within (2 + (nat_abs left - 32) / 8) left
+
+-- with the trim, what a tick is longer
 abbrev pub step_of : LeaningState → ℤ
-step_of leaning = within 2 leaning.left
+step_of leaning = work_of leaning.left +ℤ trim_of leaning.trim
 
 abbrev pub worked_off : LeaningState → LeaningState
-worked_off leaning = record leaning { left = leaning.left -ℤ step_of leaning }
+worked_off leaning =
+    record leaning { left = leaning.left -ℤ work_of leaning.left; trim = carried_on leaning.trim }
+
+-- by so many 32nds a tick is longer at most, or shorter: by 6 of work and 3 of trim, and 32 more of stretching
+abbrev pub IsLean : ℤ → Type 0
+IsLean lean = (negsuc 8 ≤ℤ lean) × (lean ≤ℤ pos 41)
 
 -- How ticks are stretched on a line that is longer than the window, and loses little.
 

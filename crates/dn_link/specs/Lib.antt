@@ -16,6 +16,7 @@ pub mod LinkedGame
 pub mod CaughtUp
 pub mod Rounds
 pub mod RemainingLinks
+pub mod Congestion
 pub mod Line
 pub mod Leaning
 pub mod Pace

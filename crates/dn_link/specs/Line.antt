@@ -1,5 +1,5 @@
 -- What is known of the line from a peer, and of the leads.
-use Rattle.std.specs.{Prelude.{ℕ, ◌+◌, ◌-◌, ◌/◌, ◌%◌, ◌^◌, ◌==◌, ◌-ℤ◌, if◌then◌else◌, nat_lt, min, max, ℤ, pos, negsuc, None, Some}, Int.{int_max, int_min}}
+use Rattle.std.specs.{Prelude.{ℕ, ◌+◌, ◌-◌, ◌/◌, ◌%◌, ◌^◌, ◌==◌, ◌-ℤ◌, if◌then◌else◌, nat_lt, min, max, ℤ, pos, negsuc, None, Some}, Int.{int_max, int_min}, Prelude.{Bool, is_some}}
 use Rattle.dn_lockstep.specs.{Contents.Contents, Told.{got, made}}
 use Rattle.dn_link.specs.{declared.{bundle.Bundle.Bundle, line.Line.Line}, Tally.tallied}
 
@@ -14,6 +14,7 @@ new_line =
       lead = pos 0;
       own_lead = pos 0;
       echo = 0;
+      age = 0;
       tally = record { came = 0; lost = 0; repeated = 0; too_old = 0; seen = 0 };
     }
 
@@ -35,6 +36,7 @@ after_newest bundle line =
       reported_holes = bundle.holes;
       lead = bundle.lead;
       echo = bundle.counts.echo;
+      age = 0;
     }
 
 -- a datagram came: the first of all, a newer one, or an old one, which tells nothing
@@ -51,6 +53,14 @@ heard_on bundle line =
 -- what is echoed: the number after that of the newest datagram that came; 0 before
 abbrev pub own_echo : Line → ℕ
 own_echo line = elim line.newest [ None ↦ 0 | Some newest ↦ (newest + 1) % 2 ^ 32 ]
+
+-- how many ticks ago its newest datagram came, at the next tick
+abbrev pub older : Line → ℕ
+older line = if is_some line.newest then min (line.age + 1) 255 else line.age
+
+-- that was at one of the last four
+abbrev pub is_fresh : Line → Bool
+is_fresh line = nat_lt line.age 4
 
 -- how many of the peer's datagrams are missing
 abbrev pub missing : Line → ℕ

@@ -1,11 +1,11 @@
 -- What a link keeps, what its calls do, and what is known of the line to a peer.
-use Rattle.std.specs.Prelude.{◌≡◌, ℕ, ◌+◌, ◌-◌, ◌%◌, ◌^◌, ◌==◌, ◌≤◌, ◌&&◌, ◌||◌, if◌then◌else◌, nat_lt, min, max, length, Bool, not, List, [], ◌∷◌, slice_index, ◌++◌, ◌≢◌, map, All, Option, is_some, pos, IfSome, None, Some, false, Result, Ok, Err}
+use Rattle.std.specs.{Prelude.{◌≡◌, ℕ, ◌+◌, ◌-◌, ◌%◌, ◌^◌, ◌==◌, ◌≤◌, ◌&&◌, ◌||◌, if◌then◌else◌, nat_lt, min, max, length, Bool, not, List, [], ◌∷◌, slice_index, ◌++◌, ◌≢◌, map, All, Option, is_some, pos, IfSome, None, Some, false, true, Result, Ok, Err}, Prelude.{true}}
 use Rattle.dn_seal.specs.declared.seal.Seal.{Seal}
 use Rattle.dn_machine.specs.Node.{put}
-use Rattle.dn_lockstep.specs.{Contents.{Contents, end_in}, Told.made}
+use Rattle.dn_lockstep.specs.{Contents.{Contents, end_in}, Told.made, Told.{command_told}}
 use Rattle.dn_survivor.specs.{OfOthers.has, declared.{others.Others.Others, answers.Reported.{Reported, TheVariants.Kept}, report.{Report.Report, ReportFault.ReportFault}}, Surviving.Surviving, Telling.{MayRelay, report_for}, Calls.HearsReport, ReportBytes.{IsReadAs, IsReport, report_bytes}}
 use Rattle.dn_open.specs.Sealed.{sealing_of}
-use Rattle.dn_link.specs.{declared.{received.Received.{TheVariants.{Unopened, Stranger, GivenUp, Excluded, Heard}, Received}, bundle.{Bundle.Bundle, BundleFault.BundleFault, Carried.Carried, Part.Part}, line.Line.Line, tally.Figures.Figures}, Kept.{Unacknowledged, acknowledged, going, kept_after, taken_by}, Reading.IsBundledAs, Counting.{counts_of, held_of, reached}, Hearing.{SendsCarried, ByTest, HearsAll}, Line.{missing, own_echo}, Pacing.PaceState, Packets.{heard_in, takes_relay}, Packing.ArePacked, Relays.{AreHandedOn, AreLacked, Handed, handed_part}, Ends.{excludes, left_by, told_cause}, Text.{IsBundle, parts_bytes, sealed_bytes}, Packing.{parts_room}}
+use Rattle.dn_link.specs.{declared.{received.Received.{TheVariants.{Unopened, Stranger, GivenUp, Excluded, Heard}, Received}, bundle.{Bundle.Bundle, BundleFault.BundleFault, Carried.Carried, Part.Part}, line.Line.Line, tally.Figures.Figures}, Kept.{Unacknowledged, acknowledged, going, kept_after, taken_by}, Reading.IsBundledAs, Counting.{counts_of, held_of, reached}, Hearing.{SendsCarried, ByTest, HearsAll}, Line.{missing, own_echo}, Pacing.PaceState, Packets.{heard_in, takes_relay}, Packing.ArePacked, Relays.{AreHandedOn, AreLacked, Handed, handed_part}, Ends.{excludes, left_by, told_cause}, Text.{IsBundle, parts_bytes, sealed_bytes}, Packing.{parts_room}, Pacing.{is_brief}, Relays.{IsNewest, newest_from}}
 use Rattle.dn_link.specs.declared.bundle.Relay as relay
 
 -- what it keeps of a peer: the packets that the peer has not acknowledged, the most that the peer's datagrams
@@ -56,20 +56,30 @@ abbrev pub written : Option Report → List ℕ
 written None = []
 written (Some report) = report_bytes report
 
--- behind its own parts a datagram has commands of third players from this number on, none of which the peer has
--- reported, of no player who is given up, and only if the peer may be handed any
-pub record HasBehind (link : Linked) (to low : ℕ) (own all : List Part) : Type 0 where
+-- behind its own parts a datagram has commands of players from this number on, none of which the peer has reported,
+-- of no player who is given up, and only if the peer may be handed any: of third players, and in a brief one the
+-- node's own
+pub record HasBehind (link : Linked) (to low : ℕ) (brief : Bool) (own all : List Part) : Type 0 where
   pub handed : List Handed
   pub parts : all ≡ own ++ map handed_part handed
   pub on : AreHandedOn link.node to handed
   pub lacked : AreLacked (link.peers to).reported low handed
   pub stay : All (λ h. has_given_up link h.player ≡ false) handed
+  pub makers : All (λ h. (h.player == link.node.me) ≡ brief) handed
   pub may : handed ≢ [] → MayRelay (surviving_of link) to
 
--- a datagram to a peer: what is kept for the peer, with the packet of the moment if the peer takes it; behind
--- these, commands of at most two third players; how far the node is; what it reports of those who are given up; by
--- how many commands it led at its last tick; how many datagrams of the peer are missing; and why the node has
--- ended, if it has
+-- what is handed on are the node's newest commands, if the peer may be handed any and lacks some
+abbrev pub HandsNewest : Linked → ℕ → List Handed → Type 0
+HandsNewest link to [] =
+    MayRelay (surviving_of link) to → has_given_up link link.node.me ≡ false
+    → command_told link.node link.node.me (newest_from (link.peers to).reported link.node) ≡ None
+HandsNewest link to (one ∷ []) = IsNewest link.node (newest_from (link.peers to).reported link.node) one
+HandsNewest link to (one ∷ other ∷ handed) = ⊥
+
+-- a datagram to a peer: what is kept for the peer, with the packet of the moment if the peer takes it, and behind
+-- these commands of at most two third players; but in a brief one the newest commands of the node alone, handed on as if they were a third player's, so that the peer takes none past a gap; how far the node is;
+-- what it reports of those who are given up; by how many commands it led at its last tick; how many datagrams of the
+-- peer are missing; and why the node has ended, if it has
 pub record Gives (seal : Seal) (pace : PaceState) (to : ℕ) (old new : Linked) (bytes : List ℕ) : Type 0 where
   pub given : Option Carried
   pub step : SendsCarried to old.node new.node given
@@ -87,8 +97,11 @@ pub record Gives (seal : Seal) (pace : PaceState) (to : ℕ) (old new : Linked) 
   pub report : bundle.report.items ≡ written (report_beside (surviving_of new) to bundle.parts.items)
   pub proper : IfSome (report_beside (surviving_of new) to bundle.parts.items) IsReport
   pub own : List Part
-  pub packed : ArePacked old.node.me (going (old.peers to).kept (taken_by (old.peers to).left given)) own
-  pub behind : HasBehind new to 0 own bundle.parts.items
+  pub packed : is_brief pace (old.peers to).number to ≡ false
+      → ArePacked old.node.me (going (old.peers to).kept (taken_by (old.peers to).left given)) own
+  pub none : is_brief pace (old.peers to).number to ≡ true → own ≡ []
+  pub behind : HasBehind new to 0 (is_brief pace (old.peers to).number to) own bundle.parts.items
+  pub newest : is_brief pace (old.peers to).number to ≡ true → HandsNewest new to behind.handed
   pub few : length behind.handed ≤ 2
   pub others : new.others ≡ old.others
   pub peers : new.peers ≡ put old.peers to (record (old.peers to) {

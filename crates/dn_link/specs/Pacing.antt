@@ -1,20 +1,26 @@
 -- What a link keeps for its pace.
-use Rattle.std.specs.Prelude.{ℕ, None, pos, Option, get_or}
+use Rattle.std.specs.{Prelude.{ℕ, Bool, ◌||◌, false, None, pos, Option, get_or}, Prelude.{Bool, false, ◌||◌}}
 use Rattle.dn_tic.specs.declared.input.Input.{Input}
-use Rattle.dn_link.specs.{declared.{line.Line.Line, link.Link.Link, pace.Pace.Pace, leaning.Leaning.Leaning, stretching.Stretching.Stretching}, Line.new_line, Leaning.{LeaningState, StretchingState}}
+use Rattle.dn_link.specs.{declared.{line.Line.Line, link.Link.Link, pace.Pace.Pace, leaning.Leaning.Leaning, stretching.Stretching.Stretching}, Line.new_line, Leaning.{LeaningState, StretchingState}, Congestion.{new_congestion, shortens}, Leaning.{TrimState}, declared.congestion.Congestion.{Congestion}, declared.trimming.Trim.{Trim}}
 
--- the line from each player, the input of which a command is owed, how the ticks lean and stretch, and how many
--- bytes came that were no datagram
+-- the line from each player, who was given a datagram since the last tick, the input of which a command is owed,
+-- how the ticks lean and stretch, how full the line is, and how many bytes came that were no datagram
 pub record PaceState : Type 0 where
   pub lines : ℕ → Line
+  pub given : ℕ → Bool
   pub owed : Option Input
   pub leaning : LeaningState
   pub stretching : StretchingState
+  pub congestion : Congestion
   pub refused : ℕ
 
 -- what each of these is, of what the link holds
+abbrev pub trim_state : Trim → TrimState
+trim_state t = record { by = t.by; carried = t.carried }
+
 abbrev pub leaning_of : Leaning → LeaningState
-leaning_of l = record { rest = l.rest; looked = l.looked; sum = l.sum; left = l.left }
+leaning_of l =
+    record { rest = l.rest; looked = l.looked; sum = l.sum; left = l.left; trim = trim_state l.trim }
 
 abbrev pub stretching_of : Stretching → StretchingState
 stretching_of s = record { ticks = s.ticks; dropped = s.dropped; blocks = s.blocks; slow = s.slow }
@@ -23,20 +29,35 @@ abbrev pub state_of : Pace → PaceState
 state_of p =
     record {
       lines = λ player. get_or p.lines player new_line;
+      given = λ player. get_or p.given player false;
       owed = p.owed;
       leaning = leaning_of p.leaning;
       stretching = stretching_of p.stretching;
+      congestion = p.congestion;
       refused = p.refused;
     }
+
+-- a datagram to a peer is a brief one, which carries the newest commands alone: another was given to the peer since
+-- the last tick, or the line is full, and this is one of two
+abbrev pub is_brief : PaceState → (number to : ℕ) → Bool
+is_brief pace number to = pace.given to || shortens pace.congestion number
 
 -- the pace at first
 abbrev pub new_pace : PaceState
 new_pace =
     record {
       lines = λ player. new_line;
+      given = λ player. false;
       owed = None;
-      leaning = record { rest = 0; looked = 0; sum = pos 0; left = pos 0 };
+      leaning = record {
+        rest = 0;
+        looked = 0;
+        sum = pos 0;
+        left = pos 0;
+        trim = record { by = pos 0; carried = pos 0 };
+      };
       stretching = record { ticks = 0; dropped = 0; blocks = 0; slow = 0 };
+      congestion = new_congestion;
       refused = 0;
     }
 

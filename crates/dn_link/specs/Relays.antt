@@ -1,8 +1,8 @@
 -- The commands of third players that a player hands on, and which these are.
-use Rattle.std.specs.{Prelude.{◌≡◌, ◌≢◌, ◌<◌, ◌≤◌, ℕ, ◌+◌, ◌^◌, negsuc, List, [], ◌∷◌, length, slice_index, Some, ◌-◌, ◌/◌, ◌&&◌, ◌||◌, if◌then◌else◌, nat_lt, nat_le, min, max, Bool, slice_get, get_or, Option, None}, List.{flat_map}}
+use Rattle.std.specs.{Prelude.{◌≡◌, ◌≢◌, ◌<◌, ◌≤◌, ℕ, ◌+◌, ◌⊎◌, ◌^◌, negsuc, List, [], ◌∷◌, length, slice_index, Some, ◌-◌, ◌/◌, ◌&&◌, ◌||◌, if◌then◌else◌, nat_lt, nat_le, min, max, Bool, slice_get, get_or, Option, None}, List.{flat_map}}
 use Rattle.dn_tic.specs.{Command.IsCommand, Command.command_bytes, declared.command.TicCmd.TicCmd}
 use Rattle.dn_machine.specs.{Flight.Flight, Relaying.packet_of_one}
-use Rattle.dn_lockstep.specs.{Contents.Contents, Told.command_told}
+use Rattle.dn_lockstep.specs.{Contents.Contents, Told.command_told, Told.made}
 use Rattle.dn_link.specs.{declared.bundle.Part.Part, declared.bundle.Part.TheVariants.Relay, declared.bundle.Run.Run, declared.lag.Had.Had, declared.lag.Lag.Lag}
 
 -- whose commands, from which tic on, and these
@@ -38,13 +38,12 @@ AreTold n player start (command ∷ commands) =
     (command_told n player start ≡ Some command) × IsCommand command × (command.forward ≢ negsuc 127)
     × AreTold n player (start + 1) commands
 
--- it is handed on to another player: commands of a third, as the lockstep has them
+-- it is handed on to another player: commands that are not that player's own, as the lockstep has them
 pub record IsHandedOn (n : Contents) (to : ℕ) (handed : Handed) : Type 0 where
   pub player : handed.player < n.players
   pub there : to < n.players
   pub small : handed.player < 4
   pub third : handed.player ≢ to
-  pub other : handed.player ≢ n.me
   pub low : handed.start + length handed.commands ≤ 2 ^ 32
   pub told : AreTold n handed.player handed.start handed.commands
 
@@ -58,6 +57,22 @@ AreLacked reported low [] = Unit {0}
 AreLacked reported low (one ∷ handed) =
     (low ≤ one.player) × (slice_index reported one.player ≤ one.start) × (1 ≤ length one.commands)
     × (length one.commands ≤ 24) × AreLacked reported (one.player + 1) handed
+
+-- from which on the newest four of the node's own commands are that a peer has not reported
+abbrev pub newest_from : List ℕ → Contents → ℕ
+newest_from reported n = max (slice_index reported n.me) (made n - 4)
+
+-- commands of a player from a tic on: so many, or all up to one that is not told
+abbrev pub IsFrom : Contents → (player start most : ℕ) → List TicCmd → Type 0
+IsFrom n player start most commands =
+    (length commands ≤ most)
+    × ((length commands ≡ most) ⊎ (command_told n player (start + length commands) ≡ None))
+
+-- they are the newest of its own
+pub record IsNewest (n : Contents) (from : ℕ) (handed : Handed) : Type 0 where
+  pub own : handed.player ≡ n.me
+  pub start : handed.start ≡ from
+  pub all : IsFrom n n.me from 4 handed.commands
 
 -- Which commands of third players are handed on.
 
@@ -96,12 +111,12 @@ abbrev pub counted_down : Bool → Lag → Lag
 counted_down is_on lag = record lag { left = if is_on then 512 else lag.left - 1 }
 
 -- the first command that is handed on: the oldest that the peer has not reported if it is overdue; else, for as
--- long, the first that was not handed on before, or one of the newest two
-abbrev pub handed_from : List Had → (player reported got : ℕ) → Lag → Option ℕ
-handed_from history player reported got lag =
+-- long, the first that was not handed on before, or one of the newest two, if more than what is overdue is
+abbrev pub handed_from : List Had → (player reported got : ℕ) → (more : Bool) → Lag → Option ℕ
+handed_from history player reported got more lag =
     if is_overdue history player reported lag
     then Some reported
-    else (if nat_lt 0 lag.left then Some (max reported (min (got - 2) lag.end)) else None)
+    else (if more && nat_lt 0 lag.left then Some (max reported (min (got - 2) lag.end)) else None)
 
 -- commands of a run are handed on
 abbrev pub handed : Run → Lag → Lag

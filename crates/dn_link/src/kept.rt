@@ -4,6 +4,7 @@ ghost use Rattle.std.specs.Prelude.{◌≡◌, ◌≤◌, ◌<◌, ◌+◌, [], 
 ghost use Rattle.dn_link.specs.{Kept.{IsCovering, IsRising, IsRising-prop, acknowledged, commands_in, end_of, going, is_idle, is_news, kept_after, takes_packet, without}, Packing.ArePacked};
 ghost use Rattle.dn_link.specs.Text.{IsPart, parts_bytes};
 ghost use Rattle.dn_link.specs.Packing.{parts_room};
+ghost use Rattle.std.specs.Prelude.{false, true};
 
 use crate::bundle::{Carried, Part};
 use crate::packing::pack;
@@ -108,26 +109,56 @@ impl Kept {
             && self.packets.len() < MOST_KEPT
     }
 
-    /// What goes to the peer now, of this player: these packets, and the one of the moment, which is kept if it
-    /// has news.
-    pub(crate) fn parts(&mut self, from: u8, packet: Option<Carried>) -> ArrayVec<Part, 24>
-        ensures kept { kept self.new ≡ kept_after (kept self.old) packet }
-        ensures fit { All IsPart result.items }
-        ensures short { parts_room result.items ≤ 1118 }
-        ensures packed { ArePacked from (going (kept self.old) packet) result.items }
+    /// The packet of the moment is kept if it has news.
+    fn keep(&mut self, packet: Option<Carried>)
+        ensures { kept self.new ≡ kept_after (kept self.old) packet }
     {
         let Some(packet) = packet else {
-            return pack(from, self.packets.as_slice());
+            return;
         };
         let news = self.is_news(&packet);
         let end = end_of(&packet);
+        if news {
+            self.packets.push(packet);
+            self.covered = end;
+        }
+    }
+
+    /// What goes to the peer now, of this player: these packets, and the one of the moment.
+    fn going(&mut self, from: u8, packet: Option<Carried>) -> (ArrayVec<Part, 24>, Option<Carried>)
+        ensures kept { kept self.new ≡ kept self.old }
+        ensures packet { result.1 ≡ packet }
+        ensures fit { All IsPart result.0.items }
+        ensures short { parts_room result.0.items ≤ 1118 }
+        ensures packed { ArePacked from (going (kept self.old) packet) result.0.items }
+    {
+        let Some(packet) = packet else {
+            return (pack(from, self.packets.as_slice()), None);
+        };
         self.packets.push(packet);
         let parts = pack(from, self.packets.as_slice());
-        if news {
-            self.covered = end;
-        } else {
-            self.packets.pop();
+        (parts, self.packets.pop())
+    }
+
+    /// The same, and the packet of the moment is kept if it has news; but in a brief datagram nothing of that goes.
+    pub(crate) fn parts(
+        &mut self,
+        from: u8,
+        packet: Option<Carried>,
+        brief: bool,
+    ) -> ArrayVec<Part, 24>
+        ensures kept { kept self.new ≡ kept_after (kept self.old) packet }
+        ensures fit { All IsPart result.items }
+        ensures short { parts_room result.items ≤ 1118 }
+        ensures packed { brief ≡ false → ArePacked from (going (kept self.old) packet) result.items }
+        ensures none { brief ≡ true → result.items ≡ [] }
+    {
+        if brief {
+            self.keep(packet);
+            return ArrayVec::new();
         }
+        let (parts, packet) = self.going(from, packet);
+        self.keep(packet);
         parts
     }
 

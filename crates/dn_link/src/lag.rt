@@ -169,20 +169,22 @@ impl Lag {
     }
 
     /// The first command that is handed on of those that the peer has not reported: the oldest if it is overdue; else,
-    /// for a while, the first that was not handed on before, or one of the newest. None if none is.
+    /// for a while, the first that was not handed on before, or one of the newest, if more than what is overdue is.
+    /// None if none is.
     pub(crate) fn handed_from(
         &self,
         history: &History,
         player: u8,
         reported: u32,
         got: u32,
+        more: bool,
     ) -> Option<u32>
         requires { player < 4 }
-        ensures { result ≡ handed_from history.now.ticks.items player reported got self.now }
+        ensures { result ≡ handed_from history.now.ticks.items player reported got more self.now }
     {
         if self.is_overdue(history, player, reported) {
             Some(reported)
-        } else if self.left > 0 {
+        } else if more && self.left > 0 {
             Some(reported.max(got.saturating_sub(NEWEST).min(self.end)))
         } else {
             None

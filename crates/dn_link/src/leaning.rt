@@ -2,23 +2,71 @@
 
 ghost use Rattle.std.specs.Prelude.{◌≡◌, ◌≤◌, ◌<◌, ◌+◌, ◌*◌, ◌+ℤ◌, ℤ, pos, nat_abs};
 ghost use Rattle.dn_link.specs.Leaning.{decided, looks, step_of, worked_off, worth};
+ghost use Rattle.dn_link.specs.Leaning.{offset_of, rest_for, work_of};
+
+use crate::trimming::Trim;
 
 /// At how many ticks a player looks before it leans, and for how many it then looks away.
 const LOOKS: u8 = 16;
 
 /// How far a player may be from the mean, in 32nds of a tick, without leaning.
-const IDLE: u32 = 8;
+const IDLE: u32 = 4;
+
+/// How much is worked off at most, in 32nds of a tick.
+const MOST: i32 = 64;
+
+/// How much is worked off at a tick, and of what is more than a tick this part besides.
+const STEP: u32 = 2;
+
+const TICK: u32 = 32;
+
+const PART: u32 = 8;
+
+/// How far this player is from the mean of so many, with this sum of differences.
+fn offset_of(sum: i32, players: u8) -> i32
+    requires { 1 ≤ players }
+    ensures { result ≡ offset_of sum players }
+{
+    sum / i32::from(players)
+}
 
 /// What is worth to be worked off.
 fn worth(offset: i32) -> i32
     ensures value { result ≡ worth offset }
-    ensures small { nat_abs result ≤ 32 }
+    ensures small { nat_abs result ≤ 64 }
 {
     if offset.unsigned_abs() <= IDLE {
         0
     } else {
-        offset.clamp(-32, 32)
+        offset.clamp(-MOST, MOST)
     }
+}
+
+/// For how many ticks a player looks away that has so much to work off.
+fn rest_for(left: i32) -> u8
+    ensures { result ≡ rest_for left }
+{
+    if left == 0 { 0 } else { LOOKS }
+}
+
+/// What a tick works off of so much.
+fn work(left: i32) -> i32
+    requires { nat_abs left ≤ 64 }
+    ensures value { result ≡ work_of left }
+    ensures small { nat_abs result ≤ 6 }
+{
+    let most = (STEP + left.unsigned_abs().saturating_sub(TICK) / PART) as i32;
+    left.clamp(-most, most)
+}
+
+/// Two parts of a step.
+fn together(work: i32, trim: i8) -> i8
+    requires work { nat_abs work ≤ 6 }
+    requires trim { nat_abs trim ≤ 3 }
+    ensures value { result ≡ work +ℤ trim }
+    ensures small { nat_abs result ≤ 9 }
+{
+    work as i8 + trim
 }
 
 /// How a player leans.
@@ -32,9 +80,10 @@ pub(crate) struct Leaning {
     sum: i32,
     /// How much is left to work off.
     left: i32,
+    trim: Trim,
     ghost looking: { looked < 16 },
     ghost summed: { nat_abs sum ≤ looked * 1024 },
-    ghost leaning: { nat_abs left ≤ 32 },
+    ghost leaning: { nat_abs left ≤ 64 },
 }
 
 impl Leaning {
@@ -42,23 +91,30 @@ impl Leaning {
 
     /// Upright.
     pub(crate) fn new() -> Leaning
-        ensures { leaning_of result ≡ record { rest = 0; looked = 0; sum = pos 0; left = pos 0 } }
+        ensures { leaning_of result ≡ record {
+          rest = 0;
+          looked = 0;
+          sum = pos 0;
+          left = pos 0;
+          trim = record { by = pos 0; carried = pos 0 };
+        } }
     {
         Leaning {
             rest: 0,
             looked: 0,
             sum: 0,
             left: 0,
+            trim: Trim::new(),
         }
     }
 
-    /// Sixteen ticks were looked at.
-    fn decide(&mut self, sum: i32, players: u8)
-        requires { 1 ≤ players }
-        ensures { leaning_of self.new ≡ decided sum players }
+    /// Sixteen ticks were looked at, and this is how far the player is from the mean.
+    fn decide(&mut self, offset: i32)
+        ensures { leaning_of self.new ≡ decided offset (leaning_of self.old) }
     {
-        self.left = worth(sum / i32::from(players));
-        self.rest = if self.left == 0 { 0 } else { LOOKS };
+        self.trim.decide(offset);
+        self.left = worth(offset);
+        self.rest = rest_for(self.left);
         self.looked = 0;
         self.sum = 0;
     }
@@ -84,27 +140,22 @@ impl Leaning {
         }
         let sum = self.sum_with(difference);
         if self.looked == LOOKS - 1 {
-            self.decide(sum, players);
+            self.decide(offset_of(sum, players));
             return;
         }
         self.looked += 1;
         self.sum = sum;
     }
 
-    /// A sixteenth of a tick of what is left.
-    fn step(&self) -> i8
-        ensures value { result ≡ step_of (leaning_of self.now) }
-        ensures small { nat_abs result ≤ 2 }
+    /// Works off a step, and answers how long it is.
+    fn step(&mut self) -> i8
+        ensures value { result ≡ step_of (leaning_of self.old) }
+        ensures small { nat_abs result ≤ 9 }
+        ensures next { leaning_of self.new ≡ worked_off (leaning_of self.old) }
     {
-        self.left.clamp(-2, 2) as i8
-    }
-
-    /// Works that off.
-    fn work_off(&mut self)
-        ensures { leaning_of self.new ≡ worked_off (leaning_of self.old) }
-    {
-        let left = self.left - i32::from(self.step());
-        self.left = left;
+        let work = work(self.left);
+        self.left -= work;
+        together(work, self.trim.tick())
     }
 
     /// A tick, and by how many 32nds of a tick the next comes later.
@@ -112,12 +163,10 @@ impl Leaning {
         requires few { 1 ≤ players }
         requires small { nat_abs difference ≤ 1024 }
         ensures leans { result ≡ step_of (looks difference players (leaning_of self.old)) }
-        ensures small { nat_abs result ≤ 2 }
+        ensures small { nat_abs result ≤ 9 }
         ensures next { leaning_of self.new ≡ worked_off (looks difference players (leaning_of self.old)) }
     {
         self.look(difference, players);
-        let step = self.step();
-        self.work_off();
-        step
+        self.step()
     }
 }

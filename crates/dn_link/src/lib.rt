@@ -3,6 +3,7 @@
 
 mod bundle;
 mod caught_up;
+mod congestion;
 mod counting;
 mod differences;
 mod ends;
@@ -12,6 +13,7 @@ mod kept;
 mod lag;
 mod laws;
 mod leaning;
+mod level;
 mod line;
 mod link;
 mod onward;
@@ -23,10 +25,13 @@ mod reading;
 mod received;
 mod relaying;
 mod remaining;
+mod resting;
 mod room;
 mod short;
 mod stretching;
 mod tally;
+mod trimming;
+mod trip;
 mod writing;
 
 pub use bundle::{Bundle, BundleFault, Carried, Counts, Part, Relay, Run};
@@ -47,5 +52,6 @@ pub use remaining::{
     remaining_bytes_are_genuine, remaining_links_agree, remaining_links_go_on,
     remaining_links_start,
 };
+pub use resting::players_rest_briefly;
 pub use tally::Figures;
 pub use writing::seal_bundle;

@@ -3,6 +3,7 @@
 ghost use Rattle.std.specs.Prelude.{◌≡◌, ◌<◌, ◌≤◌, ◌+ℤ◌, ◌-ℤ◌, ◌||◌, None, min, nat_abs, nat_le};
 ghost use Rattle.dn_lockstep.specs.Contents.{contents};
 ghost use Rattle.dn_link.specs.{Line.counted, Line.heard_on, Line.lead_over, Line.missing, Line.own_echo, Line.after_newest, Line.new_line};
+ghost use Rattle.dn_link.specs.Line.{is_fresh, older};
 
 use crate::bundle::Bundle;
 use crate::tally::Tally;
@@ -13,6 +14,9 @@ const BLOCK: u32 = 64;
 
 /// How many missing datagrams make a line a lossy one.
 const LOSSY: u8 = 2;
+
+/// Within how many ticks a datagram must have come for its lead to count.
+const FRESH: u8 = 4;
 
 /// By how many commands a player leads another.
 pub(crate) fn lead_over(lockstep: &Lockstep, player: u8) -> i8
@@ -61,6 +65,8 @@ pub(crate) struct Line {
     pub(crate) own_lead: i8,
     /// What its sender echoed.
     pub(crate) echo: u32,
+    /// How many ticks ago the newest came.
+    age: u8,
     /// What came.
     pub(crate) tally: Tally,
 }
@@ -78,16 +84,18 @@ impl Line {
             lead: 0,
             own_lead: 0,
             echo: 0,
+            age: 0,
             tally: Tally::default(),
         }
     }
 
     /// The same line at a tick, with this player's lead over its peer by the counts of the lockstep.
     pub(crate) fn at_tick(&self, lockstep: &Lockstep, player: u8) -> Line
-        ensures { result ≡ record self.now { own_lead = lead_over (contents lockstep.now) player } }
+        ensures { result ≡ record self.now { own_lead = lead_over (contents lockstep.now) player; age = older self.now } }
     {
         Line {
             own_lead: lead_over(lockstep, player),
+            age: self.older(),
             ..*self
         }
     }
@@ -97,6 +105,23 @@ impl Line {
         ensures { result ≡ own_echo self.now }
     {
         self.newest.map_or(0, |newest| newest.wrapping_add(1))
+    }
+
+    /// How many ticks ago the newest datagram came, at the next tick.
+    fn older(&self) -> u8
+        ensures { result ≡ older self.now }
+    {
+        match self.newest {
+            Some(_) => self.age.saturating_add(1),
+            None => self.age,
+        }
+    }
+
+    /// Whether that was at one of the last four.
+    pub(crate) fn is_fresh(&self) -> bool
+        ensures { result ≡ is_fresh self.now }
+    {
+        self.age < FRESH
     }
 
     /// How many of the peer's datagrams are missing.
@@ -142,6 +167,7 @@ impl Line {
         self.reported_holes = bundle.holes;
         self.lead = bundle.lead;
         self.echo = bundle.counts.echo;
+        self.age = 0;
     }
 
     /// A datagram came. An old one tells nothing.

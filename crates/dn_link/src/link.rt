@@ -8,6 +8,7 @@ ghost use Rattle.dn_survivor.specs.Surviving.{surviving};
 mod giving;
 mod handing;
 mod leaving;
+mod newest;
 mod owing;
 mod pacing;
 mod reading;

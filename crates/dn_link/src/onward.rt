@@ -3,6 +3,8 @@
 
 ghost use Rattle.std.specs.{Prelude.{◌≡◌, ◌≢◌, ◌<◌, ◌≤◌, ◌⊎◌, ◌+◌, ℕ, ℤ, Bool, List, Option, Some, ◌↔◌, true, length, map}, List.flat_map};
 ghost use Rattle.dn_tic.specs.declared.{command.Move.Move, input.Input.Input};
+ghost use Rattle.dn_link.specs.Pacing.{is_brief};
+ghost use Rattle.std.specs.Prelude.{false};
 ghost use Rattle.dn_packet.specs.Read.{AreBytes};
 ghost use Rattle.dn_setup.specs.Settings.{Settings};
 ghost use Rattle.dn_machine.specs.{declared.answers.{Made.Made, Ran.Ran}, Sending.on_build, Started.started_node, Limits.Limits, Running.{on_run, on_quit}};
@@ -17,9 +19,9 @@ use dn_packet::every_datagram_is_read;
 use dn_setup::every_packet_is_told;
 
 /// The packets that any link keeps for a peer have each command from the first that the peer still needs to the
-/// last that they cover. And a datagram carries all of these, unless it has no room for some: then it has
-/// twenty-two parts or more, or these have more than 998 bytes, counted as if their commands stood whole. What
-/// they cover reaches the end of a packet that is given exactly if it did before, or if the packet begins there
+/// last that they cover. And a datagram that is no brief one carries all of these, unless it has no room for some:
+/// then it has twenty-two parts or more, or these have more than 998 bytes, counted as if their commands stood whole.
+/// What they cover reaches the end of a packet that is given exactly if it did before, or if the packet begins there
 /// or before and fewer than twenty-four are kept. Each kept packet ends past those before it, so no more are
 /// kept than commands are covered that the peer still needs.
 pub fn kept_covers()
@@ -27,7 +29,7 @@ pub fn kept_covers()
     ensures rising { (link : Link) (peer : ℕ) → IsKeptRising ((linked link).peers peer).kept }
     ensures few { (kept : Unacknowledged) → IsKeptRising kept → kept.done + length kept.packets ≤ kept.covered }
     ensures carried { (seal : Seal) (pace : PaceState) (to : ℕ) (old new : Linked) (bytes : List ℕ)
-        (gives : Gives seal pace to old new bytes)
+        (gives : Gives seal pace to old new bytes) → is_brief pace (old.peers to).number to ≡ false
         → IsCovering (old.peers to).kept → length gives.own < 22 → parts_room gives.own ≤ 998
         → (packets : List Carried) × (flat_map (packets_of gives.bundle.from) gives.own
         ≡ map (opened_from old.node.me) packets)

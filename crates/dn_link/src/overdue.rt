@@ -1,13 +1,13 @@
 //! What a link keeps to decide which commands of third players it hands on.
 
-ghost use Rattle.std.specs.Prelude.{◌≡◌, ◌<◌, ◌≤◌, IfSome, false, slice_index, ◌∷◌, take};
+ghost use Rattle.std.specs.Prelude.{◌≡◌, ◌<◌, ◌≤◌, IfSome, slice_index, ◌∷◌, take};
 ghost use Rattle.dn_link.specs.Relays.{counted_down, four_of, lag_of, is_on, learned};
 
 use crate::bundle::Part;
 use crate::lag::{Had, History, Lag};
 
 /// How long lags are taken to be at first, in ticks: that of a third player's commands, and the round trip.
-const LAG_AT_FIRST: u8 = 16;
+const LAG_AT_FIRST: u8 = 8;
 
 const ROUND_TRIP_AT_FIRST: u8 = 28;
 
@@ -16,8 +16,6 @@ const ROUND_TRIP_AT_FIRST: u8 = 28;
 struct Towards {
     /// How late it reports the commands of each player; of this player itself that is the round trip.
     lags: [Lag; 4],
-    /// Whether it was given a datagram since the last tick.
-    given: bool,
 }
 
 /// How long the lag of a player's commands is taken to be at first.
@@ -39,7 +37,6 @@ impl Towards {
                 first_lag(me, 2),
                 first_lag(me, 3),
             ],
-            given: false,
         }
     }
 
@@ -64,7 +61,6 @@ impl Towards {
                 self.lag(2).learned(history, 2, reported.of(2)),
                 self.lag(3).learned(history, 3, reported.of(3)),
             ],
-            given: false,
         }
     }
 
@@ -82,9 +78,8 @@ impl Towards {
     /// A tick, before which it had reported so many.
     fn tick(&self, history: &History, me: u8, reported: &Had) -> Towards
         requires { me < 4 }
-        ensures lags { result.lags ≡ four_of (λ player.
+        ensures { result.lags ≡ four_of (λ player.
             counted_down (is_on history.now.ticks.items me reported.now self.now.lags player) (lag_of self.now.lags player)) }
-        ensures given { result.given ≡ false }
     {
         Towards {
             lags: [
@@ -93,7 +88,6 @@ impl Towards {
                 self.lag(2).tick(self.is_on(history, me, 2, reported)),
                 self.lag(3).tick(self.is_on(history, me, 3, reported)),
             ],
-            given: false,
         }
     }
 }
@@ -139,15 +133,6 @@ impl Overdue {
         ];
     }
 
-    /// A peer is given a datagram. Whether it is the first since the last tick.
-    pub(crate) fn give(&mut self, to: u8) -> bool
-        requires { to < 4 }
-    {
-        let is_first = !self.peers[to as usize].given;
-        self.peers[to as usize].given = true;
-        is_first
-    }
-
     /// A datagram to a peer hands on what it has of third players among these parts.
     pub(crate) fn hand(&mut self, to: u8, parts: &[Part])
         requires { to < 4 }
@@ -163,15 +148,33 @@ impl Overdue {
         }
     }
 
+    /// Whether commands of a third player are handed on to a peer though not overdue: where this player's line is
+    /// tight, only if they come earlier from this player.
+    pub(crate) fn hands_more(&self, me: u8, to: u8, player: u8, is_tight: bool) -> bool
+        requires few { me < 4 }
+        requires peer { to < 4 }
+        requires third { player < 4 }
+    {
+        let towards = &self.peers[to as usize];
+        !is_tight || towards.lag(player).is_slow(&towards.lag(me))
+    }
+
     /// From which on commands of a third player are handed on to a peer, of those that it has not reported, if any
-    /// are.
-    pub(crate) fn handed_from(&self, to: u8, player: u8, reported: u32, got: u32) -> Option<u32>
+    /// are, and if more than what is overdue is.
+    pub(crate) fn handed_from(
+        &self,
+        to: u8,
+        player: u8,
+        reported: u32,
+        got: u32,
+        more: bool,
+    ) -> Option<u32>
         requires peer { to < 4 }
         requires third { player < 4 }
         ensures { IfSome result (λ start. reported ≤ start) }
     {
         self.peers[to as usize]
             .lag(player)
-            .handed_from(&self.history, player, reported, got)
+            .handed_from(&self.history, player, reported, got, more)
     }
 }

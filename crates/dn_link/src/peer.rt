@@ -37,6 +37,7 @@ impl Peer {
     ghost use Rattle.std.specs.Prelude.{All, length, ◌≤◌, ◌<◌, ◌+◌, ◌%◌, ◌^◌};
     ghost use Rattle.dn_link.specs.{Kept.{acknowledged, going, kept_after, taken_by}, Linking.{new_peer, state_of}, Packing.ArePacked, Text.{IsPart, parts_bytes}};
     ghost use Rattle.dn_link.specs.Packing.{parts_room};
+    ghost use Rattle.std.specs.Prelude.{[], false, true, slice_index};
 
     /// Of which nothing is known.
     pub(crate) fn new() -> Peer
@@ -73,8 +74,13 @@ impl Peer {
         }
     }
 
-    /// What goes to it now, of this player, and the number of the datagram.
-    pub(crate) fn parts(&mut self, from: u8, packet: Option<Carried>) -> (u32, ArrayVec<Part, 24>)
+    /// What goes to it now, of this player, and the number of the datagram, which may be a brief one.
+    pub(crate) fn parts(
+        &mut self,
+        from: u8,
+        packet: Option<Carried>,
+        brief: bool,
+    ) -> (u32, ArrayVec<Part, 24>)
         ensures number { result.0 ≡ (state_of self.old).number }
         ensures peer { state_of self.new ≡ record (state_of self.old) {
           kept = kept_after (state_of self.old).kept (taken_by (state_of self.old).left packet);
@@ -82,12 +88,28 @@ impl Peer {
         } }
         ensures fit { All IsPart result.1.items }
         ensures short { parts_room result.1.items ≤ 1118 }
-        ensures packed { ArePacked from
+        ensures packed { brief ≡ false → ArePacked from
             (going (state_of self.old).kept (taken_by (state_of self.old).left packet)) result.1.items }
+        ensures none { brief ≡ true → result.1.items ≡ [] }
     {
         let taken = self.taken(packet);
-        let parts = self.kept.parts(from, taken);
+        let parts = self.kept.parts(from, taken, brief);
         (self.next_number(), parts)
+    }
+
+    /// The number of the next datagram to it.
+    pub(crate) fn number(&self) -> u32
+        ensures { result ≡ (state_of self.now).number }
+    {
+        self.number
+    }
+
+    /// How many commands of a player it has reported to have.
+    pub(crate) fn reported_of(&self, player: u8) -> u32
+        requires { player < 4 }
+        ensures { result ≡ slice_index (state_of self.now).reported player }
+    {
+        self.reported.of(player)
     }
 
     /// How many commands of this player it no longer needs.

@@ -1,9 +1,10 @@
-//! The commands of third players that are handed on.
+//! The commands that are handed on.
 
 ghost use Rattle.std.specs.{Prelude.{◌≡◌, ◌≤◌, ◌<◌, ◌+◌, ◌^◌, List, length, ◌++◌, ◌∷◌, ◌⊎◌, [], All, IfSome, Some}, List.flat_map};
 ghost use Rattle.dn_tic.specs.{declared.command.TicCmd.TicCmd, Command.command_bytes};
 ghost use Rattle.dn_lockstep.specs.Contents.{contents};
 ghost use Rattle.dn_link.specs.{declared.bundle.{Relay.Relay as Handing, Part.TheVariants.Relay as of_relay}, Relays.AreTold, Text.{IsPart, IsRelay}, Packing.parts_room};
+ghost use Rattle.dn_link.specs.Relays.{IsFrom};
 
 use crate::bundle::{Part, Relay, Run};
 use crate::room::parts_room;
@@ -19,7 +20,7 @@ pub(crate) fn relay_of(lockstep: &Lockstep, player: u8, start: u32, most: u8) ->
     ensures start { result.run.start ≡ start }
     ensures told { (commands : List TicCmd) × (result.run.commands.items ≡ flat_map command_bytes commands)
         × AreTold (contents lockstep.now) player start commands × (start + length commands ≤ 2 ^ 32)
-        × (length commands ≤ most) }
+        × IsFrom (contents lockstep.now) player start most commands }
 {
     let mut commands = ArrayVec::new();
     'commands: for done in 0..most {

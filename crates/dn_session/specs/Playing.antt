@@ -1,10 +1,10 @@
 -- A player's part in its game: what each call makes of it.
-use Rattle.std.specs.{Prelude.{◌≡◌, ℕ, ℤ, ◌&&◌, ◌||◌, ◌+◌, ◌%◌, Bool, true, false, if◌then◌else◌, List, map, slice_index_or, slice_set, replicate, Option, Some, None}, Option.{option_map, option_or}}
+use Rattle.std.specs.{Prelude.{◌≡◌, ℕ, ℤ, ◌&&◌, ◌||◌, ◌+◌, ◌%◌, Bool, not, is_some, true, false, if◌then◌else◌, List, map, slice_index_or, slice_set, replicate, Option, Some, None}, Option.{option_map, option_or}}
 use Rattle.dn_tic.specs.{declared.command.Move.Move, declared.input.Input.Input}
 use Rattle.dn_machine.specs.{Running.on_quit, Running.row_held, Sending.on_build, declared.answers.Made.Made, declared.answers.Ran.Ran}
 use Rattle.dn_lockstep.specs.Steps.{Steps, Tells}
 use Rattle.dn_survivor.specs.declared.answers.GivenUp.{GivenUp}
-use Rattle.dn_link.specs.{Linked.Receives, Linked.has_given_up, Linking.linked, Linking.seal_of, Pace.Paces, Pace.after_input, Pace.after_tick, Pace.lean, Pace.still_owed, Pace.wants_second, Pacing.pace_of, Surviving.GivesUpPeer, Surviving.RunsBut, declared.link.Link.Link, declared.received.Received.Received}
+use Rattle.dn_link.specs.{Linked.Receives, Linked.has_given_up, Linking.linked, Linking.seal_of, Pace.Paces, Pace.after_input, Pace.after_tick, Pace.is_resting, Pace.lean, Pace.still_owed, Pace.wants_second, Pacing.pace_of, Surviving.GivesUpPeer, Surviving.RunsBut, declared.link.Link.Link, declared.received.Received.Received}
 use Rattle.dn_link.specs.declared.received.Received.TheVariants as received
 use Rattle.dn_session.specs.{Coming.{counts_in, has_more, heard_of, is_answer_of, line_of, lines_in, news_of}, Ending.ended_by, Ending.ending_of, Ending.is_unneeded, Ending.may_give_up, Ending.patience, Ending.waits, Joining.has_come, Lead.due, Passing.passed_on, Passing.sent_of, Places.heard_at, Places.is_since, Players.four, Players.has_row_behind, Players.is_any_awaited, Players.view_of, Ticks.half_taken, Ticks.is_due, Ticks.passed, Ticks.resumed, Steady.after_tic, Steady.holds, Steady.ticked, declared.steady.Steady.Steady, Watch.looked_at, declared.ending.Ending.Ending, declared.ending.Progress.Progress, declared.greeting.Address.Address, declared.lead.View.View, declared.{part.Exclusion.Exclusion, part.Part.Part, part.hearing.Known.Known, places.Places.Places, terms.Policy.Policy, ticks.Ticks.Ticks, watch.Watch.Watch}}
 use Rattle.dn_machine.specs.declared.answers.Ran.TheVariants as answer
@@ -134,12 +134,19 @@ abbrev pub is_giving : Progress → Bool
 is_giving progress.Playing = true
 is_giving progress = false
 
--- a datagram is owed to each
-abbrev pub owes_all : List Bool
-owes_all = replicate 4 true
+-- a datagram is owed to each for whom the line is not too full at this tick
+abbrev pub owed_now : Link → List Bool
+owed_now link = map (λ player. not (is_resting (linked link) (pace_of link) player)) four
 
 abbrev pub owes_nobody : List Bool
 owes_nobody = replicate 4 false
+
+-- the window was full at the last tick: the datagrams of the tick wait for the command of its input
+abbrev pub is_held : Link → Bool
+is_held link = is_some (pace_of link).owed
+
+abbrev pub owed_at : Link → List Bool
+owed_at link = if is_held link then owes_nobody else owed_now link
 
 -- a tick goes by for the link
 abbrev pub Leans : Link → Link → ℤ → Type 0
@@ -151,14 +158,14 @@ Leans old new by =
 abbrev pub from_turn : (turn place : ℕ) → ℕ
 from_turn turn place = (turn + place) % 4
 
--- the tick that is due goes by: all are owed a datagram, it is the next one's turn, and the next tic may be run
+-- the tick that is due goes by: datagrams are owed, it is the next one's turn, and the next tic may be run
 abbrev pub PassesTick : Playing → Playing → Type 0
 PassesTick old new =
     (by : ℤ) × Leans old.link new.link by
     × (new ≡ record old {
       link = new.link;
       ticks = passed by old.ticks;
-      owed = owes_all;
+      owed = owed_at new.link;
       turn = from_turn old.turn 1;
       steady = ticked old.steady;
     })
@@ -196,9 +203,9 @@ abbrev pub is_made : Option Made → Bool
 is_made (Some (Made.Made tic)) = true
 is_made result = false
 
--- if one was built, all are owed a datagram now
+-- if one was built, datagrams are owed now
 abbrev pub after_catching_up : Option Made → Playing → Playing
-after_catching_up made p = if is_made made then record p { owed = owes_all } else p
+after_catching_up made p = if is_made made then record p { owed = owed_now p.link } else p
 
 -- a tic is run, or not
 abbrev pub RunsTic : List ℤ → Link → Link → Ran → Option (List (Option Move)) → Type 0
@@ -277,10 +284,15 @@ PassesTime (progress.Leaving end since free) now old new =
     × (new ≡ record mid { progress = waits (is_unneeded end (linked mid.link)) end since free now })
 PassesTime (progress.Over end) now old new = new ≡ old
 
--- half a tick later a second datagram is owed to those who miss some
+-- half a tick later those that were held are owed without the command, or a second one to those who miss some
+abbrev pub owes_second : Link → ℕ → Bool
+owes_second link player =
+    if is_held link
+    then not (is_resting (linked link) (pace_of link) player)
+    else wants_second (linked link) (pace_of link) player
+
 abbrev pub owed_second : Playing → List Bool
-owed_second p =
-    map (λ player. slice_index_or p.owed player false || wants_second (linked p.link) (pace_of p.link) player) four
+owed_second p = map (λ player. slice_index_or p.owed player false || owes_second p.link player) four
 
 abbrev pub after_half : ℕ → Playing → Playing
 after_half now p =

@@ -1,7 +1,7 @@
 -- What a player's part sends, and where to.
 use Rattle.std.specs.Prelude.{◌≡◌, ℕ, ◌==◌, ◌&&◌, Bool, not, false, if◌then◌else◌, List, option_map, position, slice_index_or, slice_set, Option, Some, None, IfSome, is_none, is_some}
 use Rattle.dn_lockstep.specs.{Sent.IsFair, Sent.sent_to, Steps.Tells}
-use Rattle.dn_link.specs.{Linked.Gives, Linked.Linked, Linked.exclusion, Linked.exclusion_for, Linked.has_given_up, Linked.is_peer, Linked.probe, Linked.probe_for, Linked.probed, Linked.remains, Linking.linked, Linking.seal_of, Pacing.pace_of, Text.IsBundle}
+use Rattle.dn_link.specs.{Linked.Gives, Linked.Linked, Linked.exclusion, Linked.exclusion_for, Linked.has_given_up, Linked.is_peer, Linked.probe, Linked.probe_for, Linked.probed, Linked.remains, Linking.linked, Linking.seal_of, Pace.after_giving, Pacing.pace_of, Text.IsBundle}
 use Rattle.dn_session.specs.{Places.is_near_at, Places.place_of, Places.probe_to, Places.probed_at, Players.four, Playing.KeepsGame, Playing.Playing, Playing.ended_as, Playing.exclusion_of, Playing.from_turn, Watch.silence, declared.greeting.Address.Address}
 
 -- by the last look, a player is near
@@ -42,7 +42,7 @@ SendsTo player old new sent =
     (address : Address) × (bytes : List ℕ) × (address_to old player ≡ Some address)
     × (sent ≡ Some (address, bytes)) × IsFairTo player (linked old.link)
     × Gives (seal_of old.link) (pace_of old.link) player (linked old.link) (linked new.link) bytes
-    × KeepsGame old.link new.link × (pace_of new.link ≡ pace_of old.link)
+    × KeepsGame old.link new.link × (pace_of new.link ≡ after_giving (linked old.link) player (pace_of old.link))
     × (new ≡ record old { link = new.link; owed = slice_set old.owed player false })
 
 -- where a player may be, goes a probe, by the last look

@@ -21,6 +21,7 @@ pub struct Ticks {
 }
 
 impl Ticks {
+    ghost use Rattle.dn_link.specs.Leaning.{IsLean};
     /// So many in a second, from this time on.
     pub fn new(rate: u8, now: u32) -> Ticks
         ensures { result ≡ new_ticks rate now }
@@ -59,16 +60,16 @@ impl Ticks {
 
     /// How many parts a tick has that is by so many 32nds longer than usual.
     fn parts_of_tick(lean: i8) -> u64
-        requires { nat_abs lean ≤ 34 }
+        requires { IsLean lean }
         ensures value { result ≡ parts_of_tick lean }
-        ensures range { result ≤ 66000 }
+        ensures range { result ≤ 73000 }
     {
         1000 * u64::from((32 + lean).max(1).unsigned_abs())
     }
 
     /// How many parts after the millisecond in which this tick was due the next one is.
     fn parts_to_next(&self, lean: i8) -> u64
-        requires { nat_abs lean ≤ 34 }
+        requires { IsLean lean }
         ensures value { result ≡ parts_to_next lean self.now }
         ensures range { result < 2 ^ 33 }
     {
@@ -85,7 +86,7 @@ impl Ticks {
 
     /// The tick that was due has passed, and the next comes by so many 32nds of a tick later than usual.
     pub fn pass(&mut self, lean: i8)
-        requires { nat_abs lean ≤ 34 }
+        requires { IsLean lean }
         ensures { self.new ≡ passed lean self.old }
     {
         let parts = self.parts_to_next(lean);

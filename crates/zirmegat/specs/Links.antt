@@ -24,10 +24,11 @@ use Rattle.dn_seal.specs.declared.seal.Seal.{Seal}
 use Rattle.dn_link.specs.declared.link.Link.{Link}
 use Rattle.dn_link.specs.declared.received.Received.{Received}
 use Rattle.dn_link.specs.declared.tally.Figures.{Figures}
+use Rattle.dn_link.specs.Leaning.{IsLean}
 use Rattle.dn_link.specs.Linked.{figures_of}
 use Rattle.dn_link.specs.Linked.{IsWhole, Linked, Gives, Receives, has_given_up, is_peer, remains}
 use Rattle.dn_link.specs.Linking.{linked, new_peer, seal_of}
-use Rattle.dn_link.specs.Pace.{Paces, after_input, after_tick, lean, still_owed}
+use Rattle.dn_link.specs.Pace.{Paces, after_giving, after_input, after_tick, lean, still_owed}
 use Rattle.dn_link.specs.Pacing.{PaceState}
 use Rattle.dn_link.specs.Pacing.{new_pace, pace_of}
 use Rattle.dn_link.specs.Surviving.{GivesUpPeer}
@@ -120,7 +121,7 @@ GivesOut to room written count n k =
     (given : Option (ArrayVec ℕ)) × (is_some given ≡ remains n.link to)
     × IfSome given (λ bytes. Gives n.seal n.pace to n.link k.link bytes.items
     × Tells n.link.node (λ limits me m. IfSome (sent_to to limits me m).1 IsFair))
-    × (given ≡ None → k.link ≡ n.link) × IsPut given room written count × (k.pace ≡ n.pace) × StaysOf n k
+    × (given ≡ None → k.link ≡ n.link) × IsPut given room written count × (k.pace ≡ after_giving n.link to n.pace) × StaysOf n k
 
 -- it takes in any bytes
 abbrev pub TakesBytes : List ℕ → Joined → Joined → Received → Type 0
@@ -130,7 +131,7 @@ TakesBytes bytes n k answer =
 -- a tick goes by
 abbrev pub Leans : Joined → Joined → ℤ → Type 0
 Leans n k answer =
-    (answer ≡ lean n.link n.pace) × (nat_abs answer ≤ 34) × (k.link ≡ n.link) × (k.pace ≡ after_tick n.link n.pace) × StaysOf n k
+    (answer ≡ lean n.link n.pace) × IsLean answer × (k.link ≡ n.link) × (k.pace ≡ after_tick n.link n.pace) × StaysOf n k
 
 -- a player is given up for good
 abbrev pub GivesUpIn : ℕ → Joined → Joined → GivenUp → Type 0

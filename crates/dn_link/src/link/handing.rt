@@ -1,4 +1,4 @@
-//! What a player hands on to a peer of third players' commands.
+//! What a player hands on to a peer of third players' commands, or of its own.
 
 use super::Link;
 use crate::bundle::{Part, Relay};
@@ -12,7 +12,8 @@ const MOST_HANDED: u8 = 24;
 
 impl Link {
     ghost use Rattle.std.specs.Prelude.{◌≡◌, ◌<◌, ◌≤◌, ◌||◌, ◌∷◌, take, All, length, slice_index, true, false, IfSome};
-    ghost use Rattle.dn_link.specs.{Counting.held_of, Linking.overdue_of, Linked.HasBehind, Linked.has_given_up, Linked.is_peer, Linked.remains, Linking.linked, Linking.seal_of, Surviving.IsHandedFor, Surviving.may_hand, Surviving.shares_gone};
+    ghost use Rattle.dn_link.specs.{Counting.held_of, Linking.overdue_of, Linked.HasBehind, Linked.has_given_up, Linked.is_peer, Linked.remains, Linking.linked, Linking.seal_of, Surviving.{HasTwoBehind, IsHandedFor, IsNewestFor, IsRunFor, may_hand, shares_gone}};
+    ghost use Rattle.std.specs.Prelude.{[], is_some, ◌==◌, ◌≢◌};
     ghost use Rattle.dn_link.specs.{Pacing.pace_of, Text.IsPart, Text.parts_bytes};
     ghost use Rattle.dn_link.specs.Packing.{parts_room};
 
@@ -25,7 +26,7 @@ impl Link {
 
     /// Whether it may hand on commands to a peer: one who is not given up, and has given up all whom this
     /// player has.
-    fn may_hand(&self, to: u8) -> bool
+    pub(super) fn may_hand(&self, to: u8) -> bool
         ensures { result ≡ may_hand (linked self.now) to }
     {
         !self.has_given_up(to)
@@ -84,48 +85,86 @@ impl Link {
     {
         let got = self.lockstep().got(player).unwrap_or(0);
         let reported = self.peer(to).reported.of(player);
-        self.overdue.handed_from(to, player, reported, got)
+        let tight = self.pace.congestion().is_tight();
+        let more = self.overdue.hands_more(self.me(), to, player, tight);
+        self.overdue.handed_from(to, player, reported, got, more)
     }
 
-    /// What is handed on of a player to a peer, if anything is.
-    fn hand(&self, to: u8, player: u8) -> Option<Relay>
+    /// Commands of a player from a tic on, none of which a peer has reported, as many as this at most, if there are
+    /// any.
+    pub(super) fn commands_for(&self, to: u8, player: u8, start: u32, most: u8) -> Option<Relay>
         requires peer { to < (linked self.now).node.players }
-        requires few { to < 4 }
-        ensures { IfSome result (IsHandedFor (linked self.now) to player) }
+        requires maker { player < (linked self.now).node.players }
+        requires small { player < 4 }
+        requires apart { player ≢ to }
+        requires stays { has_given_up (linked self.now) player ≡ false }
+        requires lacked { slice_index ((linked self.now).peers to).reported player ≤ start }
+        requires few { most ≤ 24 }
+        ensures { IsRunFor (linked self.now) to player start most result }
     {
-        if player == to || !self.remains(player) {
-            return None;
-        }
-        let start = self.first_handed(to, player)?;
-        let relay = relay_of(self.lockstep(), player, start, MOST_HANDED);
+        let relay = relay_of(self.lockstep(), player, start, most);
         if relay.run.commands.is_empty() {
             return None;
         }
         Some(relay)
     }
 
-    /// The parts of a datagram to a peer, and behind them what is handed on of each third player, as far as
-    /// there is room. Nothing is but in the first datagram of a tick.
-    pub(super) fn with_handed(
-        &self,
-        to: u8,
-        is_first: bool,
-        own: ArrayVec<Part, 24>,
-    ) -> ArrayVec<Part, 24>
+    /// What is handed on of a third player to a peer, if anything is.
+    fn hand(&self, to: u8, player: u8) -> Option<Relay>
+        requires peer { to < (linked self.now).node.players }
+        requires few { to < 4 }
+        ensures handed { IfSome result (IsHandedFor (linked self.now) to player) }
+        ensures third { is_some result ≡ true → (player == (linked self.now).node.me) ≡ false }
+    {
+        if player == to || !self.remains(player) {
+            return None;
+        }
+        let Some(start) = self.first_handed(to, player) else {
+            return None;
+        };
+        self.commands_for(to, player, start, MOST_HANDED)
+    }
+
+    /// The parts of a datagram to a peer that is no brief one, and behind them what is handed on of each third player,
+    /// as far as there is room.
+    fn with_thirds(&self, to: u8, own: ArrayVec<Part, 24>) -> ArrayVec<Part, 24>
         requires peer { to < (linked self.now).node.players }
         requires few { to < 4 }
         requires fit { All IsPart own.items }
         requires short { parts_room own.items ≤ 1118 }
         ensures fit { All IsPart result.items }
         ensures short { parts_room result.items ≤ 1118 }
-        ensures behind { (behind : HasBehind (linked self.now) to 0 own.items result.items) × (length behind.handed ≤ 2) }
+        ensures behind { HasTwoBehind (linked self.now) to false own.items result.items }
     {
-        if !is_first || !self.hands_on(to) {
+        if !self.hands_on(to) {
             return own;
         }
         let first = with_relay(own, self.hand(to, 0));
         let second = with_relay(first, self.hand(to, 1));
         let third = with_relay(second, self.hand(to, 2));
         with_relay(third, self.hand(to, 3))
+    }
+
+    /// The parts of a datagram to a peer, and behind them what is handed on.
+    pub(super) fn with_handed(
+        &self,
+        to: u8,
+        brief: bool,
+        own: ArrayVec<Part, 24>,
+    ) -> ArrayVec<Part, 24>
+        requires peer { is_peer (linked self.now).node to ≡ true }
+        requires few { to < 4 }
+        requires none { brief ≡ true → own.items ≡ [] }
+        requires fit { All IsPart own.items }
+        requires short { parts_room own.items ≤ 1118 }
+        ensures fit { All IsPart result.items }
+        ensures short { parts_room result.items ≤ 1118 }
+        ensures behind { HasTwoBehind (linked self.now) to brief own.items result.items }
+    {
+        if brief {
+            self.with_newest(to, own)
+        } else {
+            self.with_thirds(to, own)
+        }
     }
 }

@@ -5,7 +5,7 @@ use dn_machine::Made;
 use dn_tic::Input;
 
 impl Link {
-    ghost use Rattle.std.specs.Prelude.{◌≡◌, None, Some};
+    ghost use Rattle.std.specs.Prelude.{◌≡◌, is_some, None, Some};
     ghost use Rattle.dn_tic.specs.declared.input.Input.{Input as AnyInput};
     ghost use Rattle.dn_machine.specs.{Sending.on_build, declared.answers.Made.Made as AnyMade};
     ghost use Rattle.dn_lockstep.specs.Steps.{Steps};
@@ -28,6 +28,13 @@ impl Link {
             Input::Pressed(keys) => self.survivor.lockstep_mut().build(keys),
             Input::Given(command) => self.survivor.lockstep_mut().give(command),
         }
+    }
+
+    /// Whether a command is owed: the window was full when its input was given.
+    pub fn owes_command(&self) -> bool
+        ensures { result ≡ is_some (pace_of self.now).owed }
+    {
+        self.pace.owed.is_some()
     }
 
     /// Makes the command that is owed, where a run has made room for it. None where none is owed.

@@ -1,7 +1,7 @@
 //! Ticks: the commands that its player gives.
 
 ghost use Rattle.std.specs.Prelude.{◌≡◌, true};
-ghost use Rattle.dn_session.specs.Playing.{from_turn, is_giving, playing, may_give, Builds, GivesWhen, PassesTick};
+ghost use Rattle.dn_session.specs.Playing.{from_turn, is_giving, owed_at, owed_now, playing, may_give, Builds, GivesWhen, PassesTick};
 
 use super::Part;
 use crate::ending::Progress;
@@ -33,6 +33,29 @@ pub(super) fn from_turn(turn: u8, place: u8) -> u8
     ((u16::from(turn) + u16::from(place)) % 4) as u8
 }
 
+/// To whom a datagram is owed for whom the line is not too full at this tick.
+pub(super) fn owed_now(link: &Link) -> [bool; 4]
+    ensures { result ≡ owed_now link.now }
+{
+    [
+        !link.is_resting(0),
+        !link.is_resting(1),
+        !link.is_resting(2),
+        !link.is_resting(3),
+    ]
+}
+
+/// To whom one is owed at a tick. Where the window was full, all wait for the command of its input.
+fn owed_at(link: &Link) -> [bool; 4]
+    ensures { result ≡ owed_at link.now }
+{
+    if link.owes_command() {
+        [false; 4]
+    } else {
+        owed_now(link)
+    }
+}
+
 impl Part {
     /// The tick that is due goes by.
     pub(super) fn pass_tick(&mut self)
@@ -40,7 +63,7 @@ impl Part {
     {
         let lean = self.link.lean();
         self.ticks.pass(lean);
-        self.owed = [true; 4];
+        self.owed = owed_at(&self.link);
         self.turn = from_turn(self.turn, 1);
         self.steady.tick();
     }

@@ -1,7 +1,7 @@
 //! What it does as time goes.
 
 ghost use Rattle.std.specs.Prelude.{◌≡◌, ◌<◌, IfSome};
-ghost use Rattle.dn_session.specs.Playing.{after_half, looks, playing, view, GivesUpNow, PassesTime, PlaysOn, Polls, TicksWhen};
+ghost use Rattle.dn_session.specs.Playing.{after_half, looks, owes_second, playing, view, GivesUpNow, PassesTime, PlaysOn, Polls, TicksWhen};
 ghost use Rattle.dn_session.specs.{Ending.patience, Lead.due, Ticks.is_due};
 ghost use Rattle.dn_session.specs.declared.ending.Progress.TheVariants as progress;
 
@@ -9,6 +9,7 @@ use super::{Part, gone_from};
 use crate::ending::{Ending, Progress, ending_of, is_unneeded, patience, waits};
 use crate::lead::{View, due};
 use crate::players::{is_any_awaited, view_of};
+use dn_link::Link;
 
 /// The number of a player.
 fn number_of(player: Option<usize>) -> Option<u8>
@@ -16,6 +17,17 @@ fn number_of(player: Option<usize>) -> Option<u8>
     ensures { result ≡ player }
 {
     Some(player? as u8)
+}
+
+/// Whether half a tick later a datagram is owed to a player: the tick's, where that was held, or a second one.
+fn owes_second(link: &Link, player: u8) -> bool
+    ensures { result ≡ owes_second link.now player }
+{
+    if link.owes_command() {
+        !link.is_resting(player)
+    } else {
+        link.wants_second(player)
+    }
 }
 
 impl Part {
@@ -92,17 +104,17 @@ impl Part {
         self.progress = waits(is_unneeded(ending, &self.link), ending, since, free, now);
     }
 
-    /// Half a tick later a second datagram is owed to those who miss some.
+    /// Half a tick later the datagrams that were held are owed, or a second one to those who miss some.
     fn owe_second(&mut self, now: u32)
         ensures { playing self.new ≡ after_half now (playing self.old) }
     {
         if self.ticks.takes_half(now) {
             let [zero, one, two, three] = self.owed;
             self.owed = [
-                zero || self.link.wants_second(0),
-                one || self.link.wants_second(1),
-                two || self.link.wants_second(2),
-                three || self.link.wants_second(3),
+                zero || owes_second(&self.link, 0),
+                one || owes_second(&self.link, 1),
+                two || owes_second(&self.link, 2),
+                three || owes_second(&self.link, 3),
             ];
         }
     }

@@ -7,7 +7,7 @@ ghost use Rattle.dn_machine.specs.declared.answers.Made.{Made as AnyMade};
 ghost use Rattle.dn_machine.specs.declared.answers.Ran.TheVariants as ran;
 
 use super::Part;
-use super::giving::is_giving;
+use super::giving::{is_giving, owed_now};
 use crate::players::has_row_behind;
 use crate::steady::Steady;
 use dn_machine::{Made, Ran};
@@ -39,13 +39,13 @@ impl Part {
         is_giving(self.progress) && self.steady.holds(has_row_behind(&self.link))
     }
 
-    /// Builds the command that was owed, if there is room for it now: then all are owed a datagram.
+    /// Builds the command that was owed, if there is room for it now: then datagrams are owed.
     fn catch_up(&mut self)
         ensures { (made : Option AnyMade) × CatchesUp (playing self.old).link (playing self.new).link made
             × (playing self.new ≡ after_catching_up made (record (playing self.old) { link = (playing self.new).link })) }
     {
         if is_made(self.link.catch_up()) {
-            self.owed = [true; 4];
+            self.owed = owed_now(&self.link);
         }
     }
 

@@ -355,7 +355,7 @@ module _ {marking : Marking} {limits : Limits} {settings : Settings} {last : ℕ
     brings_then =
         let there = brings marking limits settings (stretch.sessions it.given) (at it.given) player was mine
         (stretch.caught_up it.given (omega (arith, before))) peer below apart seal it.pace
-        (at (suc it.given) player) it.bytes it.gives
+        (at (suc it.given) player) it.bytes it.full it.gives
         (λ goes_on. let soon = it.soon in omega (arith, soon, room)) it.soon
         (stretch.plays it.given player (omega (arith, before)) mine) it.few it.short in
         subst (λ (l : Linked). has_ended l.node ≡ false → made (at it.given player).node ≤ last_end

@@ -1,4 +1,4 @@
-use Rattle.std.proofs.Common.{rules, ◌≡◌, ◌<◌, ◌+◌, List, ◌%◌, ◌^◌, ℕ, length, get_or, w8, to_z, of_z, refl, ap, ◌∙◌, subst, arith}
+use Rattle.std.proofs.Common.{rules, ◌≡◌, ◌<◌, ◌+◌, List, ◌%◌, ◌^◌, ℕ, length, get_or, set, Bool, w8, to_z, of_z, refl, ap, ◌∙◌, subst, arith}
 use Rattle.std.specs.Prelude.{IfSome}
 use Rattle.dn_survivor.specs.{ReportBytes.IsReport, Surviving.Surviving}
 use Rattle.dn_link.specs.{Linked.{report_beside, written, PeerState}, declared.{bundle.Part.Part, line.Line.Line}, Counting.counts_of, Ends.told_cause, Hearing.SendsCarried, Line.{missing, own_echo}}
@@ -6,6 +6,8 @@ use Rattle.dn_link.specs.{Kept.{going, kept_after, taken_by}, Linking.{linked, p
 use Rattle.dn_machine.specs.Node.{put}
 use Rattle.dn_lockstep.specs.Contents.{Contents, contents}
 use Rattle.dn_link.proofs.Places.{peer_at, peers_put}
+use Rattle.dn_link.specs.Pacing.{PaceState, is_brief, pace_of}
+use Rattle.dn_link.specs.Surviving.{HasTwoBehind}
 use Rattle.dn_link.proofs.link.Link.datagram.Goals as goal
 
 pub returns-clause-gives : goal.returns-clause-gives
@@ -28,6 +30,14 @@ returns-clause-gives c =
       number = ((here i).number + 1) % 2 ^ 32;
     })) in
     let now : Surviving = record { lockstep = after_it; others = (linked c.args.self.now).others } in
+    let brief : c.is_brief-brief.result ≡ is_brief (pace_of c.args.self.now) (peers_of peers c.args.to).number c.args.to =
+    c.is_brief-brief.ensures ∙ ap (λ (k : ℕ). is_brief (pace_of c.args.self.now) k c.args.to)
+    (c.number.ensures ∙ ap (λ (t : PeerState). t.number) c.peer.ensures) in
+    let behind = subst (λ (b : Bool). HasTwoBehind (record (linked c.args.self.now) {
+      node = after_it;
+      peers = peers_of (set peers c.args.to c.parts-number.new.self);
+    }) c.args.to b c.parts-number.result.1.items c.with_handed-parts.result.items) brief c.with_handed-parts.ensures.behind in
+    let same_line = c.line-line.ensures ∙ ap (λ (p : PaceState). p.lines c.args.to) c.give.ensures in
     let led : to_z w8 (of_z w8 line.own_lead) ≡ line.own_lead = search rules in
     record {
       given = packet;
@@ -49,24 +59,26 @@ returns-clause-gives c =
       from = me;
       goes = refl;
       number = after.number ∙ ap (λ (t : PeerState). t.number) here;
-      lead = led ∙ ap (λ (l : Line). l.own_lead) c.line-line.ensures;
-      holes = c.missing.ensures ∙ ap missing c.line-line.ensures;
+      lead = led ∙ ap (λ (l : Line). l.own_lead) same_line;
+      holes = c.missing.ensures ∙ ap missing same_line;
       cause = c.told_cause-cause.ensures ∙ ap told_cause
           (c.phase.ensures ∙ ap (λ (n : Contents). n.phase) c.lockstep.ensures);
       counts = c.counts_of.ensures ∙ (λ i. counts_of (c.lockstep-2.ensures i)
-          ((c.own_echo.ensures ∙ ap own_echo c.line-line.ensures) i));
+          ((c.own_echo.ensures ∙ ap own_echo same_line) i));
       report = subst (λ (parts : List Part). c.report_beside-report.result.items ≡ written (report_beside now c.args.to parts))
           c.as_slice-2.ensures.value c.report_beside-report.ensures.bytes;
       proper = subst (λ (parts : List Part). IfSome (report_beside now c.args.to parts) IsReport)
           c.as_slice-2.ensures.value c.report_beside-report.ensures.proper;
       own = c.parts-number.result.1.items;
-      behind = c.with_handed-parts.ensures.behind.0;
-      few = c.with_handed-parts.ensures.behind.1;
-      packed = subst (λ (t : PeerState). ArePacked n.me
+      behind = behind.0;
+      few = behind.1;
+      newest = behind.2;
+      none = λ b. after.none (brief ∙ b);
+      packed = λ full. subst (λ (t : PeerState). ArePacked n.me
           (going t.kept (taken_by t.left packet)) c.parts-number.result.1.items) here
           (subst (λ (k : ℕ). ArePacked k (going (state_of (get_or peers c.args.to c.index-self-to.result)).kept
           (taken_by (state_of (get_or peers c.args.to c.index-self-to.result)).left packet))
-          c.parts-number.result.1.items) me after.packed);
+          c.parts-number.result.1.items) me (after.packed (brief ∙ full)));
       others = refl;
       peers = new_peers;
     }

@@ -1,5 +1,5 @@
 use Rattle.std.proofs.Common.{rules, ◌≡◌, ◌∙◌, ap, ℤ, w8, to_z, of_z}
-use Rattle.dn_session.specs.{Playing.owes_all, Playing.playing, Ticks.passed}
+use Rattle.dn_session.specs.{Playing.playing, Ticks.passed}
 use Rattle.dn_session.proofs.part.Part.pass_tick.Goals as goal
 
 pub returns : goal.returns
@@ -12,7 +12,7 @@ returns c =
       λ i. record (playing c.args.self.now) {
         link = c.lean-lean.new.self;
         ticks = ticks i;
-        owed = owes_all;
+        owed = c.owed_at-self.ensures i;
         turn = c.from_turn-self.ensures i;
         steady = c.tick.ensures i;
       },

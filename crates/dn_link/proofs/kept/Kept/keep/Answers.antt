@@ -1,7 +1,7 @@
 use Rattle.std.proofs.{Common.{◌≡◌, ◌<◌, ◌∷◌, [], ℕ, List, length, arith, true, nat_le, nat_lt, subst, ap, sym, ◌∙◌}, lemmas.{Bool.{and_parts, ltb-true}, List.length-append}}
 use Rattle.dn_link.specs.{declared.bundle.Carried.Carried, Linking.kept, Kept.{IsRising, Unacknowledged, end_of, has_tic, is_news}}
 use Rattle.dn_link.proofs.Covered.{covers_more, news_rises}
-use Rattle.dn_link.proofs.kept.Kept.parts.Goals as goal
+use Rattle.dn_link.proofs.kept.Kept.keep.Goals as goal
 
 pub invariant_of-self : goal.invariant_of-self
 invariant_of-self c =
