@@ -2,7 +2,7 @@
 use Rattle.std.proofs.Common.{◌≡◌, ◌≤◌, ◌+◌, ◌∙◌, ◌⊎◌, ℕ, List, [], ◌∷◌, length, ap, refl, sym, arith, Bool, true, false, Option, Some, None, inl, inr}
 use Rattle.std.proofs.lemmas.{Bool.and_parts, Bool.cases_Bool, Option.none-some, Option.same_Some, Slice.Eq.bytes_eq-Decides}
 use Rattle.std.specs.{Prelude.{◌&&◌, filter, find, if◌then◌else◌, not}, Option.option_map, Str.bytes_eq}
-use Rattle.dn_session.specs.Places.{Happening, Comes, Sends, after_probe, answers_at, comes_from, goes_to, happened, heard_by, heard_from, heard_here, is_due_at, is_echoed, is_fallback_due, is_this, may_move, new_spot, passed_by, probe_to, probed, probes_to, sought_at, spot_at}
+use Rattle.dn_session.specs.Places.{Happening, Comes, Sends, after_probe, answers_at, comes_from, fallback_after, goes_to, happened, heard_by, heard_from, heard_here, is_due_at, is_echoed, is_fallback_due, is_this, may_move, new_spot, passed_by, probe_to, probed, probes_to, sought_at, spot_at}
 use Rattle.dn_session.specs.declared.{greeting.Address.Address, places.{News.News, Place.Place, Probe.Probe, Spot.Spot}}
 
 abbrev one_if : Bool → ℕ
@@ -103,7 +103,7 @@ module _ (at : Address) where
         heard = now;
         answered = now;
         echoed = now;
-        fallback = option_map (new_spot false now) new.address;
+        fallback = fallback_after now p.to new;
         candidate = None;
       }
     ]).candidate ≤ credit new.candidate
@@ -138,9 +138,16 @@ module _ (at : Address) where
           (either IsElse (is_this from (spot_at place.candidate)) _ _ (λ here. other)
           (either IsElse (may_move from now place) _ _ (λ may. other) other))))
 
-      kept : (s : Option Address) → is_this at s ≡ false → is_this at (spot_at (option_map (new_spot false now) s)) ≡ false
-      kept None off = refl
-      kept (Some a) off = off
+      kept : (to s : Option Address) (spot : Option Spot) → is_this at s ≡ false → is_this at (spot_at spot) ≡ false
+          → is_this at (spot_at (elim s as (λ _. Option Spot) [
+            | None ↦ spot
+            | Some before ↦ if is_this before to then spot else Some (new_spot false now before)
+          ])) ≡ false
+      kept to None spot off other = other
+      kept to (Some a) spot off other = elim (cases_Bool (is_this a to)) [
+        | inl here ↦ rw here other
+        | inr there ↦ rw there off
+      ]
 
       echoes_else : (probe : Option Probe) (new : Place) → IsElse new → is_this at (spot_at (elim probe as (λ _. Place) [
         | None ↦ record new { echoed = now }
@@ -149,12 +156,12 @@ module _ (at : Address) where
           heard = now;
           answered = now;
           echoed = now;
-          fallback = option_map (new_spot false now) new.address;
+          fallback = fallback_after now p.to new;
           candidate = None;
         }
       ]).fallback) ≡ false
       echoes_else None new is = is.1
-      echoes_else (Some p) new is = kept new.address is.0
+      echoes_else (Some p) new is = kept p.to new.address new.fallback is.0 is.1
 
       comes_else : (is_passed : Bool) → is_this at (spot_at (heard_by is_passed from now news place).fallback) ≡ false
       comes_else is_passed =

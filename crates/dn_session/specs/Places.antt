@@ -53,8 +53,14 @@ heard_from from now news place =
     then place
     else (if is_this from place.address then heard_here now news.is_answer place else sought_at from now place)
 
--- an answer, from wherever it came. If it echoes one of the last eight probes, the player receives where that went; and
--- where it received before, it may be still
+-- the player receives where a probe went. Where it received before, if that is elsewhere, it may be still
+abbrev pub fallback_after : ℕ → Option Address → Place → Option Spot
+fallback_after now to place = elim place.address [
+  | None ↦ place.fallback
+  | Some before ↦ if is_this before to then place.fallback else Some (new_spot false now before)
+]
+
+-- an answer, from wherever it came. If it echoes one of the last eight probes, the player receives where that went
 abbrev pub is_echoed : ℕ → Probe → Bool
 is_echoed echo p = is_some p.to && p.echo == echo
 
@@ -66,7 +72,7 @@ echoed now echo place = elim (find (is_echoed echo) place.probes) [
     heard = now;
     answered = now;
     echoed = now;
-    fallback = option_map (new_spot false now) place.address;
+    fallback = fallback_after now p.to place;
     candidate = None;
   }
 ]

@@ -1,7 +1,7 @@
 //! Where the players are.
 
 ghost use Rattle.std.specs.{Prelude.{◌≡◌, ◌==◌, ◌&&◌, find, true, Some}, Option.option_map};
-ghost use Rattle.dn_session.specs.Places.{after_probe, answers_at, echoed, heard_at, heard_from, heard_here, is_anothers, is_due_at, is_echoed, is_fallback_due, is_heard_at, is_near_at, is_since, is_this, may_move, new_place, new_spot, passed_by, place_of, places_of, probe_to, probed, probed_at, sought_at, spot_at, was_probed};
+ghost use Rattle.dn_session.specs.Places.{after_probe, answers_at, echoed, fallback_after, heard_at, heard_from, heard_here, is_anothers, is_due_at, is_echoed, is_fallback_due, is_heard_at, is_near_at, is_since, is_this, may_move, new_place, new_spot, passed_by, place_of, places_of, probe_to, probed, probed_at, sought_at, spot_at, was_probed};
 
 use crate::greeting::Address;
 
@@ -26,7 +26,7 @@ pub struct News {
     pub echo: u32,
 }
 
-/// Where a player may be who has not shown that it receives there.
+/// Where a player may be, that does not show now that it receives there.
 #[derive(Clone, Copy, Debug, PartialEq, Eq)]
 pub struct Spot {
     /// The address.
@@ -258,13 +258,24 @@ impl Place {
             .copied()
     }
 
+    /// Where the player may be besides, now that it receives where a probe went: where it received before, if that is
+    /// elsewhere.
+    fn fallback_after(&self, now: u32, to: Option<Address>) -> Option<Spot>
+        ensures { result ≡ fallback_after now to self.now }
+    {
+        match self.address {
+            Some(before) if !is_this(&before, to) => Some(Spot::new(false, now, before)),
+            _ => self.fallback,
+        }
+    }
+
     /// An answer came, from wherever. The player receives where the probe went that is echoed, if one is.
     fn answer(&mut self, now: u32, echo: u32)
         ensures { self.new ≡ echoed now echo self.old }
     {
         self.echoed = now;
         if let Some(probe) = self.probe_of(echo) {
-            self.fallback = self.address.map(|address| Spot::new(false, now, address));
+            self.fallback = self.fallback_after(now, probe.to);
             self.address = probe.to;
             self.heard = now;
             self.answered = now;
