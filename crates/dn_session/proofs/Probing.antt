@@ -93,7 +93,7 @@ module _ (at : Address) where
 
     heard : IsWithin (heard_from from now news place)
     heard =
-        either IsWithin (not news.is_recent) _ _ (λ old. same)
+        either IsWithin (not news.is_current) _ _ (λ old. same)
         (either IsWithin (is_this from place.address) _ _ (λ own. here news.is_answer) sought)
 
     echoes : (probe : Option Probe) (new : Place) → credit (elim probe as (λ _. Place) [
@@ -112,7 +112,7 @@ module _ (at : Address) where
 
     comes : (is_passed : Bool) → IsWithin (heard_by is_passed from now news place)
     comes is_passed =
-        let new = if is_passed then passed_by now news.is_recent place else heard_from from now news place in
+        let new = if is_passed then passed_by now news.is_current place else heard_from from now news place in
         let before : IsWithin new =
         either IsWithin is_passed _ _ (λ is. either IsWithin _ _ _ (λ noted. same) same) heard in
         either IsWithin news.is_answer _ _
@@ -132,7 +132,7 @@ module _ (at : Address) where
 
       heard_else : IsElse (heard_from from now news place)
       heard_else =
-          either IsElse (not news.is_recent) _ _ (λ old. other)
+          either IsElse (not news.is_current) _ _ (λ old. other)
           (either IsElse (is_this from place.address) _ _ (λ own. here_else news.is_answer)
           (either IsElse (is_this from (spot_at place.fallback)) _ _ (λ there. asked_again)
           (either IsElse (is_this from (spot_at place.candidate)) _ _ (λ here. other)
@@ -165,7 +165,7 @@ module _ (at : Address) where
 
       comes_else : (is_passed : Bool) → is_this at (spot_at (heard_by is_passed from now news place).fallback) ≡ false
       comes_else is_passed =
-          let new = if is_passed then passed_by now news.is_recent place else heard_from from now news place in
+          let new = if is_passed then passed_by now news.is_current place else heard_from from now news place in
           let before : IsElse new =
           either IsElse is_passed _ _ (λ is. either IsElse _ _ _ (λ noted. other) other) heard_else in
           either (λ (p : Place). is_this at (spot_at p.fallback) ≡ false) news.is_answer _ _

@@ -22,14 +22,14 @@ echo_of None = 0
 echo_of (Some figures) = figures.echo
 
 -- it is one of the last 64, and came for the first time or again
-abbrev pub is_recent_in : (before after : Option Figures) → Bool
-is_recent_in (Some before) (Some after) = nat_lt before.came after.came || nat_lt before.repeated after.repeated
-is_recent_in before after = false
+abbrev pub is_current_in : (before after : Option Figures) → Bool
+is_current_in (Some before) (Some after) = nat_lt before.came after.came || nat_lt before.repeated after.repeated
+is_current_in before after = false
 
 abbrev pub news_of : (before after : Option Figures) → News
 news_of before after =
     record {
-      is_recent = is_recent_in before after;
+      is_current = is_current_in before after;
       is_answer = nat_lt (echo_of before) (echo_of after);
       echo = echo_of after;
     }

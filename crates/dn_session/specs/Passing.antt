@@ -17,7 +17,7 @@ next_hop link places here from to =
     && remains link to)
     then (place_of to places).address else None
 
--- a datagram of this game that is sealed to another player goes on as it came, unless it is a probe: that is for who
+-- a datagram of this game that names another receiver goes on as it came, unless it is a probe: that is for who
 -- receives at the address to which it went
 abbrev pub passed_on : Received → Address → List ℕ → Linked → Places → Option (Address × List ℕ)
 passed_on (received.Unopened fault.Receiver) here bytes link places =

@@ -49,7 +49,7 @@ heard_here now false place = record place { heard = now }
 -- a datagram of the player came from this address: one of its last ones counts
 abbrev pub heard_from : Address → ℕ → News → Place → Place
 heard_from from now news place =
-    if not news.is_recent
+    if not news.is_current
     then place
     else (if is_this from place.address then heard_here now news.is_answer place else sought_at from now place)
 
@@ -112,8 +112,8 @@ is_anothers player from now places =
 -- one of the last datagrams that another passed on says that its sender may not hear this player. That is noted, but
 -- not within two seconds again: it counts for one, so two who hear each other again do not keep each other at it
 abbrev pub passed_by : ℕ → Bool → Place → Place
-passed_by now is_recent place =
-    if is_recent && not (is_since 2000 now place.detour) then record place { detour = Some now } else place
+passed_by now is_current place =
+    if is_current && not (is_since 2000 now place.detour) then record place { detour = Some now } else place
 
 -- in the second before, the player was heard where it receives, and has echoed, from wherever: what goes to it arrives;
 -- and no other passed a datagram of it on
@@ -125,7 +125,7 @@ is_near_at now place =
 -- a datagram of a player came from this address: from its own, through another, or from where it may be
 abbrev pub heard_by : (is_passed : Bool) → Address → ℕ → News → Place → Place
 heard_by is_passed from now news place =
-    let heard = if is_passed then passed_by now news.is_recent place else heard_from from now news place in
+    let heard = if is_passed then passed_by now news.is_current place else heard_from from now news place in
     if news.is_answer then echoed now news.echo heard else heard
 
 abbrev pub heard_at : ℕ → Address → ℕ → News → Places → Places

@@ -2,7 +2,7 @@
 
 ghost use Rattle.std.specs.Prelude.{◌≡◌};
 ghost use Rattle.dn_link.specs.{Linking.linked, Pacing.pace_of};
-ghost use Rattle.dn_session.specs.Coming.{echo_of, heard_of, is_answer_of, is_recent_in, line_of, lines_in, news_of};
+ghost use Rattle.dn_session.specs.Coming.{echo_of, heard_of, is_answer_of, is_current_in, line_of, lines_in, news_of};
 
 use crate::places::News;
 use dn_link::{Figures, Link, Received};
@@ -41,8 +41,8 @@ fn echo_of(figures: &Option<Figures>) -> u32
 }
 
 /// Whether it is one of the last 64, and came for the first time or again.
-fn is_recent_in(before: &Option<Figures>, after: &Option<Figures>) -> bool
-    ensures { result ≡ is_recent_in before.now after.now }
+fn is_current_in(before: &Option<Figures>, after: &Option<Figures>) -> bool
+    ensures { result ≡ is_current_in before.now after.now }
 {
     match (before, after) {
         (Some(before), Some(after)) => {
@@ -57,7 +57,7 @@ pub(crate) fn news_of(before: &Option<Figures>, after: &Option<Figures>) -> News
     ensures { result ≡ news_of before.now after.now }
 {
     News {
-        is_recent: is_recent_in(before, after),
+        is_current: is_current_in(before, after),
         is_answer: echo_of(before) < echo_of(after),
         echo: echo_of(after),
     }

@@ -19,7 +19,7 @@ const KNOWN: usize = 8;
 #[derive(Clone, Copy, Debug, PartialEq, Eq)]
 pub struct News {
     /// Whether it is one of the last 64, and came for the first time or again.
-    pub is_recent: bool,
+    pub is_current: bool,
     /// Whether the player's newest echo is above the one before it.
     pub is_answer: bool,
     /// That echo.
@@ -238,7 +238,7 @@ impl Place {
     fn hear(&mut self, from: &Address, now: u32, news: &News)
         ensures { self.new ≡ heard_from from.now now news.now self.old }
     {
-        if !news.is_recent {
+        if !news.is_current {
             return;
         }
         if is_this(from, self.address) {
@@ -284,10 +284,10 @@ impl Place {
     }
 
     /// Another passed on a datagram of the player, which may be one of the last that it sent.
-    fn pass(&mut self, now: u32, is_recent: bool)
-        ensures { self.new ≡ passed_by now is_recent self.old }
+    fn pass(&mut self, now: u32, is_current: bool)
+        ensures { self.new ≡ passed_by now is_current self.old }
     {
-        if is_recent && !is_since(2 * AWAY, now, self.detour) {
+        if is_current && !is_since(2 * AWAY, now, self.detour) {
             self.detour = Some(now);
         }
     }
@@ -392,7 +392,7 @@ impl Places {
             && self.is_anothers(player, from, now);
         let place = &mut self.at[usize::from(player)];
         if is_passed {
-            place.pass(now, news.is_recent);
+            place.pass(now, news.is_current);
         } else {
             place.hear(from, now, news);
         }
