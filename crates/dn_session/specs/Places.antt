@@ -19,7 +19,7 @@ spot_at spot = option_map (λ s. s.address) spot
 abbrev pub new_spot : (is_found : Bool) → ℕ → Address → Spot
 new_spot is_found now address = record { address = address; since = now; is_due = is_found; probed = None }
 
--- one of the last eight probes went there
+-- one of the last sixteen probes went there
 abbrev pub was_probed : Address → Place → Bool
 was_probed from place = list_any (λ p. is_this from p.to) place.probes
 
@@ -60,7 +60,7 @@ fallback_after now to place = elim place.address [
   | Some before ↦ if is_this before to then place.fallback else Some (new_spot false now before)
 ]
 
--- an answer, from wherever it came. If it echoes one of the last eight probes, the player receives where that went
+-- an answer, from wherever it came. If it echoes one of the last sixteen probes, the player receives where that went
 abbrev pub is_echoed : ℕ → Probe → Bool
 is_echoed echo p = is_some p.to && p.echo == echo
 
@@ -88,7 +88,7 @@ new_place is_shown now address =
       detour = None;
       fallback = if is_shown then None else option_map (new_spot false now) address;
       candidate = None;
-      probes = replicate 8 (record { echo = 0; to = None });
+      probes = replicate 16 (record { echo = 0; to = None });
     }
 
 -- the host has number 0, and those in the seats theirs. The lobby showed a joiner that its host receives, and the host,
@@ -168,7 +168,7 @@ after_probe to now echo place =
     record place {
       fallback = option_map (probed to now) place.fallback;
       candidate = option_map (probed to now) place.candidate;
-      probes = take 8 (record { echo = echo; to = Some to } ∷ place.probes);
+      probes = take 16 (record { echo = echo; to = Some to } ∷ place.probes);
     }
 
 abbrev pub probed_at : ℕ → Address → ℕ → ℕ → Places → Places

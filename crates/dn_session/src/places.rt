@@ -13,7 +13,7 @@ const AWAY: u32 = 1000;
 const PROBED_FOR: u32 = 10_000;
 
 /// How many of the last probes are known.
-const KNOWN: usize = 8;
+const KNOWN: usize = 16;
 
 /// What a datagram of a player tells, beside where it came from.
 #[derive(Clone, Copy, Debug, PartialEq, Eq)]
@@ -329,12 +329,11 @@ impl Place {
     {
         self.fallback = self.fallback.map(|fallback| fallback.probed(to, now));
         self.candidate = self.candidate.map(|candidate| candidate.probed(to, now));
-        let [a, b, c, d, e, f, g, _] = self.probes;
-        let newest = Probe {
+        self.probes.copy_within(..KNOWN - 1, 1);
+        self.probes[0] = Probe {
             echo,
             to: Some(*to),
         };
-        self.probes = [newest, a, b, c, d, e, f, g];
     }
 }
 
