@@ -15,5 +15,5 @@ pub returns : goal.returns
 returns c =
     let probe : Probe = record { echo = c.args.echo; to = Some c.args.to.now } in
     let moved = ap (λ (l : List Probe). slice_set l 0 probe) c.copy_within.ensures.after
-        ∙ shifted probe c.args.self.now.probes (search rules) in
+    ∙ shifted probe c.args.self.now.probes (search rules) in
     search (rules, moved)
