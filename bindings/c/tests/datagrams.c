@@ -8,7 +8,8 @@
  * that were heard, one by one, those of third players among them, must come to the same; they are read here
  * from the bytes. Bytes that a link does not open are counted, and change nothing else of it. Now and then a
  * player quits. All links of a game run the same rows, tell the same ends and record the same demos. Each
- * datagram has every command that its receiver has not acknowledged. C99 and C++. Ends with status 0, or names
+ * datagram has every command that its receiver has not acknowledged, but for brief ones, which hand on the newest
+ * commands of their senders. C99 and C++. Ends with status 0, or names
  * the line that failed. */
 #include "agreed.h"
 #include "chance.h"
@@ -20,11 +21,11 @@
 #include <stdlib.h>
 #include <string.h>
 
-enum { GAMES = 2, NODES = 4, BAG = 64, MOST = ZMG_LINK_SIZE + 100, NEAR = 64, PART = 24 * 8 };
+enum { GAMES = 2, NODES = 4, BAG = 64, MOST = ZMG_LINK_SIZE + 100, NEAR = 64, PART = 24 * 8, NEWEST = 4 };
 
-/* Places in a datagram: its sender, what the sender has of each player, and how many bytes its report has.
- * These stand behind that, and then the parts. The bytes of a tag. */
-enum { FROM = 10, GOT = 27, REPORT = 43, TAG = 16 };
+/* Places in a datagram: its sender, its number, what the sender has of each player, and how many bytes its report
+ * has. These stand behind that, and then the parts. The bytes of a tag. */
+enum { FROM = 10, NUMBER = 12, GOT = 27, REPORT = 43, TAG = 16 };
 
 static unsigned long received;
 
@@ -35,13 +36,14 @@ typedef struct datagram {
     uint8_t from, to, bytes[MOST];
 } datagram;
 
-/* A link and its twins; the keys or the command of its last build, and whether it is owed; and how many of its
- * commands each other player has told that it has. */
+/* A link and its twins; the keys or the command of its last build, and whether it is owed; how many of its
+ * commands each other player has told that it has; and to whom it gave a datagram since its last tick. */
 typedef struct seat {
     zmg_link link, twin;
     zmg_lockstep node;
     uint32_t keys, is_given, owes, acknowledged[NODES], ahead;
     zmg_command command;
+    uint8_t gave[NODES];
 } seat;
 
 /* The last datagrams of a game, and what its players have in common. */
@@ -155,6 +157,7 @@ static void sit(game *g, uint8_t me) {
     zmg_config c = config_of(g->limit, g->players, me);
     uint32_t codes[3];
     memset(s->acknowledged, 0, sizeof s->acknowledged);
+    memset(s->gave, 0, sizeof s->gave);
     s->owes = 0;
     s->ahead = g->ahead;
     codes[0] = zmg_link_new(&s->link, &c, g->ahead, g->secret, g->number);
@@ -219,9 +222,10 @@ static void short_packet(uint8_t packet[16], uint8_t from, uint32_t tic, const u
     for (unsigned k = 0; k < 4; k++) packet[k] = (uint8_t)((sum & 0xfffffff) >> 8 * k);
 }
 
-/* A packet with its full numbers, of whose player, and where the run begins that it stands in. */
+/* A packet with its full numbers, of whose player, whether it is handed on, and where the run begins that it stands
+ * in. */
 typedef struct carried {
-    uint8_t from;
+    uint8_t from, is_handed;
     uint32_t start, begins;
     zmg_number ask;
     size_t length;
@@ -229,6 +233,7 @@ typedef struct carried {
 } carried;
 
 static const uint8_t *read_whole(const uint8_t *at, carried *packet) {
+    packet->is_handed = 0;
     packet->start = number_at(at);
     packet->ask.known = at[4];
     packet->ask.value = number_at(at + 5);
@@ -249,8 +254,8 @@ static const uint8_t *read_command(const uint8_t *at, int is_difference, uint8_t
     return at;
 }
 
-/* A run, which is of a third player where its first byte has 32, and told by differences, which are shorter,
- * where it has 64. */
+/* A run, which is handed on where its first byte has 32, and told by differences, which are shorter, where it has
+ * 64. */
 static const uint8_t *read_run(const uint8_t *at, uint8_t from, carried *packets, size_t *count) {
     unsigned head = *at++, commands = head % 32;
     int are_differences = (head & 64) != 0;
@@ -264,6 +269,7 @@ static const uint8_t *read_run(const uint8_t *at, uint8_t from, carried *packets
         carried *packet = &packets[(*count)++];
         at = read_command(at, are_differences, command);
         packet->from = from;
+        packet->is_handed = (head & 32) != 0;
         packet->begins = begins;
         packet->start = begins + k;
         packet->ask.known = packet->ask.value = 0;
@@ -274,7 +280,7 @@ static const uint8_t *read_run(const uint8_t *at, uint8_t from, carried *packets
     return at;
 }
 
-/* Reads all packets of a datagram that was heard or given: how many. Those of third players stand last. */
+/* Reads all packets of a datagram that was heard or given: how many. Those that are handed on stand last. */
 static size_t read_packets(const uint8_t *bytes, size_t length, carried *packets) {
     const uint8_t *report = bytes + REPORT + 2, *end = bytes + length - TAG;
     const uint8_t *at = report + bytes[REPORT] + 256 * bytes[REPORT + 1];
@@ -289,11 +295,14 @@ static size_t read_packets(const uint8_t *bytes, size_t length, carried *packets
     return count;
 }
 
-/* How many of the packets are the sender's own. */
+/* How many of the packets are not handed on. Those that are, are of third players, or alone and of the sender. */
 static size_t own_packets(const uint8_t *bytes, const carried *packets, size_t count) {
     size_t own = 0;
-    while (own < count && packets[own].from == bytes[FROM]) own++;
-    for (size_t k = own; k < count; k++) MUST(packets[k].from != bytes[FROM] && packets[k].from != bytes[FROM + 1]);
+    while (own < count && !packets[own].is_handed) own++;
+    for (size_t k = own; k < count; k++) {
+        MUST(packets[k].is_handed && packets[k].from != bytes[FROM + 1]);
+        MUST(packets[k].from != bytes[FROM] || (own == 0 && packets[0].from == bytes[FROM] && count <= NEWEST));
+    }
     return own;
 }
 
@@ -307,7 +316,7 @@ static void node_takes(zmg_lockstep *node, const carried *packet) {
     zmg_lockstep_receive(node, packet->from, packet->bytes, packet->length);
 }
 
-/* Leaves out the packets of third players whose runs begin past what the node has: how many remain. */
+/* Leaves out the packets that are handed on in runs that begin past what the node has: how many remain. */
 static size_t taken(zmg_lockstep *node, const uint8_t *bytes, carried *packets, size_t count) {
     size_t kept = own_packets(bytes, packets, count);
     for (size_t k = kept; k < count; k++)
@@ -364,6 +373,14 @@ static void is_complete(const seat *s, uint8_t to, uint32_t made, const carried 
     MUST(next == made || commands == ZMG_MOST_COMMANDS);
 }
 
+/* A second datagram of a tick is a brief one. So may be one whose number is odd. */
+static int is_brief(seat *s, uint8_t to, size_t own) {
+    int is_second = s->gave[to];
+    s->gave[to] = 1;
+    MUST(!is_second || own == 0);
+    return is_second || (own == 0 && out[NUMBER] % 2);
+}
+
 /* A player has not ended. */
 static int is_there(game *g, uint8_t player) {
     uint32_t phase = zmg_link_phase(&g->seats[player].link).code;
@@ -371,7 +388,7 @@ static int is_there(game *g, uint8_t player) {
 }
 
 /* The datagram is the twin's. To a player who is there the last packet in it is the node's, if the player takes
- * it. */
+ * it, and it is no brief one. */
 static size_t give(game *g, uint8_t me, uint8_t to) {
     static carried packets[PART + 1];
     seat *s = &g->seats[me];
@@ -385,7 +402,7 @@ static size_t give(game *g, uint8_t me, uint8_t to) {
     MUST(memcmp(out, again, length) == 0 && out[FROM] == me && out[FROM + 1] == to);
     count = own_packets(out, packets, read_packets(out, length, packets));
     size = zmg_lockstep_packet(&s->node, to, packet, sizeof packet);
-    if (is_there(g, to)) {
+    if (!is_brief(s, to, count) && is_there(g, to)) {
         MUST(size == 0 || is_last(packets, count, packet, size) == takes(s, to, packet, size));
         is_complete(s, to, zmg_link_made(&s->link), packets, count);
     }
@@ -431,6 +448,7 @@ static void build(seat *s) {
     MUST(made.code == node.code && made.tic == node.tic);
     is_made(s, made, twin);
     MUST(zmg_link_lean(&s->link) == zmg_link_lean(&s->twin));
+    memset(s->gave, 0, sizeof s->gave);
 }
 
 /* What is owed is what was built last. */

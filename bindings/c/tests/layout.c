@@ -769,6 +769,8 @@ static void link_tics(void) {
     IS(zmg_link_phase(&key_link).cause, ZMG_CAUSE_QUIT);
     IS(zmg_link_demo(&key_link, 13 + 66 * 10, bytes, sizeof bytes), 1);
     IS(bytes[0], 0x80);
+    /* a second datagram of this tick would not have the end */
+    zmg_link_lean(&key_link);
     IS(heard_by(&other_link, &key_link).code, ZMG_LINK_RECEIVE_HEARD);
     IS(zmg_link_end(&other_link, 0).value, 66);
 }
