@@ -834,7 +834,9 @@ uint32_t zmg_link_quit(zmg_link *link);
  * every packet that is kept for the player, oldest first, as far as they fit, also once the link has ended.
  * Behind them, if there is room, it may hand on commands of third players of whom the player seems to hear
  * nothing: so two who cannot reach each other play on through a third. A datagram that hands nothing on has not
- * a byte more for that. While somebody is given up, and once the link has left, it also has the report: what
+ * a byte more for that. A second one to the player since the last tick, which is an input or a call of
+ * zmg_link_lean, is a brief one, which has the newest four commands alone; so is each other one while the line is
+ * full, and in the first seconds. So call zmg_link_lean at each tick, also after zmg_link_quit. While somebody is given up, and once the link has left, it also has the report: what
  * this link has of the others, whom it has given up, and whether it has left. If the packets leave no room for
  * the report, it goes with a later datagram. Returns 0, and leaves the link and out as they were, if room is
  * below ZMG_LINK_SIZE, if `to` is not another player's number, or if that player is given up by

@@ -113,7 +113,9 @@ impl Link {
     /// Returns the current datagram to player `to`. It has every packet that is kept for the player, oldest
     /// first, as far as they fit, also once the link has ended. Behind them, if there is room, it may hand on
     /// commands of third players of whom the player seems to hear nothing: so two who cannot reach each other
-    /// play on through a third. Send one to each other player at each tick. Returns None, and leaves the link
+    /// play on through a third. Send one to each other player at each tick. A second one since the last tick,
+    /// which is an input or a call of [`lean`](Link::lean), has the newest four commands alone; so has each other
+    /// one while the line is full, and in the first seconds. Returns None, and leaves the link
     /// as it was, if `to` is not another player's number, or if that player is given up by
     /// [`give_up`](Link::give_up).
     pub fn datagram(&mut self, to: u8) -> Option<LinkDatagram> {
