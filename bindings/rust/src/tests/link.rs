@@ -288,7 +288,11 @@ fn who_has_left_is_told() {
         (None, None, None)
     );
     assert!(key.quit() && !key.may_leave());
-    passes(&mut key, &mut other);
+    // one of two is a brief datagram, which has no end
+    for _ in 0..2 {
+        key.lean();
+        passes(&mut key, &mut other);
+    }
     assert_eq!(other.left(0), Some(Parting::Quit));
     passes(&mut other, &mut key);
     assert!(key.may_leave() && key.left(1).is_none());
@@ -392,7 +396,8 @@ fn players_of_links_agree() {
     assert_eq!(key.world(), other.world());
     assert_eq!(key.left(1), None);
     let line = key.line(1).unwrap();
-    assert_eq!((line.came, line.lost, line.lead_there), (50, 0, 0));
+    // at its last tick the other had made its fiftieth command, and had 49 of the key player's
+    assert_eq!((line.came, line.lost, line.lead_there), (50, 0, 1));
     assert_eq!((key.unacknowledged(), key.refused()), (0, 0));
     assert!(!key.may_leave() && key.quit());
     let key = std::thread::spawn(move || key).join().unwrap();
