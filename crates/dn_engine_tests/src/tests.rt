@@ -94,7 +94,7 @@ fn host(settings: Settings) -> HostConfig {
         terms: Terms {
             players: 2,
             extra: false,
-            ahead: 1,
+            ahead: 2,
             rate: 35,
             limit: 1024,
             settings,
@@ -129,10 +129,13 @@ fn sessions_begin_and_run(rt: HostRuntime) -> Result<(), Fail> {
     }
     assert!(&rt; begin_game(rt.alloc(), &mut one, &mut other, 1200)?);
     let input = Input::Pressed(Keys::default());
-    assert!(&rt; one.give(input, 1300));
-    assert!(&rt; other.give(input, 1300));
-    pass_on(&mut other, &mut one, &JOINER, 1300);
-    pass_on(&mut one, &mut other, &HOST, 1300);
+    // At the level at which links begin, no datagram goes at one of three ticks, which is the first.
+    for now in [1300, 1330] {
+        assert!(&rt; one.give(input, now));
+        assert!(&rt; other.give(input, now));
+        pass_on(&mut other, &mut one, &JOINER, now);
+        pass_on(&mut one, &mut other, &HOST, now);
+    }
     let (mut here, mut there) = ([None; 4], [None; 4]);
     assert_eq!(&rt; run_tic(&mut one, &mut here), Ran::Ran(0));
     assert_eq!(&rt; run_tic(&mut other, &mut there), Ran::Ran(0));
