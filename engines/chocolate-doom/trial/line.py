@@ -2,7 +2,7 @@
 """A bad line on 127.0.0.1: line.py PORT HOSTPORT LOSS REPEAT MIN_MS MAX_MS [MORE ..] SEED
 
 Clients send to PORT, and the host at HOSTPORT sees each at a port of its own, to which other clients may send
-too: so each way between two players passes once, and it serves links as well as the engine's own client and
+too: so each way between two players passes once, and it serves sessions as well as the engine's own client and
 server. LOSS and REPEAT are percent; each datagram is delayed by a time drawn evenly from MIN_MS to MAX_MS, so a
 wide range reorders. MORE is one of these:
 
