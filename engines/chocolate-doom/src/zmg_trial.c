@@ -9,6 +9,7 @@
  *   -zmg-log FILE        a line for each tic: the world after it (also where a demo plays)
  *   -zmg-time FILE       a line for each tic: when it was run, and milliseconds since its command was built
  *   -zmg-drift N         this machine's clock is N in a thousand too fast
+ *   -zmg-load N          it takes N milliseconds to load the first level
  *   -zmg-spoil TIC       a world that is wrong from this tic on
  *   -zmg-moves           at the end: in how many tics the moves differed from what the input asked
  */
@@ -16,6 +17,7 @@
 #include <stdlib.h>
 #include <string.h>
 #include <time.h>
+#include <unistd.h>
 
 #include "d_event.h"
 #include "d_loop.h"
@@ -34,7 +36,7 @@ enum { RING = 64 };
 
 static boolean opened;
 static uint32_t bot, own_tics, differing, letters_sent, letters_heard, pauses;
-static int last_tic, seconds, spoil;
+static int last_tic, seconds, load, spoil;
 static FILE *log_file, *time_file;
 static ticcmd_t wanted[RING];
 static double built_at[RING], first_run;
@@ -61,6 +63,7 @@ static void open_all(void)
     bot = word("-zmg-bot") ? (uint32_t) number("-zmg-bot") * 2654435761u + 12345u : 0;
     last_tic = number("-zmg-tics");
     seconds = number("-zmg-seconds");
+    load = number("-zmg-load");
     spoil = number("-zmg-spoil");
     zmg_clock = 1 + number("-zmg-drift") / 1000.0;
     if (word("-zmg-log")) log_file = fopen(word("-zmg-log"), "w");
@@ -181,6 +184,7 @@ void ZMG_Ticker(void)
     double now = now_ms();
     open_all();
     if (first_run == 0) first_run = now;
+    if (gametic == 0) usleep((useconds_t) load * 1000);
     if (time_file) fprintf(time_file, "%d %.2f %.2f\n", gametic, now, now - built_at[gametic % RING]);
     if (time_file && gametic % 35 == 0) fflush(time_file);
     if (!demoplayback) compare();
