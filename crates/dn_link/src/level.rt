@@ -6,16 +6,13 @@ ghost use Rattle.dn_link.specs.Congestion.{aged, eased, emptied, filled, is_soon
 /// The level at first: the line may be a narrow one.
 const FIRST: u8 = 3;
 
-/// The last level but one. At the last least goes.
-const HIGH: u8 = 4;
+/// The last level, at which least goes.
+const LAST: u8 = 5;
 
-/// For how many ticks a level is held before the next one up.
-const HOLDS: u8 = 16;
+/// After how many ticks in a row at which the line was full it goes up.
+const FULL: u8 = 12;
 
-/// How many ticks in a row the line must be full for the last.
-const FULL: u8 = 96;
-
-/// After how many ticks that were not nearly full it goes down.
+/// After how many in a row at which it was not nearly full it goes down.
 const GOOD: u8 = 32;
 
 /// A step up within so many ticks of a step down comes soon.
@@ -32,9 +29,7 @@ pub(crate) struct Level {
     pub(crate) floor: u8,
     /// For how many ticks.
     pub(crate) wait: u16,
-    /// How many ticks it has been where it is.
-    pub(crate) at: u8,
-    /// How many since it went down.
+    /// How many ticks ago it went down.
     pub(crate) since: u16,
     /// At how many in a row the line was full.
     pub(crate) bad: u8,
@@ -53,7 +48,6 @@ impl Level {
             level: FIRST,
             floor: 0,
             wait: 0,
-            at: 0,
             since: SOON,
             bad: 0,
             good: 0,
@@ -65,7 +59,6 @@ impl Level {
     fn age(&mut self, full: bool)
         ensures { self.new ≡ aged full self.old }
     {
-        self.at = self.at.saturating_add(1);
         if self.since < SOON {
             self.since += 1;
         }
@@ -84,7 +77,7 @@ impl Level {
     fn is_soon(&self) -> bool
         ensures { result ≡ is_soon self.now }
     {
-        self.since < SOON && self.level < HIGH
+        self.since < SOON
     }
 
     /// A level up.
@@ -98,7 +91,6 @@ impl Level {
             self.floor = self.level;
             self.wait = WAITS;
         }
-        self.at = 0;
         self.since = SOON;
         self.bad = 0;
         self.good = 0;
@@ -109,7 +101,7 @@ impl Level {
     fn may_step_up(&self) -> bool
         ensures { result ≡ may_step_up self.now }
     {
-        self.level < HIGH && self.at >= HOLDS || self.level == HIGH && self.bad >= FULL
+        self.level < LAST && self.bad >= FULL
     }
 
     /// The line is full.
@@ -141,7 +133,6 @@ impl Level {
         if self.good >= GOOD && self.level > self.floor {
             self.tight = self.tight && self.level != 1;
             self.level -= 1;
-            self.at = 0;
             self.since = 0;
             self.good = 0;
         }

@@ -1,7 +1,7 @@
 //! The round trips of a peer, in ticks.
 
 ghost use Rattle.std.specs.Prelude.{◌≡◌, ◌≤◌, ◌∷◌, length, take};
-ghost use Rattle.dn_link.specs.Congestion.{acknowledged, base_after, is_above, is_known, least, moved_base, new_trip, round_trip, ticks_since, timed};
+ghost use Rattle.dn_link.specs.Congestion.{acknowledged, base_after, is_above, is_known, is_short, least, moved_base, new_trip, round_trip, ticks_since, timed};
 
 use arrayvec::ArrayVec;
 
@@ -19,6 +19,9 @@ const DOWN: u16 = 9;
 
 /// The longest, in these.
 const LONGEST_BASE: u16 = 2304;
+
+/// On a short line it is less than so many ticks.
+const SHORT: u16 = 10;
 
 /// At how many of the last ticks this many commands had been made.
 fn ticks_since(count: u32, made: &[u32]) -> u8
@@ -125,6 +128,13 @@ impl Trip {
         ensures { result ≡ is_known self.now }
     {
         self.last.len() == KNOWN
+    }
+
+    /// Whether that of an empty line is short.
+    pub(crate) fn is_short(&self) -> bool
+        ensures { result ≡ is_short self.now }
+    {
+        self.base / PARTS < SHORT
     }
 
     /// Whether each of these is so many ticks longer than on an empty line, or more.
