@@ -1,4 +1,4 @@
--- How many datagrams go to the peers, by the round trips: where the player's own line is full, all of them are longer.
+-- How many datagrams go to the peers, by the round trips: where the player's own line is full, most are longer.
 use Rattle.std.specs.Prelude.{◌≡◌, ℕ, ◌+◌, ◌-◌, ◌*◌, ◌/◌, ◌%◌, ◌==◌, ◌&&◌, ◌||◌, Bool, true, false, not, if◌then◌else◌, nat_lt, nat_le, min, max, List, [], ◌∷◌, length, take, get_or, slice_set}
 use Rattle.dn_link.specs.{declared.trip.Trip.Trip, declared.level.Level.Level, declared.congestion.Congestion.Congestion}
 
