@@ -47,7 +47,7 @@ is_known trip = length trip.last.items == 8
 abbrev pub is_above : ℕ → Trip → Bool
 is_above ticks trip = nat_le (trip.base / 72 + ticks) (least trip.last.items)
 
--- that of an empty line is below ten ticks
+-- that on an empty line is below ten ticks
 abbrev pub is_short : Trip → Bool
 is_short trip = nat_lt (trip.base / 72) 10
 
@@ -57,19 +57,20 @@ new_trip = record { told = 0; last = record { items = [] }; base = 0 }
 abbrev pub trip_at : List Trip → ℕ → Trip
 trip_at trips player = get_or trips player new_trip
 
--- of whom eight are known, among those who play
+-- a player plays, and eight of its round trips are known
 abbrev pub knows : (ℕ → Bool) → List Trip → ℕ → Bool
 knows plays trips player = plays player && is_known (trip_at trips player)
 
--- and those are near whose line is a short one
+-- and that on an empty line is a short one
 abbrev pub is_near : (ℕ → Bool) → List Trip → ℕ → Bool
 is_near plays trips player = knows plays trips player && is_short (trip_at trips player)
 
+-- some player is near
 abbrev pub some_are_near : (ℕ → Bool) → List Trip → Bool
 some_are_near plays trips =
     is_near plays trips 0 || (is_near plays trips 1 || (is_near plays trips 2 || is_near plays trips 3))
 
--- where some are near, these count, and else all who are known
+-- where some are near, these count, and else all whose round trips are known
 abbrev pub counts : (ℕ → Bool) → List Trip → ℕ → Bool
 counts plays trips player =
     if some_are_near plays trips then is_near plays trips player else knows plays trips player
@@ -78,7 +79,7 @@ counts plays trips player =
 abbrev pub agrees : ℕ → (ℕ → Bool) → List Trip → ℕ → Bool
 agrees ticks plays trips player = counts plays trips player && is_above ticks (trip_at trips player)
 
--- so many of the four players are such
+-- of so many of the four players this is so
 abbrev pub how_many : (ℕ → Bool) → ℕ
 how_many are =
     (if are 0 then 1 else 0) + ((if are 1 then 1 else 0) + ((if are 2 then 1 else 0) + (if are 3 then 1 else 0)))
@@ -92,7 +93,8 @@ are_above ticks plays trips = nat_lt (how_many (counts plays trips)) (2 * how_ma
 abbrev pub new_level : Level
 new_level = record { level = 3; floor = 0; wait = 0; since = 256; bad = 0; good = 0; tight = false }
 
--- time goes by at a level, and where a wait ends there is no floor any more
+-- time goes by at a level: where a wait ends there is no floor any more, and ticks in a row at which the line is full
+-- are counted up to twelve
 abbrev pub aged : Bool → Level → Level
 aged full l = record l {
   since = if nat_lt l.since 256 then l.since + 1 else l.since;
@@ -118,7 +120,7 @@ stepped_up l =
       tight = true;
     }
 
--- after twelve ticks in a row at which the line was full, up to the last
+-- where the line is full: a level up after twelve ticks in a row, but not from the last
 abbrev pub may_step_up : Level → Bool
 may_step_up l = nat_lt l.level 5 && nat_le 12 l.bad
 
