@@ -18,16 +18,22 @@ abbrev pub least : List ℕ → ℕ
 least [] = 32
 least (ticks ∷ trips) = min ticks (least trips)
 
+-- the shortest but one of them
+abbrev pub second_least : List ℕ → ℕ
+second_least [] = 32
+second_least (ticks ∷ trips) = max (least trips) (min ticks (second_least trips))
+
 -- that of an empty line, in 72nds of a tick, which one of ten is no longer than: up by one for a longer round trip, and
 -- down by nine for a shorter one
 abbrev pub moved_base : ℕ → ℕ → ℕ
 moved_base ticks base =
     if nat_lt (base / 72) ticks then min (base + 1) 2304 else (if nat_lt ticks (base / 72) then base - 9 else base)
 
--- of the first eight it is the shortest
+-- of the first eight it is the shortest but one: while a player stands still no ticks count, so the round trip that
+-- lasts meanwhile seems too short
 abbrev pub base_after : ℕ → Trip → ℕ
 base_after ticks trip =
-    if nat_lt (length trip.last.items) 8 then 72 * least (ticks ∷ trip.last.items) else moved_base ticks trip.base
+    if nat_lt (length trip.last.items) 8 then 72 * second_least (ticks ∷ trip.last.items) else moved_base ticks trip.base
 
 -- a round trip; the last eight are known
 abbrev pub timed : ℕ → Trip → Trip

@@ -1,7 +1,7 @@
 //! The round trips of a peer, in ticks.
 
 ghost use Rattle.std.specs.Prelude.{◌≡◌, ◌≤◌, ◌∷◌, length, take};
-ghost use Rattle.dn_link.specs.Congestion.{acknowledged, base_after, is_above, is_known, is_short, least, moved_base, new_trip, round_trip, ticks_since, timed};
+ghost use Rattle.dn_link.specs.Congestion.{acknowledged, base_after, is_above, is_known, is_short, least, moved_base, new_trip, round_trip, second_least, ticks_since, timed};
 
 use arrayvec::ArrayVec;
 
@@ -55,6 +55,22 @@ fn least(trips: &[u8]) -> u8
     least
 }
 
+/// The shortest but one of these round trips.
+fn second_least(trips: &[u8]) -> u8
+    ensures value { result ≡ second_least trips.now }
+    ensures small { result ≤ 32 }
+{
+    let mut least = LONGEST;
+    let mut second = LONGEST;
+    let mut rest = trips;
+    'trips: while let Some((ticks, after)) = rest.split_first() {
+        second = second.min(least.max(*ticks));
+        least = least.min(*ticks);
+        rest = after;
+    }
+    second
+}
+
 /// The round trip of an empty line, after one of so many ticks.
 fn moved_base(ticks: u8, base: u16) -> u16
     ensures { result ≡ moved_base ticks base }
@@ -97,7 +113,8 @@ impl Trip {
         ensures { result ≡ base_after ticks self.now }
     {
         if self.last.len() < KNOWN {
-            PARTS * u16::from(ticks.min(least(self.last.as_slice())))
+            let last = self.last.as_slice();
+            PARTS * u16::from(least(last).max(ticks.min(second_least(last))))
         } else {
             moved_base(ticks, self.base)
         }
