@@ -7,7 +7,7 @@ use Rattle.dn_link.specs.Congestion.{aged, eased, levelled, may_step_up, rests, 
 
 -- it moved so many ticks ago, or fewer
 abbrev HasMoved : ℕ → Level → Type 0
-HasMoved ticks l = (l.at ≤ ticks) × (l.good ≤ ticks) × (l.bad ≤ ticks)
+HasMoved ticks l = (l.good ≤ ticks) × (l.bad ≤ ticks)
 
 abbrev steps_down : Bool → Level → Bool
 steps_down nearly l =
@@ -20,31 +20,27 @@ moves true nearly l = go (may_step_up (aged true l)) refl
   where
     go : (test : Bool) → may_step_up (aged true l) ≡ test
         → ((levelled true nearly l).level ≡ l.level) ⊎ HasMoved 0 (levelled true nearly l)
-    go true up = inr (rw up (omega arith), rw up (omega arith), rw up (omega arith))
+    go true up = inr (rw up (omega arith), rw up (omega arith))
     go false holds = inl (rw holds refl)
 moves false nearly l = go (steps_down nearly l) refl
   where
     go : (test : Bool) → steps_down nearly l ≡ test
         → ((levelled false nearly l).level ≡ l.level) ⊎ HasMoved 0 (levelled false nearly l)
-    go true down = inr (rw down (omega arith), rw down (omega arith), rw down (omega arith))
+    go true down = inr (rw down (omega arith), rw down (omega arith))
     go false holds = inl (rw holds refl)
 
 -- and for some ticks after it has moved, it stays
-stays : (ticks : ℕ) (full nearly : Bool) (l : Level) → ticks < 15 → HasMoved ticks l
+stays : (ticks : ℕ) (full nearly : Bool) (l : Level) → ticks < 11 → HasMoved ticks l
     → ((levelled full nearly l).level ≡ l.level) × HasMoved (ticks + 1) (levelled full nearly l)
-stays ticks true nearly l few (at, good, bad) = go (may_step_up (aged true l)) refl
+stays ticks true nearly l few (good, bad) = go (may_step_up (aged true l)) refl
   where
     go : (test : Bool) → may_step_up (aged true l) ≡ test
         → ((levelled true nearly l).level ≡ l.level) × HasMoved (ticks + 1) (levelled true nearly l)
-    go true up = absurd (elim (or_cases (nat_lt l.level 4 && nat_le 16 (aged true l).at) _ up) [
-      | inl held ↦
-          let long = leb-true 16 (aged true l).at (and_parts (nat_lt l.level 4) _ held).1 in omega (arith, long, at, few)
-      | inr full ↦
-          let long = leb-true 96 (aged true l).bad (and_parts (l.level == 4) _ full).1 in omega (arith, long, bad, few)
-    ])
-    go false holds =
-        (rw holds refl, (rw holds (omega (arith, at)), rw holds (omega arith), rw holds (omega (arith, bad))))
-stays ticks false nearly l few (at, good, bad) = go (steps_down nearly l) refl
+    go true up =
+        let long = leb-true 12 (aged true l).bad (and_parts (nat_lt l.level 5) _ up).1 in
+        absurd (omega (arith, long, bad, few))
+    go false holds = (rw holds refl, (rw holds (omega arith), rw holds (omega (arith, bad))))
+stays ticks false nearly l few (good, bad) = go (steps_down nearly l) refl
   where
     least : (nearly : Bool) → (eased nearly (aged false l)).good ≤ ticks + 1
     least true = omega arith
@@ -56,8 +52,7 @@ stays ticks false nearly l few (at, good, bad) = go (steps_down nearly l) refl
         let long = leb-true 32 (eased nearly (aged false l)).good (and_parts (nat_le 32 (eased nearly (aged false l)).good) _ down).0 in
         let few_good = least nearly in
         absurd (omega (arith, long, few_good, few))
-    go false holds =
-        (rw holds refl, (rw holds (omega (arith, at)), rw holds (least nearly), rw holds (omega arith)))
+    go false holds = (rw holds refl, (rw holds (least nearly), rw holds (omega arith)))
 
 -- where a player rests, by the level and the turn
 abbrev RestsAt : (level turn : ℕ) → Type 0
@@ -105,7 +100,7 @@ module _ (old new : Congestion) (goes : GoesBy old new) where
     | inr moved ↦ inr (subst (HasMoved 0) (sym level) moved)
   ]
 
-  stay : (ticks : ℕ) → ticks < 15 → HasMoved ticks old.level
+  stay : (ticks : ℕ) → ticks < 11 → HasMoved ticks old.level
       → (new.level.level ≡ old.level.level) × HasMoved (ticks + 1) new.level
   stay ticks few moved =
       let both = stays ticks (are_above 3 goes.1 trips) (are_above 2 goes.1 trips) old.level few moved in

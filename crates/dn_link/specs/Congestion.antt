@@ -1,4 +1,4 @@
--- How many datagrams go to the peers, by the round trips: where the player's own line is full, all of them are longer.
+-- How many datagrams go to the peers, by the round trips: where the player's own line is full, most are longer.
 use Rattle.std.specs.Prelude.{◌≡◌, ℕ, ◌+◌, ◌-◌, ◌*◌, ◌/◌, ◌%◌, ◌==◌, ◌&&◌, ◌||◌, Bool, true, false, not, if◌then◌else◌, nat_lt, nat_le, min, max, List, [], ◌∷◌, length, take, get_or, slice_set}
 use Rattle.dn_link.specs.{declared.trip.Trip.Trip, declared.level.Level.Level, declared.congestion.Congestion.Congestion}
 
@@ -18,16 +18,22 @@ abbrev pub least : List ℕ → ℕ
 least [] = 32
 least (ticks ∷ trips) = min ticks (least trips)
 
+-- the shortest but one of them
+abbrev pub second_least : List ℕ → ℕ
+second_least [] = 32
+second_least (ticks ∷ trips) = max (least trips) (min ticks (second_least trips))
+
 -- that of an empty line, in 72nds of a tick, which one of ten is no longer than: up by one for a longer round trip, and
 -- down by nine for a shorter one
 abbrev pub moved_base : ℕ → ℕ → ℕ
 moved_base ticks base =
     if nat_lt (base / 72) ticks then min (base + 1) 2304 else (if nat_lt ticks (base / 72) then base - 9 else base)
 
--- of the first eight it is the shortest
+-- of the first eight it is the shortest but one: while a player stands still no ticks count, so the round trip that
+-- lasts meanwhile seems too short
 abbrev pub base_after : ℕ → Trip → ℕ
 base_after ticks trip =
-    if nat_lt (length trip.last.items) 8 then 72 * least (ticks ∷ trip.last.items) else moved_base ticks trip.base
+    if nat_lt (length trip.last.items) 8 then 72 * second_least (ticks ∷ trip.last.items) else moved_base ticks trip.base
 
 -- a round trip; the last eight are known
 abbrev pub timed : ℕ → Trip → Trip
@@ -47,45 +53,65 @@ is_known trip = length trip.last.items == 8
 abbrev pub is_above : ℕ → Trip → Bool
 is_above ticks trip = nat_le (trip.base / 72 + ticks) (least trip.last.items)
 
+-- that on an empty line is below ten ticks
+abbrev pub is_short : Trip → Bool
+is_short trip = nat_lt (trip.base / 72) 10
+
 abbrev pub new_trip : Trip
 new_trip = record { told = 0; last = record { items = [] }; base = 0 }
 
 abbrev pub trip_at : List Trip → ℕ → Trip
 trip_at trips player = get_or trips player new_trip
 
--- of whom eight are known, among those who play
+-- a player plays, and eight of its round trips are known
+abbrev pub knows : (ℕ → Bool) → List Trip → ℕ → Bool
+knows plays trips player = plays player && is_known (trip_at trips player)
+
+-- and that on an empty line is a short one
+abbrev pub is_near : (ℕ → Bool) → List Trip → ℕ → Bool
+is_near plays trips player = knows plays trips player && is_short (trip_at trips player)
+
+-- some player is near
+abbrev pub some_are_near : (ℕ → Bool) → List Trip → Bool
+some_are_near plays trips =
+    is_near plays trips 0 || (is_near plays trips 1 || (is_near plays trips 2 || is_near plays trips 3))
+
+-- where some are near, these count, and else all whose round trips are known
 abbrev pub counts : (ℕ → Bool) → List Trip → ℕ → Bool
-counts plays trips player = plays player && is_known (trip_at trips player)
+counts plays trips player =
+    if some_are_near plays trips then is_near plays trips player else knows plays trips player
 
--- one does not count, or all of its round trips are so much longer
+-- one counts, and all of its round trips are so much longer
 abbrev pub agrees : ℕ → (ℕ → Bool) → List Trip → ℕ → Bool
-agrees ticks plays trips player = not (counts plays trips player) || is_above ticks (trip_at trips player)
+agrees ticks plays trips player = counts plays trips player && is_above ticks (trip_at trips player)
 
--- some peer counts, and of all that do the round trips are so much longer
+-- of so many of the four players this is so
+abbrev pub how_many : (ℕ → Bool) → ℕ
+how_many are =
+    (if are 0 then 1 else 0) + ((if are 1 then 1 else 0) + ((if are 2 then 1 else 0) + (if are 3 then 1 else 0)))
+
+-- of those who count, more than half agree
 abbrev pub are_above : ℕ → (ℕ → Bool) → List Trip → Bool
-are_above ticks plays trips =
-    (counts plays trips 0 || (counts plays trips 1 || (counts plays trips 2 || counts plays trips 3)))
-    && (agrees ticks plays trips 0
-    && (agrees ticks plays trips 1 && (agrees ticks plays trips 2 && agrees ticks plays trips 3)))
+are_above ticks plays trips = nat_lt (how_many (counts plays trips)) (2 * how_many (agrees ticks plays trips))
 
 -- The level, of which 0 is an empty line, and 5 one that stays full.
 
 abbrev pub new_level : Level
-new_level = record { level = 3; floor = 0; wait = 0; at = 0; since = 256; bad = 0; good = 0; tight = false }
+new_level = record { level = 3; floor = 0; wait = 0; since = 256; bad = 0; good = 0; tight = false }
 
--- time goes by at a level, and where a wait ends there is no floor any more
+-- time goes by at a level: where a wait ends there is no floor any more, and ticks in a row at which the line is full
+-- are counted up to twelve
 abbrev pub aged : Bool → Level → Level
 aged full l = record l {
-  at = min (l.at + 1) 255;
   since = if nat_lt l.since 256 then l.since + 1 else l.since;
   wait = l.wait - 1;
   floor = if l.wait == 1 then 0 else l.floor;
-  bad = if full then min (l.bad + 1) 96 else 0;
+  bad = if full then min (l.bad + 1) 12 else 0;
 }
 
 -- it comes soon after a step down
 abbrev pub is_soon : Level → Bool
-is_soon l = nat_lt l.since 256 && nat_lt l.level 4
+is_soon l = nat_lt l.since 256
 
 -- a level up. If that comes soon, the level that it was taken from is not tried for 4,096 ticks
 abbrev pub stepped_up : Level → Level
@@ -94,16 +120,15 @@ stepped_up l =
       level = l.level + 1;
       floor = if is_soon l then l.level + 1 else l.floor;
       wait = if is_soon l then 4096 else l.wait;
-      at = 0;
       since = 256;
       bad = 0;
       good = 0;
       tight = true;
     }
 
--- where the line is full, after sixteen ticks at a level; and to the last after 96 at which it was full
+-- where the line is full: a level up after twelve ticks in a row, but not from the last
 abbrev pub may_step_up : Level → Bool
-may_step_up l = (nat_lt l.level 4 && nat_le 16 l.at) || (l.level == 4 && nat_le 96 l.bad)
+may_step_up l = nat_lt l.level 5 && nat_le 12 l.bad
 
 abbrev pub filled : Level → Level
 filled l = if may_step_up l then stepped_up l else record l { good = 0 }
@@ -114,7 +139,7 @@ eased nearly l = record l { good = if nearly then 0 else min (l.good + 1) 32 }
 
 abbrev pub stepped_down : Level → Level
 stepped_down l =
-    record l { level = l.level - 1; at = 0; since = 0; good = 0; tight = l.tight && not (l.level == 1) }
+    record l { level = l.level - 1; since = 0; good = 0; tight = l.tight && not (l.level == 1) }
 
 abbrev pub emptied : Level → Level
 emptied l = if nat_le 32 l.good && nat_lt l.floor l.level then stepped_down l else l

@@ -1,7 +1,7 @@
 //! How many datagrams go to the peers, by the round trips.
 
-ghost use Rattle.std.specs.Prelude.{◌≡◌, ◌<◌, ◌≤◌, ◌&&◌, ◌||◌, ◌∷◌, not, false, slice_index, slice_index_or, take};
-ghost use Rattle.dn_link.specs.Congestion.{agrees, allows_second, are_above, counts, new_congestion, rests, shortens, ticked, timed_to, trip_at, trips_after, turn};
+ghost use Rattle.std.specs.Prelude.{◌≡◌, ◌<◌, ◌≤◌, ◌&&◌, ◌||◌, ◌∷◌, false, slice_index, slice_index_or, take};
+ghost use Rattle.dn_link.specs.Congestion.{agrees, allows_second, are_above, counts, how_many, is_near, knows, new_congestion, rests, shortens, some_are_near, ticked, timed_to, trip_at, trips_after, turn};
 
 use crate::level::Level;
 use crate::trip::Trip;
@@ -10,7 +10,7 @@ use arrayvec::ArrayVec;
 /// How many ticks before the newest are known.
 const BEFORE: usize = 31;
 
-/// The line is full where all round trips are so many ticks longer than on an empty one, and nearly full.
+/// The line is full where round trips are so many ticks longer than on an empty one, and nearly full.
 const FULL: u8 = 3;
 
 const NEARLY: u8 = 2;
@@ -49,34 +49,79 @@ impl Congestion {
         &self.trips[player as usize]
     }
 
-    /// Whether a player counts, who plays or does not.
-    fn counts(&self, plays: &[bool; 4], player: u8) -> bool
+    /// Whether a player plays, and its round trips are known.
+    fn knows(&self, plays: &[bool; 4], player: u8) -> bool
         requires { player < 4 }
-        ensures { result ≡ counts (λ p. slice_index_or plays.now p false) self.now.trips player }
+        ensures { result ≡ knows (λ p. slice_index_or plays.now p false) self.now.trips player }
     {
         plays[player as usize] && self.trip(player).is_known()
     }
 
-    /// Whether a player does not count, or its round trips are so many ticks longer.
+    /// Whether they are, and its line is a short one.
+    fn is_near(&self, plays: &[bool; 4], player: u8) -> bool
+        requires { player < 4 }
+        ensures { result ≡ is_near (λ p. slice_index_or plays.now p false) self.now.trips player }
+    {
+        self.knows(plays, player) && self.trip(player).is_short()
+    }
+
+    /// Whether some player is near.
+    fn some_are_near(&self, plays: &[bool; 4]) -> bool
+        ensures { result ≡ some_are_near (λ p. slice_index_or plays.now p false) self.now.trips }
+    {
+        self.is_near(plays, 0)
+            || self.is_near(plays, 1)
+            || self.is_near(plays, 2)
+            || self.is_near(plays, 3)
+    }
+
+    /// Whether a player counts.
+    fn counts(&self, plays: &[bool; 4], player: u8) -> bool
+        requires { player < 4 }
+        ensures { result ≡ counts (λ p. slice_index_or plays.now p false) self.now.trips player }
+    {
+        if self.some_are_near(plays) {
+            self.is_near(plays, player)
+        } else {
+            self.knows(plays, player)
+        }
+    }
+
+    /// Whether it does, and its round trips are so many ticks longer.
     fn agrees(&self, ticks: u8, plays: &[bool; 4], player: u8) -> bool
         requires { player < 4 }
         ensures { result ≡ agrees ticks (λ p. slice_index_or plays.now p false) self.now.trips player }
     {
-        !self.counts(plays, player) || self.trip(player).is_above(ticks)
+        self.counts(plays, player) && self.trip(player).is_above(ticks)
     }
 
-    /// Whether some player counts, and of all that do the round trips are so many ticks longer.
+    /// How many players count.
+    fn all(&self, plays: &[bool; 4]) -> u8
+        ensures value { result ≡ how_many (counts (λ p. slice_index_or plays.now p false) self.now.trips) }
+        ensures small { result ≤ 4 }
+    {
+        u8::from(self.counts(plays, 0))
+            + u8::from(self.counts(plays, 1))
+            + u8::from(self.counts(plays, 2))
+            + u8::from(self.counts(plays, 3))
+    }
+
+    /// The round trips of how many of these are so many ticks longer.
+    fn agreeing(&self, ticks: u8, plays: &[bool; 4]) -> u8
+        ensures value { result ≡ how_many (agrees ticks (λ p. slice_index_or plays.now p false) self.now.trips) }
+        ensures small { result ≤ 4 }
+    {
+        u8::from(self.agrees(ticks, plays, 0))
+            + u8::from(self.agrees(ticks, plays, 1))
+            + u8::from(self.agrees(ticks, plays, 2))
+            + u8::from(self.agrees(ticks, plays, 3))
+    }
+
+    /// Whether they are for more than half of those that count.
     fn are_above(&self, ticks: u8, plays: &[bool; 4]) -> bool
         ensures { result ≡ are_above ticks (λ p. slice_index_or plays.now p false) self.now.trips }
     {
-        (self.counts(plays, 0)
-            || self.counts(plays, 1)
-            || self.counts(plays, 2)
-            || self.counts(plays, 3))
-            && self.agrees(ticks, plays, 0)
-            && self.agrees(ticks, plays, 1)
-            && self.agrees(ticks, plays, 2)
-            && self.agrees(ticks, plays, 3)
+        self.all(plays) < 2 * self.agreeing(ticks, plays)
     }
 
     /// A player has reported so many commands.

@@ -6,46 +6,41 @@ ghost use Rattle.dn_link.specs.Congestion.{aged, eased, emptied, filled, is_soon
 /// The level at first: the line may be a narrow one.
 const FIRST: u8 = 3;
 
-/// The last level but one. At the last least goes.
-const HIGH: u8 = 4;
+/// The last level, at which least goes.
+const LAST: u8 = 5;
 
-/// For how many ticks a level is held before the next one up.
-const HOLDS: u8 = 16;
+/// After how many ticks in a row at which the line was full the level goes up.
+const FULL: u8 = 12;
 
-/// How many ticks in a row the line must be full for the last.
-const FULL: u8 = 96;
-
-/// After how many ticks that were not nearly full it goes down.
+/// After how many ticks in a row at which the line was not nearly full the level goes down.
 const GOOD: u8 = 32;
 
 /// A step up within so many ticks of a step down comes soon.
 const SOON: u16 = 256;
 
-/// For how many ticks the level is then not tried that it was taken from.
+/// For how many ticks a level that was left too soon is not tried again.
 const WAITS: u16 = 4096;
 
 /// The level of what goes to the peers.
 #[derive(Clone, Copy)]
 pub(crate) struct Level {
     pub(crate) level: u8,
-    /// Below this it does not go.
+    /// The level does not go below this.
     pub(crate) floor: u8,
-    /// For how many ticks.
+    /// For how many ticks more the floor stands.
     pub(crate) wait: u16,
-    /// How many ticks it has been where it is.
-    pub(crate) at: u8,
-    /// How many since it went down.
+    /// How many ticks ago the level went down.
     pub(crate) since: u16,
-    /// At how many in a row the line was full.
+    /// At how many ticks in a row the line was full.
     pub(crate) bad: u8,
-    /// At how many in a row it was not nearly full.
+    /// At how many ticks in a row the line was not nearly full.
     pub(crate) good: u8,
-    /// Whether it went up since it was 0.
+    /// Whether the level went up since it was 0.
     pub(crate) tight: bool,
 }
 
 impl Level {
-    /// At first.
+    /// The level before the first tick.
     pub(crate) fn new() -> Level
         ensures { result ≡ new_level }
     {
@@ -53,7 +48,6 @@ impl Level {
             level: FIRST,
             floor: 0,
             wait: 0,
-            at: 0,
             since: SOON,
             bad: 0,
             good: 0,
@@ -61,11 +55,10 @@ impl Level {
         }
     }
 
-    /// Time goes by.
+    /// A tick goes by at the level, at which the line was full or not.
     fn age(&mut self, full: bool)
         ensures { self.new ≡ aged full self.old }
     {
-        self.at = self.at.saturating_add(1);
         if self.since < SOON {
             self.since += 1;
         }
@@ -84,10 +77,10 @@ impl Level {
     fn is_soon(&self) -> bool
         ensures { result ≡ is_soon self.now }
     {
-        self.since < SOON && self.level < HIGH
+        self.since < SOON
     }
 
-    /// A level up.
+    /// The level goes up by one.
     fn step_up(&mut self)
         requires { self.old.level ≤ 4 }
         ensures { self.new ≡ stepped_up self.old }
@@ -98,21 +91,20 @@ impl Level {
             self.floor = self.level;
             self.wait = WAITS;
         }
-        self.at = 0;
         self.since = SOON;
         self.bad = 0;
         self.good = 0;
         self.tight = true;
     }
 
-    /// Whether a full line has a level up.
+    /// Whether the level goes up on a full line.
     fn may_step_up(&self) -> bool
         ensures { result ≡ may_step_up self.now }
     {
-        self.level < HIGH && self.at >= HOLDS || self.level == HIGH && self.bad >= FULL
+        self.level < LAST && self.bad >= FULL
     }
 
-    /// The line is full.
+    /// Takes a tick at which the line was full.
     fn fill(&mut self)
         ensures { self.new ≡ filled self.old }
     {
@@ -123,7 +115,7 @@ impl Level {
         }
     }
 
-    /// It is not, and was nearly full at this tick or not.
+    /// Counts a tick at which the line was not full, and nearly full or not.
     fn ease(&mut self, nearly: bool)
         ensures { self.new ≡ eased nearly self.old }
     {
@@ -134,14 +126,13 @@ impl Level {
         };
     }
 
-    /// A level down, if it was not for long enough.
+    /// The level goes down by one, if the line was not nearly full for long enough.
     fn empty(&mut self)
         ensures { self.new ≡ emptied self.old }
     {
         if self.good >= GOOD && self.level > self.floor {
             self.tight = self.tight && self.level != 1;
             self.level -= 1;
-            self.at = 0;
             self.since = 0;
             self.good = 0;
         }

@@ -1,7 +1,7 @@
 //! The round trips of a peer, in ticks.
 
 ghost use Rattle.std.specs.Prelude.{◌≡◌, ◌≤◌, ◌∷◌, length, take};
-ghost use Rattle.dn_link.specs.Congestion.{acknowledged, base_after, is_above, is_known, least, moved_base, new_trip, round_trip, ticks_since, timed};
+ghost use Rattle.dn_link.specs.Congestion.{acknowledged, base_after, is_above, is_known, is_short, least, moved_base, new_trip, round_trip, second_least, ticks_since, timed};
 
 use arrayvec::ArrayVec;
 
@@ -19,6 +19,9 @@ const DOWN: u16 = 9;
 
 /// The longest, in these.
 const LONGEST_BASE: u16 = 2304;
+
+/// On a short line it is less than so many ticks.
+const SHORT: u16 = 10;
 
 /// At how many of the last ticks this many commands had been made.
 fn ticks_since(count: u32, made: &[u32]) -> u8
@@ -50,6 +53,22 @@ fn least(trips: &[u8]) -> u8
         rest = after;
     }
     least
+}
+
+/// The shortest but one of these round trips.
+fn second_least(trips: &[u8]) -> u8
+    ensures value { result ≡ second_least trips.now }
+    ensures small { result ≤ 32 }
+{
+    let mut least = LONGEST;
+    let mut second = LONGEST;
+    let mut rest = trips;
+    'trips: while let Some((ticks, after)) = rest.split_first() {
+        second = second.min(least.max(*ticks));
+        least = least.min(*ticks);
+        rest = after;
+    }
+    second
 }
 
 /// The round trip of an empty line, after one of so many ticks.
@@ -94,7 +113,8 @@ impl Trip {
         ensures { result ≡ base_after ticks self.now }
     {
         if self.last.len() < KNOWN {
-            PARTS * u16::from(ticks.min(least(self.last.as_slice())))
+            let last = self.last.as_slice();
+            PARTS * u16::from(least(last).max(ticks.min(second_least(last))))
         } else {
             moved_base(ticks, self.base)
         }
@@ -125,6 +145,13 @@ impl Trip {
         ensures { result ≡ is_known self.now }
     {
         self.last.len() == KNOWN
+    }
+
+    /// Whether that of an empty line is short.
+    pub(crate) fn is_short(&self) -> bool
+        ensures { result ≡ is_short self.now }
+    {
+        self.base / PARTS < SHORT
     }
 
     /// Whether each of these is so many ticks longer than on an empty line, or more.

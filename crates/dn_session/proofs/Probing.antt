@@ -2,7 +2,7 @@
 use Rattle.std.proofs.Common.{◌≡◌, ◌≤◌, ◌+◌, ◌∙◌, ◌⊎◌, ℕ, List, [], ◌∷◌, length, ap, refl, sym, arith, Bool, true, false, Option, Some, None, inl, inr}
 use Rattle.std.proofs.lemmas.{Bool.and_parts, Bool.cases_Bool, Option.none-some, Option.same_Some, Slice.Eq.bytes_eq-Decides}
 use Rattle.std.specs.{Prelude.{◌&&◌, filter, find, if◌then◌else◌, not}, Option.option_map, Str.bytes_eq}
-use Rattle.dn_session.specs.Places.{Happening, Comes, Sends, after_probe, answers_at, comes_from, fallback_after, goes_to, happened, heard_by, heard_from, heard_here, is_due_at, is_echoed, is_fallback_due, is_this, may_move, new_spot, passed_by, probe_to, probed, probes_to, sought_at, spot_at}
+use Rattle.dn_session.specs.Places.{Happening, Comes, Sends, after_probe, answered_by, answers_at, comes_from, happened, heard_by, heard_from, heard_here, is_due_at, is_echoed, is_fallback_due, is_this, may_move, new_spot, passed_by, probe_to, probed, probes_to, sought_at, spot_at}
 use Rattle.dn_session.specs.declared.{greeting.Address.Address, places.{News.News, Place.Place, Probe.Probe, Spot.Spot}}
 
 abbrev one_if : Bool → ℕ
@@ -96,17 +96,7 @@ module _ (at : Address) where
         either IsWithin (not news.is_current) _ _ (λ old. same)
         (either IsWithin (is_this from place.address) _ _ (λ own. here news.is_answer) sought)
 
-    echoes : (probe : Option Probe) (new : Place) → credit (elim probe as (λ _. Place) [
-      | None ↦ record new { echoed = now }
-      | Some p ↦ record new {
-        address = p.to;
-        heard = now;
-        answered = now;
-        echoed = now;
-        fallback = fallback_after now p.to new;
-        candidate = None;
-      }
-    ]).candidate ≤ credit new.candidate
+    echoes : (probe : Option Probe) (new : Place) → credit (answered_by now probe new).candidate ≤ credit new.candidate
     echoes None new = omega arith
     echoes (Some p) new = omega arith
 
@@ -149,17 +139,7 @@ module _ (at : Address) where
         | inr there ↦ rw there off
       ]
 
-      echoes_else : (probe : Option Probe) (new : Place) → IsElse new → is_this at (spot_at (elim probe as (λ _. Place) [
-        | None ↦ record new { echoed = now }
-        | Some p ↦ record new {
-          address = p.to;
-          heard = now;
-          answered = now;
-          echoed = now;
-          fallback = fallback_after now p.to new;
-          candidate = None;
-        }
-      ]).fallback) ≡ false
+      echoes_else : (probe : Option Probe) (new : Place) → IsElse new → is_this at (spot_at (answered_by now probe new).fallback) ≡ false
       echoes_else None new is = is.1
       echoes_else (Some p) new is = kept p.to new.address new.fallback is.0 is.1
 

@@ -1,5 +1,5 @@
 -- How a player's datagrams come: what is a sign of life of it, and of where it is.
-use Rattle.std.specs.Prelude.{ℕ, ◌==◌, ◌&&◌, ◌||◌, Bool, not, false, nat_lt, if◌then◌else◌, List, map, Option, Some, None, slice_index_or}
+use Rattle.std.specs.Prelude.{ℕ, ◌==◌, ◌&&◌, ◌||◌, Bool, false, nat_lt, if◌then◌else◌, List, map, Option, Some, None, slice_index_or}
 use Rattle.dn_link.specs.{Linked.Linked, Linked.figures_of, Linked.is_peer, Pacing.PaceState, declared.received.Received.Received, declared.received.Received.TheVariants.Heard, declared.tally.Figures.Figures}
 use Rattle.dn_lockstep.specs.{Contents.Contents}
 use Rattle.dn_session.specs.{Players.count_in, Players.four, declared.places.News.News}

@@ -64,18 +64,20 @@ fallback_after now to place = elim place.address [
 abbrev pub is_echoed : ℕ → Probe → Bool
 is_echoed echo p = is_some p.to && p.echo == echo
 
+abbrev pub answered_by : ℕ → Option Probe → Place → Place
+answered_by now None place = record place { echoed = now }
+answered_by now (Some p) place =
+    record place {
+      address = p.to;
+      heard = now;
+      answered = now;
+      echoed = now;
+      fallback = fallback_after now p.to place;
+      candidate = None;
+    }
+
 abbrev pub echoed : ℕ → ℕ → Place → Place
-echoed now echo place = elim (find (is_echoed echo) place.probes) [
-  | None ↦ record place { echoed = now }
-  | Some p ↦ record place {
-    address = p.to;
-    heard = now;
-    answered = now;
-    echoed = now;
-    fallback = fallback_after now p.to place;
-    candidate = None;
-  }
-]
+echoed now echo place = answered_by now (find (is_echoed echo) place.probes) place
 
 -- an address at which the player receives, as the lobby showed, or which the roster tells
 abbrev pub new_place : (is_shown : Bool) → ℕ → Option Address → Place
