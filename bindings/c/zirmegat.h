@@ -818,8 +818,9 @@ zmg_made zmg_link_catch_up(zmg_link *link);
 int32_t zmg_link_lean(zmg_link *link);
 
 /* Returns 1 if the player plays, and reports that two or more of the last datagrams to it did not come, or
- * came after newer ones; then give it one more datagram, half a tick after the tick's own, in case that one is
- * lost too. Else returns 0. */
+ * came after newer ones, and the link sends so much now: not in the first seconds, nor while round trips are much
+ * longer than on an empty line. Then give it one more datagram, half a tick after the tick's own, in case that one
+ * is lost too. Else returns 0. */
 uint32_t zmg_link_wants_second(zmg_link *link, uint8_t player);
 
 uint32_t zmg_link_can_build(zmg_link *link);

@@ -44,6 +44,7 @@ typedef struct seat {
     uint32_t keys, is_given, owes, acknowledged[NODES], ahead;
     zmg_command command;
     uint8_t gave[NODES];
+    uint8_t may_have_been_full[NODES];
 } seat;
 
 /* The last datagrams of a game, and what its players have in common. */
@@ -373,12 +374,13 @@ static void is_complete(const seat *s, uint8_t to, uint32_t made, const carried 
     MUST(next == made || commands == ZMG_MOST_COMMANDS);
 }
 
-/* A second datagram of a tick is a brief one. So may be one whose number is odd. */
+/* A second datagram of a tick is a brief one. So may be one without packets whose last before it may not be. */
 static int is_brief(seat *s, uint8_t to, size_t own) {
-    int is_second = s->gave[to];
+    int is_second = s->gave[to], may_be = own == 0 && s->may_have_been_full[to];
     s->gave[to] = 1;
+    s->may_have_been_full[to] = !is_second;
     MUST(!is_second || own == 0);
-    return is_second || (own == 0 && out[NUMBER] % 2);
+    return is_second || may_be;
 }
 
 /* A player has not ended. */

@@ -103,8 +103,9 @@ impl Link {
     }
 
     /// Returns true if the player plays, and reports that two or more of the last datagrams to it did not
-    /// come, or came after newer ones; then give it one more datagram, half a tick after the tick's own, in
-    /// case that one is lost too.
+    /// come, or came after newer ones, and the link sends so much now: not in the first seconds, nor while
+    /// round trips are much longer than on an empty line. Then give it one more datagram, half a tick after
+    /// the tick's own, in case that one is lost too.
     pub fn wants_second(&self, player: u8) -> bool {
         // SAFETY: the call has exclusive use of the handle (`Held`).
         unsafe { raw::zmg_link_wants_second(self.0.at(), player) != 0 }

@@ -47,9 +47,9 @@ gives_own seal pace to old new bytes gives =
     (λ i. flat_map (own_of (gives.from i)) (gives.behind.parts i))
     ∙ flat_map-append (own_of old.node.me) gives.own (map handed_part gives.behind.handed)
     ∙ ap (λ (ps : List Opened). flat_map (own_of old.node.me) gives.own ++ ps) (none_own old.node.me gives.behind.handed)
-    ∙ append-nil (flat_map (own_of old.node.me) gives.own) ∙ own_only old.node.me gives.own (needed (is_brief pace (old.peers to).number to) refl)
+    ∙ append-nil (flat_map (own_of old.node.me) gives.own) ∙ own_only old.node.me gives.own (needed (is_brief pace to) refl)
   where
-    needed : (brief : Bool) → is_brief pace (old.peers to).number to ≡ brief → All (IsNeeded old.node.me) gives.own
+    needed : (brief : Bool) → is_brief pace to ≡ brief → All (IsNeeded old.node.me) gives.own
     needed true brief = subst (All (IsNeeded old.node.me)) (sym (gives.none brief)) (All-nil (IsNeeded old.node.me))
     needed false full = (gives.packed full).needed
 
@@ -83,7 +83,7 @@ plays_sent limits me m to below apart plays = rw (lt-ltb to limits.players below
 module _ (marking : Marking) (limits : Limits) (settings : Settings) (session : Session) (links : ℕ → Linked)
     (player : ℕ) (linked : AreLinked marking limits settings session links) (mine : player < limits.players)
     (were : AreCaughtUp limits links) (to : ℕ) (below : to < limits.players) (apart : to ≢ player) (seal : Seal)
-    (pace : PaceState) (new : Linked) (bytes : List ℕ) (full : is_brief pace ((links player).peers to).number to ≡ false)
+    (pace : PaceState) (new : Linked) (bytes : List ℕ) (full : is_brief pace to ≡ false)
     (gives : Gives seal pace to (links player) new bytes) (in_time : has_ended (links to).node ≡ false
     → made (links player).node ≤ next_to (links player).node to + (links player).node.places)
     (near : made (links player).node ≤ next_to (links player).node to + 12)

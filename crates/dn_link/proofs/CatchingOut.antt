@@ -346,9 +346,9 @@ module _ (marking : Marking) (limits : Limits) (settings : Settings) (session : 
 
   -- they are the first of these, or none
   sent_is : (count : ℕ) × (own_in gives.bundle ≡ take count (map (opened_from old.node.me) packets))
-  sent_is = go (is_brief pace (old.peers to).number to) refl
+  sent_is = go (is_brief pace to) refl
     where
-      go : (brief : Bool) → is_brief pace (old.peers to).number to ≡ brief
+      go : (brief : Bool) → is_brief pace to ≡ brief
           → (count : ℕ) × (own_in gives.bundle ≡ take count (map (opened_from old.node.me) packets))
       go true brief = (
         0,

@@ -160,9 +160,9 @@ module _ (given : List Flight) (flight : Option Flight) (player : ℕ) (old new 
   is_given carried is = taken_given (old.peers to).left gives.given carried is ∙ answer
 
   own_given : All (WasGiven (given_on given flight) to) (flat_map (packets_of player) gives.own)
-  own_given = go (is_brief pace (old.peers to).number to) refl
+  own_given = go (is_brief pace to) refl
     where
-      go : (brief : Bool) → is_brief pace (old.peers to).number to ≡ brief
+      go : (brief : Bool) → is_brief pace to ≡ brief
           → All (WasGiven (given_on given flight) to) (flat_map (packets_of player) gives.own)
       go true brief =
           subst (λ (parts : List Part). All (WasGiven (given_on given flight) to) (flat_map (packets_of player) parts))

@@ -166,8 +166,8 @@ allows_second c me player =
     c.level.level == 0 || (c.level.level == 1 && turn c me player % 2 == 0)
 
 -- from level 3 on one of two datagrams is a brief one
-abbrev pub shortens : Congestion → ℕ → Bool
-shortens c number = nat_le 3 c.level.level && number % 2 == 1
+abbrev pub shortens : Congestion → Bool
+shortens c = nat_le 3 c.level.level
 
 -- The state at first, and after a tick.
 

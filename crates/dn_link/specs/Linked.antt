@@ -97,11 +97,11 @@ pub record Gives (seal : Seal) (pace : PaceState) (to : ℕ) (old new : Linked) 
   pub report : bundle.report.items ≡ written (report_beside (surviving_of new) to bundle.parts.items)
   pub proper : IfSome (report_beside (surviving_of new) to bundle.parts.items) IsReport
   pub own : List Part
-  pub packed : is_brief pace (old.peers to).number to ≡ false
+  pub packed : is_brief pace to ≡ false
       → ArePacked old.node.me (going (old.peers to).kept (taken_by (old.peers to).left given)) own
-  pub none : is_brief pace (old.peers to).number to ≡ true → own ≡ []
-  pub behind : HasBehind new to 0 (is_brief pace (old.peers to).number to) own bundle.parts.items
-  pub newest : is_brief pace (old.peers to).number to ≡ true → HandsNewest new to behind.handed
+  pub none : is_brief pace to ≡ true → own ≡ []
+  pub behind : HasBehind new to 0 (is_brief pace to) own bundle.parts.items
+  pub newest : is_brief pace to ≡ true → HandsNewest new to behind.handed
   pub few : length behind.handed ≤ 2
   pub others : new.others ≡ old.others
   pub peers : new.peers ≡ put old.peers to (record (old.peers to) {

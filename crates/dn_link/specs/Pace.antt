@@ -5,7 +5,7 @@ use Rattle.dn_machine.specs.{declared.answers.Made.{Made, TheVariants.Full}, Nod
 use Rattle.dn_lockstep.specs.{Contents.{Contents}, Told.{made}}
 use Rattle.dn_seal.specs.declared.seal.Seal.{Seal}
 use Rattle.dn_open.specs.Sealed.{sealing_of}
-use Rattle.dn_link.specs.{Leaning.{LeaningState, looks, step_of, worked_off, StretchingState, drops, stretches}, declared.bundle.{Bundle.Bundle, BundleFault.BundleFault}, Ends.excludes, Tally.stops, Hearing.ByTest, Line.{heard_on, lead_over, missing}, Linked.{Linked, end_known, is_peer, remains}, Pacing.PaceState, Reading.IsBundledAs, Congestion.{allows_second, rests, ticked}, Line.{is_fresh, older}, declared.congestion.Congestion.{Congestion}}
+use Rattle.dn_link.specs.{Leaning.{LeaningState, looks, step_of, worked_off, StretchingState, drops, stretches}, declared.bundle.{Bundle.Bundle, BundleFault.BundleFault}, Ends.excludes, Tally.stops, Hearing.ByTest, Line.{heard_on, lead_over, missing}, Linked.{Linked, certain, end_known, remains}, Pacing.{PaceState, is_brief}, Reading.IsBundledAs, Congestion.{allows_second, rests, ticked}, Line.{is_fresh, older}, declared.congestion.Congestion.{Congestion}}
 
 -- an input that is owed stays so until there is room for it
 abbrev pub still_owed : Made → Option Input → Option Input
@@ -28,7 +28,7 @@ after_datagram bundle pace =
 
 -- a datagram is given to a peer
 abbrev pub given_to : ℕ → PaceState → PaceState
-given_to to pace = record pace { given = put pace.given to true }
+given_to to pace = record pace { given = put pace.given to true; brief = put pace.brief to (is_brief pace to) }
 
 -- one is asked for, which only a peer gets who is not given up
 abbrev pub after_giving : Linked → ℕ → PaceState → PaceState
@@ -49,10 +49,10 @@ Paces seal bytes link old new =
     (opened : Result Bundle BundleFault) × IsBundledAs (sealing_of seal link.node.me) bytes opened
     × PacesAs opened link old new
 
--- a peer that was heard, and has not left as far as it was
+-- a peer in play: it is not given up, it was heard, and neither its datagrams nor an EXIT packet told its end
 abbrev pub is_paced : Linked → PaceState → ℕ → Bool
 is_paced link pace player =
-    is_peer link.node player && (is_some (pace.lines player).newest
+    remains link player && (is_some (pace.lines player).newest
     && (is_none (end_known link.node player) && is_none (link.peers player).left))
 
 -- such a one of which a datagram came lately
@@ -113,9 +113,9 @@ leaned link pace = looks (differences link pace) (playing link pace) pace.leanin
 abbrev pub stretched : Linked → PaceState → StretchingState
 stretched link pace = stretches (is_lossy link pace) pace.stretching
 
--- how many of the node's commands a player has reported
+-- how many of the node's commands a player has for certain, by what it reported
 abbrev pub reported_by : Linked → ℕ → ℕ
-reported_by link player = slice_index (link.peers player).reported link.node.me
+reported_by link player = certain link.node (slice_index (link.peers player).reported link.node.me)
 
 -- how full the line is
 abbrev pub congested : Linked → PaceState → Congestion

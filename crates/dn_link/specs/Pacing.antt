@@ -1,13 +1,15 @@
 -- What a link keeps for its pace.
-use Rattle.std.specs.{Prelude.{ℕ, Bool, ◌||◌, false, None, pos, Option, get_or}, Prelude.{Bool, false, ◌||◌}}
+use Rattle.std.specs.{Prelude.{ℕ, Bool, ◌||◌, ◌&&◌, not, false, true, None, pos, Option, get_or}, Prelude.{Bool, false, ◌||◌}}
 use Rattle.dn_tic.specs.declared.input.Input.{Input}
 use Rattle.dn_link.specs.{declared.{line.Line.Line, link.Link.Link, pace.Pace.Pace, leaning.Leaning.Leaning, stretching.Stretching.Stretching}, Line.new_line, Leaning.{LeaningState, StretchingState}, Congestion.{new_congestion, shortens}, Leaning.{TrimState}, declared.congestion.Congestion.{Congestion}, declared.trimming.Trim.{Trim}}
 
--- the line from each player, who was given a datagram since the last tick, the input of which a command is owed,
--- how the ticks lean and stretch, how full the line is, and how many bytes came that were no datagram
+-- the line from each player, who was given a datagram since the last tick, to whom the last that was given was a
+-- brief one, or none was given, the input of which a command is owed, how the ticks lean and stretch, how full the
+-- line is, and how many bytes came that were no datagram
 pub record PaceState : Type 0 where
   pub lines : ℕ → Line
   pub given : ℕ → Bool
+  pub brief : ℕ → Bool
   pub owed : Option Input
   pub leaning : LeaningState
   pub stretching : StretchingState
@@ -30,6 +32,7 @@ state_of p =
     record {
       lines = λ player. get_or p.lines player new_line;
       given = λ player. get_or p.given player false;
+      brief = λ player. get_or p.brief player false;
       owed = p.owed;
       leaning = leaning_of p.leaning;
       stretching = stretching_of p.stretching;
@@ -37,10 +40,10 @@ state_of p =
       refused = p.refused;
     }
 
--- a datagram to a peer is a brief one, which carries the newest commands alone: another was given to the peer since
--- the last tick, or the line is full, and this is one of two
-abbrev pub is_brief : PaceState → (number to : ℕ) → Bool
-is_brief pace number to = pace.given to || shortens pace.congestion number
+-- the next datagram to a peer is a brief one, which carries the newest commands alone: another was given to the peer
+-- since the last tick; or the level is a high one, and the one before it was not brief
+abbrev pub is_brief : PaceState → ℕ → Bool
+is_brief pace to = pace.given to || (shortens pace.congestion && not (pace.brief to))
 
 -- the pace at first
 abbrev pub new_pace : PaceState
@@ -48,6 +51,7 @@ new_pace =
     record {
       lines = λ player. new_line;
       given = λ player. false;
+      brief = λ player. true;
       owed = None;
       leaning = record {
         rest = 0;

@@ -106,9 +106,9 @@ is_overdue history player reported lag = nat_lt reported (had history (lag.usual
 abbrev pub is_slow : (round_trip lag : Lag) → Bool
 is_slow round_trip lag = nat_le round_trip.usual lag.usual && nat_le 16 lag.usual
 
--- a tick: from one at which commands are overdue or slow on, they are handed on for 512 ticks
+-- a tick: from one at which commands are overdue or slow on, they are handed on for 2,048 ticks
 abbrev pub counted_down : Bool → Lag → Lag
-counted_down is_on lag = record lag { left = if is_on then 512 else lag.left - 1 }
+counted_down is_on lag = record lag { left = if is_on then 2048 else lag.left - 1 }
 
 -- the first command that is handed on: the oldest that the peer has not reported if it is overdue; else, for as
 -- long, the first that was not handed on before, or one of the newest two, if more than what is overdue is

@@ -62,7 +62,7 @@ pub record Arrives {marking : Marking} {limits : Limits} {settings : Settings} {
   pub waited : taken < rounds.waited (round + d) peer
   pub pace : PaceState
   pub gives : Gives seal pace peer (stretch.links given player) (stretch.links (suc given) player) bytes
-  pub full : is_brief pace ((stretch.links given player).peers peer).number peer ≡ false
+  pub full : is_brief pace peer ≡ false
   pub soon : made (stretch.links given player).node ≤ next_to (stretch.links given player).node peer + 12
   pub few : length gives.own < 22
   pub short : parts_room gives.own ≤ 998

@@ -115,7 +115,7 @@ pub fn links_bring_all()
         → made (links player).node ≤ next_to (links player).node to + (links player).node.places)
         → made (links player).node ≤ next_to (links player).node to + 12
         → (links player).node.phase ≡ Playing
-        → is_brief pace ((links player).peers to).number to ≡ false → (gives : Gives seal pace to (links player) new bytes)
+        → is_brief pace to ≡ false → (gives : Gives seal pace to (links player) new bytes)
         → length gives.own < 22 → parts_room gives.own ≤ 998
         → Brings (made (links player).node) (put links player new) gives.bundle }
     ensures stay { (limits : Limits) (links later : ℕ → Linked) (bundle : Bundle) (count : ℕ)

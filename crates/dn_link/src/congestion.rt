@@ -185,11 +185,11 @@ impl Congestion {
         self.level.level == 0 || self.level.level == 1 && self.turn(me, player) % 2 == 0
     }
 
-    /// Whether one of this number is a brief one.
-    pub(crate) fn shortens(&self, number: u32) -> bool
-        ensures { result ≡ shortens self.now number }
+    /// Whether one of two datagrams is a brief one.
+    pub(crate) fn shortens(&self) -> bool
+        ensures { result ≡ shortens self.now }
     {
-        self.level.level >= 3 && number % 2 == 1
+        self.level.level >= 3
     }
 
     /// Whether it went up since the line was an empty one.

@@ -75,7 +75,7 @@ const SHORT: u8 = 2 * PARTS;
 const LATE: u8 = 3;
 
 /// For how many ticks commands are handed on.
-const STAYS_ON: u16 = 512;
+const STAYS_ON: u16 = 2048;
 
 /// How many of the newest commands are handed on where none is overdue.
 const NEWEST: u32 = 2;

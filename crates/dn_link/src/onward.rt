@@ -29,7 +29,7 @@ pub fn kept_covers()
     ensures rising { (link : Link) (peer : ℕ) → IsKeptRising ((linked link).peers peer).kept }
     ensures few { (kept : Unacknowledged) → IsKeptRising kept → kept.done + length kept.packets ≤ kept.covered }
     ensures carried { (seal : Seal) (pace : PaceState) (to : ℕ) (old new : Linked) (bytes : List ℕ)
-        (gives : Gives seal pace to old new bytes) → is_brief pace (old.peers to).number to ≡ false
+        (gives : Gives seal pace to old new bytes) → is_brief pace to ≡ false
         → IsCovering (old.peers to).kept → length gives.own < 22 → parts_room gives.own ≤ 998
         → (packets : List Carried) × (flat_map (packets_of gives.bundle.from) gives.own
         ≡ map (opened_from old.node.me) packets)

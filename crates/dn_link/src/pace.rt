@@ -46,6 +46,8 @@ pub(crate) struct Pace {
     lines: [Line; 4],
     /// Whether each was given a datagram since the last tick.
     given: [bool; 4],
+    /// Whether the last that each was given was a brief one; true before the first.
+    brief: [bool; 4],
     /// The input of which a command is owed.
     pub(crate) owed: Option<Input>,
     leaning: Leaning,
@@ -63,6 +65,7 @@ impl Pace {
         Pace {
             lines: [Line::new(), Line::new(), Line::new(), Line::new()],
             given: [false; 4],
+            brief: [true; 4],
             owed: None,
             leaning: Leaning::new(),
             stretching: Stretching::new(),
@@ -88,12 +91,12 @@ impl Pace {
         self.lines[bundle.from as usize].hear(bundle);
     }
 
-    /// Whether a datagram to a peer, of this number, is a brief one.
-    pub(crate) fn is_brief(&self, number: u32, to: u8) -> bool
+    /// Whether the next datagram to a peer is a brief one.
+    pub(crate) fn is_brief(&self, to: u8) -> bool
         requires { to < 4 }
-        ensures { result ≡ is_brief (state_of self.now) number to }
+        ensures { result ≡ is_brief (state_of self.now) to }
     {
-        self.given[to as usize] || self.congestion.shortens(number)
+        self.given[to as usize] || self.congestion.shortens() && !self.brief[to as usize]
     }
 
     /// A peer is given a datagram.
@@ -101,6 +104,7 @@ impl Pace {
         requires { to < 4 }
         ensures { state_of self.new ≡ given_to to (state_of self.old) }
     {
+        self.brief[to as usize] = self.is_brief(to);
         self.given[to as usize] = true;
     }
 

@@ -36,7 +36,7 @@ impl Link {
         let me = self.me();
         let cause = told_cause(self.lockstep().phase());
         let packet = next_packet(self.survivor.lockstep_mut(), to);
-        let brief = self.pace.is_brief(self.peer(to).number(), to);
+        let brief = self.pace.is_brief(to);
         self.pace.give(to);
         let (number, own) = self.peers[to as usize].parts(me, packet, brief);
         let parts = self.with_handed(to, brief, own);

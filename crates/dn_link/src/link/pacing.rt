@@ -11,11 +11,12 @@ impl Link {
     ghost use Rattle.dn_link.specs.Pace.{congested, is_resting, reported_by, tells_lead};
     ghost use Rattle.std.specs.Prelude.{[], ◌∷◌};
 
-    /// Whether a player is a peer that was heard, and has not left as far as it was.
+    /// Whether a player is a peer in play: it is not given up, it was heard, and neither its datagrams nor an EXIT packet
+    /// told its end.
     fn is_paced(&self, player: u8) -> bool
         ensures { result ≡ is_paced (linked self.now) (pace_of self.now) player }
     {
-        self.is_peer(player)
+        self.remains(player)
             && self.pace.line(player).newest.is_some()
             && self.end(player).is_none()
             && self.peer(player).left.is_none()
@@ -97,12 +98,12 @@ impl Link {
         ]
     }
 
-    /// How many of this player's commands a player has reported.
+    /// How many of this player's commands a player has for certain, by what it reported.
     fn reports(&self, player: u8) -> u32
         requires { player < 4 }
         ensures { result ≡ reported_by (linked self.now) player }
     {
-        self.peer(player).reported_of(self.me())
+        self.certain(self.peer(player).reported_of(self.me()))
     }
 
     /// Of each.
@@ -153,8 +154,9 @@ impl Link {
     }
 
     /// Whether a peer that plays reports that two or more of the last datagrams to it did not come, or came
-    /// after newer ones: then one more goes half a tick after the tick's own, in case that one is lost too; but not
-    /// where all round trips are so long that this player's line seems full.
+    /// after newer ones, and the level of what goes to the peers allows one more: not in the first seconds, nor while
+    /// round trips are much longer than on an empty line. Then one goes half a tick after the tick's own, in case that
+    /// one is lost too.
     pub fn wants_second(&self, player: u8) -> bool
         ensures { result ≡ wants_second (linked self.now) (pace_of self.now) player }
     {

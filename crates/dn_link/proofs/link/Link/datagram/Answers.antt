@@ -30,9 +30,7 @@ returns-clause-gives c =
       number = ((here i).number + 1) % 2 ^ 32;
     })) in
     let now : Surviving = record { lockstep = after_it; others = (linked c.args.self.now).others } in
-    let brief : c.is_brief-brief.result ≡ is_brief (pace_of c.args.self.now) (peers_of peers c.args.to).number c.args.to =
-    c.is_brief-brief.ensures ∙ ap (λ (k : ℕ). is_brief (pace_of c.args.self.now) k c.args.to)
-    (c.number.ensures ∙ ap (λ (t : PeerState). t.number) c.peer.ensures) in
+    let brief : c.is_brief-brief.result ≡ is_brief (pace_of c.args.self.now) c.args.to = c.is_brief-brief.ensures in
     let behind = subst (λ (b : Bool). HasTwoBehind (record (linked c.args.self.now) {
       node = after_it;
       peers = peers_of (set peers c.args.to c.parts-number.new.self);
