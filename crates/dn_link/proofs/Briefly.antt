@@ -1,9 +1,12 @@
--- A level is held for some ticks, so that a player rests at three ticks in a row at most.
+-- A level is held for some ticks, so that a player rests at three ticks in a row at most. And no more than two brief
+-- datagrams are given in a row.
 use Rattle.std.proofs.Common.{◌≡◌, ◌≢◌, ◌⊎◌, ℕ, Bool, true, false, ◌≤◌, ◌<◌, ◌+◌, ◌%◌, List, refl, ap, sym, ◌∙◌, subst, arith, inl, inr}
-use Rattle.std.proofs.lemmas.Bool.{and_parts, or_cases, eqb-true, leb-true, not-true, eqb-false}
-use Rattle.std.specs.Prelude.{◌&&◌, ◌==◌, nat_le, nat_lt}
+use Rattle.std.proofs.lemmas.Bool.{and_parts, cond-false, cond-true, or_cases, eqb-true, leb-true, not-true, eqb-false}
+use Rattle.std.specs.Prelude.{◌&&◌, ◌==◌, min, nat_le, nat_lt}
 use Rattle.dn_link.specs.{declared.level.Level.Level, declared.congestion.Congestion.Congestion, declared.trip.Trip.Trip}
-use Rattle.dn_link.specs.Congestion.{aged, eased, levelled, may_step_up, rests, GoesBy, are_above, trips_after, turn}
+use Rattle.dn_link.specs.Congestion.{aged, between, eased, levelled, may_step_up, rests, GoesBy, are_above, trips_after, turn}
+use Rattle.dn_link.specs.{Pace.{given_to}, Pacing.{PaceState, is_brief}}
+use Rattle.dn_machine.proofs.Put.{put_at}
 
 -- it moved so many ticks ago, or fewer
 abbrev HasMoved : ℕ → Level → Type 0
@@ -136,3 +139,23 @@ briefly first second third fourth me player one two three is was had = go (rests
         (rests_at first me player is) (rests_at second me player was) (rests_at third me player had)
         (rests_at fourth me player rest) (omega (arith, second_tick)) (omega (arith, second_tick, third_tick))
         (omega (arith, second_tick, third_tick, fourth_tick)) at_most_once)
+
+-- a brief one is counted, if it is the first since a tick
+counted : (pace : PaceState) (to : ℕ) → pace.given to ≡ false → is_brief pace to ≡ true
+    → (given_to to pace).briefs to ≡ min (pace.briefs to + 1) 2
+counted pace to none brief = put_at pace.briefs to to _ refl ∙ cond-false (pace.given to) (pace.briefs to) _ none
+    ∙ cond-true (is_brief pace to) _ 0 brief
+
+at_most_two : (c : Congestion) → between c ≤ 2
+at_most_two c = grind arith
+
+pub third_is_full : (first second third : PaceState) (to : ℕ)
+    → first.given to ≡ false → is_brief first to ≡ true
+    → second.given to ≡ false → second.briefs to ≡ (given_to to first).briefs to → is_brief second to ≡ true
+    → third.given to ≡ false → third.briefs to ≡ (given_to to second).briefs to → is_brief third to ≡ false
+third_is_full first second third to one brief two after also three then =
+    let once : second.briefs to ≡ min (first.briefs to + 1) 2 = after ∙ counted first to one brief in
+    let twice : third.briefs to ≡ min (second.briefs to + 1) 2 = then ∙ counted second to two also in
+    let both : third.briefs to ≡ 2 = omega (arith, once, twice) in
+    let few = at_most_two third.congestion in
+    grind (arith, three, both, few)

@@ -165,9 +165,9 @@ abbrev pub allows_second : Congestion → (me player : ℕ) → Bool
 allows_second c me player =
     c.level.level == 0 || (c.level.level == 1 && turn c me player % 2 == 0)
 
--- from level 3 on one of two datagrams is a brief one
-abbrev pub shortens : Congestion → Bool
-shortens c = nat_le 3 c.level.level
+-- between two datagrams that are not brief go so many brief ones: from level 3 on one, and at level 5 two
+abbrev pub between : Congestion → ℕ
+between c = if nat_lt c.level.level 3 then 0 else (if c.level.level == 5 then 2 else 1)
 
 -- The state at first, and after a tick.
 

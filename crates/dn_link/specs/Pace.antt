@@ -1,5 +1,5 @@
 -- How the pace of a link changes.
-use Rattle.std.specs.{Prelude.{◌≡◌, ℕ, ◌+◌, ◌&&◌, ◌||◌, not, true, false, if◌then◌else◌, Bool, List, slice_index, nat_le, is_none, is_some, ◌+ℤ◌, ◌-ℤ◌, ℤ, pos, Option, None, Some, Result, Ok, Err}, Prelude.{false, slice_index, true}}
+use Rattle.std.specs.{Prelude.{◌≡◌, ℕ, ◌+◌, ◌&&◌, ◌||◌, min, not, true, false, if◌then◌else◌, Bool, List, slice_index, nat_le, is_none, is_some, ◌+ℤ◌, ◌-ℤ◌, ℤ, pos, Option, None, Some, Result, Ok, Err}, Prelude.{false, slice_index, true}}
 use Rattle.dn_tic.specs.declared.input.Input.{Input}
 use Rattle.dn_machine.specs.{declared.answers.Made.{Made, TheVariants.Full}, Node.put}
 use Rattle.dn_lockstep.specs.{Contents.{Contents}, Told.{made}}
@@ -26,9 +26,15 @@ abbrev pub after_datagram : Bundle → PaceState → PaceState
 after_datagram bundle pace =
     record pace { lines = put pace.lines bundle.from (heard_on bundle (pace.lines bundle.from)) }
 
+-- how many brief ones a peer was given in a row, after one more. Only the first since a tick is counted, and two at most
+abbrev pub briefs_after : PaceState → ℕ → ℕ
+briefs_after pace to =
+    if pace.given to then pace.briefs to else (if is_brief pace to then min (pace.briefs to + 1) 2 else 0)
+
 -- a datagram is given to a peer
 abbrev pub given_to : ℕ → PaceState → PaceState
-given_to to pace = record pace { given = put pace.given to true; brief = put pace.brief to (is_brief pace to) }
+given_to to pace =
+    record pace { given = put pace.given to true; briefs = put pace.briefs to (briefs_after pace to) }
 
 -- one is asked for, which only a peer gets who is not given up
 abbrev pub after_giving : Linked → ℕ → PaceState → PaceState

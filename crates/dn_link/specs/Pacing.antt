@@ -1,15 +1,15 @@
 -- What a link keeps for its pace.
-use Rattle.std.specs.{Prelude.{ℕ, Bool, ◌||◌, ◌&&◌, not, false, true, None, pos, Option, get_or}, Prelude.{Bool, false, ◌||◌}}
+use Rattle.std.specs.{Prelude.{ℕ, Bool, ◌||◌, nat_lt, false, None, pos, Option, get_or}, Prelude.{Bool, false, ◌||◌}}
 use Rattle.dn_tic.specs.declared.input.Input.{Input}
-use Rattle.dn_link.specs.{declared.{line.Line.Line, link.Link.Link, pace.Pace.Pace, leaning.Leaning.Leaning, stretching.Stretching.Stretching}, Line.new_line, Leaning.{LeaningState, StretchingState}, Congestion.{new_congestion, shortens}, Leaning.{TrimState}, declared.congestion.Congestion.{Congestion}, declared.trimming.Trim.{Trim}}
+use Rattle.dn_link.specs.{declared.{line.Line.Line, link.Link.Link, pace.Pace.Pace, leaning.Leaning.Leaning, stretching.Stretching.Stretching}, Line.new_line, Leaning.{LeaningState, StretchingState}, Congestion.{between, new_congestion}, Leaning.{TrimState}, declared.congestion.Congestion.{Congestion}, declared.trimming.Trim.{Trim}}
 
--- the line from each player, who was given a datagram since the last tick, to whom the last that was given was a
--- brief one, or none was given, the input of which a command is owed, how the ticks lean and stretch, how full the
--- line is, and how many bytes came that were no datagram
+-- the line from each player, who was given a datagram since the last tick, how many brief ones each was given in a
+-- row, the input of which a command is owed, how the ticks lean and stretch, how full the line is, and how many bytes
+-- came that were no datagram
 pub record PaceState : Type 0 where
   pub lines : ℕ → Line
   pub given : ℕ → Bool
-  pub brief : ℕ → Bool
+  pub briefs : ℕ → ℕ
   pub owed : Option Input
   pub leaning : LeaningState
   pub stretching : StretchingState
@@ -32,7 +32,7 @@ state_of p =
     record {
       lines = λ player. get_or p.lines player new_line;
       given = λ player. get_or p.given player false;
-      brief = λ player. get_or p.brief player false;
+      briefs = λ player. get_or p.briefs player 2;
       owed = p.owed;
       leaning = leaning_of p.leaning;
       stretching = stretching_of p.stretching;
@@ -41,9 +41,9 @@ state_of p =
     }
 
 -- the next datagram to a peer is a brief one, which carries the newest commands alone: another was given to the peer
--- since the last tick; or the level is a high one, and the one before it was not brief
+-- since the last tick, or by the level more brief ones go there in a row
 abbrev pub is_brief : PaceState → ℕ → Bool
-is_brief pace to = pace.given to || (shortens pace.congestion && not (pace.brief to))
+is_brief pace to = pace.given to || nat_lt (pace.briefs to) (between pace.congestion)
 
 -- the pace at first
 abbrev pub new_pace : PaceState
@@ -51,7 +51,7 @@ new_pace =
     record {
       lines = λ player. new_line;
       given = λ player. false;
-      brief = λ player. true;
+      briefs = λ player. 2;
       owed = None;
       leaning = record {
         rest = 0;

@@ -1,7 +1,7 @@
 //! How many datagrams go to the peers, by the round trips.
 
 ghost use Rattle.std.specs.Prelude.{◌≡◌, ◌<◌, ◌≤◌, ◌&&◌, ◌||◌, ◌∷◌, false, slice_index, slice_index_or, take};
-ghost use Rattle.dn_link.specs.Congestion.{agrees, allows_second, are_above, counts, how_many, is_near, knows, new_congestion, rests, shortens, some_are_near, ticked, timed_to, trip_at, trips_after, turn};
+ghost use Rattle.dn_link.specs.Congestion.{agrees, allows_second, are_above, between, counts, how_many, is_near, knows, new_congestion, rests, some_are_near, ticked, timed_to, trip_at, trips_after, turn};
 
 use crate::level::Level;
 use crate::trip::Trip;
@@ -185,11 +185,15 @@ impl Congestion {
         self.level.level == 0 || self.level.level == 1 && self.turn(me, player) % 2 == 0
     }
 
-    /// Whether one of two datagrams is a brief one.
-    pub(crate) fn shortens(&self) -> bool
-        ensures { result ≡ shortens self.now }
+    /// How many brief datagrams go between two that are not.
+    pub(crate) fn between(&self) -> u8
+        ensures { result ≡ between self.now }
     {
-        self.level.level >= 3
+        match self.level.level {
+            0..=2 => 0,
+            5 => 2,
+            _ => 1,
+        }
     }
 
     /// Whether it went up since the line was an empty one.

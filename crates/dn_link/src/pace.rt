@@ -5,7 +5,7 @@ ghost use Rattle.dn_lockstep.specs.Contents.{contents};
 ghost use Rattle.dn_link.specs.{Leaning.{looks, step_of, worked_off, stretches}, Pace.{after_datagram, after_input, after_refusal, still_owed, with_leads}, Pacing.{new_pace, state_of}};
 ghost use Rattle.dn_link.specs.Congestion.{ticked};
 ghost use Rattle.dn_link.specs.Leaning.{IsLean};
-ghost use Rattle.dn_link.specs.Pace.{given_to};
+ghost use Rattle.dn_link.specs.Pace.{briefs_after, given_to};
 ghost use Rattle.dn_link.specs.Pacing.{is_brief};
 ghost use Rattle.std.specs.Prelude.{false, slice_index, slice_index_or, ◌≤ℤ◌};
 
@@ -46,8 +46,8 @@ pub(crate) struct Pace {
     lines: [Line; 4],
     /// Whether each was given a datagram since the last tick.
     given: [bool; 4],
-    /// Whether the last that each was given was a brief one; true before the first.
-    brief: [bool; 4],
+    /// How many brief ones each was given in a row, each as the first since a tick: 2 at most, and at first.
+    briefs: [u8; 4],
     /// The input of which a command is owed.
     pub(crate) owed: Option<Input>,
     leaning: Leaning,
@@ -65,7 +65,7 @@ impl Pace {
         Pace {
             lines: [Line::new(), Line::new(), Line::new(), Line::new()],
             given: [false; 4],
-            brief: [true; 4],
+            briefs: [2; 4],
             owed: None,
             leaning: Leaning::new(),
             stretching: Stretching::new(),
@@ -96,7 +96,22 @@ impl Pace {
         requires { to < 4 }
         ensures { result ≡ is_brief (state_of self.now) to }
     {
-        self.given[to as usize] || self.congestion.shortens() && !self.brief[to as usize]
+        self.given[to as usize] || self.briefs[to as usize] < self.congestion.between()
+    }
+
+    /// How many brief ones a peer was given in a row, after one more.
+    fn briefs_after(&self, to: u8) -> u8
+        requires { to < 4 }
+        ensures { result ≡ briefs_after (state_of self.now) to }
+    {
+        let briefs = self.briefs[to as usize];
+        if self.given[to as usize] {
+            briefs
+        } else if self.is_brief(to) {
+            briefs.saturating_add(1).min(2)
+        } else {
+            0
+        }
     }
 
     /// A peer is given a datagram.
@@ -104,7 +119,7 @@ impl Pace {
         requires { to < 4 }
         ensures { state_of self.new ≡ given_to to (state_of self.old) }
     {
-        self.brief[to as usize] = self.is_brief(to);
+        self.briefs[to as usize] = self.briefs_after(to);
         self.given[to as usize] = true;
     }
 

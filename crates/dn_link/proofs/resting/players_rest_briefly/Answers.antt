@@ -1,5 +1,5 @@
-use Rattle.dn_link.proofs.Briefly.{briefly}
+use Rattle.dn_link.proofs.Briefly.{briefly, third_is_full}
 use Rattle.dn_link.proofs.resting.players_rest_briefly.Goals as goal
 
 pub returns : goal.returns
-returns c = briefly
+returns c = record { rest = briefly; brief = third_is_full }
