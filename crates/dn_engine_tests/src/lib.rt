@@ -3,6 +3,8 @@
 #![tactic(auto)]
 
 mod calls;
+#[cfg(test)]
+mod links;
 mod pairs;
 mod sealed;
 mod sessions;
