@@ -1,6 +1,7 @@
 -- A call on one player takes the game on.
-use Rattle.std.proofs.Common.{◌≡◌, ◌++◌, ℕ, zero, suc, List, [], ◌∷◌, Option, Some, None, sym, ap, ◌∙◌, subst, length, ◌≢◌, ◌<◌, set, refl, inl, inr, arith}
-use Rattle.std.specs.Prelude.{All, IfSome, slice_get}
+use Rattle.std.proofs.Common.{◌≡◌, ◌++◌, ℕ, zero, suc, List, [], ◌∷◌, Option, Some, None, sym, ap, ◌∙◌, subst, length, ◌≢◌, ◌<◌, set, refl, inl, inr, arith, true, true≢false, take, ◌+◌, length-append}
+use Rattle.std.specs.Prelude.{All, IfSome, Bool, false, if◌then◌else◌, count_by, is_some, slice_get, Result}
+use Rattle.std.proofs.lemmas.List.{take_all, take-append-le}
 use Rattle.std.proofs.lemmas.List.Elements.{All-head, All-push, All-tail, All-weaker}
 use Rattle.std.proofs.lemmas.Option.{none-some, same_Some, slice_get_within}
 use Rattle.std.proofs.lemmas.Bool.{cases_eq}
@@ -8,11 +9,24 @@ use Rattle.arrayvec.specs.ArrayVec.{ArrayVec}
 use Rattle.dn_setup.specs.Settings.{Settings}
 use Rattle.dn_world.specs.Physics.{Physics}
 use Rattle.dn_machine.specs.{Limits.Limits, Node.put}
-use Rattle.dn_machine.proofs.Put.{put_at, put_off, same_functions, set_elsewhere, set_here}
+use Rattle.dn_machine.proofs.Put.{put_at, put_off, view_kept}
 use Rattle.dn_seal.specs.declared.seal.Seal.{Seal}
 use Rattle.dn_survivor.specs.OneGame.{Session}
 use Rattle.dn_link.specs.{Linking.{linked, seal_of}, RemainingLinks.{IsGenuineIn, KeepsGiven, WasSealedIn}, Linked.Linked}
-use Rattle.dn_link_game.specs.{Games.IsLinkGame, Genuine.{IsGenuine, WasGiven}, Headline.HasPlayer, declared.game.LinkGame.LinkGame, declared.player.Player.Player, Playing.{GoesOnIf, GoesTo, IsPlayer, Seen}}
+use Rattle.dn_link_game.specs.{Games.IsLinkGame, Applied.AddsToGiven, Genuine.{IsGenuine, IsGenuineEvent, WasGiven, was_given}, Headline.HasPlayer, declared.game.LinkGame.LinkGame, declared.player.Player.Player, Playing.{Asked, GoesOnIf, GoesTo, IsPlayer, Seen, is_send}}
+use Rattle.dn_link_game.specs.declared.calls.{LinkCall.{LinkCall, TheVariants.{Build, CatchUp, Tick, Run, Send, Receive, GiveUp, Quit}}, LinkDone.LinkDone, LinkEvent.TheVariants.Call, LinkRefusal.LinkRefusal, Sending.Sending}
+
+set_here : {A : Type 0} (xs : List A) (i : ℕ) (x : A) → i < length xs → slice_get (set xs i x) i ≡ Some x
+set_here [] i x h = absurd (omega (arith, h))
+set_here (y ∷ xs) zero x h = refl
+set_here (y ∷ xs) (suc i) x h = set_here xs i x (omega (arith, h))
+
+set_elsewhere : {A : Type 0} (xs : List A) (i j : ℕ) (x : A) → j ≢ i → slice_get (set xs i x) j ≡ slice_get xs j
+set_elsewhere [] i j x h = refl
+set_elsewhere (y ∷ xs) zero zero x h = absurd (h refl)
+set_elsewhere (y ∷ xs) zero (suc j) x h = refl
+set_elsewhere (y ∷ xs) (suc i) zero x h = refl
+set_elsewhere (y ∷ xs) (suc i) (suc j) x h = set_elsewhere xs i j x (λ e. h (ap suc e))
 
 length_set : {A : Type 0} (xs : List A) (i : ℕ) (x : A) → length (set xs i x) ≡ length xs
 length_set [] i x = refl
@@ -27,6 +41,25 @@ joined xs (Some x) = xs ++ x ∷ []
 all_joined : {A : Type 0} (P : A → Type 0) (xs : List A) (one : Option A) → All P xs → IfSome one P → All P (joined xs one)
 all_joined P xs None all more = all
 all_joined P xs (Some x) all more = All-push P xs x all more
+
+counted : (answer : Result LinkDone LinkRefusal) (given : Bool) → was_given answer ≡ given
+    → count_by was_given (answer ∷ []) ≡ (if given then 1 else 0)
+counted answer given is = grind (arith, is)
+
+-- what was given stays, and one more if the answer tells so
+pub keeps : {W : Type 0} (old new : LinkGame W) (answer : Result LinkDone LinkRefusal) (one : Option (ArrayVec ℕ))
+    → new.given.items ≡ joined old.given.items one → was_given answer ≡ is_some one → AddsToGiven old new answer
+keeps old new answer None is told = record {
+  stays = ap (take (length old.given.items)) is ∙ take_all (length old.given.items) old.given.items (omega arith);
+  more = let same = ap length is in let none = counted answer false told in omega (arith, same, none);
+}
+keeps old new answer (Some bytes) is told = record {
+  stays = ap (take (length old.given.items)) is ∙ take-append-le (length old.given.items) old.given.items (bytes ∷ []) (omega arith)
+      ∙ take_all (length old.given.items) old.given.items (omega arith);
+  more = let longer = ap length is ∙ length-append old.given.items (bytes ∷ []) in
+      let one = counted answer true told in
+      omega (arith, longer, one);
+}
 
 -- what was sealed stays so
 abbrev Stays : Type 0
@@ -104,6 +137,16 @@ module _ {W S : Type 0} (state : W → S) (physics : Physics S) (old new : LinkG
       (on limits settings is.session is.links me seen is.game (omega (arith, inside, is.places)) is.as_seen
       (is.players me before at) holds)
 
+  -- and one of which nothing is seen
+  pub goes_unseen : (Holds : Session → ℕ → Type 0) → GoesOnIf state physics before after Holds given (λ seen. seen)
+      → (limits : Limits) (settings : Settings) (seal : Seal) (seen : ℕ → Seen)
+      → (is : IsLinkGame state physics limits settings seal seen old) → Holds is.session me
+      → IsLinkGame state physics limits settings seal seen new
+  goes_unseen Holds on limits settings seal seen is holds =
+      subst (λ (s : ℕ → Seen). IsLinkGame state physics limits settings seal s new)
+      (view_kept (λ (s : Seen). s) seen me (seen me) refl)
+      (goes Holds (λ seen. seen) on limits settings seal seen is holds)
+
 -- What was given in a game may come to any of its players.
 
 all_at : {X : Type 0} (P : X → Type 0) (xs : List X) → All P xs → (k : ℕ) (x : X) → slice_get xs k ≡ Some x → P x
@@ -135,6 +178,28 @@ module _ {W S : Type 0} (state : W → S) (physics : Physics S) (limits : Limits
   pub asked : (bytes : List ℕ) → IsGenuine seal g.given.items me bytes
       → IsGenuineIn (seal_of player.link) is.session me bytes
   asked bytes ask = of_player bytes (λ bundle e. genuine seal is.session me bytes (was bytes (ask bundle e)) bundle e)
+
+  -- so what is asked of a call is so
+  pub asked_of : (call : LinkCall) → IsGenuineEvent seal g.given.items (Call me call) → Asked call player is.session me
+  asked_of (Build input) ask = tt
+  asked_of CatchUp ask = tt
+  asked_of Tick ask = tt
+  asked_of Run ask = tt
+  asked_of (Send to what) ask = tt
+  asked_of (Receive bytes) ask = asked bytes.now ask
+  asked_of (GiveUp peer) ask = tt
+  asked_of Quit ask = tt
+
+-- a call that asks for a datagram is one
+pub sends : (call : LinkCall) → is_send call ≡ true → (to : ℕ) × (what : Sending) × (call ≡ Send to what)
+sends (Build input) e = absurd (true≢false (sym e))
+sends CatchUp e = absurd (true≢false (sym e))
+sends Tick e = absurd (true≢false (sym e))
+sends Run e = absurd (true≢false (sym e))
+sends (Send to what) e = (to, what, refl)
+sends (Receive bytes) e = absurd (true≢false (sym e))
+sends (GiveUp peer) e = absurd (true≢false (sym e))
+sends Quit e = absurd (true≢false (sym e))
 
 -- a game of which nothing changed but the room
 pub stands : {W S : Type 0} (state : W → S) (physics : Physics S) (limits : Limits) (settings : Settings) (seal : Seal)

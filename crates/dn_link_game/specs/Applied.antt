@@ -20,6 +20,6 @@ IsAnswered g (Deliver player which) (Ok done) = (player < length g.players.items
 IsAnswered g event refused = ⊥
 
 -- what was given stays, and one datagram more was given if the answer tells so
-pub record KeepsGiven {W : Type 0} (old new : LinkGame W) (answer : Result LinkDone LinkRefusal) : Type 0 where
+pub record AddsToGiven {W : Type 0} (old new : LinkGame W) (answer : Result LinkDone LinkRefusal) : Type 0 where
   pub stays : take (length old.given.items) new.given.items ≡ old.given.items
   pub more : length new.given.items ≡ length old.given.items + count_by was_given (answer ∷ [])

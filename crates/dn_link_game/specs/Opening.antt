@@ -24,9 +24,12 @@ IsAdmittedAs config players me = IsAdmittedWithin (keyed (config_of config playe
 abbrev pub IsAdmitted : {A : Type 0} → LinkGameConfig → ℕ → Result A NodeFault → Type 0
 IsAdmitted config worlds = IsAdmittedAs config worlds 0
 
--- its players, so many, are new
-pub record AreNew {W S : Type 0} (state : W → S) (physics : Physics S) (config : LinkGameConfig) (count : ℕ)
-    (players : List (Player W)) : Type 0 where
-  pub as_many : length players ≡ count
-  pub each : (i : ℕ) (player : Player W) → slice_get players i ≡ Some player
-      → IsNew state physics (limits_of config count) config.settings config.seal i player
+-- each of these players of a game of so many is new
+abbrev pub EachIsNew : {W S : Type 0} → (W → S) → Physics S → LinkGameConfig → ℕ → List (Player W) → Type 0
+EachIsNew {W} state physics config count players = (i : ℕ) (player : Player W) → slice_get players i ≡ Some player
+    → IsNew state physics (limits_of config count) config.settings config.seal i player
+
+-- and they are so many
+abbrev pub AreNew : {W S : Type 0} → (W → S) → Physics S → LinkGameConfig → ℕ → List (Player W) → Type 0
+AreNew state physics config count players =
+    (length players ≡ count) × EachIsNew state physics config count players

@@ -1,5 +1,5 @@
 -- A player of a game of links, in whatever session of the game its link is, and what its caller has seen of it.
-use Rattle.std.specs.Prelude.{◌≡◌, ◌<◌, ℕ, List, [], Option, Some, None, IfSome, fold, Bool, false}
+use Rattle.std.specs.Prelude.{◌≡◌, ◌<◌, ℕ, List, [], Option, Some, None, IfSome, fold, Bool, false, true}
 use Rattle.arrayvec.specs.ArrayVec.{ArrayVec}
 use Rattle.dn_tic.specs.declared.{command.Move.Move, input.Input.Input}
 use Rattle.dn_setup.specs.Settings.{Settings}
@@ -8,7 +8,7 @@ use Rattle.dn_machine.specs.{declared.answers.Made.Made, Limits.Limits, Node.put
 use Rattle.dn_lockstep.specs.{Marking.{History, Marking}, OneGame.{world_told, taken_on, told_on}}
 use Rattle.dn_survivor.specs.OneGame.{Session}
 use Rattle.dn_link.specs.{Linked.Linked, Linking.{linked, seal_of}, Pace.still_owed, Pacing.pace_of, RemainingLinks.{AreRemainingLinks, IsGenuineIn, StayRemaining, WasSealedIn}}
-use Rattle.dn_link_game.specs.declared.{calls.{LinkCall.{LinkCall, TheVariants.{Build, CatchUp, Receive, Run}}, LinkDone.LinkDone}, player.Player.Player}
+use Rattle.dn_link_game.specs.declared.{calls.{LinkCall.{LinkCall, TheVariants.{Build, CatchUp, Receive, Run, Send}}, LinkDone.LinkDone}, player.Player.Player}
 
 -- the world that began so, with these seats taken, and was stepped by these rows
 abbrev pub world_by : {S : Type 0} → Physics S → History → S
@@ -48,6 +48,11 @@ sees (Build input) (LinkDone.Built made) seen = taking input made seen
 sees CatchUp (LinkDone.CaughtUp made) seen = taking_owed seen.owed made seen
 sees Run (LinkDone.Ran ran row) seen = telling row seen
 sees _ _ seen = seen
+
+-- a call asks for a datagram
+abbrev pub is_send : LinkCall → Bool
+is_send (Send to what) = true
+is_send call = false
 
 -- the answer tells that a datagram was given
 abbrev pub gives : LinkDone → Bool

@@ -1,7 +1,7 @@
 //! All players of a game of links, and every datagram that they gave.
 
-ghost use Rattle.std.specs.{Prelude.{◌≡◌, ◌+◌, ◌≤◌, length, OnOk, OnErr, nat_lt}, Vec.{vec_capacity, vec_len}};
-ghost use Rattle.dn_link_game.specs.{Applied.{IsAnswered, KeepsGiven}, Games.GoesOn, Promised.seen_by};
+ghost use Rattle.std.specs.{Prelude.{◌≡◌, ◌+◌, ◌≤◌, length, OnOk, OnErr, nat_lt, true}, Vec.{vec_capacity, vec_len}};
+ghost use Rattle.dn_link_game.specs.{Applied.{IsAnswered, AddsToGiven}, Games.GoesOn, Playing.is_send, Promised.seen_by};
 ghost use Rattle.dn_link_game.specs.declared.calls.LinkEvent.TheVariants.{Call, Deliver};
 
 use crate::calls::{LinkCall, LinkDone, LinkEvent, LinkRefusal};
@@ -28,22 +28,34 @@ impl<W: World> LinkGame<W> {
         (player as usize) < self.players.len()
     }
 
+    /// Makes room for the datagram that a call asks for, if it does.
+    fn make_room(&mut self, call: &LinkCall) -> Result<(), AllocError>
+        ensures players { self.new.players ≡ self.old.players }
+        ensures given { self.new.given.items ≡ self.old.given.items }
+        ensures room { OnOk result (is_send call.now ≡ true
+            → vec_len self.new.given + 1 ≤ vec_capacity self.new.given) }
+        ensures asked { OnErr result (is_send call.now ≡ true) }
+    {
+        match call {
+            LinkCall::Send { .. } => grow(&mut self.given),
+            _ => Ok(()),
+        }
+    }
+
     /// A call on a player; what it gives joins what was given. Room for that is made first.
     fn call(&mut self, player: u32, call: &LinkCall) -> Result<LinkDone, LinkRefusal>
         ensures goes_on { GoesOn W.state W.physics self.old self.new (Call player call.now) (seen_by (Call player call.now) result) }
         ensures answered { IsAnswered self.old (Call player call.now) result }
-        ensures given { KeepsGiven self.old self.new result }
+        ensures given { AddsToGiven self.old self.new result }
         ensures unchanged { OnErr result ((self.new.players ≡ self.old.players) × (self.new.given.items ≡ self.old.given.items)) }
     {
         remaining_bytes_are_genuine();
         if !self.is_player(player) {
             return Err(LinkRefusal::NoPlayer);
         }
-        if let LinkCall::Send { .. } = call {
-            let Ok(()) = grow(&mut self.given) else {
-                return Err(LinkRefusal::Memory);
-            };
-        }
+        let Ok(()) = self.make_room(call) else {
+            return Err(LinkRefusal::Memory);
+        };
         let (done, given) = self.players[player as usize].call(call);
         if let Some(bytes) = given {
             self.given.push_reserved(bytes);
@@ -55,7 +67,7 @@ impl<W: World> LinkGame<W> {
     fn deliver(&mut self, player: u32, which: u32) -> Result<LinkDone, LinkRefusal>
         ensures goes_on { GoesOn W.state W.physics self.old self.new (Deliver player which) (seen_by (Deliver player which) result) }
         ensures answered { IsAnswered self.old (Deliver player which) result }
-        ensures given { KeepsGiven self.old self.new result }
+        ensures given { AddsToGiven self.old self.new result }
         ensures unchanged { OnErr result ((self.new.players ≡ self.old.players) × (self.new.given.items ≡ self.old.given.items)) }
     {
         remaining_bytes_are_genuine();
@@ -74,7 +86,7 @@ impl<W: World> LinkGame<W> {
         // Where the game is one of links, in which this was seen, it is one after the event too.
         ensures goes_on { GoesOn W.state W.physics self.old self.new event.now (seen_by event.now result) }
         ensures answered { IsAnswered self.old event.now result }
-        ensures given { KeepsGiven self.old self.new result }
+        ensures given { AddsToGiven self.old self.new result }
         ensures unchanged { OnErr result ((self.new.players ≡ self.old.players) × (self.new.given.items ≡ self.old.given.items)) }
     {
         match event {

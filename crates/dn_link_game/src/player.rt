@@ -1,8 +1,8 @@
 //! One player of a game: a link, and a world that is stepped by the rows that the link tells.
 
-ghost use Rattle.std.specs.Prelude.{◌≡◌, ◌<◌, ℕ, None, pos, get_or, is_some, IfOk};
+ghost use Rattle.std.specs.Prelude.{◌≡◌, ◌<◌, ℕ, None, pos, get_or, is_some, true, IfOk};
 ghost use Rattle.dn_link.specs.Linking.{seal_of};
-ghost use Rattle.dn_link_game.specs.{Games.IsNew, Opening.IsAdmittedAs, Opening.limits_of, Playing.{Asked, GoesOn, GoesOnIf, gives, sees, taking, telling}};
+ghost use Rattle.dn_link_game.specs.{Games.IsNew, Opening.IsAdmittedAs, Opening.limits_of, Playing.{Asked, GoesOn, GoesOnIf, gives, is_send, sees, taking, telling}};
 
 use crate::calls::{LinkCall, LinkDone, Sending};
 use crate::config::LinkGameConfig;
@@ -115,6 +115,7 @@ impl<W: World> Player<W> {
     pub fn call(&mut self, call: &LinkCall) -> (LinkDone, Option<ArrayVec<u8, 1200>>)
         ensures goes_on { GoesOnIf W.state W.physics self.old self.new (Asked call.now self.old) result.1 (sees call.now result.0) }
         ensures gives { is_some result.1 ≡ gives result.0 }
+        ensures asked { is_some result.1 ≡ true → is_send call.now ≡ true }
         ensures seal { seal_of self.new.link ≡ seal_of self.old.link }
     {
         remaining_links_go_on();
