@@ -1,6 +1,6 @@
 -- A call on one player takes the game on.
-use Rattle.std.proofs.Common.{◌≡◌, ◌++◌, ℕ, zero, suc, List, [], ◌∷◌, Option, Some, None, sym, ap, ◌∙◌, subst, length, ◌≢◌, ◌<◌, set, refl, inl, inr, arith, true, true≢false, take, ◌+◌, length-append}
-use Rattle.std.specs.Prelude.{All, IfSome, Bool, false, if◌then◌else◌, count_by, is_some, slice_get, Result}
+use Rattle.std.proofs.Common.{◌≡◌, ◌++◌, ℕ, zero, suc, List, [], ◌∷◌, Option, Some, None, sym, ap, ◌∙◌, subst, length, ◌≢◌, ◌<◌, set, refl, inl, inr, arith, true, true≢false, take, length-append}
+use Rattle.std.specs.Prelude.{All, IfSome, is_some, slice_get, Result}
 use Rattle.std.proofs.lemmas.List.{take_all, take-append-le}
 use Rattle.std.proofs.lemmas.List.Elements.{All-head, All-push, All-tail, All-weaker}
 use Rattle.std.proofs.lemmas.Option.{none-some, same_Some, slice_get_within}
@@ -42,23 +42,18 @@ all_joined : {A : Type 0} (P : A → Type 0) (xs : List A) (one : Option A) → 
 all_joined P xs None all more = all
 all_joined P xs (Some x) all more = All-push P xs x all more
 
-counted : (answer : Result LinkDone LinkRefusal) (given : Bool) → was_given answer ≡ given
-    → count_by was_given (answer ∷ []) ≡ (if given then 1 else 0)
-counted answer given is = grind (arith, is)
-
 -- what was given stays, and one more if the answer tells so
 pub keeps : {W : Type 0} (old new : LinkGame W) (answer : Result LinkDone LinkRefusal) (one : Option (ArrayVec ℕ))
     → new.given.items ≡ joined old.given.items one → was_given answer ≡ is_some one → AddsToGiven old new answer
 keeps old new answer None is told = record {
   stays = ap (take (length old.given.items)) is ∙ take_all (length old.given.items) old.given.items (omega arith);
-  more = let same = ap length is in let none = counted answer false told in omega (arith, same, none);
+  more = let same = ap length is in rw told (omega (arith, same));
 }
 keeps old new answer (Some bytes) is told = record {
   stays = ap (take (length old.given.items)) is ∙ take-append-le (length old.given.items) old.given.items (bytes ∷ []) (omega arith)
       ∙ take_all (length old.given.items) old.given.items (omega arith);
   more = let longer = ap length is ∙ length-append old.given.items (bytes ∷ []) in
-      let one = counted answer true told in
-      omega (arith, longer, one);
+      rw told (omega (arith, longer));
 }
 
 -- what was sealed stays so

@@ -1,5 +1,5 @@
 -- What is seen of a player's calls, in whatever session its link is.
-use Rattle.std.proofs.Common.{◌≡◌, ◌<◌, ◌++◌, ◌∷◌, [], ℕ, List, Option, Some, None, refl, sym, ap, ◌∙◌, subst}
+use Rattle.std.proofs.Common.{◌≡◌, ◌<◌, ℕ, List, Option, Some, None, refl, sym, ap, ◌∙◌, subst}
 use Rattle.std.specs.Option.{option_map}
 use Rattle.std.proofs.lemmas.Option.{none-some, same_Some}
 use Rattle.std.specs.Prelude.{IfSome, Bool, true, false, if◌then◌else◌, Result, Ok, Err}
@@ -9,7 +9,7 @@ use Rattle.dn_tic.specs.declared.{command.Move.Move, input.Input.Input}
 use Rattle.dn_setup.specs.Settings.{Settings, start_of}
 use Rattle.dn_world.specs.Physics.{Physics}
 use Rattle.dn_machine.specs.{declared.answers.Made.Made, Limits.Limits, Node.put, Worlds.Inputs}
-use Rattle.dn_machine.proofs.Put.{put_at, view_kept, view_put}
+use Rattle.dn_machine.proofs.Put.{view_kept, view_put}
 use Rattle.dn_lockstep.specs.{Marking.Marking, OneGame.{taken_on, told_on, world_told}, Rows.seats_of, Told.Builds}
 use Rattle.dn_seal.specs.declared.seal.Seal.{Seal}
 use Rattle.dn_survivor.specs.OneGame.{Session, after_build, after_run, with_survivor}

@@ -1,6 +1,6 @@
 -- Which events of a game of links are refused, and what is given.
-use Rattle.std.specs.Prelude.{◌≡◌, ◌<◌, ◌≤◌, ℕ, ◌+◌, ◌∷◌, [], length, take, count_by, Result, Ok, Err}
-use Rattle.dn_link_game.specs.{Genuine.was_given, declared.game.LinkGame.LinkGame}
+use Rattle.std.specs.Prelude.{◌≡◌, ◌<◌, ◌≤◌, ℕ, ◌+◌, ◌∷◌, [], length, take, Result, Ok, Err}
+use Rattle.dn_link_game.specs.{Genuine.given_by, declared.game.LinkGame.LinkGame}
 use Rattle.dn_link_game.specs.declared.calls.{LinkCall.TheVariants.Send, LinkDone.LinkDone, LinkEvent.{LinkEvent, TheVariants.{Call, Deliver}}, LinkRefusal.{LinkRefusal, TheVariants.{NoPlayer, NoDatagram, Memory}}}
 
 -- whom an event names
@@ -22,4 +22,4 @@ IsAnswered g event refused = ⊥
 -- what was given stays, and one datagram more was given if the answer tells so
 pub record AddsToGiven {W : Type 0} (old new : LinkGame W) (answer : Result LinkDone LinkRefusal) : Type 0 where
   pub stays : take (length old.given.items) new.given.items ≡ old.given.items
-  pub more : length new.given.items ≡ length old.given.items + count_by was_given (answer ∷ [])
+  pub more : length new.given.items ≡ length old.given.items + given_by (answer ∷ [])

@@ -1,8 +1,8 @@
 -- What a game of links is: what holds when it opens and after each event. The headline does not speak of this,
 -- but rests on it.
-use Rattle.std.specs.Prelude.{◌≡◌, ℕ, All, length, List}
+use Rattle.std.specs.Prelude.{◌≡◌, ℕ, All, length}
 use Rattle.arrayvec.specs.ArrayVec.{ArrayVec}
-use Rattle.dn_setup.specs.Settings.{Settings, start_of}
+use Rattle.dn_setup.specs.Settings.{IsSettings, Settings, start_of}
 use Rattle.dn_world.specs.Physics.{Physics}
 use Rattle.dn_seal.specs.declared.seal.Seal.{Seal}
 use Rattle.dn_machine.specs.{Limits.Limits, Started.started_node}
@@ -34,6 +34,7 @@ pub record IsNew {W S : Type 0} (state : W → S) (physics : Physics S) (limits 
   pub peers : (peer : ℕ) → (linked player.link).peers peer ≡ new_peer
   pub pace : pace_of player.link ≡ new_pace
   pub world : state player.world ≡ physics.begin (start_of settings) (seats_of limits.players)
+  pub chosen : IsSettings settings
   pub sealed : seal_of player.link ≡ seal
 
 -- a game of links is one after an event too, if what is asked of the event is so

@@ -1,5 +1,5 @@
 -- What is asked of the network, and of whoever hands in bytes: what a player opens was given in this game.
-use Rattle.std.specs.Prelude.{◌≡◌, ℕ, Some, List, take, slice_get, count_by, Result, Ok, Bool, false}
+use Rattle.std.specs.Prelude.{◌≡◌, ℕ, ◌+◌, Some, List, [], ◌∷◌, take, slice_get, if◌then◌else◌, Result, Ok, Bool, false}
 use Rattle.arrayvec.specs.ArrayVec.{ArrayVec}
 use Rattle.dn_open.specs.Sealed.{sealing_of}
 use Rattle.dn_seal.specs.declared.seal.Seal.{Seal}
@@ -29,8 +29,13 @@ abbrev pub was_given : Result LinkDone LinkRefusal → Bool
 was_given (Ok done) = gives done
 was_given refused = false
 
+-- how many datagrams these answers tell to have been given
+abbrev pub given_by : List (Result LinkDone LinkRefusal) → ℕ
+given_by [] = 0
+given_by (answer ∷ answers) = (if was_given answer then 1 else 0) + given_by answers
+
 -- each event is so, by what was given before it: as many of these datagrams as the earlier answers tell
 abbrev pub AreGenuine : Seal → List (ArrayVec ℕ) → List LinkEvent → List (Result LinkDone LinkRefusal) → Type 0
 AreGenuine seal given events answers =
     (k : ℕ) (event : LinkEvent) → slice_get events k ≡ Some event
-    → IsGenuineEvent seal (take (count_by was_given (take k answers)) given) event
+    → IsGenuineEvent seal (take (given_by (take k answers)) given) event

@@ -1,7 +1,7 @@
 //! What holds of every game of links.
 
 ghost use Rattle.std.specs.Prelude.{◌≡◌, ◌≤◌, ℕ, [], length};
-ghost use Rattle.dn_setup.specs.Settings.{IsSettings, Settings};
+ghost use Rattle.dn_setup.specs.Settings.{Settings};
 ghost use Rattle.dn_machine.specs.Limits.{IsWindow, Limits};
 ghost use Rattle.dn_lockstep.specs.Opening.{IsGame};
 ghost use Rattle.dn_seal.specs.declared.seal.Seal.{Seal};
@@ -28,7 +28,7 @@ pub fn linked_games_agree<W: World>()
 /// link is what `Link::new` says of one.
 pub fn linked_game_starts<W: World>()
     ensures { (limits : Limits) (settings : Settings) (seal : Seal) (g : LinkGame W)
-        → IsWindow limits → IsGame limits.players → limits.places ≤ 24 → IsSettings settings
+        → IsWindow limits → IsGame limits.players → limits.places ≤ 24
         → length g.players.items ≡ limits.players → g.given.items ≡ []
         → ((i : ℕ) (player : Player W) → HasPlayer g i player
         → IsNew W.state W.physics limits settings seal i player)

@@ -49,7 +49,11 @@ fn new_players<W: World>(
 
 impl<W: World> LinkGame<W> {
     /// A game with a player for each world, in the players' order, in which nothing was given yet.
-    pub fn new(alloc: Global, config: &LinkGameConfig, worlds: Vec<W>) -> Result<LinkGame<W>, NodeFault>
+    pub fn new(
+        alloc: Global,
+        config: &LinkGameConfig,
+        worlds: Vec<W>,
+    ) -> Result<LinkGame<W>, NodeFault>
         ensures admitted { IsAdmitted config.now (length worlds.items) result }
         ensures opened { IfOk result (λ game. AreNew W.state W.physics config.now (length worlds.items) game.players.items) }
         ensures given { IfOk result (λ game. game.given.items ≡ []) }

@@ -7,7 +7,7 @@ use crate::calls::{LinkDone, LinkEvent, LinkRefusal};
 use crate::config::LinkGameConfig;
 use crate::game::LinkGame;
 use crate::laws::{linked_game_starts, linked_games_agree};
-use dn_lockstep::NodeFault;
+use dn_lockstep::{NodeFault, windows_hold};
 use dn_world::World;
 use std::alloc::Global;
 
@@ -33,6 +33,7 @@ pub fn play_links<W: World>(
     ensures played { IfOk result (λ played. HavePlayed W.state W.physics (limits_of config.now (length worlds.items))
         config.now.settings config.now.seal events.now played.answers.items played.game) }
 {
+    windows_hold();
     linked_game_starts::<W>();
     linked_games_agree::<W>();
     let mut game = LinkGame::new(alloc, config, worlds)?;

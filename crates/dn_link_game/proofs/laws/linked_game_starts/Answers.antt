@@ -1,4 +1,4 @@
-use Rattle.std.proofs.Common.{◌≡◌, ◌<◌, ℕ, true, true≢false, length, get_or, refl, sym, ap, ◌∙◌, subst, inl, inr, arith}
+use Rattle.std.proofs.Common.{◌≡◌, ◌<◌, ℕ, length, get_or, refl, sym, ap, subst, inl, inr, arith}
 use Rattle.std.specs.Prelude.{All}
 use Rattle.std.proofs.lemmas.List.Elements.{All-nil}
 use Rattle.std.proofs.lemmas.Option.{get_or_from_slice_get, slice_get_cases, slice_get-get_or}
@@ -27,7 +27,7 @@ module _ {W : Type 0} (g : LinkGame W) (one : Player W) where
 
 pub returns : goal.returns
 unfolding links
-returns g c limits settings seal game window is_game places chosen count none new =
+returns g c limits settings seal game window is_game places count none new =
     elim (slice_get_cases game.players.items 0).1 [
       | inr past ↦ absurd (omega (arith, past.0, is_game.0, count))
       | inl first ↦
@@ -38,7 +38,7 @@ returns g c limits settings seal game window is_game places chosen count none ne
             session = session;
             links = links game one;
             game = c.remaining_links_start.ensures (marking_of g.W.World.physics) limits settings (links game one) window is_game
-                places chosen (λ player l. (is player l).node) (λ player l. (is player l).others) (λ player peer l. (is player l).peers peer);
+                places (is 0 (omega (arith, is_game.0))).chosen (λ player l. (is player l).node) (λ player l. (is player l).others) (λ player peer l. (is player l).peers peer);
             as_seen = record { inputs = refl; rows = refl };
             places = count;
             players = λ i player at. record {

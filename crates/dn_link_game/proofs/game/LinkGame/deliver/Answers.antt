@@ -1,8 +1,8 @@
-use Rattle.std.proofs.Common.{rules, ◌≡◌, ◌<◌, ℕ, List, Option, Some, None, false, true, true≢false, refl, sym, ap, ◌∙◌, length, subst, arith}
+use Rattle.std.proofs.Common.{rules, ◌≡◌, ◌<◌, ℕ, List, Option, Some, None, false, true, true≢false, refl, sym, ap, ◌∙◌, length}
 use Rattle.std.specs.Prelude.{Ok, is_some, slice_get}
 use Rattle.std.proofs.lemmas.Option.{slice_get_read}
 use Rattle.arrayvec.specs.ArrayVec.{ArrayVec}
-use Rattle.dn_link_game.specs.{Games.IsLinkGame, Playing.{Asked, Seen, gives, sees}, declared.calls.LinkCall.TheVariants.Receive}
+use Rattle.dn_link_game.specs.{Playing.{Asked, gives}, declared.calls.LinkCall.TheVariants.Receive}
 use Rattle.dn_link_game.proofs.Going.{given, goes_unseen, joined, keeps}
 use Rattle.dn_link_game.proofs.game.LinkGame.deliver.Given.{Over}
 use Rattle.dn_link_game.proofs.game.LinkGame.deliver.Goals.{After-call-done}
