@@ -1,6 +1,6 @@
 -- The headline of a game of links, by what the readers of its links return, the inputs that its players' builds
 -- took, and the rows that their runs told. It speaks of no packet and no datagram.
-use Rattle.std.specs.Prelude.{◌≡◌, ◌<◌, ◌||◌, ℕ, ◌+◌, false, Bool, List, Option, Some, take, length, nat_lt, pos, slice_get, get_or, [], None}
+use Rattle.std.specs.Prelude.{◌≡◌, ◌<◌, ◌||◌, ℕ, ◌+◌, false, List, Option, Some, take, length, nat_lt, pos, slice_get, get_or, [], None}
 use Rattle.dn_tic.specs.Command.{used}
 use Rattle.dn_tic.specs.Inputs.{made_by}
 use Rattle.dn_tic.specs.declared.command.Move.{Move}

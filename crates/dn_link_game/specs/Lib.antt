@@ -1,4 +1,7 @@
 pub mod Playing
 pub mod Headline
-pub mod Games
 pub mod Genuine
+pub mod Games
+pub mod Opening
+pub mod Applied
+pub mod Promised

@@ -1,20 +1,14 @@
--- A player of a game of links, in whatever session of the game its link is.
-use Rattle.std.specs.Prelude.{◌≡◌, ◌≢◌, ◌<◌, ℕ, List, Option, Some, None, fold}
-use Rattle.dn_tic.specs.declared.command.Move.{Move}
-use Rattle.dn_tic.specs.declared.input.Input.{Input}
+-- A player of a game of links, in whatever session of the game its link is, and what its caller has seen of it.
+use Rattle.std.specs.Prelude.{◌≡◌, ◌<◌, ℕ, List, [], Option, Some, None, IfSome, fold, Bool, false, true}
+use Rattle.arrayvec.specs.ArrayVec.{ArrayVec}
+use Rattle.dn_tic.specs.declared.{command.Move.Move, input.Input.Input}
 use Rattle.dn_setup.specs.Settings.{Settings}
 use Rattle.dn_world.specs.Physics.{Physics}
-use Rattle.dn_machine.specs.declared.answers.Made.{Made}
-use Rattle.dn_machine.specs.Limits.{Limits}
-use Rattle.dn_machine.specs.Node.{put}
-use Rattle.dn_lockstep.specs.Marking.{History, Marking}
-use Rattle.dn_lockstep.specs.OneGame.{world_told}
-use Rattle.dn_lockstep.specs.OneGame.{taken_on, told_on}
+use Rattle.dn_machine.specs.{declared.answers.Made.Made, Limits.Limits, Node.put}
+use Rattle.dn_lockstep.specs.{Marking.{History, Marking}, OneGame.{world_told, taken_on, told_on}}
 use Rattle.dn_survivor.specs.OneGame.{Session}
-use Rattle.dn_link.specs.Linked.{Linked}
-use Rattle.dn_link.specs.Linking.{linked}
-use Rattle.dn_link.specs.RemainingLinks.{AreRemainingLinks, StayRemaining}
-use Rattle.dn_link_game.specs.declared.player.Player.{Player}
+use Rattle.dn_link.specs.{Linked.Linked, Linking.{linked, seal_of}, Pace.still_owed, Pacing.pace_of, RemainingLinks.{AreRemainingLinks, IsGenuineIn, StayRemaining, WasSealedIn}}
+use Rattle.dn_link_game.specs.declared.{calls.{LinkCall.{LinkCall, TheVariants.{Build, CatchUp, Receive, Run, Send}}, LinkDone.LinkDone}, player.Player.Player}
 
 -- the world that began so, with these seats taken, and was stepped by these rows
 abbrev pub world_by : {S : Type 0} → Physics S → History → S
@@ -24,47 +18,85 @@ world_by physics history = fold physics.step (physics.begin history.start histor
 abbrev pub marking_of : {S : Type 0} → Physics S → Marking
 marking_of physics history player = physics.mark (world_by physics history) player
 
--- A player has this link, and its world began with the settings' start and was stepped by these rows
+-- What a player's caller has seen: the inputs of which commands were made, in order, the one of which a command is
+-- owed, and the rows that were told.
+pub record Seen : Type 0 where
+  pub inputs : List Input
+  pub owed : Option Input
+  pub rows : List (List (Option Move))
+
+abbrev pub nothing_seen : Seen
+nothing_seen = record { inputs = []; owed = None; rows = [] }
+
+-- an input came: a command was made of it, or is owed, for want of room; an earlier one that was owed is dropped
+abbrev pub taking : Input → Made → Seen → Seen
+taking input made seen =
+    record seen { inputs = taken_on seen.inputs input made; owed = still_owed made (Some input) }
+
+-- the input that is owed comes again, if one is
+abbrev pub taking_owed : Option Input → Option Made → Seen → Seen
+taking_owed (Some input) (Some made) seen = taking input made seen
+taking_owed _ _ seen = seen
+
+-- a row was told, if one was
+abbrev pub telling : Option (List (Option Move)) → Seen → Seen
+telling row seen = record seen { rows = told_on seen.rows row }
+
+-- what is seen after a call with this answer
+abbrev pub sees : LinkCall → LinkDone → Seen → Seen
+sees (Build input) (LinkDone.Built made) seen = taking input made seen
+sees CatchUp (LinkDone.CaughtUp made) seen = taking_owed seen.owed made seen
+sees Run (LinkDone.Ran ran row) seen = telling row seen
+sees _ _ seen = seen
+
+-- a call asks for a datagram
+abbrev pub is_send : LinkCall → Bool
+is_send (Send to what) = true
+is_send call = false
+
+-- the answer tells that a datagram was given
+abbrev pub gives : LinkDone → Bool
+gives (LinkDone.Sent given) = given
+gives _ = false
+
+-- the inputs and rows of a session are those that the players' callers have seen
+pub record IsAsSeen (session : Session) (seen : ℕ → Seen) : Type 0 where
+  pub inputs : session.inputs ≡ (λ player. (seen player).inputs)
+  pub rows : session.told ≡ (λ player. (seen player).rows)
+
+-- a player has this link, which owes what was seen, and its world began with the settings' start and was stepped by
+-- the rows that were seen
 pub record IsPlayer {W S : Type 0} (state : W → S) (physics : Physics S) (limits : Limits) (settings : Settings)
-    (rows : List (List (Option Move))) (its : Linked) (p : Player W) : Type 0 where
+    (seen : Seen) (its : Linked) (p : Player W) : Type 0 where
   pub link : its ≡ linked p.link
-  pub world : state p.world ≡ world_by physics (world_told limits settings rows)
+  pub owed : (pace_of p.link).owed ≡ seen.owed
+  pub world : state p.world ≡ world_by physics (world_told limits settings seen.rows)
 
--- A call goes on with whatever game the player's link was in, if this held before: the player is then one of
--- that game in a later session, of which `Next` holds, and nobody else was told a row
+-- what is asked where bytes come in: if the player opens them, they were sealed in this session before
+abbrev pub Asked : {W : Type 0} → LinkCall → Player W → Session → ℕ → Type 0
+Asked (Receive bytes) p session me = IsGenuineIn (seal_of p.link) session me bytes.now
+Asked call p session me = Unit {0}
+
+-- a player is one of the same game in a later session, in which it gave this datagram, if it gave one, and in which
+-- nobody else is seen to have done anything
+pub record GoesTo {W S : Type 0} (state : W → S) (physics : Physics S) (limits : Limits) (settings : Settings)
+    (session : Session) (links : ℕ → Linked) (me : ℕ) (seen : ℕ → Seen) (new : Player W)
+    (given : Option (ArrayVec ℕ)) (after : Seen) : Type 0 where
+  pub later : Session
+  pub as_seen : IsAsSeen later (put seen me after)
+  pub sealed : IfSome given (λ bytes. WasSealedIn (seal_of new.link) later bytes.items)
+  pub stays : StayRemaining (marking_of physics) limits settings session links me (linked new.link) later
+  pub player : IsPlayer state physics limits settings after (linked new.link) new
+
+-- a call goes on so with whatever game the player's link was in, if this held before
 abbrev pub GoesOnIf : {W S : Type 0} → (W → S) → Physics S → Player W → Player W → (Session → ℕ → Type 0)
-    → (Session → ℕ → Session → Type 0) → Type 0
-GoesOnIf state physics old new Holds Next =
-    (limits : Limits) (settings : Settings) (session : Session) (links : ℕ → Linked) (player : ℕ)
-    → AreRemainingLinks (marking_of physics) limits settings session links → player < limits.players
-    → IsPlayer state physics limits settings (session.told player) (links player) old → Holds session player
-    → (later : Session) × Next session player later
-    × ((other : ℕ) → other ≢ player → later.told other ≡ session.told other)
-    × StayRemaining (marking_of physics) limits settings session links player (linked new.link) later
-    × IsPlayer state physics limits settings (later.told player) (linked new.link) new
+    → Option (ArrayVec ℕ) → (Seen → Seen) → Type 0
+GoesOnIf state physics old new Holds given after =
+    (limits : Limits) (settings : Settings) (session : Session) (links : ℕ → Linked) (me : ℕ) (seen : ℕ → Seen)
+    → AreRemainingLinks (marking_of physics) limits settings session links → me < limits.players
+    → IsAsSeen session seen → IsPlayer state physics limits settings (seen me) (links me) old → Holds session me
+    → GoesTo state physics limits settings session links me seen new given (after (seen me))
 
--- and so without any condition
-abbrev pub GoesOn : {W S : Type 0} → (W → S) → Physics S → Player W → Player W
-    → (Session → ℕ → Session → Type 0) → Type 0
-GoesOn state physics old new Next = GoesOnIf state physics old new (λ session player. Unit {0}) Next
-
--- no input was taken, and no row told
-abbrev pub TakesNothing : Session → Session → Type 0
-TakesNothing session later = (later.inputs ≡ session.inputs) × (later.told ≡ session.told)
-
--- an input was taken, if a command was made of it, and nothing else
-abbrev pub TakesInput : ℕ → Input → Made → Session → Session → Type 0
-TakesInput player input made session later =
-    (later.inputs ≡ put session.inputs player (taken_on (session.inputs player) input made))
-    × (later.told ≡ session.told)
-
--- a row was told, if there was one, and nothing else
-abbrev pub TellsRow : ℕ → Option (List (Option Move)) → Session → Session → Type 0
-TellsRow player row session later =
-    (later.inputs ≡ session.inputs) × (later.told ≡ put session.told player (told_on (session.told player) row))
-
--- the input that was owed was taken, if one was and a command was made of it
-abbrev pub CatchesUp : Option Input → ℕ → Option Made → Session → Session → Type 0
-CatchesUp None player answer session later = TakesNothing session later × (answer ≡ None)
-CatchesUp (Some input) player answer session later =
-    (made : Made) × (answer ≡ Some made) × TakesInput player input made session later
+abbrev pub GoesOn : {W S : Type 0} → (W → S) → Physics S → Player W → Player W → Option (ArrayVec ℕ) → (Seen → Seen)
+    → Type 0
+GoesOn state physics old new = GoesOnIf state physics old new (λ session me. Unit {0})

@@ -1,16 +1,13 @@
 //! All players of a game of links, and every datagram that they gave.
 
-ghost use Rattle.std.specs.Prelude.{◌≡◌, ◌<◌, ◌+◌, ◌≤◌, length, OnOk};
-ghost use Rattle.std.specs.Vec.{vec_capacity, vec_len};
-ghost use Rattle.dn_tic.specs.declared.input.Input.TheVariants.{Given};
-ghost use Rattle.dn_link_game.specs.{Genuine.IsGenuine, Games.Goes, Games.GoesIf, Playing.TakesNothing, Playing.TakesInput, Playing.TellsRow};
+ghost use Rattle.std.specs.{Prelude.{◌≡◌, ◌+◌, ◌≤◌, length, OnOk, OnErr, nat_lt, true}, Vec.{vec_capacity, vec_len}};
+ghost use Rattle.dn_link_game.specs.{Applied.{IsAnswered, AddsToGiven}, Games.GoesOn, Playing.is_send, Promised.seen_by};
+ghost use Rattle.dn_link_game.specs.declared.calls.LinkEvent.TheVariants.{Call, Deliver};
 
+use crate::calls::{LinkCall, LinkDone, LinkEvent, LinkRefusal};
 use crate::player::Player;
 use arrayvec::ArrayVec;
-use dn_link::{Received, remaining_bytes_are_genuine};
-use dn_machine::{Made, Ran};
-use dn_survivor::GivenUp;
-use dn_tic::{Command, Move};
+use dn_link::remaining_bytes_are_genuine;
 use dn_world::World;
 use std::alloc::AllocError;
 
@@ -24,77 +21,78 @@ pub struct LinkGame<W> {
 }
 
 impl<W: World> LinkGame<W> {
-    /// A player takes a command.
-    pub fn give(&mut self, player: u32, command: Command) -> Made
-        requires { player < length self.old.players.items }
-        ensures goes { Goes W.state W.physics self.old self.new (TakesInput player (Given command) result) }
+    /// Whether this is the number of a player.
+    fn is_player(&self, player: u32) -> bool
+        ensures { result ≡ nat_lt player (length self.now.players.items) }
     {
-        remaining_bytes_are_genuine();
-        self.players[player as usize].give(command)
+        (player as usize) < self.players.len()
     }
 
-    /// A player runs a tic: its world goes on by the row that is told.
-    pub fn run(&mut self, player: u32) -> (Ran, Option<[Option<Move>; 4]>)
-        requires { player < length self.old.players.items }
-        ensures goes { Goes W.state W.physics self.old self.new (TellsRow player result.1) }
+    /// Makes room for the datagram that a call asks for, if it does.
+    fn make_room(&mut self, call: &LinkCall) -> Result<(), AllocError>
+        ensures players { self.new.players ≡ self.old.players }
+        ensures given { self.new.given.items ≡ self.old.given.items }
+        ensures room { OnOk result (is_send call.now ≡ true
+            → vec_len self.new.given + 1 ≤ vec_capacity self.new.given) }
+        ensures asked { OnErr result (is_send call.now ≡ true) }
     {
-        remaining_bytes_are_genuine();
-        self.players[player as usize].run()
+        match call {
+            LinkCall::Send { .. } => grow(&mut self.given),
+            _ => Ok(()),
+        }
     }
 
-    /// A player quits.
-    pub fn quit(&mut self, player: u32) -> bool
-        requires { player < length self.old.players.items }
-        ensures goes { Goes W.state W.physics self.old self.new TakesNothing }
+    /// A call on a player; what it gives joins what was given. Room for that is made first.
+    fn call(&mut self, player: u32, call: &LinkCall) -> Result<LinkDone, LinkRefusal>
+        ensures goes_on { GoesOn W.state W.physics self.old self.new (Call player call.now) (seen_by (Call player call.now) result) }
+        ensures answered { IsAnswered self.old (Call player call.now) result }
+        ensures given { AddsToGiven self.old self.new result }
+        ensures unchanged { OnErr result ((self.new.players ≡ self.old.players) × (self.new.given.items ≡ self.old.given.items)) }
     {
         remaining_bytes_are_genuine();
-        self.players[player as usize].quit()
-    }
-
-    /// A player gives up a peer.
-    pub fn give_up(&mut self, player: u32, peer: u8) -> GivenUp
-        requires { player < length self.old.players.items }
-        ensures goes { Goes W.state W.physics self.old self.new TakesNothing }
-    {
-        remaining_bytes_are_genuine();
-        self.players[player as usize].give_up(peer)
-    }
-
-    /// What was given as this one, by whomever to whomever, comes to a player.
-    pub fn deliver(&mut self, player: u32, which: u32) -> Received
-        requires player { player < length self.old.players.items }
-        requires which { which < length self.old.given.items }
-        ensures goes { Goes W.state W.physics self.old self.new TakesNothing }
-    {
-        remaining_bytes_are_genuine();
-        let bytes = self.given[which as usize].as_slice();
-        self.players[player as usize].receive(bytes)
-    }
-
-    /// Any bytes come to a player, which were given in this game if the player opens them.
-    pub fn arrive(&mut self, player: u32, bytes: &[u8]) -> Received
-        requires { player < length self.old.players.items }
-        ensures goes { GoesIf W.state W.physics self.old self.new
-            (λ seal. IsGenuine seal self.old.given.items player bytes.now) TakesNothing }
-    {
-        remaining_bytes_are_genuine();
-        self.players[player as usize].receive(bytes)
-    }
-
-    /// A player gives its datagram to a peer, which joins those that were given; None where there is none.
-    #[tactic(auto, using(crate::proofs::Going::joins, crate::proofs::Going::keeps_all, crate::proofs::Going::stands, crate::proofs::Going::goes))]
-    pub fn transmit(&mut self, player: u32, to: u8) -> Result<Option<usize>, AllocError>
-        requires { player < length self.old.players.items }
-        ensures goes { Goes W.state W.physics self.old self.new TakesNothing }
-    {
-        remaining_bytes_are_genuine();
-        grow(&mut self.given)?;
-        let Some(bytes) = self.players[player as usize].datagram(to) else {
-            return Ok(None);
+        if !self.is_player(player) {
+            return Err(LinkRefusal::NoPlayer);
+        }
+        let Ok(()) = self.make_room(call) else {
+            return Err(LinkRefusal::Memory);
         };
-        let which = self.given.len();
-        self.given.push_reserved(bytes);
-        Ok(Some(which))
+        let (done, given) = self.players[player as usize].call(call);
+        if let Some(bytes) = given {
+            self.given.push_reserved(bytes);
+        }
+        Ok(done)
+    }
+
+    /// What was given as this one comes to a player.
+    fn deliver(&mut self, player: u32, which: u32) -> Result<LinkDone, LinkRefusal>
+        ensures goes_on { GoesOn W.state W.physics self.old self.new (Deliver player which) (seen_by (Deliver player which) result) }
+        ensures answered { IsAnswered self.old (Deliver player which) result }
+        ensures given { AddsToGiven self.old self.new result }
+        ensures unchanged { OnErr result ((self.new.players ≡ self.old.players) × (self.new.given.items ≡ self.old.given.items)) }
+    {
+        remaining_bytes_are_genuine();
+        if !self.is_player(player) {
+            return Err(LinkRefusal::NoPlayer);
+        }
+        let Some(bytes) = self.given.get(which as usize) else {
+            return Err(LinkRefusal::NoDatagram);
+        };
+        let (done, _) = self.players[player as usize].call(&LinkCall::Receive(bytes.as_slice()));
+        Ok(done)
+    }
+
+    /// What an event does, or why it is refused; a refused event changes nothing.
+    pub fn apply(&mut self, event: &LinkEvent) -> Result<LinkDone, LinkRefusal>
+        // Where the game is one of links, in which this was seen, it is one after the event too.
+        ensures goes_on { GoesOn W.state W.physics self.old self.new event.now (seen_by event.now result) }
+        ensures answered { IsAnswered self.old event.now result }
+        ensures given { AddsToGiven self.old self.new result }
+        ensures unchanged { OnErr result ((self.new.players ≡ self.old.players) × (self.new.given.items ≡ self.old.given.items)) }
+    {
+        match event {
+            LinkEvent::Call { player, call } => self.call(*player, call),
+            LinkEvent::Deliver { player, which } => self.deliver(*player, *which),
+        }
     }
 }
 

@@ -1,12 +1,11 @@
 //! What holds of every game of links.
 
 ghost use Rattle.std.specs.Prelude.{◌≡◌, ◌≤◌, ℕ, [], length};
-ghost use Rattle.dn_setup.specs.Settings.{IsSettings, Settings};
+ghost use Rattle.dn_setup.specs.Settings.{Settings};
 ghost use Rattle.dn_machine.specs.Limits.{IsWindow, Limits};
 ghost use Rattle.dn_lockstep.specs.Opening.{IsGame};
 ghost use Rattle.dn_seal.specs.declared.seal.Seal.{Seal};
-ghost use Rattle.dn_survivor.specs.OneGame.{Session};
-ghost use Rattle.dn_link_game.specs.{declared.game.LinkGame.LinkGame, declared.player.Player.Player, Games.IsLinkGame, Games.IsNew, Headline.HasPlayer, Headline.HaveAgreed};
+ghost use Rattle.dn_link_game.specs.{declared.game.LinkGame.LinkGame, declared.player.Player.Player, Games.{IsLinkGame, IsNew}, Headline.{HasPlayer, HaveAgreed}, Playing.{Seen, nothing_seen}};
 
 use dn_link::{remaining_links_agree, remaining_links_start};
 use dn_world::World;
@@ -17,24 +16,23 @@ use dn_world::World;
 /// rows are those of their makers' inputs, no ring overwrote an unread command, no consistency check failed,
 /// and of any two demos one's commands are a prefix of the other's.
 pub fn linked_games_agree<W: World>()
-    ensures { (limits : Limits) (settings : Settings) (seal : Seal) (session : Session) (g : LinkGame W)
-        → IsLinkGame W.state W.physics limits settings seal session g
-        → HaveAgreed W.state W.physics limits settings session.inputs session.told g }
+    ensures { (limits : Limits) (settings : Settings) (seal : Seal) (seen : ℕ → Seen) (g : LinkGame W)
+        → IsLinkGame W.state W.physics limits settings seal seen g
+        → HaveAgreed W.state W.physics limits settings (λ player. (seen player).inputs) (λ player. (seen player).rows) g }
 {
     remaining_links_agree();
 }
 
 /// Players whose links are new, one for each number, of the same limits, settings and seal, and whose worlds
-/// have begun by these settings, are those of a game in which nothing was given. Each premise of a link is what
-/// `Link::new` says of one.
+/// have begun by these settings, are those of a game in which nothing was given and nothing seen. Each premise of a
+/// link is what `Link::new` says of one.
 pub fn linked_game_starts<W: World>()
     ensures { (limits : Limits) (settings : Settings) (seal : Seal) (g : LinkGame W)
-        → IsWindow limits → IsGame limits.players → limits.places ≤ 24 → IsSettings settings
+        → IsWindow limits → IsGame limits.players → limits.places ≤ 24
         → length g.players.items ≡ limits.players → g.given.items ≡ []
         → ((i : ℕ) (player : Player W) → HasPlayer g i player
         → IsNew W.state W.physics limits settings seal i player)
-        → (session : Session) × IsLinkGame W.state W.physics limits settings seal session g
-        × ((player : ℕ) → (session.inputs player ≡ []) × (session.told player ≡ [])) }
+        → IsLinkGame W.state W.physics limits settings seal (λ player. nothing_seen) g }
 {
     remaining_links_start();
 }

@@ -2,10 +2,17 @@
 //! bytes may come to any player.
 #![tactic(auto)]
 
+mod calls;
+mod config;
 mod game;
 mod laws;
+mod opening;
 mod player;
+mod playing;
 
+pub use calls::{LinkCall, LinkDone, LinkEvent, LinkRefusal, Sending};
+pub use config::LinkGameConfig;
 pub use game::LinkGame;
 pub use laws::{linked_game_starts, linked_games_agree};
 pub use player::Player;
+pub use playing::{PlayedLinks, play_links};

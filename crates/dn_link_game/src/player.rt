@@ -1,17 +1,18 @@
 //! One player of a game: a link, and a world that is stepped by the rows that the link tells.
 
-ghost use Rattle.std.specs.Prelude.{◌≡◌, ◌<◌, ℕ, pos, get_or, IfSome};
-ghost use Rattle.dn_tic.specs.declared.input.Input.TheVariants.{Given, Pressed};
-ghost use Rattle.dn_survivor.specs.OneGame.{after_build, after_run, with_survivor};
-ghost use Rattle.dn_link.specs.{Linked.surviving_of, Linking.linked, Linking.seal_of, Pacing.pace_of, RemainingLinks.IsGenuineIn, RemainingLinks.WasSealedIn};
-ghost use Rattle.dn_link_game.specs.Playing.{CatchesUp, GoesOn, GoesOnIf, TakesNothing};
+ghost use Rattle.std.specs.Prelude.{◌≡◌, ◌<◌, ℕ, None, pos, get_or, is_some, true, IfOk};
+ghost use Rattle.dn_link.specs.Linking.{seal_of};
+ghost use Rattle.dn_link_game.specs.{Games.IsNew, Opening.IsAdmittedAs, Opening.limits_of, Playing.{Asked, GoesOn, GoesOnIf, gives, is_send, sees, taking, telling}};
 
+use crate::calls::{LinkCall, LinkDone, Sending};
+use crate::config::LinkGameConfig;
 use arrayvec::ArrayVec;
-use dn_link::{Link, Received, remaining_links_go_on};
+use dn_link::{Link, remaining_bytes_are_genuine, remaining_links_go_on};
+use dn_lockstep::{Config, NodeFault};
 use dn_machine::{Made, Ran};
-use dn_survivor::GivenUp;
-use dn_tic::{Command, Keys, Move};
+use dn_tic::{Input, Move};
 use dn_world::World;
+use std::alloc::Global;
 
 /// One player: its link, and its world, which has begun.
 #[derive(Drop)]
@@ -23,50 +24,47 @@ pub struct Player<W> {
 }
 
 impl<W: World> Player<W> {
-    /// Takes a command.
-    pub fn give(&mut self, command: Command) -> Made
-        ensures goes_on { GoesOn W.state W.physics self.old self.new (λ session player later.
-            later ≡ after_build session player (Given command) result (surviving_of (linked self.new.link))) }
-        ensures seal { seal_of self.new.link ≡ seal_of self.old.link }
+    /// A player with a new link, whose world begins. All memory that it needs is taken here; where there is no
+    /// player the world is dropped.
+    pub(crate) fn new(
+        alloc: Global,
+        config: &LinkGameConfig,
+        players: u8,
+        me: u8,
+        world: W,
+    ) -> Result<Player<W>, NodeFault>
+        ensures admitted { IsAdmittedAs config.now players me result }
+        ensures opened { IfOk result (λ player. IsNew W.state W.physics (limits_of config.now players) config.now.settings
+            config.now.seal me player) }
     {
-        remaining_links_go_on();
-        self.link.give(command)
+        let own = Config {
+            players,
+            me,
+            extra: config.extra,
+            limit: config.limit,
+            settings: None,
+        };
+        let link = Link::new(alloc, own, config.settings, config.ahead, config.seal)?;
+        let mut world = world;
+        world.begin(&config.settings.start(), link.lockstep().present());
+        Ok(Player { link, world })
     }
 
-    /// Builds the command of these keys.
-    pub fn build(&mut self, keys: Keys) -> Made
-        ensures goes_on { GoesOn W.state W.physics self.old self.new (λ session player later.
-            later ≡ after_build session player (Pressed keys) result (surviving_of (linked self.new.link))) }
+    /// Builds the command of an input.
+    fn build(&mut self, input: Input) -> Made
+        ensures goes_on { GoesOn W.state W.physics self.old self.new None (taking input result) }
         ensures seal { seal_of self.new.link ≡ seal_of self.old.link }
     {
         remaining_links_go_on();
-        self.link.build(keys)
-    }
-
-    /// Makes the command that is owed, if one is.
-    pub fn catch_up(&mut self) -> Option<Made>
-        ensures goes_on { GoesOn W.state W.physics self.old self.new (λ session player later.
-            CatchesUp (pace_of self.old.link).owed player result session later) }
-        ensures seal { seal_of self.new.link ≡ seal_of self.old.link }
-    {
-        remaining_links_go_on();
-        self.link.catch_up()
-    }
-
-    /// Ends a tick: by how much the next comes later.
-    pub fn tick(&mut self) -> i8
-        ensures goes_on { GoesOn W.state W.physics self.old self.new (λ session player later.
-            later ≡ with_survivor session player (surviving_of (linked self.new.link))) }
-        ensures seal { seal_of self.new.link ≡ seal_of self.old.link }
-    {
-        remaining_links_go_on();
-        self.link.lean()
+        match input {
+            Input::Pressed(keys) => self.link.build(keys),
+            Input::Given(command) => self.link.give(command),
+        }
     }
 
     /// Runs a tic, by the marks of its world, and steps the world by the row.
-    pub fn run(&mut self) -> (Ran, Option<[Option<Move>; 4]>)
-        ensures goes_on { GoesOn W.state W.physics self.old self.new (λ session player later.
-            later ≡ after_run session player result.1 (surviving_of (linked self.new.link))) }
+    fn run(&mut self) -> (Ran, Option<[Option<Move>; 4]>)
+        ensures goes_on { GoesOn W.state W.physics self.old self.new None (telling result.1) }
         ensures seal { seal_of self.new.link ≡ seal_of self.old.link }
     {
         remaining_links_go_on();
@@ -88,10 +86,8 @@ impl<W: World> Player<W> {
     }
 
     /// The datagram to a peer.
-    pub fn datagram(&mut self, to: u8) -> Option<ArrayVec<u8, 1200>>
-        ensures goes_on { GoesOn W.state W.physics self.old self.new (λ session player later.
-            TakesNothing session later
-            × IfSome result (λ bytes. WasSealedIn (seal_of self.old.link) later bytes.items)) }
+    fn datagram(&mut self, to: u8) -> Option<ArrayVec<u8, 1200>>
+        ensures goes_on { GoesOn W.state W.physics self.old self.new result (λ seen. seen) }
         ensures seal { seal_of self.new.link ≡ seal_of self.old.link }
     {
         remaining_links_go_on();
@@ -101,34 +97,43 @@ impl<W: World> Player<W> {
         Some(bytes)
     }
 
-    /// Takes in any bytes, which were sealed in the game if they are opened.
-    pub fn receive(&mut self, bytes: &[u8]) -> Received
-        ensures goes_on { GoesOnIf W.state W.physics self.old self.new
-            (λ session player. IsGenuineIn (seal_of self.old.link) session player bytes.now)
-            (λ session player later. later ≡ with_survivor session player (surviving_of (linked self.new.link))) }
+    /// Gives a peer a datagram.
+    fn send(&mut self, to: u8, what: Sending) -> Option<ArrayVec<u8, 1200>>
+        ensures goes_on { GoesOn W.state W.physics self.old self.new result (λ seen. seen) }
         ensures seal { seal_of self.new.link ≡ seal_of self.old.link }
     {
         remaining_links_go_on();
-        self.link.receive(bytes)
+        remaining_bytes_are_genuine();
+        match what {
+            Sending::Datagram => self.datagram(to),
+            Sending::Probe => self.link.probe(to),
+            Sending::Exclusion => self.link.exclusion_datagram(to),
+        }
     }
 
-    /// Gives up another player, for good.
-    pub fn give_up(&mut self, peer: u8) -> GivenUp
-        ensures goes_on { GoesOn W.state W.physics self.old self.new (λ session player later.
-            later ≡ with_survivor session player (surviving_of (linked self.new.link))) }
+    /// Makes a call, and answers what it did, and the datagram that it gave, if it gave one.
+    pub fn call(&mut self, call: &LinkCall) -> (LinkDone, Option<ArrayVec<u8, 1200>>)
+        ensures goes_on { GoesOnIf W.state W.physics self.old self.new (Asked call.now self.old) result.1 (sees call.now result.0) }
+        ensures gives { is_some result.1 ≡ gives result.0 }
+        ensures asked { is_some result.1 ≡ true → is_send call.now ≡ true }
         ensures seal { seal_of self.new.link ≡ seal_of self.old.link }
     {
         remaining_links_go_on();
-        self.link.give_up(peer)
-    }
-
-    /// Leaves the game.
-    pub fn quit(&mut self) -> bool
-        ensures goes_on { GoesOn W.state W.physics self.old self.new (λ session player later.
-            later ≡ with_survivor session player (surviving_of (linked self.new.link))) }
-        ensures seal { seal_of self.new.link ≡ seal_of self.old.link }
-    {
-        remaining_links_go_on();
-        self.link.quit()
+        match call {
+            LinkCall::Build(input) => (LinkDone::Built(self.build(*input)), None),
+            LinkCall::CatchUp => (LinkDone::CaughtUp(self.link.catch_up()), None),
+            LinkCall::Tick => (LinkDone::Ticked(self.link.lean()), None),
+            LinkCall::Run => {
+                let (ran, row) = self.run();
+                (LinkDone::Ran(ran, row), None)
+            }
+            LinkCall::Send { to, what } => {
+                let given = self.send(*to, *what);
+                (LinkDone::Sent(given.is_some()), given)
+            }
+            LinkCall::Receive(bytes) => (LinkDone::Received(self.link.receive(bytes)), None),
+            LinkCall::GiveUp(peer) => (LinkDone::GivenUp(self.link.give_up(*peer)), None),
+            LinkCall::Quit => (LinkDone::Quit(self.link.quit()), None),
+        }
     }
 }

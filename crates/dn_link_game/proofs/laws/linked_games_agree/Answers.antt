@@ -7,7 +7,7 @@ use Rattle.std.proofs.lemmas.Option.{same_Some, none-some, slice_get-get_or, sli
 use Rattle.std.proofs.lemmas.List.{take_all}
 use Rattle.dn_tic.specs.{Command.used, Inputs.made_by, declared.command.Move.Move, declared.command.TicCmd.TicCmd}
 use Rattle.dn_setup.specs.Settings.{Settings, start_of}
-use Rattle.dn_machine.specs.{Limits.IsWindow, Limits.Limits, Limits.row_of, Headline.AnyTwo, Headline.Shown, Node.is_ended}
+use Rattle.dn_machine.specs.{Limits.IsWindow, Limits.Limits, Limits.row_of, Headline.AnyTwo, Headline.Shown, Node.is_ended, Worlds.Inputs}
 use Rattle.dn_survivor.specs.{Agreed.AreAgreedInPairs, OneGame.Session, Agreed.FitInPairs, Agreed.IsPair, Agreed.DemosAgreeInPairs, Agreed.is_closed, Agreed.rows_whole, Surviving.Surviving, Surviving.end_settled}
 use Rattle.dn_survivor.specs.{Surviving.has_given_up}
 use Rattle.dn_world.specs.Physics.{Physics}
@@ -19,7 +19,7 @@ use Rattle.dn_lockstep.specs.Rows.{seats_of}
 use Rattle.dn_lockstep.specs.Told.{HasStarted, got, made}
 use Rattle.dn_seal.specs.declared.seal.Seal.{Seal}
 use Rattle.dn_link.specs.{Linked.surviving_of, Linking.linked}
-use Rattle.dn_link_game.specs.{Games.IsLinkGame, Headline.HasPlayer, Headline.HaveAgreed, Headline.NobodyGone, Headline.Shows, Headline.Together, Playing.world_by, declared.game.LinkGame.LinkGame}
+use Rattle.dn_link_game.specs.{Games.IsLinkGame, Headline.HasPlayer, Headline.HaveAgreed, Headline.NobodyGone, Headline.Shows, Headline.Together, Playing.Seen, Playing.world_by, declared.game.LinkGame.LinkGame}
 use Rattle.dn_link_game.specs.{declared.player.Player.Player, Playing.marking_of}
 use Rattle.dn_link_game.proofs.laws.linked_games_agree.Goals as goal
 
@@ -60,9 +60,18 @@ maker limits settings session agreed window q p tic move k l four at = elim (cas
     get_or_past (row ∷ rows) (suc tic) m = get_or_past rows tic (omega (arith, m))
 
 module _ {W S : Type 0} (state : W → S) (physics : Physics S) (limits : Limits) (settings : Settings) (seal : Seal)
-    (session : Session) (g : LinkGame W) (is : IsLinkGame state physics limits settings seal session g)
-    (agreed : AreAgreedInPairs limits settings session) (fit : FitInPairs limits session)
-    (demos : DemosAgreeInPairs limits.players settings session) where
+    (seen : ℕ → Seen) (g : LinkGame W) (is : IsLinkGame state physics limits settings seal seen g)
+    (agreed : AreAgreedInPairs limits settings is.session) (fit : FitInPairs limits is.session)
+    (demos : DemosAgreeInPairs limits.players settings is.session) where
+  abbrev session : Session
+  session = is.session
+
+  -- the world of a player, by the rows that it was told
+  world_of : (i : ℕ) (player : Player W) → HasPlayer g i player
+      → state player.world ≡ world_by physics (world_told limits settings (session.told i))
+  world_of i player at = (is.players i player at).world
+      ∙ ap (λ (rows : ℕ → List (List (Option Move))). world_by physics (world_told limits settings (rows i))) (sym is.as_seen.rows)
+
   abbrev shown_at : ℕ → Shown ℕ
   shown_at i = record {
     phase = (session.survivors i).lockstep.phase;
@@ -88,7 +97,7 @@ module _ {W S : Type 0} (state : W → S) (physics : Physics S) (limits : Limits
       got = λ other. ap (λ (n : Contents). got n other) node;
       places = sym (ap (λ (n : Contents). n.places) node) ∙ (is.game.game.nodes i below).node.whose.places;
       demo = ap recorded node;
-      world = (is.players i player at).world;
+      world = world_of i player at;
       rows = subst (λ (n : Contents). HasStarted n → n.demo.bytes ≡ demo_text long_tics (start_of settings) i
           (seats_of limits.players) (rows_whole limits.players session i) (is_closed limits.players session i n)) node
           (demos.texts i below);
@@ -150,9 +159,9 @@ module _ {W S : Type 0} (state : W → S) (physics : Physics S) (limits : Limits
 
     worlds : length (session.told q) ≡ length (session.told r)
         → state two.one.world ≡ state two.other.world
-    worlds long = (is.players q two.one two.one_is).world
+    worlds long = world_of q two.one two.one_is
         ∙ ap (λ (rows : List (List (Option Move))). world_by physics (world_told limits settings rows)) (rows_same long)
-        ∙ sym (is.players r two.other two.other_is).world
+        ∙ sym (world_of r two.other two.other_is)
 
   unread : (q p : ℕ) → q < limits.players → p < limits.players
       → got (session.survivors q).lockstep p ≤ length (session.told q) + (limits.ahead + limits.ahead)
@@ -219,9 +228,14 @@ module _ {W S : Type 0} (state : W → S) (physics : Physics S) (limits : Limits
       is_four {q} k = (is.game.game.nodes q k).few
 
 pub returns : goal.returns
-returns g c limits settings seal session game is =
+returns g c limits settings seal seen game is =
     let all = c.remaining_links_agree.ensures in
-    let marking = marking_of g.W.World.physics in
-    have_agreed g.W.World.state g.W.World.physics limits settings seal session game is
-    (all.agreed marking limits settings session is.links is.game) (all.fit marking limits settings session is.links is.game)
-    (all.demos marking limits settings session is.links is.game)
+    let state = g.W.World.state in
+    let physics = g.W.World.physics in
+    let marking = marking_of physics in
+    subst (λ (inputs : Inputs). HaveAgreed state physics limits settings inputs (λ player. (seen player).rows) game)
+    is.as_seen.inputs (subst (λ (told : ℕ → List (List (Option Move))). HaveAgreed state physics limits settings
+    is.session.inputs told game) is.as_seen.rows (have_agreed state physics limits settings seal seen game is
+    (all.agreed marking limits settings is.session is.links is.game)
+    (all.fit marking limits settings is.session is.links is.game)
+    (all.demos marking limits settings is.session is.links is.game)))

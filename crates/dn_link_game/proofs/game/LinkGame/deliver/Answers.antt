@@ -1,23 +1,42 @@
-use Rattle.std.proofs.Common.{refl, ap, length}
+use Rattle.std.proofs.Common.{rules, ◌≡◌, ◌<◌, ℕ, List, Option, Some, None, false, true, true≢false, refl, sym, ap, ◌∙◌, length}
+use Rattle.std.specs.Prelude.{Ok, is_some, slice_get}
 use Rattle.std.proofs.lemmas.Option.{slice_get_read}
-use Rattle.dn_survivor.specs.OneGame.{Session}
-use Rattle.dn_link_game.proofs.Going.{given, goes}
+use Rattle.arrayvec.specs.ArrayVec.{ArrayVec}
+use Rattle.dn_link_game.specs.{Playing.{Asked, gives}, declared.calls.LinkCall.TheVariants.Receive}
+use Rattle.dn_link_game.proofs.Going.{given, goes_unseen, joined, keeps}
+use Rattle.dn_link_game.proofs.game.LinkGame.deliver.Given.{Over}
+use Rattle.dn_link_game.proofs.game.LinkGame.deliver.Goals.{After-call-done}
 use Rattle.dn_link_game.proofs.game.LinkGame.deliver.Goals as goal
 
-pub returns : goal.returns
-returns g c = record {
-  goes = λ limits settings seal session is any.
-      let players = c.args.self.now.players.items in
-      let at = slice_get_read players (length players) c.args.player c.index_mut.result.now refl c.requires.player
-      c.index_mut.ensures.value in
-      let on = goes g.W.World.state g.W.World.physics c.args.self.now _ c.args.player c.index_mut.result.now c.receive.new.self
-      at refl c.receive.ensures.seal c.remaining_bytes_are_genuine.ensures.stay _ _ c.receive.ensures.goes_on
-      limits settings seal session is (given g.W.World.state g.W.World.physics limits settings seal session c.args.self.now is
-      c.remaining_bytes_are_genuine.ensures.genuine c.args.player c.index_mut.result.now at c.as_slice-bytes.result.now (
-        c.args.which,
-        c.index.result.now,
-        slice_get_read c.args.self.now.given.items (length c.args.self.now.given.items)
-            c.args.which c.index.result.now refl c.requires.which c.index.ensures,
-        c.as_slice-bytes.ensures.value,
-      )) (λ later next all. all) in (on.0, (ap (λ (s : Session). s.inputs) on.1, ap (λ (s : Session). s.told) on.1), on.2, on.3);
-}
+-- nothing was given
+none : (g : Over) (c : After-call-done g) → c.call-done.result.1 ≡ None
+none g c = go c.call-done.result.1 c.call-done.ensures.asked
+  where
+    go : (o : Option (ArrayVec ℕ)) → (is_some o ≡ true → false ≡ true) → o ≡ None
+    go None asked = refl
+    go (Some bytes) asked = absurd (true≢false (sym (asked refl)))
+
+pub returns-clause-goes_on : goal.returns-clause-goes_on
+returns-clause-goes_on g c limits settings seal seen is any =
+    let state = g.W.World.state in
+    let physics = g.W.World.physics in
+    let old = c.args.self.now in
+    let its = c.index_mut.result.now in
+    let there : c.args.player < length old.players.items = search rules in
+    let at = slice_get_read old.players.items (length old.players.items) c.args.player its refl there c.index_mut.ensures.value in
+    let found = c.in-Some.ensures.lookup in
+    let which : slice_get old.given.items c.args.which ≡ Some c.in-Some.bytes.now =
+    ap (λ (xs : List (ArrayVec ℕ)). slice_get xs c.args.which) (sym c.deref.ensures.value)
+    ∙ slice_get_read c.deref.result.now (length c.deref.result.now) c.args.which c.in-Some.bytes.now refl found.3.0 found.1 in
+    goes_unseen state physics old _ c.args.player its c.call-done.new.self c.call-done.result.1 at refl
+    (ap (joined old.given.items) (sym (none g (goal.at.returns-clause-goes_on g c).After-call-done))) c.call-done.ensures.seal
+    c.remaining_bytes_are_genuine.ensures.stay (Asked (Receive c.as_slice.result) its) c.call-done.ensures.goes_on
+    limits settings seal seen is
+    (given state physics limits settings seal seen old is c.remaining_bytes_are_genuine.ensures.genuine c.args.player its at
+    c.as_slice.result.now (c.args.which, c.in-Some.bytes.now, which, c.as_slice.ensures.value))
+
+pub returns-clause-given : goal.returns-clause-given
+returns-clause-given g c =
+    let silent : gives c.call-done.result.0 ≡ false =
+    sym c.call-done.ensures.gives ∙ ap is_some (none g (goal.at.returns-clause-given g c).After-call-done) in
+    keeps c.args.self.now _ (Ok c.call-done.result.0) None refl silent

@@ -1,23 +1,20 @@
-use Rattle.std.proofs.Common.{refl, sym, ap, ◌∙◌, subst}
-use Rattle.dn_tic.specs.declared.input.Input.TheVariants.{Pressed}
-use Rattle.dn_lockstep.specs.Told.{Builds}
-use Rattle.dn_survivor.specs.OneGame.{after_build}
-use Rattle.dn_link.specs.Linked.{Linked, surviving_of}
-use Rattle.dn_link.specs.Linking.{linked}
+use Rattle.std.proofs.Common.{refl, ap}
+use Rattle.dn_tic.specs.declared.input.Input.TheVariants.{Given, Pressed}
+use Rattle.dn_link.specs.Pacing.{PaceState}
 use Rattle.dn_link_game.specs.Playing.{marking_of}
+use Rattle.dn_link_game.proofs.Seeing.{took}
 use Rattle.dn_link_game.proofs.player.Player.build.Goals as goal
 
-pub returns-clause-goes_on : goal.returns-clause-goes_on
-returns-clause-goes_on g c limits settings session links player mine below is any =
-    let new : Linked = linked c.build.new.self in (
-      after_build session player (Pressed c.args.keys) c.build.result (surviving_of new),
-      refl,
-      λ other apart. refl,
-      c.remaining_links_go_on.ensures.built (marking_of g.W.World.physics) limits settings session links player new
-          (Pressed c.args.keys) c.build.result mine below
-          (subst (λ (l : Linked). Builds l.node new.node (Pressed c.args.keys) c.build.result) (sym is.link)
-          c.build.ensures.step)
-          (c.build.ensures.others ∙ sym (ap (λ (l : Linked). l.others) is.link))
-          (c.build.ensures.peers ∙ sym (ap (λ (l : Linked). l.peers) is.link)),
-      record { link = refl; world = is.world },
-    )
+pub returns-in-Pressed-clause-goes_on : goal.returns-in-Pressed-clause-goes_on
+returns-in-Pressed-clause-goes_on g c = rw c.in-Pressed.is (λ limits settings session links me seen mine below seen_is is any.
+    took g.W.World.state g.W.World.physics limits settings session links me seen c.args.self.now _ seen_is is
+    (Pressed c.in-Pressed.keys) c.build.result (c.remaining_links_go_on.ensures.built (marking_of g.W.World.physics)) mine below
+    c.build.ensures.step c.build.ensures.others c.build.ensures.peers (ap (λ (p : PaceState). p.owed) c.build.ensures.pace)
+    refl)
+
+pub returns-in-Given-clause-goes_on : goal.returns-in-Given-clause-goes_on
+returns-in-Given-clause-goes_on g c = rw c.in-Given.is (λ limits settings session links me seen mine below seen_is is any.
+    took g.W.World.state g.W.World.physics limits settings session links me seen c.args.self.now _ seen_is is
+    (Given c.in-Given.command) c.give.result (c.remaining_links_go_on.ensures.built (marking_of g.W.World.physics)) mine below
+    c.give.ensures.step c.give.ensures.others c.give.ensures.peers (ap (λ (p : PaceState). p.owed) c.give.ensures.pace)
+    refl)

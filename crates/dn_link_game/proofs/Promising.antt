@@ -1,0 +1,98 @@
+-- Events one after the other: what is seen of them, and what is asked of them.
+use Rattle.std.proofs.Common.{◌≡◌, ◌≤◌, ◌+◌, ◌++◌, ◌∷◌, [], ℕ, zero, suc, List, Some, refl, sym, ap, ◌∙◌, subst, take, length, arith}
+use Rattle.std.specs.Prelude.{slice_get, Result}
+use Rattle.std.proofs.lemmas.{List.{take_all, take-append-le}, Option.{none-some, slice_get_within}}
+use Rattle.arrayvec.specs.ArrayVec.{ArrayVec}
+use Rattle.dn_setup.specs.Settings.{Settings}
+use Rattle.dn_world.specs.Physics.{Physics}
+use Rattle.dn_machine.specs.Limits.{Limits}
+use Rattle.dn_seal.specs.declared.seal.Seal.{Seal}
+use Rattle.dn_link_game.specs.{Applied.AddsToGiven, Games.{GoesOn, IsLinkGame}, Genuine.{AreGenuine, IsGenuineEvent, given_by}, Playing.{Seen, nothing_seen}, Promised.{all_seen, seen_after, seen_by}}
+use Rattle.dn_link_game.specs.declared.{calls.{LinkDone.LinkDone, LinkEvent.LinkEvent, LinkRefusal.LinkRefusal}, game.LinkGame.LinkGame}
+
+abbrev Answer : Type 0
+Answer = Result LinkDone LinkRefusal
+
+-- one more event
+seen_more : (events : List LinkEvent) (answers : List Answer) (event : LinkEvent) (answer : Answer) (seen : ℕ → Seen)
+    → length answers ≡ length events
+    → seen_after (events ++ event ∷ []) (answers ++ answer ∷ []) seen ≡ seen_by event answer (seen_after events answers seen)
+seen_more [] [] event answer seen many = refl
+seen_more [] (y ∷ ys) event answer seen many = absurd (omega (arith, many))
+seen_more (x ∷ xs) [] event answer seen many = absurd (omega (arith, many))
+seen_more (x ∷ xs) (y ∷ ys) event answer seen many = seen_more xs ys event answer (seen_by x y seen) (omega (arith, many))
+
+given_append : (xs ys : List Answer) → given_by (xs ++ ys) ≡ given_by xs + given_by ys
+given_append [] ys = omega arith
+given_append (x ∷ xs) ys = let more = given_append xs ys in omega (arith, more)
+
+given_take : (k : ℕ) (xs : List Answer) → given_by (take k xs) ≤ given_by xs
+given_take zero xs = omega arith
+given_take (suc k) [] = omega arith
+given_take (suc k) (x ∷ xs) = let more = given_take k xs in omega (arith, more)
+
+take_take : {A : Type 0} (n m : ℕ) (xs : List A) → n ≤ m → take n (take m xs) ≡ take n xs
+take_take zero m xs le = refl
+take_take (suc n) zero xs le = absurd (omega (arith, le))
+take_take (suc n) (suc m) [] le = refl
+take_take (suc n) (suc m) (x ∷ xs) le = ap (λ ys. x ∷ ys) (take_take n m xs (omega (arith, le)))
+
+at_end : {A : Type 0} (xs : List A) (y : A) → slice_get (xs ++ y ∷ []) (length xs) ≡ Some y
+at_end [] y = refl
+at_end (x ∷ xs) y = at_end xs y
+
+there_still : {A : Type 0} (xs : List A) (y : A) (k : ℕ) (x : A) → slice_get xs k ≡ Some x
+    → slice_get (xs ++ y ∷ []) k ≡ Some x
+there_still [] y k x e = absurd (none-some x e)
+there_still (z ∷ xs) y zero x e = e
+there_still (z ∷ xs) y (suc k) x e = there_still xs y k x e
+
+module _ (seal : Seal) (given more : List (ArrayVec ℕ)) (events : List LinkEvent) (event : LinkEvent)
+    (answers : List Answer) (answer : Answer) (stays : take (length given) more ≡ given)
+    (many : length answers ≡ length events) (count : length given ≡ given_by answers)
+    (ask : AreGenuine seal more (events ++ event ∷ []) (answers ++ answer ∷ [])) where
+  -- what was given before one of the events
+  before : (k : ℕ) → k ≤ length events
+      → take (given_by (take k (answers ++ answer ∷ []))) more ≡ take (given_by (take k answers)) given
+  before k le =
+      let fewer = given_take k answers in
+      ap (λ (xs : List Answer). take (given_by xs) more) (take-append-le k answers (answer ∷ []) (omega (arith, le, many)))
+      ∙ sym (take_take (given_by (take k answers)) (length given) more (omega (arith, fewer, count)))
+      ∙ ap (take (given_by (take k answers))) stays
+
+  -- the events before the last are genuine by what was given by then
+  pub asked_before : AreGenuine seal given events answers
+  asked_before k one there =
+      let below = slice_get_within events k one there in
+      subst (λ (xs : List (ArrayVec ℕ)). IsGenuineEvent seal xs one) (before k (omega (arith, below)))
+      (ask k one (there_still events event k one there))
+
+  -- and so is the last
+  pub asked_now : IsGenuineEvent seal given event
+  asked_now = subst (λ (xs : List (ArrayVec ℕ)). IsGenuineEvent seal xs event) (before (length events) (omega arith)
+      ∙ ap (λ (n : ℕ). take n given) (ap given_by (take_all (length events) answers (omega (arith, many))) ∙ sym count)
+      ∙ take_all (length given) given (omega arith)) (ask (length events) event (at_end events event))
+
+module _ {W S : Type 0} (state : W → S) (physics : Physics S) (limits : Limits) (settings : Settings) (seal : Seal) where
+  -- if these events are genuine, the game is one of links, in which all was seen that the answers tell
+  abbrev pub Reaches : List LinkEvent → List Answer → LinkGame W → Type 0
+  Reaches events answers g = AreGenuine seal g.given.items events answers
+      → IsLinkGame state physics limits settings seal (all_seen events answers) g
+
+  pub reaches_more : (old new : LinkGame W) (events : List LinkEvent) (event : LinkEvent) (answers : List Answer)
+      (answer : Answer) → GoesOn state physics old new event (seen_by event answer) → AddsToGiven old new answer
+      → length answers ≡ length events → length old.given.items ≡ given_by answers → Reaches events answers old
+      → Reaches (events ++ event ∷ []) (answers ++ answer ∷ []) new
+  reaches_more old new events event answers answer on adds many count reaches ask =
+      subst (λ (seen : ℕ → Seen). IsLinkGame state physics limits settings seal seen new)
+      (sym (seen_more events answers event answer (λ player. nothing_seen) many))
+      (on limits settings seal (all_seen events answers)
+      (reaches (asked_before seal old.given.items new.given.items events event answers answer adds.stays many count ask))
+      (asked_now seal old.given.items new.given.items events event answers answer adds.stays many count ask))
+
+pub counts_more : {W : Type 0} (old new : LinkGame W) (answers : List Answer) (answer : Answer) → AddsToGiven old new answer
+    → length old.given.items ≡ given_by answers → length new.given.items ≡ given_by (answers ++ answer ∷ [])
+counts_more old new answers answer adds count =
+    let all = given_append answers (answer ∷ []) in
+    let more = adds.more in
+    omega (arith, all, more, count)
