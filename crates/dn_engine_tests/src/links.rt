@@ -50,13 +50,14 @@ impl Plan {
 
     fn call(&mut self, player: u8, call: LinkCall<'static>) -> Result<(), AllocError> {
         let player = u32::from(player);
-        self.events.push(LinkEvent::Call { player, call })
+        self.events.push(LinkEvent::Call { player, call })?;
+        Ok(())
     }
 
     /// A player builds the command of some keys, and ends its tick.
     fn tick(&mut self, player: u8, builds: bool) -> Result<(), AllocError> {
         if builds {
-            let keys = Keys::from_bits((self.given % 16) as u16);
+            let keys = Keys::from_bits(self.given % 16);
             self.call(player, LinkCall::Build(Input::Pressed(keys)))?;
         }
         self.call(player, LinkCall::Tick)
@@ -73,7 +74,8 @@ impl Plan {
         }
         let player = u32::from(to);
         self.events.push(LinkEvent::Deliver { player, which })?;
-        self.events.push(LinkEvent::Deliver { player, which })
+        self.events.push(LinkEvent::Deliver { player, which })?;
+        Ok(())
     }
 
     /// A player gives each other of so many a datagram.
@@ -150,7 +152,7 @@ fn each_round_runs_a_tic(rt: HostRuntime) -> Result<(), Fail> {
 #[test]
 fn what_is_lost_comes_later(rt: HostRuntime) -> Result<(), Fail> {
     let mut plan = Plan::new(rt.alloc());
-    plan.rounds(40, 3, true, 3)?;
+    plan.rounds(40, 3, true, 4)?;
     plan.rounds(16, 3, false, 0)?;
     let worlds = walks(rt.alloc(), 3)?;
     let played = play_links(rt.alloc(), &config(12, 1024)?, worlds, &plan.events)?;
