@@ -1,5 +1,5 @@
 -- A call on one player takes the game on.
-use Rattle.std.proofs.Common.{◌≡◌, ◌++◌, ℕ, zero, suc, List, [], ◌∷◌, Option, Some, None, sym, ap, ◌∙◌, subst, length, ◌≢◌, ◌<◌, set, refl, inl, inr, arith, true, true≢false, take, length-append}
+use Rattle.std.proofs.Common.{◌≡◌, ℕ, zero, suc, List, [], ◌∷◌, Option, Some, None, sym, ap, ◌∙◌, subst, length, ◌≢◌, ◌<◌, set, refl, inl, inr, arith, true, true≢false, take, length-append}
 use Rattle.std.specs.Prelude.{All, IfSome, is_some, slice_get, Result}
 use Rattle.std.proofs.lemmas.List.{take_all, take-append-le}
 use Rattle.std.proofs.lemmas.List.Elements.{All-head, All-push, All-tail, All-weaker}
@@ -13,7 +13,7 @@ use Rattle.dn_machine.proofs.Put.{put_at, put_off, view_kept}
 use Rattle.dn_seal.specs.declared.seal.Seal.{Seal}
 use Rattle.dn_survivor.specs.OneGame.{Session}
 use Rattle.dn_link.specs.{Linking.{linked, seal_of}, RemainingLinks.{IsGenuineIn, KeepsGiven, WasSealedIn}, Linked.Linked}
-use Rattle.dn_link_game.specs.{Games.IsLinkGame, Applied.AddsToGiven, Genuine.{IsGenuine, IsGenuineEvent, WasGiven, was_given}, Headline.HasPlayer, declared.game.LinkGame.LinkGame, declared.player.Player.Player, Playing.{Asked, GoesOnIf, GoesTo, IsPlayer, Seen, is_send}}
+use Rattle.dn_link_game.specs.{Games.IsLinkGame, Applied.AddsToGiven, Does.with_one, Genuine.{IsGenuine, IsGenuineEvent, WasGiven, was_given}, Headline.HasPlayer, declared.game.LinkGame.LinkGame, declared.player.Player.Player, Playing.{Asked, GoesOnIf, GoesTo, IsPlayer, Seen, is_send}}
 use Rattle.dn_link_game.specs.declared.calls.{LinkCall.{LinkCall, TheVariants.{Build, CatchUp, Tick, Run, Send, Receive, GiveUp, Quit}}, LinkDone.LinkDone, LinkEvent.TheVariants.Call, LinkRefusal.LinkRefusal, Sending.Sending}
 
 set_here : {A : Type 0} (xs : List A) (i : ℕ) (x : A) → i < length xs → slice_get (set xs i x) i ≡ Some x
@@ -33,18 +33,14 @@ length_set [] i x = refl
 length_set (y ∷ xs) zero x = refl
 length_set (y ∷ xs) (suc i) x = ap suc (length_set xs i x)
 
--- one more, if there is one
-abbrev pub joined : {A : Type 0} → List A → Option A → List A
-joined xs None = xs
-joined xs (Some x) = xs ++ x ∷ []
-
-all_joined : {A : Type 0} (P : A → Type 0) (xs : List A) (one : Option A) → All P xs → IfSome one P → All P (joined xs one)
+all_joined : (P : ArrayVec ℕ → Type 0) (xs : List (ArrayVec ℕ)) (one : Option (ArrayVec ℕ)) → All P xs → IfSome one P
+    → All P (with_one xs one)
 all_joined P xs None all more = all
 all_joined P xs (Some x) all more = All-push P xs x all more
 
 -- what was given stays, and one more if the answer tells so
 pub keeps : {W : Type 0} (old new : LinkGame W) (answer : Result LinkDone LinkRefusal) (one : Option (ArrayVec ℕ))
-    → new.given.items ≡ joined old.given.items one → was_given answer ≡ is_some one → AddsToGiven old new answer
+    → new.given.items ≡ with_one old.given.items one → was_given answer ≡ is_some one → AddsToGiven old new answer
 keeps old new answer None is told = record {
   stays = ap (take (length old.given.items)) is ∙ take_all (length old.given.items) old.given.items (omega arith);
   more = let same = ap length is in rw told (omega (arith, same));
@@ -63,7 +59,7 @@ Stays = (seal : Seal) (session later : Session) (bytes : List ℕ) → KeepsGive
 
 module _ {W S : Type 0} (state : W → S) (physics : Physics S) (old new : LinkGame W) (me : ℕ) (before after : Player W)
     (given : Option (ArrayVec ℕ)) (at : HasPlayer old me before) (players : new.players.items ≡ set old.players.items me after)
-    (gave : new.given.items ≡ joined old.given.items given) (seals : seal_of after.link ≡ seal_of before.link)
+    (gave : new.given.items ≡ with_one old.given.items given) (seals : seal_of after.link ≡ seal_of before.link)
     (stays : Stays) where
   inside : me < length old.players.items
   inside = slice_get_within old.players.items me before at

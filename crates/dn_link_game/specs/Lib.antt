@@ -1,4 +1,5 @@
 pub mod Playing
+pub mod Does
 pub mod Headline
 pub mod Genuine
 pub mod Games

@@ -1,7 +1,7 @@
 //! All players of a game of links, and every datagram that they gave.
 
 ghost use Rattle.std.specs.{Prelude.{◌≡◌, ◌+◌, ◌≤◌, length, OnOk, OnErr, nat_lt, true}, Vec.{vec_capacity, vec_len}};
-ghost use Rattle.dn_link_game.specs.{Applied.{IsAnswered, AddsToGiven}, Games.GoesOn, Playing.is_send, Promised.seen_by};
+ghost use Rattle.dn_link_game.specs.{Applied.{IsAnswered, AddsToGiven}, Does.DoesEvent, Games.GoesOn, Playing.is_send, Promised.seen_by};
 ghost use Rattle.dn_link_game.specs.declared.calls.LinkEvent.TheVariants.{Call, Deliver};
 
 use crate::calls::{LinkCall, LinkDone, LinkEvent, LinkRefusal};
@@ -45,6 +45,7 @@ impl<W: World> LinkGame<W> {
     /// A call on a player; what it gives joins what was given. Room for that is made first.
     fn call(&mut self, player: u32, call: &LinkCall) -> Result<LinkDone, LinkRefusal>
         ensures goes_on { GoesOn W.state W.physics self.old self.new (Call player call.now) (seen_by (Call player call.now) result) }
+        ensures does { DoesEvent W.state W.physics (Call player call.now) result self.old self.new }
         ensures answered { IsAnswered self.old (Call player call.now) result }
         ensures given { AddsToGiven self.old self.new result }
         ensures unchanged { OnErr result ((self.new.players ≡ self.old.players) × (self.new.given.items ≡ self.old.given.items)) }
@@ -66,6 +67,7 @@ impl<W: World> LinkGame<W> {
     /// What was given as this one comes to a player.
     fn deliver(&mut self, player: u32, which: u32) -> Result<LinkDone, LinkRefusal>
         ensures goes_on { GoesOn W.state W.physics self.old self.new (Deliver player which) (seen_by (Deliver player which) result) }
+        ensures does { DoesEvent W.state W.physics (Deliver player which) result self.old self.new }
         ensures answered { IsAnswered self.old (Deliver player which) result }
         ensures given { AddsToGiven self.old self.new result }
         ensures unchanged { OnErr result ((self.new.players ≡ self.old.players) × (self.new.given.items ≡ self.old.given.items)) }
@@ -85,6 +87,7 @@ impl<W: World> LinkGame<W> {
     pub fn apply(&mut self, event: &LinkEvent) -> Result<LinkDone, LinkRefusal>
         // Where the game is one of links, in which this was seen, it is one after the event too.
         ensures goes_on { GoesOn W.state W.physics self.old self.new event.now (seen_by event.now result) }
+        ensures does { DoesEvent W.state W.physics event.now result self.old self.new }
         ensures answered { IsAnswered self.old event.now result }
         ensures given { AddsToGiven self.old self.new result }
         ensures unchanged { OnErr result ((self.new.players ≡ self.old.players) × (self.new.given.items ≡ self.old.given.items)) }

@@ -1,7 +1,10 @@
 //! One player of a game: a link, and a world that is stepped by the rows that the link tells.
 
 ghost use Rattle.std.specs.Prelude.{◌≡◌, ◌<◌, ℕ, None, pos, get_or, is_some, true, IfOk};
-ghost use Rattle.dn_link.specs.Linking.{seal_of};
+ghost use Rattle.dn_lockstep.specs.Told.{Builds};
+ghost use Rattle.dn_link.specs.Linking.{linked, seal_of};
+ghost use Rattle.dn_link_game.specs.Does.{Does, IsAlone, Runs};
+ghost use Rattle.dn_link_game.specs.declared.calls.{LinkCall.TheVariants.Send, LinkDone.TheVariants.Sent, Sending.TheVariants.Datagram};
 ghost use Rattle.dn_link_game.specs.{Games.IsNew, Opening.IsAdmittedAs, Opening.limits_of, Playing.{Asked, GoesOn, GoesOnIf, gives, is_send, sees, taking, telling}};
 
 use crate::calls::{LinkCall, LinkDone, Sending};
@@ -53,6 +56,8 @@ impl<W: World> Player<W> {
     /// Builds the command of an input.
     fn build(&mut self, input: Input) -> Made
         ensures goes_on { GoesOn W.state W.physics self.old self.new None (taking input result) }
+        ensures does { Builds (linked self.old.link).node (linked self.new.link).node input result
+            × IsAlone self.old self.new }
         ensures seal { seal_of self.new.link ≡ seal_of self.old.link }
     {
         remaining_links_go_on();
@@ -65,6 +70,7 @@ impl<W: World> Player<W> {
     /// Runs a tic, by the marks of its world, and steps the world by the row.
     fn run(&mut self) -> (Ran, Option<[Option<Move>; 4]>)
         ensures goes_on { GoesOn W.state W.physics self.old self.new None (telling result.1) }
+        ensures does { Runs W.state W.physics result.0 result.1 self.old self.new }
         ensures seal { seal_of self.new.link ≡ seal_of self.old.link }
     {
         remaining_links_go_on();
@@ -88,6 +94,7 @@ impl<W: World> Player<W> {
     /// The datagram to a peer.
     fn datagram(&mut self, to: u8) -> Option<ArrayVec<u8, 1200>>
         ensures goes_on { GoesOn W.state W.physics self.old self.new result (λ seen. seen) }
+        ensures does { Does W.state W.physics (Send to Datagram) (Sent (is_some result)) result self.old self.new }
         ensures seal { seal_of self.new.link ≡ seal_of self.old.link }
     {
         remaining_links_go_on();
@@ -100,6 +107,7 @@ impl<W: World> Player<W> {
     /// Gives a peer a datagram.
     fn send(&mut self, to: u8, what: Sending) -> Option<ArrayVec<u8, 1200>>
         ensures goes_on { GoesOn W.state W.physics self.old self.new result (λ seen. seen) }
+        ensures does { Does W.state W.physics (Send to what) (Sent (is_some result)) result self.old self.new }
         ensures seal { seal_of self.new.link ≡ seal_of self.old.link }
     {
         remaining_links_go_on();
@@ -114,6 +122,7 @@ impl<W: World> Player<W> {
     /// Makes a call, and answers what it did, and the datagram that it gave, if it gave one.
     pub fn call(&mut self, call: &LinkCall) -> (LinkDone, Option<ArrayVec<u8, 1200>>)
         ensures goes_on { GoesOnIf W.state W.physics self.old self.new (Asked call.now self.old) result.1 (sees call.now result.0) }
+        ensures does { Does W.state W.physics call.now result.0 result.1 self.old self.new }
         ensures gives { is_some result.1 ≡ gives result.0 }
         ensures asked { is_some result.1 ≡ true → is_send call.now ≡ true }
         ensures seal { seal_of self.new.link ≡ seal_of self.old.link }

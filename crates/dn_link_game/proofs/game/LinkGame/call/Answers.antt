@@ -1,9 +1,10 @@
-use Rattle.std.proofs.Common.{rules, ◌≡◌, ◌<◌, ℕ, List, refl, sym, ap, ◌∙◌, length, subst, arith}
+use Rattle.std.proofs.Common.{rules, ◌≡◌, ◌<◌, ℕ, List, refl, sym, ap, ◌∙◌, length, set, subst, arith}
+use Rattle.std.specs.Prelude.{slice_get}
 use Rattle.std.proofs.lemmas.Option.{slice_get_read}
 use Rattle.arrayvec.specs.ArrayVec.{ArrayVec}
-use Rattle.dn_link_game.specs.{Genuine.IsGenuineEvent, Playing.{Asked, sees}}
+use Rattle.dn_link_game.specs.{Does.with_one, Genuine.IsGenuineEvent, Playing.{Asked, sees}}
 use Rattle.dn_link_game.specs.declared.calls.LinkEvent.TheVariants.{Call}
-use Rattle.dn_link_game.proofs.Going.{asked_of, goes, joined, sends, stands}
+use Rattle.dn_link_game.proofs.Going.{asked_of, goes, sends, stands}
 use Rattle.dn_link_game.proofs.game.LinkGame.call.Goals as goal
 
 pub returns-in_default-clause-goes_on : goal.returns-in_default-clause-goes_on
@@ -31,7 +32,7 @@ returns-in-Some-clause-goes_on g c limits settings seal seen is genuine =
     let at = slice_get_read mid.players.items (length mid.players.items) c.args.player its refl (omega (arith, same, there))
     c.index_mut.ensures.value in
     goes state physics mid _ c.args.player its c.call-done.new.self c.call-done.result.1 at refl
-    (c.push_reserved.ensures.items ∙ ap (joined mid.given.items) (sym c.in-Some.is)) c.call-done.ensures.seal
+    (c.push_reserved.ensures.items ∙ ap (with_one mid.given.items) (sym c.in-Some.is)) c.call-done.ensures.seal
     c.remaining_bytes_are_genuine.ensures.stay (Asked c.args.call.now its) (sees c.args.call.now c.call-done.result.0)
     c.call-done.ensures.goes_on limits settings seal seen kept
     (asked_of state physics limits settings seal seen mid kept c.remaining_bytes_are_genuine.ensures.genuine c.args.player its at
@@ -52,9 +53,51 @@ returns-in_default-given-clause-goes_on g c limits settings seal seen is genuine
     let at = slice_get_read mid.players.items (length mid.players.items) c.args.player its refl (omega (arith, same, there))
     c.index_mut.ensures.value in
     goes state physics mid _ c.args.player its c.call-done.new.self c.call-done.result.1 at refl
-    (ap (joined mid.given.items) (sym c.in_default-given.is)) c.call-done.ensures.seal
+    (ap (with_one mid.given.items) (sym c.in_default-given.is)) c.call-done.ensures.seal
     c.remaining_bytes_are_genuine.ensures.stay (Asked c.args.call.now its) (sees c.args.call.now c.call-done.result.0)
     c.call-done.ensures.goes_on limits settings seal seen kept
     (asked_of state physics limits settings seal seen mid kept c.remaining_bytes_are_genuine.ensures.genuine c.args.player its at
     c.args.call.now (subst (λ (given : List (ArrayVec ℕ)). IsGenuineEvent seal given (Call c.args.player c.args.call.now))
     (sym c.make_room.ensures.given) genuine))
+
+pub returns-in-Some-clause-does : goal.returns-in-Some-clause-does
+returns-in-Some-clause-does g c =
+    let mid = c.make_room.new.self in
+    let its = c.index_mut.result.now in
+    let there : c.args.player < length c.args.self.now.players.items = search rules in
+    let same : length mid.players.items ≡ length c.args.self.now.players.items =
+    ap (λ ps. length ps.items) c.make_room.ensures.players in
+    let at = slice_get_read mid.players.items (length mid.players.items) c.args.player its refl (omega (arith, same, there))
+    c.index_mut.ensures.value in (
+      c.call-done.result.1,
+      c.push_reserved.ensures.items ∙ ap (with_one mid.given.items) (sym c.in-Some.is)
+          ∙ ap (λ (given : List (ArrayVec ℕ)). with_one given c.call-done.result.1) c.make_room.ensures.given,
+      (
+        its,
+        c.call-done.new.self,
+        ap (λ ps. slice_get ps.items c.args.player) (sym c.make_room.ensures.players) ∙ at,
+        ap (λ ps. set ps.items c.args.player c.call-done.new.self) c.make_room.ensures.players,
+        c.call-done.ensures.does,
+      ),
+    )
+
+pub returns-in_default-given-clause-does : goal.returns-in_default-given-clause-does
+returns-in_default-given-clause-does g c =
+    let mid = c.make_room.new.self in
+    let its = c.index_mut.result.now in
+    let there : c.args.player < length c.args.self.now.players.items = search rules in
+    let same : length mid.players.items ≡ length c.args.self.now.players.items =
+    ap (λ ps. length ps.items) c.make_room.ensures.players in
+    let at = slice_get_read mid.players.items (length mid.players.items) c.args.player its refl (omega (arith, same, there))
+    c.index_mut.ensures.value in (
+      c.call-done.result.1,
+      ap (with_one mid.given.items) (sym c.in_default-given.is)
+          ∙ ap (λ (given : List (ArrayVec ℕ)). with_one given c.call-done.result.1) c.make_room.ensures.given,
+      (
+        its,
+        c.call-done.new.self,
+        ap (λ ps. slice_get ps.items c.args.player) (sym c.make_room.ensures.players) ∙ at,
+        ap (λ ps. set ps.items c.args.player c.call-done.new.self) c.make_room.ensures.players,
+        c.call-done.ensures.does,
+      ),
+    )

@@ -1,9 +1,10 @@
-use Rattle.std.proofs.Common.{rules, ◌≡◌, ◌<◌, ℕ, List, Option, Some, None, false, true, true≢false, refl, sym, ap, ◌∙◌, length}
+use Rattle.std.proofs.Common.{rules, ◌≡◌, ◌<◌, ℕ, List, Option, Some, None, false, true, true≢false, refl, sym, ap, ◌∙◌, length, subst}
 use Rattle.std.specs.Prelude.{Ok, is_some, slice_get}
 use Rattle.std.proofs.lemmas.Option.{slice_get_read}
 use Rattle.arrayvec.specs.ArrayVec.{ArrayVec}
-use Rattle.dn_link_game.specs.{Playing.{Asked, gives}, declared.calls.LinkCall.TheVariants.Receive}
-use Rattle.dn_link_game.proofs.Going.{given, goes_unseen, joined, keeps}
+use Rattle.dn_link.specs.{Linked.Receives, Linking.{linked, seal_of}, declared.received.Received.Received}
+use Rattle.dn_link_game.specs.{Does.{Does, with_one}, Playing.{Asked, gives}, declared.calls.{LinkCall.TheVariants.Receive, LinkDone.LinkDone}}
+use Rattle.dn_link_game.proofs.Going.{given, goes_unseen, keeps}
 use Rattle.dn_link_game.proofs.game.LinkGame.deliver.Given.{Over}
 use Rattle.dn_link_game.proofs.game.LinkGame.deliver.Goals.{After-call-done}
 use Rattle.dn_link_game.proofs.game.LinkGame.deliver.Goals as goal
@@ -29,7 +30,7 @@ returns-clause-goes_on g c limits settings seal seen is any =
     ap (λ (xs : List (ArrayVec ℕ)). slice_get xs c.args.which) (sym c.deref.ensures.value)
     ∙ slice_get_read c.deref.result.now (length c.deref.result.now) c.args.which c.in-Some.bytes.now refl found.3.0 found.1 in
     goes_unseen state physics old _ c.args.player its c.call-done.new.self c.call-done.result.1 at refl
-    (ap (joined old.given.items) (sym (none g (goal.at.returns-clause-goes_on g c).After-call-done))) c.call-done.ensures.seal
+    (ap (with_one old.given.items) (sym (none g (goal.at.returns-clause-goes_on g c).After-call-done))) c.call-done.ensures.seal
     c.remaining_bytes_are_genuine.ensures.stay (Asked (Receive c.as_slice.result) its) c.call-done.ensures.goes_on
     limits settings seal seen is
     (given state physics limits settings seal seen old is c.remaining_bytes_are_genuine.ensures.genuine c.args.player its at
@@ -40,3 +41,48 @@ returns-clause-given g c =
     let silent : gives c.call-done.result.0 ≡ false =
     sym c.call-done.ensures.gives ∙ ap is_some (none g (goal.at.returns-clause-given g c).After-call-done) in
     keeps c.args.self.now _ (Ok c.call-done.result.0) None refl silent
+
+-- the bytes were received
+answer : (g : Over) (c : After-call-done g) → (answer : Received) × (c.call-done.result.0 ≡ LinkDone.Received answer)
+    × Receives (seal_of c.index_mut.result.now.link) c.as_slice.result.now (linked c.index_mut.result.now.link)
+    (linked c.call-done.new.self.link) answer × (c.call-done.new.self.world ≡ c.index_mut.result.now.world)
+answer g c = go c.call-done.result.0 c.call-done.ensures.does
+  where
+    go : (done : LinkDone) → Does g.W.World.state g.W.World.physics (Receive c.as_slice.result) done c.call-done.result.1
+        c.index_mut.result.now c.call-done.new.self → (answer : Received) × (done ≡ LinkDone.Received answer)
+        × Receives (seal_of c.index_mut.result.now.link) c.as_slice.result.now (linked c.index_mut.result.now.link)
+        (linked c.call-done.new.self.link) answer × (c.call-done.new.self.world ≡ c.index_mut.result.now.world)
+    go (LinkDone.Received answer) does = (answer, refl, does.0, does.1)
+    go (LinkDone.Built made) does = absurd does
+    go (LinkDone.CaughtUp made) does = absurd does
+    go (LinkDone.Ticked by) does = absurd does
+    go (LinkDone.Ran ran row) does = absurd does
+    go (LinkDone.Sent sent) does = absurd does
+    go (LinkDone.GivenUp given) does = absurd does
+    go (LinkDone.Quit quit) does = absurd does
+
+pub returns-clause-does : goal.returns-clause-does
+returns-clause-does g c =
+    let old = c.args.self.now in
+    let its = c.index_mut.result.now in
+    let found = c.in-Some.ensures.lookup in
+    let there : c.args.player < length old.players.items = search rules in
+    let heard = answer g (goal.at.returns-clause-does g c).After-call-done in (
+      c.in-Some.bytes.now,
+      ap (λ (xs : List (ArrayVec ℕ)). slice_get xs c.args.which) (sym c.deref.ensures.value)
+          ∙ slice_get_read c.deref.result.now (length c.deref.result.now) c.args.which c.in-Some.bytes.now refl found.3.0 found.1,
+      refl,
+      heard.0,
+      heard.1,
+      (
+        its,
+        c.call-done.new.self,
+        slice_get_read old.players.items (length old.players.items) c.args.player its refl there c.index_mut.ensures.value,
+        refl,
+        (
+          subst (λ (bytes : List ℕ). Receives (seal_of its.link) bytes (linked its.link) (linked c.call-done.new.self.link)
+              heard.0) c.as_slice.ensures.value heard.2,
+          heard.3,
+        ),
+      ),
+    )

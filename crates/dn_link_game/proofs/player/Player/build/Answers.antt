@@ -18,3 +18,11 @@ returns-in-Given-clause-goes_on g c = rw c.in-Given.is (λ limits settings sessi
     (Given c.in-Given.command) c.give.result (c.remaining_links_go_on.ensures.built (marking_of g.W.World.physics)) mine below
     c.give.ensures.step c.give.ensures.others c.give.ensures.peers (ap (λ (p : PaceState). p.owed) c.give.ensures.pace)
     refl)
+
+pub returns-in-Pressed-clause-does : goal.returns-in-Pressed-clause-does
+returns-in-Pressed-clause-does g c = rw c.in-Pressed.is
+    (c.build.ensures.step, (c.build.ensures.others, c.build.ensures.peers, refl))
+
+pub returns-in-Given-clause-does : goal.returns-in-Given-clause-does
+returns-in-Given-clause-does g c = rw c.in-Given.is
+    (c.give.ensures.step, (c.give.ensures.others, c.give.ensures.peers, refl))

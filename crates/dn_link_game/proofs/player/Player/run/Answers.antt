@@ -56,3 +56,28 @@ returns-in_default-clause-goes_on g c limits settings session links me seen mine
     (record { link = c.run-ran.new.self; world = c.args.self.now.world }) seen_is is
     c.run-ran.result.1 on (ap (λ (p : PaceState). p.owed) c.run-ran.ensures.pace) (λ none. refl)
     (λ told is_told. absurd (none-some told (sym c.in_default.is ∙ is_told)))
+
+pub returns-in-Some-clause-does : goal.returns-in-Some-clause-does
+returns-in-Some-clause-does g c = (
+  c.marks-marks.result,
+  c.marks-marks.ensures,
+  subst (λ (row : Option (List (Option Move))). RunsBut c.marks-marks.result (linked c.args.self.now.link)
+      (linked c.run-ran.new.self) (λ answer told. (c.run-ran.result.0 ≡ answer) × (row ≡ told))) c.in-Some.is
+      c.run-ran.ensures.but,
+  c.run-ran.ensures.others,
+  c.run-ran.ensures.peers,
+  λ none. absurd (none-some c.in-Some.row (sym none)),
+  λ told is. c.step.ensures
+      ∙ ap (g.W.World.physics.step (g.W.World.state c.args.self.now.world)) (same_Some c.in-Some.row told is),
+)
+
+pub returns-in_default-clause-does : goal.returns-in_default-clause-does
+returns-in_default-clause-does g c = (
+  c.marks-marks.result,
+  c.marks-marks.ensures,
+  c.run-ran.ensures.but,
+  c.run-ran.ensures.others,
+  c.run-ran.ensures.peers,
+  λ none. refl,
+  λ told is. absurd (none-some told (sym c.in_default.is ∙ is)),
+)
