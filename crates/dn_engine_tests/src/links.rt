@@ -54,16 +54,17 @@ impl Plan {
         Ok(())
     }
 
-    /// A player builds the command of some keys, and ends its tick.
+    /// A player builds the command of some keys, makes the one that it owes, if it owes one, and ends its tick.
     fn tick(&mut self, player: u8, builds: bool) -> Result<(), AllocError> {
         if builds {
             let keys = Keys::from_bits(self.given % 16);
             self.call(player, LinkCall::Build(Input::Pressed(keys)))?;
         }
+        self.call(player, LinkCall::CatchUp)?;
         self.call(player, LinkCall::Tick)
     }
 
-    /// A player gives another a datagram. It comes twice, or never, which is so of each of so many.
+    /// A player gives another a datagram. It comes twice; but one of each so many never comes.
     fn pass(&mut self, from: u8, to: u8, loses: u32) -> Result<(), AllocError> {
         let what = Sending::Datagram;
         self.call(from, LinkCall::Send { to, what })?;
@@ -128,7 +129,7 @@ fn ran(played: &PlayedLinks<Walk>, number: usize) -> Result<u32, Fail> {
     Ok(player(played, number)?.link.lockstep().ran())
 }
 
-/// Two players' worlds are where they are for the first player, and their demos are the same but for the view.
+/// Player 0 and another have the same world, as far as it is looked at, and the same demo but for the view.
 fn agree(rt: &impl Abort, played: &PlayedLinks<Walk>, other: usize) -> Result<(), Fail> {
     let (one, two) = (player(played, 0)?, player(played, other)?);
     assert!(rt; one.world.x(0) == two.world.x(0));
@@ -178,6 +179,50 @@ fn two_play_on_without_the_third(rt: HostRuntime) -> Result<(), Fail> {
     assert_eq!(&rt; ran(&played, 1)?, tics);
     assert_eq!(&rt; ran(&played, 2)?, 10);
     agree(&rt, &played, 1)
+}
+
+#[test]
+fn each_sending_is_received(rt: HostRuntime) -> Result<(), Fail> {
+    let table = [
+        (Sending::Datagram, 1, Received::Heard(0)),
+        (Sending::Probe, 1, Received::Heard(0)),
+        (Sending::Exclusion, 2, Received::Excluded(0)),
+        (Sending::Datagram, 1, Received::Heard(0)),
+    ];
+    let mut plan = Plan::new(rt.alloc());
+    plan.rounds(3, 3, true, 0)?;
+    plan.call(0, LinkCall::GiveUp(2))?;
+    for (what, to, _) in table {
+        plan.call(0, LinkCall::Send { to, what })?;
+        let (player, which) = (u32::from(to), plan.given);
+        plan.given = which.wrapping_add(1);
+        plan.events.push(LinkEvent::Deliver { player, which })?;
+    }
+    let worlds = walks(rt.alloc(), 3)?;
+    let played = play_links(rt.alloc(), &config(12, 1024)?, worlds, &plan.events)?;
+    let Some(answers) = played.answers.last_chunk::<8>() else {
+        return Err("too few answers".into());
+    };
+    for (both, (_, _, received)) in answers.chunks_exact(2).zip(table) {
+        assert!(&rt;
+            both == [Ok(LinkDone::Sent(true)), Ok(LinkDone::Received(received))].as_slice()
+        );
+    }
+    Ok(())
+}
+
+#[test]
+fn one_who_quits_is_lacked_from_its_end_on(rt: HostRuntime) -> Result<(), Fail> {
+    let mut plan = Plan::new(rt.alloc());
+    plan.rounds(10, 2, true, 0)?;
+    plan.call(1, LinkCall::Quit)?;
+    plan.rounds(5, 2, true, 0)?;
+    let worlds = walks(rt.alloc(), 2)?;
+    let played = play_links(rt.alloc(), &config(12, 1024)?, worlds, &plan.events)?;
+    assert_eq!(&rt; ran(&played, 0)?, 15);
+    assert_eq!(&rt; ran(&played, 1)?, 10);
+    assert_eq!(&rt; player(&played, 0)?.link.lockstep().end(1), Some(10));
+    Ok(())
 }
 
 #[test]

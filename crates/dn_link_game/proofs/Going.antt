@@ -28,7 +28,7 @@ set_elsewhere (y ∷ xs) zero (suc j) x h = refl
 set_elsewhere (y ∷ xs) (suc i) zero x h = refl
 set_elsewhere (y ∷ xs) (suc i) (suc j) x h = set_elsewhere xs i j x (λ e. h (ap suc e))
 
-length_set : {A : Type 0} (xs : List A) (i : ℕ) (x : A) → length (set xs i x) ≡ length xs
+pub length_set : {A : Type 0} (xs : List A) (i : ℕ) (x : A) → length (set xs i x) ≡ length xs
 length_set [] i x = refl
 length_set (y ∷ xs) zero x = refl
 length_set (y ∷ xs) (suc i) x = ap suc (length_set xs i x)

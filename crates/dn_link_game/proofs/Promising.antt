@@ -1,14 +1,15 @@
 -- Events one after the other: what is seen of them, and what is asked of them.
-use Rattle.std.proofs.Common.{◌≡◌, ◌≤◌, ◌+◌, ◌++◌, ◌∷◌, [], ℕ, zero, suc, List, Some, refl, sym, ap, ◌∙◌, subst, take, length, arith}
-use Rattle.std.specs.Prelude.{slice_get, Result}
-use Rattle.std.proofs.lemmas.{List.{take_all, take-append-le}, Option.{none-some, slice_get_within}}
+use Rattle.std.proofs.Common.{◌≡◌, ◌≤◌, ◌+◌, ◌++◌, ◌∷◌, [], ℕ, zero, suc, List, Some, refl, sym, ap, ◌∙◌, subst, take, length, inl, inr, arith}
+use Rattle.dn_link_game.proofs.Going.{length_set}
+use Rattle.std.specs.Prelude.{slice_get, Result, Ok, Err, OnErr, ◌⊎◌}
+use Rattle.std.proofs.lemmas.{List.{take_all, take-append-le}, Option.{none-some, same_Some, slice_get_within}}
 use Rattle.arrayvec.specs.ArrayVec.{ArrayVec}
 use Rattle.dn_setup.specs.Settings.{Settings}
 use Rattle.dn_world.specs.Physics.{Physics}
 use Rattle.dn_machine.specs.Limits.{Limits}
 use Rattle.dn_seal.specs.declared.seal.Seal.{Seal}
-use Rattle.dn_link_game.specs.{Applied.AddsToGiven, Games.{GoesOn, IsLinkGame}, Genuine.{AreGenuine, IsGenuineEvent, given_by}, Playing.{Seen, nothing_seen}, Promised.{all_seen, seen_after, seen_by}}
-use Rattle.dn_link_game.specs.declared.{calls.{LinkDone.LinkDone, LinkEvent.LinkEvent, LinkRefusal.LinkRefusal}, game.LinkGame.LinkGame}
+use Rattle.dn_link_game.specs.{Applied.{AddsToGiven, AreAnswered, IsAnswered}, Does.DoesEvent, Games.{GoesOn, IsLinkGame}, Genuine.{AreGenuine, IsGenuineEvent, given_by}, Playing.{Seen, nothing_seen}, Promised.{all_seen, seen_after, seen_by}}
+use Rattle.dn_link_game.specs.declared.{calls.{LinkDone.LinkDone, LinkEvent.{LinkEvent, TheVariants.{Call, Deliver}}, LinkRefusal.LinkRefusal}, game.LinkGame.LinkGame}
 
 abbrev Answer : Type 0
 Answer = Result LinkDone LinkRefusal
@@ -46,6 +47,52 @@ there_still : {A : Type 0} (xs : List A) (y : A) (k : ℕ) (x : A) → slice_get
 there_still [] y k x e = absurd (none-some x e)
 there_still (z ∷ xs) y zero x e = e
 there_still (z ∷ xs) y (suc k) x e = there_still xs y k x e
+
+-- one more answer
+pushed_cases : {A : Type 0} (xs : List A) (y : A) (k : ℕ) (x : A) → slice_get (xs ++ y ∷ []) k ≡ Some x
+    → (slice_get xs k ≡ Some x) ⊎ ((k ≡ length xs) × (x ≡ y))
+pushed_cases [] y zero x e = inr (refl, sym (same_Some y x e))
+pushed_cases [] y (suc k) x e = absurd (none-some x e)
+pushed_cases (z ∷ xs) y zero x e = inl e
+pushed_cases (z ∷ xs) y (suc k) x e = elim (pushed_cases xs y k x e) [
+  | inl there ↦ inl there
+  | inr last ↦ inr (ap suc last.0, last.1)
+]
+
+pub answered_more : (players : ℕ) (events : List LinkEvent) (event : LinkEvent) (answers : List Answer) (answer : Answer)
+    → length answers ≡ length events → AreAnswered players events answers
+    → IsAnswered players (given_by answers) event answer
+    → AreAnswered players (events ++ event ∷ []) (answers ++ answer ∷ [])
+answered_more players events event answers answer many before now k one is there found =
+    elim (pushed_cases events event k one there) [
+      | inl within ↦
+          let below = slice_get_within events k one within in
+          elim (pushed_cases answers answer k is found) [
+            | inl its ↦ subst (λ (xs : List Answer). IsAnswered players (given_by xs) one is)
+                (sym (take-append-le k answers (answer ∷ []) (omega (arith, below, many)))) (before k one is within its)
+            | inr last ↦ absurd (omega (arith, last.0, below, many))
+          ]
+      | inr last ↦ elim (pushed_cases answers answer k is found) [
+        | inl its ↦ let below = slice_get_within answers k is its in absurd (omega (arith, last.0, below, many))
+        | inr same ↦
+            let all = take-append-le k answers (answer ∷ []) (omega (arith, same.0))
+            ∙ take_all k answers (omega (arith, same.0)) in
+            subst (λ (xs : List Answer). IsAnswered players (given_by xs) one is) (sym all)
+            (subst (λ (e : LinkEvent). IsAnswered players (given_by answers) e is) (sym last.1)
+            (subst (λ (a : Answer). IsAnswered players (given_by answers) event a) (sym same.1) now))
+      ]
+    ]
+
+-- as many players as before
+pub players_stay : {W S : Type 0} (state : W → S) (physics : Physics S) (event : LinkEvent) (answer : Answer)
+    (old new : LinkGame W) → DoesEvent state physics event answer old new
+    → OnErr answer ((new.players ≡ old.players) × (new.given.items ≡ old.given.items))
+    → length new.players.items ≡ length old.players.items
+players_stay state physics event (Err refused) old new does same = ap (λ ps. length ps.items) same.0
+players_stay state physics (Call player call) (Ok done) old new does same =
+    ap length does.2.3 ∙ length_set old.players.items player does.2.1
+players_stay state physics (Deliver player which) (Ok done) old new does same =
+    ap length does.5.3 ∙ length_set old.players.items player does.5.1
 
 module _ (seal : Seal) (given more : List (ArrayVec ℕ)) (events : List LinkEvent) (event : LinkEvent)
     (answers : List Answer) (answer : Answer) (stays : take (length given) more ≡ given)

@@ -1,5 +1,5 @@
 -- Which events of a game of links are refused, and what is given.
-use Rattle.std.specs.Prelude.{◌≡◌, ◌<◌, ◌≤◌, ℕ, ◌+◌, ◌∷◌, [], length, take, Result, Ok, Err}
+use Rattle.std.specs.Prelude.{◌≡◌, ◌<◌, ◌≤◌, ℕ, ◌+◌, ◌∷◌, [], List, Some, length, slice_get, take, Result, Ok, Err}
 use Rattle.dn_link_game.specs.{Genuine.given_by, declared.game.LinkGame.LinkGame}
 use Rattle.dn_link_game.specs.declared.calls.{LinkCall.TheVariants.Send, LinkDone.LinkDone, LinkEvent.{LinkEvent, TheVariants.{Call, Deliver}}, LinkRefusal.{LinkRefusal, TheVariants.{NoPlayer, NoDatagram, Memory}}}
 
@@ -8,16 +8,22 @@ abbrev pub player_of : LinkEvent → ℕ
 player_of (Call player call) = player
 player_of (Deliver player which) = player
 
--- an event is done, or refused for the first thing that is wrong: it names no player; or it brings what was never
--- given. To one that gives a datagram memory may be refused
-abbrev pub IsAnswered : {W : Type 0} → LinkGame W → LinkEvent → Result LinkDone LinkRefusal → Type 0
-IsAnswered g event (Err NoPlayer) = length g.players.items ≤ player_of event
-IsAnswered g (Deliver player which) (Err NoDatagram) =
-    (player < length g.players.items) × (length g.given.items ≤ which)
-IsAnswered g (Call player (Send to what)) (Err Memory) = player < length g.players.items
-IsAnswered g (Call player call) (Ok done) = player < length g.players.items
-IsAnswered g (Deliver player which) (Ok done) = (player < length g.players.items) × (which < length g.given.items)
-IsAnswered g event refused = ⊥
+-- in a game of so many players, in which so many datagrams were given, an event is done, or refused for the first
+-- thing that is wrong: it names no player; or it brings what was never given. To one that asks for a datagram memory
+-- may be refused
+abbrev pub IsAnswered : (players given : ℕ) → LinkEvent → Result LinkDone LinkRefusal → Type 0
+IsAnswered players given event (Err NoPlayer) = players ≤ player_of event
+IsAnswered players given (Deliver player which) (Err NoDatagram) = (player < players) × (given ≤ which)
+IsAnswered players given (Call player (Send to what)) (Err Memory) = player < players
+IsAnswered players given (Call player call) (Ok done) = player < players
+IsAnswered players given (Deliver player which) (Ok done) = (player < players) × (which < given)
+IsAnswered players given event refused = ⊥
+
+-- and each event is, by how many datagrams the earlier answers tell to have been given
+abbrev pub AreAnswered : ℕ → List LinkEvent → List (Result LinkDone LinkRefusal) → Type 0
+AreAnswered players events answers =
+    (k : ℕ) (event : LinkEvent) (answer : Result LinkDone LinkRefusal) → slice_get events k ≡ Some event
+    → slice_get answers k ≡ Some answer → IsAnswered players (given_by (take k answers)) event answer
 
 -- what was given stays, and one datagram more was given if the answer tells so
 pub record AddsToGiven {W : Type 0} (old new : LinkGame W) (answer : Result LinkDone LinkRefusal) : Type 0 where

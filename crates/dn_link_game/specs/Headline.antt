@@ -1,8 +1,6 @@
 -- The headline of a game of links, by what the readers of its links return, the inputs that its players' builds
 -- took, and the rows that their runs told. It speaks of no packet and no datagram.
-use Rattle.std.specs.Prelude.{◌≡◌, ◌<◌, ◌||◌, ℕ, ◌+◌, false, List, Option, Some, take, length, nat_lt, pos, slice_get, get_or, [], None}
-use Rattle.dn_tic.specs.Command.{used}
-use Rattle.dn_tic.specs.Inputs.{made_by}
+use Rattle.std.specs.Prelude.{◌≡◌, ◌<◌, ◌≤◌, ◌||◌, ℕ, ◌+◌, false, List, Option, Some, length, nat_lt, slice_get, None}
 use Rattle.dn_tic.specs.declared.command.Move.{Move}
 use Rattle.dn_setup.specs.Settings.{Settings}
 use Rattle.dn_setup.specs.Settings.{start_of}
@@ -11,13 +9,13 @@ use Rattle.dn_demo.specs.Layout.{long_tics}
 use Rattle.dn_demo.specs.Text.{demo_text}
 use Rattle.dn_machine.specs.Headline.{AgreeWithin, AnyTwo, Shown, ran_by, whole_rows}
 use Rattle.dn_machine.specs.Limits.{Limits}
-use Rattle.dn_machine.specs.Node.{is_ended}
+use Rattle.dn_machine.specs.{Node.is_ended, declared.answers.Phase.TheVariants.Playing}
 use Rattle.dn_machine.specs.Worlds.{Inputs}
 use Rattle.dn_lockstep.specs.Agreed.{recorded}
 use Rattle.dn_lockstep.specs.OneGame.{world_told}
 use Rattle.dn_lockstep.specs.Rows.{seats_of}
 use Rattle.dn_lockstep.specs.Told.{HasStarted, got}
-use Rattle.dn_survivor.specs.Surviving.{end_settled}
+use Rattle.dn_survivor.specs.{Agreed.row_without, Surviving.end_settled}
 use Rattle.dn_link.specs.Linked.{has_given_up, surviving_of}
 use Rattle.dn_link.specs.Linking.{linked}
 use Rattle.dn_link_game.specs.Playing.{world_by}
@@ -40,6 +38,8 @@ pub record Shows {W S : Type 0} (state : W → S) (physics : Physics S) (limits 
   pub demo : shown.demo ≡ recorded (linked player.link).node
   -- its world began with the settings' start and was stepped by the rows
   pub world : state player.world ≡ world_by physics (world_told limits settings shown.rows)
+  -- who plays has started
+  pub started : (linked player.link).node.phase ≡ Playing → HasStarted (linked player.link).node
   -- its demo is the text of the rows before the first that lacks a player. It is closed once the link ran a row
   -- that lacks one, or has ended
   pub rows : HasStarted (linked player.link).node
@@ -70,17 +70,25 @@ pub record HaveAgreed {W S : Type 0} (state : W → S) (physics : Physics S) (li
   pub shown : ℕ → Shown ℕ
   pub shows : (i : ℕ) (player : Player W) → HasPlayer g i player → Shows state physics limits settings i player (shown i)
   pub told_is : (i : ℕ) → (shown i).rows ≡ told i
-  -- the headline; that two used the same commands, and what one lacks of the other, of any two of whom neither
-  -- has given up the other
+  -- the headline; its parts `same` and `lacked` are of any two of whom neither has given up the other
   pub headline : AgreeWithin limits.ahead (limits.ahead + limits.ahead) limits.places limits.players (Together g) shown
   -- and all of it of any two players, where nobody gave up anybody
   pub quiet : NobodyGone g
       → AgreeWithin limits.ahead (limits.ahead + limits.ahead) limits.places limits.players (AnyTwo limits.players) shown
-  -- a move of a player in a row is the one that the player's inputs make, whoever ran it
-  pub makers : (q p tic : ℕ) (move : Move) → q < limits.players → p < limits.players
-      → get_or (get_or (told q) tic []) p None ≡ Some move
-      → move ≡ used (made_by (take (tic + 1) (inputs p)) (pos 0))
-  -- a player's end is the same for any two who know it and of whom neither has given up the other
+  -- the row of a tic has the moves that the players' inputs make, of each player whose end its runner's link does not
+  -- know to be over by then, and none of any other
+  pub rows : (q tic : ℕ) (player : Player W) → HasPlayer g q player → tic < length (told q)
+      → slice_get (told q) tic ≡ Some (row_without limits.players inputs (surviving_of (linked player.link)) tic)
+  -- a player made a command of each of its inputs, nobody has more of them, and whoever does not know the player's end
+  -- has one for each tic that it ran
+  pub counted : (p : ℕ) → p < limits.players → (shown p).got p ≡ length (inputs p)
+  pub held : (q p : ℕ) → q < limits.players → p < limits.players → (shown q).got p ≤ (shown p).got p
+  pub run : (q p : ℕ) (player : Player W) → HasPlayer g q player → p < limits.players
+      → end_settled (surviving_of (linked player.link)) p ≡ None → ran_by (shown q) ≤ (shown q).got p
+  -- an end is at most what the player made; and it is the same for any two of whom neither has given up the other, once
+  -- each has the commands before the one that it knows
+  pub at_most : (q p a : ℕ) (player : Player W) → HasPlayer g q player → p < limits.players
+      → end_settled (surviving_of (linked player.link)) p ≡ Some a → a ≤ (shown p).got p
   pub ends : (q r p a b : ℕ) → (two : Together g q r) → p < limits.players
       → end_settled (surviving_of (linked two.one.link)) p ≡ Some a
       → end_settled (surviving_of (linked two.other.link)) p ≡ Some b → a ≡ b

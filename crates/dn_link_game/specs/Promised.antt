@@ -4,7 +4,7 @@ use Rattle.dn_setup.specs.Settings.{Settings}
 use Rattle.dn_world.specs.Physics.{Physics}
 use Rattle.dn_machine.specs.{Limits.Limits, Node.put}
 use Rattle.dn_seal.specs.declared.seal.Seal.{Seal}
-use Rattle.dn_link_game.specs.{Genuine.AreGenuine, Headline.HaveAgreed, Playing.{Seen, nothing_seen, sees}}
+use Rattle.dn_link_game.specs.{Applied.AreAnswered, Genuine.{AreGenuine, given_by}, Headline.HaveAgreed, Playing.{Seen, nothing_seen, sees}}
 use Rattle.dn_link_game.specs.declared.{calls.{LinkDone.LinkDone, LinkEvent.{LinkEvent, TheVariants.Call}, LinkRefusal.LinkRefusal}, game.LinkGame.LinkGame}
 
 -- what the players' callers have seen after an event with this answer
@@ -21,12 +21,14 @@ seen_after events answers seen = seen
 abbrev pub all_seen : List LinkEvent → List (Result LinkDone LinkRefusal) → ℕ → Seen
 all_seen events answers = seen_after events answers (λ player. nothing_seen)
 
--- each event has its answer; and if the bytes that came in were genuine, the players agree, on the inputs of which
--- commands were made and the rows that were told
+-- each event was done, or refused for what is wrong with it; and if the bytes that came in were genuine, the players
+-- agree, on the inputs of which commands were made and the rows that were told
 pub record HavePlayed {W S : Type 0} (state : W → S) (physics : Physics S) (limits : Limits) (settings : Settings)
     (seal : Seal) (events : List LinkEvent) (answers : List (Result LinkDone LinkRefusal)) (g : LinkGame W) : Type 0
   where
     pub as_many : length answers ≡ length events
+    pub answered : AreAnswered limits.players events answers
+    pub given : length g.given.items ≡ given_by answers
     pub agreed : AreGenuine seal g.given.items events answers
         → HaveAgreed state physics limits settings (λ player. (all_seen events answers player).inputs)
         (λ player. (all_seen events answers player).rows) g

@@ -25,7 +25,7 @@ pub enum LinkCall<'a> {
     CatchUp,
     /// Its tick ends.
     Tick,
-    /// It runs a tic: its world is stepped by the row that its link tells.
+    /// It runs a tic, if it can; its world is stepped by the row that its link tells.
     Run,
     /// It gives a peer a datagram.
     Send { to: u8, what: Sending },
@@ -42,7 +42,8 @@ pub enum LinkCall<'a> {
 pub enum LinkEvent<'a> {
     /// This call on a player.
     Call { player: u32, call: LinkCall<'a> },
-    /// What was given as this one, by whomever to whomever, comes to a player.
+    /// The datagram that was given as this one, counted from 0, comes to a player, whoever gave it to whomever. The
+    /// first 2^32 can be named; of a later one the bytes may come.
     Deliver { player: u32, which: u32 },
 }
 

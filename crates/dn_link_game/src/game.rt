@@ -1,8 +1,8 @@
 //! All players of a game of links, and every datagram that they gave.
 
-ghost use Rattle.std.specs.{Prelude.{◌≡◌, ◌+◌, ◌≤◌, length, OnOk, OnErr, nat_lt, true}, Vec.{vec_capacity, vec_len}};
+ghost use Rattle.std.specs.{Prelude.{◌≡◌, ◌≢◌, ◌+◌, ◌≤◌, length, Err, OnOk, OnErr, nat_lt, true}, Vec.{vec_capacity, vec_len}};
 ghost use Rattle.dn_link_game.specs.{Applied.{IsAnswered, AddsToGiven}, Does.DoesEvent, Games.GoesOn, Playing.is_send, Promised.seen_by};
-ghost use Rattle.dn_link_game.specs.declared.calls.LinkEvent.TheVariants.{Call, Deliver};
+ghost use Rattle.dn_link_game.specs.declared.calls.{LinkEvent.TheVariants.{Call, Deliver}, LinkRefusal.TheVariants.Memory};
 
 use crate::calls::{LinkCall, LinkDone, LinkEvent, LinkRefusal};
 use crate::player::Player;
@@ -35,6 +35,7 @@ impl<W: World> LinkGame<W> {
         ensures room { OnOk result (is_send call.now ≡ true
             → vec_len self.new.given + 1 ≤ vec_capacity self.new.given) }
         ensures asked { OnErr result (is_send call.now ≡ true) }
+        ensures full { OnErr result (vec_capacity self.old.given ≤ vec_len self.old.given) }
     {
         match call {
             LinkCall::Send { .. } => grow(&mut self.given),
@@ -46,7 +47,8 @@ impl<W: World> LinkGame<W> {
     fn call(&mut self, player: u32, call: &LinkCall) -> Result<LinkDone, LinkRefusal>
         ensures goes_on { GoesOn W.state W.physics self.old self.new (Call player call.now) (seen_by (Call player call.now) result) }
         ensures does { DoesEvent W.state W.physics (Call player call.now) result self.old self.new }
-        ensures answered { IsAnswered self.old (Call player call.now) result }
+        ensures answered { IsAnswered (length self.old.players.items) (length self.old.given.items) (Call player call.now) result }
+        ensures memory { result ≡ Err Memory → vec_capacity self.old.given ≤ vec_len self.old.given }
         ensures given { AddsToGiven self.old self.new result }
         ensures unchanged { OnErr result ((self.new.players ≡ self.old.players) × (self.new.given.items ≡ self.old.given.items)) }
     {
@@ -68,7 +70,8 @@ impl<W: World> LinkGame<W> {
     fn deliver(&mut self, player: u32, which: u32) -> Result<LinkDone, LinkRefusal>
         ensures goes_on { GoesOn W.state W.physics self.old self.new (Deliver player which) (seen_by (Deliver player which) result) }
         ensures does { DoesEvent W.state W.physics (Deliver player which) result self.old self.new }
-        ensures answered { IsAnswered self.old (Deliver player which) result }
+        ensures room { result ≢ Err Memory }
+        ensures answered { IsAnswered (length self.old.players.items) (length self.old.given.items) (Deliver player which) result }
         ensures given { AddsToGiven self.old self.new result }
         ensures unchanged { OnErr result ((self.new.players ≡ self.old.players) × (self.new.given.items ≡ self.old.given.items)) }
     {
@@ -88,7 +91,8 @@ impl<W: World> LinkGame<W> {
         // Where the game is one of links, in which this was seen, it is one after the event too.
         ensures goes_on { GoesOn W.state W.physics self.old self.new event.now (seen_by event.now result) }
         ensures does { DoesEvent W.state W.physics event.now result self.old self.new }
-        ensures answered { IsAnswered self.old event.now result }
+        ensures answered { IsAnswered (length self.old.players.items) (length self.old.given.items) event.now result }
+        ensures memory { result ≡ Err Memory → vec_capacity self.old.given ≤ vec_len self.old.given }
         ensures given { AddsToGiven self.old self.new result }
         ensures unchanged { OnErr result ((self.new.players ≡ self.old.players) × (self.new.given.items ≡ self.old.given.items)) }
     {
@@ -99,11 +103,12 @@ impl<W: World> LinkGame<W> {
     }
 }
 
-/// Makes room for one more: where there is none, for twice as many as there are, or for the first.
+/// Makes room for one more: where there is none, for as many again as there are, or for the first.
 fn grow<T>(list: &mut Vec<T>) -> Result<(), AllocError>
     ensures items { list.new.items ≡ list.old.items }
     ensures len { vec_len list.new ≡ vec_len list.old }
     ensures ok { OnOk result (vec_len list.new + 1 ≤ vec_capacity list.new) }
+    ensures full { OnErr result (vec_capacity list.old ≤ vec_len list.old) }
 {
     let count = list.len();
     if count < list.capacity() {

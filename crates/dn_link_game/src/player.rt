@@ -1,10 +1,9 @@
 //! One player of a game: a link, and a world that is stepped by the rows that the link tells.
 
 ghost use Rattle.std.specs.Prelude.{◌≡◌, ◌<◌, ℕ, None, pos, get_or, is_some, true, IfOk};
-ghost use Rattle.dn_lockstep.specs.Told.{Builds};
-ghost use Rattle.dn_link.specs.Linking.{linked, seal_of};
-ghost use Rattle.dn_link_game.specs.Does.{Does, IsAlone, Runs};
-ghost use Rattle.dn_link_game.specs.declared.calls.{LinkCall.TheVariants.Send, LinkDone.TheVariants.Sent, Sending.TheVariants.Datagram};
+ghost use Rattle.dn_link.specs.Linking.{seal_of};
+ghost use Rattle.dn_link_game.specs.Does.{Does, Runs};
+ghost use Rattle.dn_link_game.specs.declared.calls.{LinkCall.TheVariants.{Build, Send}, LinkDone.TheVariants.{Built, Sent}, Sending.TheVariants.Datagram};
 ghost use Rattle.dn_link_game.specs.{Games.IsNew, Opening.IsAdmittedAs, Opening.limits_of, Playing.{Asked, GoesOn, GoesOnIf, gives, is_send, sees, taking, telling}};
 
 use crate::calls::{LinkCall, LinkDone, Sending};
@@ -56,8 +55,7 @@ impl<W: World> Player<W> {
     /// Builds the command of an input.
     fn build(&mut self, input: Input) -> Made
         ensures goes_on { GoesOn W.state W.physics self.old self.new None (taking input result) }
-        ensures does { Builds (linked self.old.link).node (linked self.new.link).node input result
-            × IsAlone self.old self.new }
+        ensures does { Does W.state W.physics (Build input) (Built result) None self.old self.new }
         ensures seal { seal_of self.new.link ≡ seal_of self.old.link }
     {
         remaining_links_go_on();
@@ -67,7 +65,7 @@ impl<W: World> Player<W> {
         }
     }
 
-    /// Runs a tic, by the marks of its world, and steps the world by the row.
+    /// Runs a tic, if it can, by the marks of its world, and steps the world by the row.
     fn run(&mut self) -> (Ran, Option<[Option<Move>; 4]>)
         ensures goes_on { GoesOn W.state W.physics self.old self.new None (telling result.1) }
         ensures does { Runs W.state W.physics result.0 result.1 self.old self.new }

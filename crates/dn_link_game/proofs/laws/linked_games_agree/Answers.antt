@@ -1,14 +1,13 @@
 -- What a game of links shows is the headline.
-use Rattle.std.proofs.Common.{◌≡◌, ◌<◌, ◌≤◌, ◌+◌, ℕ, zero, suc, pos, Bool, true, false, List, [], ◌∷◌, length, get_or, take, Option, Some, None, refl, sym, ap, ◌∙◌, inl, inr, arith, ◌≢◌, subst}
-use Rattle.std.specs.Prelude.{nat_lt, if◌then◌else◌, slice_get}
-use Rattle.std.specs.Option.{option_map}
-use Rattle.std.proofs.lemmas.Bool.{cases_lt, cond-true, lt-ltb, cases_eq}
-use Rattle.std.proofs.lemmas.Option.{same_Some, none-some, slice_get-get_or, slice_get_cases, slice_get_within}
+use Rattle.std.proofs.Common.{◌≡◌, ◌<◌, ◌≤◌, ◌+◌, ℕ, false, List, length, Option, Some, refl, sym, ap, ◌∙◌, inl, inr, arith, ◌≢◌, subst}
+use Rattle.std.specs.Prelude.{slice_get}
+use Rattle.std.proofs.lemmas.Bool.{cases_eq}
+use Rattle.std.proofs.lemmas.Option.{same_Some, slice_get_cases, slice_get_within}
 use Rattle.std.proofs.lemmas.List.{take_all}
-use Rattle.dn_tic.specs.{Command.used, Inputs.made_by, declared.command.Move.Move, declared.command.TicCmd.TicCmd}
+use Rattle.dn_tic.specs.{declared.command.Move.Move}
 use Rattle.dn_setup.specs.Settings.{Settings, start_of}
-use Rattle.dn_machine.specs.{Limits.IsWindow, Limits.Limits, Limits.row_of, Headline.AnyTwo, Headline.Shown, Node.is_ended, Worlds.Inputs}
-use Rattle.dn_survivor.specs.{Agreed.AreAgreedInPairs, OneGame.Session, Agreed.FitInPairs, Agreed.IsPair, Agreed.DemosAgreeInPairs, Agreed.is_closed, Agreed.rows_whole, Surviving.Surviving, Surviving.end_settled}
+use Rattle.dn_machine.specs.{Limits.Limits, Headline.AnyTwo, Headline.Shown, Node.is_ended, Worlds.Inputs}
+use Rattle.dn_survivor.specs.{Agreed.AreAgreedInPairs, OneGame.Session, Agreed.FitInPairs, Agreed.IsPair, Agreed.DemosAgreeInPairs, Agreed.is_closed, Agreed.row_without, Agreed.rows_whole, Surviving.Surviving, Surviving.end_settled}
 use Rattle.dn_survivor.specs.{Surviving.has_given_up}
 use Rattle.dn_world.specs.Physics.{Physics}
 use Rattle.dn_demo.specs.{Layout.long_tics, Text.demo_text}
@@ -22,42 +21,6 @@ use Rattle.dn_link.specs.{Linked.surviving_of, Linking.linked}
 use Rattle.dn_link_game.specs.{Games.IsLinkGame, Headline.HasPlayer, Headline.HaveAgreed, Headline.NobodyGone, Headline.Shows, Headline.Together, Playing.Seen, Playing.world_by, declared.game.LinkGame.LinkGame}
 use Rattle.dn_link_game.specs.{declared.player.Player.Player, Playing.marking_of}
 use Rattle.dn_link_game.proofs.laws.linked_games_agree.Goals as goal
-
--- The moves in the rows that survivors told are those of their makers' inputs.
-
--- the seat of a player in a row
-seat : (players : ℕ) (command : ℕ → Option TicCmd) (p : ℕ) → p < players → players ≤ 4
-    → get_or (row_of players command) p None ≡ option_map used (command p)
-unfolding row_of
-seat players command zero l four = cond-true (nat_lt 0 players) _ _ (lt-ltb 0 players l)
-seat players command (suc zero) l four = cond-true (nat_lt 1 players) _ _ (lt-ltb 1 players l)
-seat players command (suc (suc zero)) l four = cond-true (nat_lt 2 players) _ _ (lt-ltb 2 players l)
-seat players command (suc (suc (suc zero))) l four = cond-true (nat_lt 3 players) _ _ (lt-ltb 3 players l)
-seat players command (suc (suc (suc (suc p)))) l four = absurd (omega (arith, l, four))
-
--- a move that is there is that of the command
-of_command : (over : Bool) (command : TicCmd) (move : Move)
-    → option_map used (if over then None else Some command) ≡ Some move → move ≡ used command
-of_command true command move e = absurd (none-some move e)
-of_command false command move e = sym (same_Some (used command) move e)
-
-maker : (limits : Limits) (settings : Settings) (session : Session) → AreAgreedInPairs limits settings session
-    → IsWindow limits → (q p tic : ℕ) (move : Move) → q < limits.players → p < limits.players → limits.players ≤ 4
-    → get_or (get_or (session.told q) tic []) p None ≡ Some move
-    → move ≡ used (made_by (take (tic + 1) (session.inputs p)) (pos 0))
-maker limits settings session agreed window q p tic move k l four at = elim (cases_lt tic (length (session.told q))) [
-  | inl there ↦
-      let ran = agreed.ran q k in
-      let row = same_Some _ _ (sym (slice_get-get_or (session.told q) tic [] there)
-      ∙ agreed.rows q tic k (omega (arith, there, ran))) in
-      of_command _ _ move (sym (ap (λ (r : List (Option Move)). get_or r p None) row ∙ seat limits.players _ p l four) ∙ at)
-  | inr past ↦ absurd (none-some move (sym (ap (λ (r : List (Option Move)). get_or r p None) (get_or_past (session.told q) tic past)) ∙ at))
-]
-  where
-    get_or_past : (rows : List (List (Option Move))) (tic : ℕ) → length rows ≤ tic → get_or rows tic [] ≡ []
-    get_or_past [] tic m = refl
-    get_or_past (row ∷ rows) zero m = absurd (omega (arith, m))
-    get_or_past (row ∷ rows) (suc tic) m = get_or_past rows tic (omega (arith, m))
 
 module _ {W S : Type 0} (state : W → S) (physics : Physics S) (limits : Limits) (settings : Settings) (seal : Seal)
     (seen : ℕ → Seen) (g : LinkGame W) (is : IsLinkGame state physics limits settings seal seen g)
@@ -98,6 +61,7 @@ module _ {W S : Type 0} (state : W → S) (physics : Physics S) (limits : Limits
       places = sym (ap (λ (n : Contents). n.places) node) ∙ (is.game.game.nodes i below).node.whose.places;
       demo = ap recorded node;
       world = world_of i player at;
+      started = λ plays. subst HasStarted node (agreed.playing i below (ap (λ (n : Contents). n.phase) node ∙ plays));
       rows = subst (λ (n : Contents). HasStarted n → n.demo.bytes ≡ demo_text long_tics (start_of settings) i
           (seats_of limits.players) (rows_whole limits.players session i) (is_closed limits.players session i n)) node
           (demos.texts i below);
@@ -163,6 +127,11 @@ module _ {W S : Type 0} (state : W → S) (physics : Physics S) (limits : Limits
         ∙ ap (λ (rows : List (List (Option Move))). world_by physics (world_told limits settings rows)) (rows_same long)
         ∙ sym (world_of r two.other two.other_is)
 
+  -- how many commands a player made
+  made_is : (p : ℕ) → p < limits.players
+      → made (session.survivors p).lockstep ≡ got (session.survivors p).lockstep p
+  made_is p k = ap (got (session.survivors p).lockstep) (agreed.numbers p k)
+
   unread : (q p : ℕ) → q < limits.players → p < limits.players
       → got (session.survivors q).lockstep p ≤ length (session.told q) + (limits.ahead + limits.ahead)
   unread q p k l = let a = fit.unread q p k l in let b = agreed.ran q k in omega (arith, a, b)
@@ -171,8 +140,7 @@ module _ {W S : Type 0} (state : W → S) (physics : Physics S) (limits : Limits
   ahead p k =
       let a = fit.ahead p k in
       let b = agreed.ran p k in
-      let c : made (session.survivors p).lockstep ≡ got (session.survivors p).lockstep p =
-      ap (got (session.survivors p).lockstep) (agreed.numbers p k) in
+      let c = made_is p k in
       omega (arith, a, b, c)
 
   -- who are together where nobody is gone
@@ -219,13 +187,23 @@ module _ {W S : Type 0} (state : W → S) (physics : Physics S) (limits : Limits
       consistent = λ q player was should k. agreed.consistent q player was should k;
       demos = demos.commands;
     };
-    makers = λ q p tic move k l at. maker limits settings session agreed is.game.game.window q p tic move k l (is_four k) at;
+    rows = λ q tic player at k. agreed.rows q tic (below q player at)
+        (let ran = agreed.ran q (below q player at) in omega (arith, ran, k))
+        ∙ ap (λ (s : Surviving). Some (row_without limits.players session.inputs s tic)) (its q player at);
+    counted = λ p k. sym (made_is p k) ∙ agreed.counted p k;
+    held = λ q p k l. let fewer = fit.held q p k l in let made = made_is p l in omega (arith, fewer, made);
+    run = λ q p player at l none.
+        let k = below q player at in
+        let fewer = fit.run q p k l (ap (λ (s : Surviving). end_settled s p) (its q player at) ∙ none) in
+        let ran = agreed.ran q k in
+        omega (arith, fewer, ran);
+    at_most = λ q p a player at l e.
+        let fewer = agreed.at_most q p a (below q player at) l (ap (λ (s : Surviving). end_settled s p) (its q player at) ∙ e) in
+        let made = made_is p l in
+        omega (arith, fewer, made);
     ends = λ q r p a b two. ends q r two p a b;
     worlds = λ q r two. worlds q r two;
   }
-    where
-      is_four : {q : ℕ} → q < limits.players → limits.players ≤ 4
-      is_four {q} k = (is.game.game.nodes q k).few
 
 pub returns : goal.returns
 returns g c limits settings seal seen game is =

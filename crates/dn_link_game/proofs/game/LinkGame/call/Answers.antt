@@ -77,6 +77,7 @@ returns-in-Some-clause-does g c =
         c.call-done.new.self,
         ap (λ ps. slice_get ps.items c.args.player) (sym c.make_room.ensures.players) ∙ at,
         ap (λ ps. set ps.items c.args.player c.call-done.new.self) c.make_room.ensures.players,
+        c.call-done.ensures.seal,
         c.call-done.ensures.does,
       ),
     )
@@ -98,6 +99,7 @@ returns-in_default-given-clause-does g c =
         c.call-done.new.self,
         ap (λ ps. slice_get ps.items c.args.player) (sym c.make_room.ensures.players) ∙ at,
         ap (λ ps. set ps.items c.args.player c.call-done.new.self) c.make_room.ensures.players,
+        c.call-done.ensures.seal,
         c.call-done.ensures.does,
       ),
     )

@@ -2,8 +2,8 @@ use Rattle.std.proofs.Common.{rules, ◌≡◌, ◌<◌, ℕ, List, Option, Some
 use Rattle.std.specs.Prelude.{Ok, is_some, slice_get}
 use Rattle.std.proofs.lemmas.Option.{slice_get_read}
 use Rattle.arrayvec.specs.ArrayVec.{ArrayVec}
-use Rattle.dn_link.specs.{Linked.Receives, Linking.{linked, seal_of}, declared.received.Received.Received}
-use Rattle.dn_link_game.specs.{Does.{Does, with_one}, Playing.{Asked, gives}, declared.calls.{LinkCall.TheVariants.Receive, LinkDone.LinkDone}}
+use Rattle.dn_link.specs.declared.received.Received.{Received}
+use Rattle.dn_link_game.specs.{Does.{Does, Hears, with_one}, Playing.{Asked, gives}, declared.calls.{LinkCall.TheVariants.Receive, LinkDone.LinkDone}}
 use Rattle.dn_link_game.proofs.Going.{given, goes_unseen, keeps}
 use Rattle.dn_link_game.proofs.game.LinkGame.deliver.Given.{Over}
 use Rattle.dn_link_game.proofs.game.LinkGame.deliver.Goals.{After-call-done}
@@ -44,15 +44,13 @@ returns-clause-given g c =
 
 -- the bytes were received
 answer : (g : Over) (c : After-call-done g) → (answer : Received) × (c.call-done.result.0 ≡ LinkDone.Received answer)
-    × Receives (seal_of c.index_mut.result.now.link) c.as_slice.result.now (linked c.index_mut.result.now.link)
-    (linked c.call-done.new.self.link) answer × (c.call-done.new.self.world ≡ c.index_mut.result.now.world)
+    × Hears c.as_slice.result.now answer c.index_mut.result.now c.call-done.new.self
 answer g c = go c.call-done.result.0 c.call-done.ensures.does
   where
     go : (done : LinkDone) → Does g.W.World.state g.W.World.physics (Receive c.as_slice.result) done c.call-done.result.1
         c.index_mut.result.now c.call-done.new.self → (answer : Received) × (done ≡ LinkDone.Received answer)
-        × Receives (seal_of c.index_mut.result.now.link) c.as_slice.result.now (linked c.index_mut.result.now.link)
-        (linked c.call-done.new.self.link) answer × (c.call-done.new.self.world ≡ c.index_mut.result.now.world)
-    go (LinkDone.Received answer) does = (answer, refl, does.0, does.1)
+        × Hears c.as_slice.result.now answer c.index_mut.result.now c.call-done.new.self
+    go (LinkDone.Received answer) does = (answer, refl, does)
     go (LinkDone.Built made) does = absurd does
     go (LinkDone.CaughtUp made) does = absurd does
     go (LinkDone.Ticked by) does = absurd does
@@ -79,10 +77,7 @@ returns-clause-does g c =
         c.call-done.new.self,
         slice_get_read old.players.items (length old.players.items) c.args.player its refl there c.index_mut.ensures.value,
         refl,
-        (
-          subst (λ (bytes : List ℕ). Receives (seal_of its.link) bytes (linked its.link) (linked c.call-done.new.self.link)
-              heard.0) c.as_slice.ensures.value heard.2,
-          heard.3,
-        ),
+        c.call-done.ensures.seal,
+        subst (λ (bytes : List ℕ). Hears bytes heard.0 its c.call-done.new.self) c.as_slice.ensures.value heard.2,
       ),
     )

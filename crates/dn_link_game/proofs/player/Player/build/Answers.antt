@@ -21,8 +21,8 @@ returns-in-Given-clause-goes_on g c = rw c.in-Given.is (λ limits settings sessi
 
 pub returns-in-Pressed-clause-does : goal.returns-in-Pressed-clause-does
 returns-in-Pressed-clause-does g c = rw c.in-Pressed.is
-    (c.build.ensures.step, (c.build.ensures.others, c.build.ensures.peers, refl))
+    (c.build.ensures.step, c.build.ensures.pace, (c.build.ensures.others, c.build.ensures.peers, refl))
 
 pub returns-in-Given-clause-does : goal.returns-in-Given-clause-does
 returns-in-Given-clause-does g c = rw c.in-Given.is
-    (c.give.ensures.step, (c.give.ensures.others, c.give.ensures.peers, refl))
+    (c.give.ensures.step, c.give.ensures.pace, (c.give.ensures.others, c.give.ensures.peers, refl))

@@ -66,6 +66,7 @@ returns-in-Some-clause-does g c = (
       c.run-ran.ensures.but,
   c.run-ran.ensures.others,
   c.run-ran.ensures.peers,
+  c.run-ran.ensures.pace,
   λ none. absurd (none-some c.in-Some.row (sym none)),
   λ told is. c.step.ensures
       ∙ ap (g.W.World.physics.step (g.W.World.state c.args.self.now.world)) (same_Some c.in-Some.row told is),
@@ -78,6 +79,7 @@ returns-in_default-clause-does g c = (
   c.run-ran.ensures.but,
   c.run-ran.ensures.others,
   c.run-ran.ensures.peers,
+  c.run-ran.ensures.pace,
   λ none. refl,
   λ told is. absurd (none-some told (sym c.in_default.is ∙ is)),
 )
