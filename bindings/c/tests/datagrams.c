@@ -37,14 +37,14 @@ typedef struct datagram {
 } datagram;
 
 /* A link and its twins; the keys or the command of its last build, and whether it is owed; how many of its
- * commands each other player has told that it has; and to whom it gave a datagram since its last tick. */
+ * commands each other player has told that it has; and to whom it gave a datagram, since its last tick and ever. */
 typedef struct seat {
     zmg_link link, twin;
     zmg_lockstep node;
     uint32_t keys, is_given, owes, acknowledged[NODES], ahead;
     zmg_command command;
     uint8_t gave[NODES];
-    uint8_t may_have_been_full[NODES];
+    uint8_t ever_gave[NODES];
 } seat;
 
 /* The last datagrams of a game, and what its players have in common. */
@@ -374,11 +374,11 @@ static void is_complete(const seat *s, uint8_t to, uint32_t made, const carried 
     MUST(next == made || commands == ZMG_MOST_COMMANDS);
 }
 
-/* A second datagram of a tick is a brief one. So may be one without packets whose last before it may not be. */
+/* A second datagram of a tick is a brief one. So may be any without packets but the first. */
 static int is_brief(seat *s, uint8_t to, size_t own) {
-    int is_second = s->gave[to], may_be = own == 0 && s->may_have_been_full[to];
+    int is_second = s->gave[to], may_be = own == 0 && s->ever_gave[to];
     s->gave[to] = 1;
-    s->may_have_been_full[to] = !is_second;
+    s->ever_gave[to] = 1;
     MUST(!is_second || own == 0);
     return is_second || may_be;
 }
