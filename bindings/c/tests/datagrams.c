@@ -159,6 +159,7 @@ static void sit(game *g, uint8_t me) {
     uint32_t codes[3];
     memset(s->acknowledged, 0, sizeof s->acknowledged);
     memset(s->gave, 0, sizeof s->gave);
+    memset(s->ever_gave, 0, sizeof s->ever_gave);
     s->owes = 0;
     s->ahead = g->ahead;
     codes[0] = zmg_link_new(&s->link, &c, g->ahead, g->secret, g->number);
