@@ -353,7 +353,8 @@ static void lobby(void) {
     zmg_session_kick(&them[0].session, 2);
     zmg_session_kick(&them[0].session, 200);
     zmg_session_kick(&them[0].session, 1);
-    pass(3000, 2);
+    /* it learns so by an answer to one of its calls, which may be lost */
+    pass(6000, 2);
     MUST(state_of(1).why.reason == ZMG_OVER_KICKED && seen(0, 1).seat.state == ZMG_SEAT_FREE);
     /* another takes the seat, and is silent, and a third takes it over */
     j = join_config(2);

@@ -61,18 +61,25 @@ fn links_go_on_without_a_packet(rt: HostRuntime) -> Result<(), Fail> {
     let Ok(worlds) = walks(rt.alloc(), 2) else {
         return Ok(());
     };
-    let what = Sending::Datagram;
-    let send = LinkEvent::Call {
-        player: 0,
-        call: LinkCall::Send { to: 1, what },
-    };
     let events = [
-        send,
+        LinkEvent::Call {
+            player: 0,
+            call: LinkCall::Send {
+                to: 1,
+                what: Sending::Datagram,
+            },
+        },
         LinkEvent::Deliver {
             player: 1,
             which: 0,
         },
-        send,
+        LinkEvent::Call {
+            player: 0,
+            call: LinkCall::Send {
+                to: 1,
+                what: Sending::Datagram,
+            },
+        },
     ];
     let Ok(played) = play_links(rt.alloc(), &config(5, 1024)?, worlds, &events) else {
         return Ok(());
