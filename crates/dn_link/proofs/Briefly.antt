@@ -2,19 +2,19 @@
 -- datagrams are given in a row.
 use Rattle.std.proofs.Common.{◌≡◌, ◌≢◌, ◌⊎◌, ℕ, Bool, true, false, ◌≤◌, ◌<◌, ◌+◌, ◌%◌, List, refl, ap, sym, ◌∙◌, subst, arith, inl, inr}
 use Rattle.std.proofs.lemmas.Bool.{and_parts, cond-false, cond-true, or_cases, eqb-true, leb-true, not-true, eqb-false}
-use Rattle.std.specs.Prelude.{◌&&◌, ◌==◌, min, nat_le, nat_lt}
+use Rattle.std.specs.Prelude.{◌&&◌, ◌==◌, if◌then◌else◌, min, nat_le, nat_lt}
 use Rattle.dn_link.specs.{declared.level.Level.Level, declared.congestion.Congestion.Congestion, declared.trip.Trip.Trip}
-use Rattle.dn_link.specs.Congestion.{aged, between, eased, levelled, may_step_up, rests, GoesBy, are_above, trips_after, turn}
+use Rattle.dn_link.specs.Congestion.{aged, between, eased, levelled, may_step_up, patience, rests, GoesBy, are_above, trips_after, turn}
 use Rattle.dn_link.specs.{Pace.{given_to}, Pacing.{PaceState, is_brief}}
 use Rattle.dn_machine.proofs.Put.{put_at}
 
 -- it moved so many ticks ago, or fewer
 abbrev HasMoved : ℕ → Level → Type 0
-HasMoved ticks l = (l.good ≤ ticks) × (l.bad ≤ ticks)
+HasMoved ticks l = (l.clear_ticks ≤ ticks) × (l.full_ticks ≤ ticks)
 
 abbrev steps_down : Bool → Level → Bool
 steps_down nearly l =
-    nat_le 32 (eased nearly (aged false l)).good && nat_lt (eased nearly (aged false l)).floor (eased nearly (aged false l)).level
+    nat_le (patience l) (eased nearly (aged false l)).clear_ticks && nat_lt (eased nearly (aged false l)).floor (eased nearly (aged false l)).level
 
 -- at a tick it moves, or stays
 moves : (full nearly : Bool) (l : Level)
@@ -32,29 +32,37 @@ moves false nearly l = go (steps_down nearly l) refl
     go true down = inr (rw down (omega arith), rw down (omega arith))
     go false holds = inl (rw holds refl)
 
+is_patient : (l : Level) → 20 ≤ patience l
+is_patient l = go l.tight
+  where
+    go : (tight : Bool) → 20 ≤ (if tight then 32 else 20)
+    go true = omega arith
+    go false = omega arith
+
 -- and for some ticks after it has moved, it stays
 stays : (ticks : ℕ) (full nearly : Bool) (l : Level) → ticks < 11 → HasMoved ticks l
     → ((levelled full nearly l).level ≡ l.level) × HasMoved (ticks + 1) (levelled full nearly l)
-stays ticks true nearly l few (good, bad) = go (may_step_up (aged true l)) refl
+stays ticks true nearly l few (clear, full) = go (may_step_up (aged true l)) refl
   where
     go : (test : Bool) → may_step_up (aged true l) ≡ test
         → ((levelled true nearly l).level ≡ l.level) × HasMoved (ticks + 1) (levelled true nearly l)
     go true up =
-        let long = leb-true 12 (aged true l).bad (and_parts (nat_lt l.level 5) _ up).1 in
-        absurd (omega (arith, long, bad, few))
-    go false holds = (rw holds refl, (rw holds (omega arith), rw holds (omega (arith, bad))))
-stays ticks false nearly l few (good, bad) = go (steps_down nearly l) refl
+        let long = leb-true 12 (aged true l).full_ticks (and_parts (nat_lt l.level 5) _ up).1 in
+        absurd (omega (arith, long, full, few))
+    go false holds = (rw holds refl, (rw holds (omega arith), rw holds (omega (arith, full))))
+stays ticks false nearly l few (clear, full) = go (steps_down nearly l) refl
   where
-    least : (nearly : Bool) → (eased nearly (aged false l)).good ≤ ticks + 1
+    least : (nearly : Bool) → (eased nearly (aged false l)).clear_ticks ≤ ticks + 1
     least true = omega arith
-    least false = omega (arith, good)
+    least false = omega (arith, clear)
 
     go : (test : Bool) → steps_down nearly l ≡ test
         → ((levelled false nearly l).level ≡ l.level) × HasMoved (ticks + 1) (levelled false nearly l)
     go true down =
-        let long = leb-true 32 (eased nearly (aged false l)).good (and_parts (nat_le 32 (eased nearly (aged false l)).good) _ down).0 in
-        let few_good = least nearly in
-        absurd (omega (arith, long, few_good, few))
+        let patient = is_patient l in
+        let long = leb-true (patience l) (eased nearly (aged false l)).clear_ticks (and_parts (nat_le (patience l) _) _ down).0 in
+        let few_clear = least nearly in
+        absurd (omega (arith, patient, long, few_clear, few))
     go false holds = (rw holds refl, (rw holds (least nearly), rw holds (omega arith)))
 
 -- where a player rests, by the level and the turn

@@ -97,7 +97,7 @@ are_above ticks plays trips = nat_lt (how_many (counts plays trips)) (2 * how_ma
 -- The level, of which 0 is an empty line, and 5 one that stays full.
 
 abbrev pub new_level : Level
-new_level = record { level = 3; floor = 0; wait = 0; since = 256; bad = 0; good = 0; tight = false }
+new_level = record { level = 4; floor = 0; wait = 0; since = 256; full_ticks = 0; clear_ticks = 0; tight = false }
 
 -- time goes by at a level: where a wait ends there is no floor any more, and ticks in a row at which the line is full
 -- are counted up to twelve
@@ -106,7 +106,7 @@ aged full l = record l {
   since = if nat_lt l.since 256 then l.since + 1 else l.since;
   wait = l.wait - 1;
   floor = if l.wait == 1 then 0 else l.floor;
-  bad = if full then min (l.bad + 1) 12 else 0;
+  full_ticks = if full then min (l.full_ticks + 1) 12 else 0;
 }
 
 -- it comes soon after a step down
@@ -121,28 +121,32 @@ stepped_up l =
       floor = if is_soon l then l.level + 1 else l.floor;
       wait = if is_soon l then 4096 else l.wait;
       since = 256;
-      bad = 0;
-      good = 0;
+      full_ticks = 0;
+      clear_ticks = 0;
       tight = true;
     }
 
 -- where the line is full: a level up after twelve ticks in a row, but not from the last
 abbrev pub may_step_up : Level → Bool
-may_step_up l = nat_lt l.level 5 && nat_le 12 l.bad
+may_step_up l = nat_lt l.level 5 && nat_le 12 l.full_ticks
 
 abbrev pub filled : Level → Level
-filled l = if may_step_up l then stepped_up l else record l { good = 0 }
+filled l = if may_step_up l then stepped_up l else record l { clear_ticks = 0 }
 
--- where it is not: a level down after 32 ticks in a row at which it was not nearly full
+-- where it is not: a level down after 32 ticks in a row at which it was not nearly full, or 20 while the level has not
+-- gone up since it was 0 or since the first tick
+abbrev pub patience : Level → ℕ
+patience l = if l.tight then 32 else 20
+
 abbrev pub eased : Bool → Level → Level
-eased nearly l = record l { good = if nearly then 0 else min (l.good + 1) 32 }
+eased nearly l = record l { clear_ticks = if nearly then 0 else min (l.clear_ticks + 1) 32 }
 
 abbrev pub stepped_down : Level → Level
 stepped_down l =
-    record l { level = l.level - 1; since = 0; good = 0; tight = l.tight && not (l.level == 1) }
+    record l { level = l.level - 1; since = 0; clear_ticks = 0; tight = l.tight && not (l.level == 1) }
 
 abbrev pub emptied : Level → Level
-emptied l = if nat_le 32 l.good && nat_lt l.floor l.level then stepped_down l else l
+emptied l = if nat_le (patience l) l.clear_ticks && nat_lt l.floor l.level then stepped_down l else l
 
 -- a tick
 abbrev pub levelled : (full nearly : Bool) → Level → Level

@@ -1,19 +1,22 @@
 //! The level of what goes to the peers.
 
 ghost use Rattle.std.specs.Prelude.{◌≡◌, ◌≤◌};
-ghost use Rattle.dn_link.specs.Congestion.{aged, eased, emptied, filled, is_soon, levelled, may_step_up, new_level, stepped_up};
+ghost use Rattle.dn_link.specs.Congestion.{aged, eased, emptied, filled, is_soon, levelled, may_step_up, new_level, patience, stepped_up};
 
 /// The level at first: the line may be a narrow one.
-const FIRST: u8 = 3;
+const FIRST: u8 = 4;
 
 /// The last level, at which least goes.
 const LAST: u8 = 5;
 
 /// After how many ticks in a row at which the line was full the level goes up.
-const FULL: u8 = 12;
+const FULL_TICKS: u8 = 12;
 
 /// After how many ticks in a row at which the line was not nearly full the level goes down.
-const GOOD: u8 = 32;
+const CLEAR_TICKS: u8 = 32;
+
+/// The same while the level has not gone up, or not since it was 0.
+const FIRST_CLEAR_TICKS: u8 = 20;
 
 /// A step up within so many ticks of a step down comes soon.
 const SOON: u16 = 256;
@@ -32,9 +35,9 @@ pub(crate) struct Level {
     /// How many ticks ago the level went down.
     pub(crate) since: u16,
     /// At how many ticks in a row the line was full.
-    pub(crate) bad: u8,
+    pub(crate) full_ticks: u8,
     /// At how many ticks in a row the line was not nearly full.
-    pub(crate) good: u8,
+    pub(crate) clear_ticks: u8,
     /// Whether the level went up since it was 0.
     pub(crate) tight: bool,
 }
@@ -49,8 +52,8 @@ impl Level {
             floor: 0,
             wait: 0,
             since: SOON,
-            bad: 0,
-            good: 0,
+            full_ticks: 0,
+            clear_ticks: 0,
             tight: false,
         }
     }
@@ -66,8 +69,8 @@ impl Level {
             self.floor = 0;
         }
         self.wait = self.wait.saturating_sub(1);
-        self.bad = if full {
-            self.bad.saturating_add(1).min(FULL)
+        self.full_ticks = if full {
+            self.full_ticks.saturating_add(1).min(FULL_TICKS)
         } else {
             0
         };
@@ -92,8 +95,8 @@ impl Level {
             self.wait = WAITS;
         }
         self.since = SOON;
-        self.bad = 0;
-        self.good = 0;
+        self.full_ticks = 0;
+        self.clear_ticks = 0;
         self.tight = true;
     }
 
@@ -101,7 +104,7 @@ impl Level {
     fn may_step_up(&self) -> bool
         ensures { result ≡ may_step_up self.now }
     {
-        self.level < LAST && self.bad >= FULL
+        self.level < LAST && self.full_ticks >= FULL_TICKS
     }
 
     /// Takes a tick at which the line was full.
@@ -111,7 +114,7 @@ impl Level {
         if self.may_step_up() {
             self.step_up();
         } else {
-            self.good = 0;
+            self.clear_ticks = 0;
         }
     }
 
@@ -119,22 +122,33 @@ impl Level {
     fn ease(&mut self, nearly: bool)
         ensures { self.new ≡ eased nearly self.old }
     {
-        self.good = if nearly {
+        self.clear_ticks = if nearly {
             0
         } else {
-            self.good.saturating_add(1).min(GOOD)
+            self.clear_ticks.saturating_add(1).min(CLEAR_TICKS)
         };
+    }
+
+    /// After how many ticks in a row at which the line was not nearly full the level goes down.
+    fn patience(&self) -> u8
+        ensures { result ≡ patience self.now }
+    {
+        if self.tight {
+            CLEAR_TICKS
+        } else {
+            FIRST_CLEAR_TICKS
+        }
     }
 
     /// The level goes down by one, if the line was not nearly full for long enough.
     fn empty(&mut self)
         ensures { self.new ≡ emptied self.old }
     {
-        if self.good >= GOOD && self.level > self.floor {
+        if self.clear_ticks >= self.patience() && self.level > self.floor {
             self.tight = self.tight && self.level != 1;
             self.level -= 1;
             self.since = 0;
-            self.good = 0;
+            self.clear_ticks = 0;
         }
     }
 
