@@ -19,6 +19,7 @@ use Rattle.dn_machine.specs.Runs.{Runs}
 use Rattle.dn_machine.specs.Promise.{Agree, Fits, Steady}
 use Rattle.dn_game.specs.declared.played.Played.{Played}
 use Rattle.dn_game.specs.Agreed.{AreAgreed}
+use Rattle.dn_game.specs.Applied.{IsApplied, Tells}
 use Rattle.dn_game.specs.Contents.{Contents, contents, Represents}
 use Rattle.dn_game.specs.Played.{Plays, IsPlayed, IsReachedWith}
 
@@ -58,6 +59,13 @@ pub record IsCarriedOn {W S : Type 0} (state : W → S) (physics : Physics S) (o
       → IsReachedWith state (rules_of physics players extra capacity) settings events answers old
       → IsReachedWith state (rules_of physics players extra capacity) settings (events ++ event ∷ [])
       (answers ++ answer ∷ []) new
+
+-- an event is applied as the machine applies it. Whatever events led to the game, they and this one lead to what
+-- it is afterwards.
+pub record LeadsOn {W S : Type 0} (state : W → S) (physics : Physics S) (old new : Contents W) (event : Event)
+    (answer : Result Done Refusal) : Type 0 where
+  pub applied : Tells state physics old (λ rules m. IsApplied state rules old new m event answer)
+  pub carried : IsCarriedOn state physics old new event answer
 
 -- an answer that tells of no failed check: no mark was off, and a packet was dropped only as set-up out of
 -- place, or by a node that does not play

@@ -8,7 +8,7 @@ pub loop-event-init : goal.loop-event-init
 loop-event-init g c = rw c.new-played.ensures (
   refl,
   (
-    none_played _ _ _ _ _ c.in_ok-game.ensures.opened refl refl,
+    none_played _ _ _ _ c.in_ok-game.ensures.opened refl refl,
     refl,
     λ i never. same_at _ _ i c.in_ok-game.ensures.given,
   ),
@@ -36,7 +36,7 @@ loop-event-preserved g c =
         observes_more g.L.Observer.observes (take at events) before.1.0.answers _ _ 0 _ _ _ _ before.1.1
             (omega (arith, before.0, length-take-le at events (omega (arith, c.loop-event-test.true))))
             told.observed,
-        given_more _ _ c.loop-event.played next _ _ one c.args.worlds.items (take at events) before.1.0.answers
+        given_more _ _ _ _ one.rest c.args.worlds.items (take at events) before.1.0.answers
             (as_many _ (take at events) before.1.0.answers _ before.1.0.last before.1.0.plays) before.1.2,
       ),
       limits_stay _ _ _ c.apply_observed.ensures.whose before.2,

@@ -99,7 +99,7 @@ loop-preserved g c =
           (omega (arith, c.loop.invariant.0, s.counted)) told.observed in
           let plays = follows_plays game (generator_of c.args.seed) s.events s.answers s.rest
           (opening_game config.settings) s.last s.follows in
-          let given_on = given_more _ _ c.loop.played next _ told.answer one c.args.worlds.items s.events s.answers
+          let given_on = given_more _ _ _ told.answer one.rest c.args.worlds.items s.events s.answers
           (as_many (Answers game) s.events s.answers _ s.last plays) c.loop.invariant.1.3 in
           rw (w.observer-is, w.played-is) (
             omega (arith, counted, c.loop.invariant.0),
