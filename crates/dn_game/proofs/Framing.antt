@@ -1,10 +1,10 @@
 -- What the step of one node leaves as it is, and the limits of demos with it.
 use Rattle.std.proofs.Common.{◌≡◌, ◌≢◌, ◌++◌, ℕ, zero, suc, List, [], ◌∷◌, Option, Some, Result, Ok, append-nil, map, set, ap, sym, ◌∙◌, refl, subst}
-use Rattle.std.specs.{Borrow.Bor, Prelude.{slice_get, slice_index_or}}
+use Rattle.std.specs.Prelude.{slice_get, slice_index_or}
 use Rattle.std.specs.List.{All}
 use Rattle.std.proofs.Math.Seq.{map-set_same}
 use Rattle.std.proofs.lemmas.List.Elements.{All-nil, All-cons, All-head, All-tail, All-map}
-use Rattle.dn_machine.specs.{declared.answers.Heard.Heard, declared.answers.Ran.Ran, declared.events.Done.Done, declared.events.Event.Event, declared.events.Refusal.Refusal}
+use Rattle.dn_machine.specs.{declared.answers.Ran.Ran, declared.events.Done.Done, declared.events.Event.Event, declared.events.Refusal.Refusal}
 use Rattle.dn_lockstep.specs.Contents.{Whose}
 use Rattle.dn_node.specs.declared.node.Node.{Node}
 use Rattle.dn_game.specs.{declared.flight.Flight.Flight, Contents.Contents, Frame.{KeepsRest, MovesNoWorld, named_by}}

@@ -5,7 +5,7 @@ use Rattle.std.proofs.lemmas.Bool.{cases_lt}
 use Rattle.std.proofs.lemmas.Grind.{flat_map-append}
 use Rattle.dn_machine.specs.{declared.events.Done.Done, declared.events.Event.Event, declared.events.Refusal.Refusal, Game.{Game}, Worlds.Rules}
 use Rattle.dn_machine.specs.{Progress.{after, in_order, exchange, turn, good_round, good_rounds}}
-use Rattle.dn_game.specs.{declared.flight.Flight.Flight, Applied.IsApplied, Contents.{Contents, contents}, Frame.{KeepsFlights, KeepsRest, MovesNoWorld, named_in, KeepsGiven}, Opening.worlds_of}
+use Rattle.dn_game.specs.{declared.flight.Flight.Flight, Applied.IsApplied, Contents.{Contents, contents}, Frame.{KeepsFlights, KeepsRest, MovesNoWorld, KeepsGiven}, Opening.worlds_of}
 use Rattle.dn_game.specs.{Rounds.{after_all, answers_to, events_in_order, exchange_events, turn_events, round_events, rounds_events, KeepsIdleWorlds}, Played.Plays}
 use Rattle.dn_game.specs.{declared.game.Game.Game as GameOf, Room.{Continues, KeepsWhose, room_of}, Pool.{Room, HasGrown, IsWithinTwice, grown}}
 use Rattle.dn_game.proofs.Giving.{at_front, named_stays, stays_at}
