@@ -12,7 +12,7 @@ use Rattle.dn_machine.specs.Worlds.{Rules}
 use Rattle.dn_game.specs.declared.played.Played.{Played}
 use Rattle.dn_game.specs.Applied.{Tells, IsApplied}
 use Rattle.dn_game.specs.Contents.{Contents, contents, Represents}
-use Rattle.dn_game.specs.Frame.{KeepsRest}
+use Rattle.dn_game.specs.Frame.{KeepsGiven, KeepsRest}
 
 -- an event leads from a game to the next with this answer; a send that nothing else refuses may be left out,
 -- where memory is refused
@@ -53,6 +53,13 @@ pub record IsPlayed {W S : Type 0} (state : W → S) (rules : Rules S) (settings
   pub game : Represents state rules (contents played.game) last
   pub done : played.done ≡ count_by is_ok answers
   pub refused : played.refused ≡ count_by is_err answers
+
+-- and a node has the world that was given for it, unless one of these answers, to an event that names it, tells that
+-- it started or ran a tic
+abbrev pub IsPlayedFrom : {W S : Type 0} → (W → S) → Rules S → Settings → List W → List Event → Played W → Type 0
+IsPlayedFrom state rules settings worlds events played =
+    (run : IsPlayed state rules settings events played)
+    × KeepsGiven worlds events run.answers (contents played.game)
 
 -- one more event was applied, and counted by its answer
 pub record AppliesOne {W S : Type 0} (state : W → S) (physics : Physics S) (old new : Played W)
