@@ -6,7 +6,7 @@ use Rattle.dn_world.specs.Physics.{Physics}
 use Rattle.dn_machine.specs.{declared.events.Done.Done, declared.events.Event.Event, declared.events.Event.TheVariants.{Build, Give, Send, Deliver, Run, Quit, Stop}, declared.events.Refusal.Refusal}
 use Rattle.dn_node.specs.declared.node.Node.{Node}
 use Rattle.dn_open.specs.{declared.open_event.OpenEvent.OpenEvent, declared.open_event.OpenEvent.TheVariants.{Own, Arrive}}
-use Rattle.dn_game.specs.{declared.flight.Flight.Flight, declared.played.Played.Played, Contents.{Contents, contents}, Frame.{KeepsOthers, KeepsWorlds, MovesNoWorld, named_in, named_in_open, KeepsGiven, NeverMoves}, Opening.worlds_of}
+use Rattle.dn_game.specs.{declared.flight.Flight.Flight, declared.played.Played.Played, Contents.{Contents, contents}, Frame.{KeepsOthers, KeepsWorlds, MovesNoWorld, named_in, named_in_open, IsLater, NeverMoves}, Opening.worlds_of}
 use Rattle.dn_game.specs.{Played.AppliesOne}
 use Rattle.dn_node.specs.Contents as node
 
@@ -93,8 +93,8 @@ module _ {W E A : Type 0} (named_of : List Flight → E → Option ℕ) (MovesNo
 pub given_more : {W S : Type 0} (state : W → S) (physics : Physics S) (played next : Played W) (event : Event)
     (answer : Result Done Refusal) → AppliesOne state physics played next event answer → (worlds : List W)
     (events : List Event) (answers : List (Result Done Refusal)) → length events ≡ length answers
-    → KeepsGiven worlds events answers (contents played.game)
-    → KeepsGiven worlds (events ++ event ∷ []) (answers ++ answer ∷ []) (contents next.game)
+    → IsLater worlds events answers (contents played.game)
+    → IsLater worlds (events ++ event ∷ []) (answers ++ answer ∷ []) (contents next.game)
 given_more state physics played next event answer one =
     keeps_more named_in MovesNoWorld own_stays (contents played.game) (contents next.game) event answer
     one.rest.others one.rest.worlds one.rest.more.0 one.rest.more.1

@@ -5,7 +5,7 @@ use Rattle.std.proofs.lemmas.Bool.{cases_lt}
 use Rattle.std.proofs.lemmas.Grind.{flat_map-append}
 use Rattle.dn_machine.specs.{declared.events.Done.Done, declared.events.Event.Event, declared.events.Refusal.Refusal, Game.{Game}, Worlds.Rules}
 use Rattle.dn_machine.specs.{Progress.{after, in_order, exchange, turn, good_round, good_rounds}}
-use Rattle.dn_game.specs.{declared.flight.Flight.Flight, Applied.IsApplied, Contents.{Contents, contents}, Frame.{KeepsFlights, KeepsRest, MovesNoWorld, named_in, KeepsGiven}, Opening.worlds_of}
+use Rattle.dn_game.specs.{declared.flight.Flight.Flight, Applied.IsApplied, Contents.{Contents, contents}, Frame.{KeepsFlights, KeepsRest, MovesNoWorld, named_in, IsLater}, Opening.worlds_of}
 use Rattle.dn_game.specs.{Rounds.{after_all, answers_to, events_in_order, exchange_events, turn_events, round_events, rounds_events, KeepsIdleWorlds}, Played.Plays}
 use Rattle.dn_game.specs.{declared.game.Game.Game as GameOf, Room.{Continues, KeepsWhose, room_of}, Pool.{Room, HasGrown, IsWithinTwice, grown}}
 use Rattle.dn_game.proofs.Giving.{at_front, own_stays, stays_at}
@@ -120,9 +120,9 @@ flights_on old mid new first then = grind (arith, append_assoc)
 module _ {W : Type 0} where
   -- events with these answers, and then more
   pub keeps_all : (worlds : List W) (events more : List Event) (answers others : List (Result Done Refusal))
-      (mid new : Contents W) → length events ≡ length answers → KeepsGiven worlds events answers mid
-      → KeepsFlights mid new → KeepsGiven (worlds_of mid.nodes) more others new
-      → KeepsGiven worlds (events ++ more) (answers ++ others) new
+      (mid new : Contents W) → length events ≡ length answers → IsLater worlds events answers mid
+      → KeepsFlights mid new → IsLater (worlds_of mid.nodes) more others new
+      → IsLater worlds (events ++ more) (answers ++ others) new
   keeps_all worlds events more answers others mid new count before sent then i never =
       then i (λ k e a here answered. never (length events + k) e a (at_back events more k ∙ here)
       (ap (λ (n : ℕ). slice_get (answers ++ others) (n + k)) count ∙ at_back answers others k ∙ answered))
@@ -137,7 +137,7 @@ module _ {W S : Type 0} (rules : Rules S) where
       → KeepsIdleWorlds rules m (first ++ rest) old new
   idle_more first rest m old mid new before sent then =
       let Kept = λ (answers : List (Result Done Refusal)).
-      KeepsGiven (worlds_of old.nodes) (first ++ rest) answers new in
+      IsLater (worlds_of old.nodes) (first ++ rest) answers new in
       subst Kept (sym (answers_after rules first rest m))
       (keeps_all (worlds_of old.nodes) first rest (answers_to rules first m)
       (answers_to rules rest (after_all rules first m)) mid new (answers_each rules first m) before sent then)

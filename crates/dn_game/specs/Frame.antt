@@ -85,14 +85,14 @@ NeverMoves {E} {A} named MovesNone i events answers =
     → named event ≡ Some i → MovesNone answer
 
 -- after events with these answers a node that neither started nor ran has the world that was given for it
-abbrev pub KeepsGiven : {W : Type 0} → List W → List Event → List (Result Done Refusal) → Contents W → Type 0
-KeepsGiven worlds events answers g =
+abbrev pub IsLater : {W : Type 0} → List W → List Event → List (Result Done Refusal) → Contents W → Type 0
+IsLater worlds events answers g =
     (i : ℕ) → NeverMoves (named_in g.flights) MovesNoWorld i events answers
     → slice_get (worlds_of g.nodes) i ≡ slice_get worlds i
 
 -- and so after open events
-abbrev pub KeepsGivenOpen : {W : Type 0} → List W → List OpenEvent → List (Result OpenDone Refusal) → Contents W
+abbrev pub IsLaterOpen : {W : Type 0} → List W → List OpenEvent → List (Result OpenDone Refusal) → Contents W
     → Type 0
-KeepsGivenOpen worlds events answers g =
+IsLaterOpen worlds events answers g =
     (i : ℕ) → NeverMoves (named_in_open g.flights) MovesNoWorldOpen i events answers
     → slice_get (worlds_of g.nodes) i ≡ slice_get worlds i

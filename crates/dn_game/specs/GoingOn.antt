@@ -15,7 +15,7 @@ use Rattle.dn_node.specs.Contents.{locked, end_in}
 use Rattle.dn_game.specs.declared.played.Played.{Played}
 use Rattle.dn_game.specs.declared.rounds.RoundFault.{RoundFault}
 use Rattle.dn_game.specs.Contents.{Contents, contents, Represents}
-use Rattle.dn_game.specs.Frame.{KeepsGiven}
+use Rattle.dn_game.specs.Frame.{IsLater}
 use Rattle.dn_game.specs.Promised.{IsPromised, HasPlayed}
 use Rattle.dn_game.specs.Rounds.{rounds_events, answers_to, IsUnsent, IsCutShort}
 use Rattle.dn_game.specs.Agreed.{HasNode}
@@ -84,7 +84,7 @@ pub record HasPlayedOnFrom {W S : Type 0} (state : W → S) (rules : Rules S) (s
   pub played_on : HasPlayedOn state rules settings events inputs rounds played
   pub given : let first = played_on.first.events_played in
       let behind = rounds_events rules (λ round. inputs) rounds first.last in
-      KeepsGiven worlds (events ++ behind) (first.answers ++ answers_to rules behind first.last)
+      IsLater worlds (events ++ behind) (first.answers ++ answers_to rules behind first.last)
       (contents played.game)
 
 -- the events were played and left `before`; the rounds after them stopped, and left this game

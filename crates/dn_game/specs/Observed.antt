@@ -8,7 +8,7 @@ use Rattle.dn_machine.specs.Worlds.{Rules}
 use Rattle.dn_world.specs.Physics.{Physics}
 use Rattle.dn_game.specs.declared.played.Played.{Played}
 use Rattle.dn_game.specs.Contents.{contents}
-use Rattle.dn_game.specs.Frame.{KeepsGiven}
+use Rattle.dn_game.specs.Frame.{IsLater}
 use Rattle.dn_game.specs.Played.{AppliesOne}
 use Rattle.dn_game.specs.Promised.{HasPlayed}
 use Rattle.dn_game.specs.Stormed.{HasStormed}
@@ -52,4 +52,4 @@ abbrev pub IsStormedObservedFrom : {W S L : Type 0} → (W → S) → Rules S �
     → (seed count : ℕ) → L → L → Played W → Type 0
 IsStormedObservedFrom state rules observes settings worlds seed count old new played =
     (all : IsStormedObserved state rules observes settings seed count old new played)
-    × KeepsGiven worlds all.promised.stormed.events all.promised.stormed.answers (contents played.game)
+    × IsLater worlds all.promised.stormed.events all.promised.stormed.answers (contents played.game)

@@ -14,7 +14,7 @@ use Rattle.dn_game.specs.declared.rounds.RoundFault.{RoundFault}
 use Rattle.dn_game.specs.declared.rounds.RoundFault.TheVariants.{Memory, Packets}
 use Rattle.dn_game.specs.Contents.{Contents, Represents}
 use Rattle.dn_game.specs.Opening.{worlds_of}
-use Rattle.dn_game.specs.Frame.{KeepsGiven}
+use Rattle.dn_game.specs.Frame.{IsLater}
 
 -- The events of good rounds, each by the game that it meets.
 
@@ -67,7 +67,7 @@ pressed_by keys node = Pressed (slice_index_or keys node 0)
 -- ran has the very world that it had
 abbrev pub KeepsIdleWorlds : {W S : Type 0} → Rules S → machine.Game → List Event → Contents W → Contents W
     → Type 0
-KeepsIdleWorlds rules m events old g = KeepsGiven (worlds_of old.nodes) events (answers_to rules events m) g
+KeepsIdleWorlds rules m events old g = IsLater (worlds_of old.nodes) events (answers_to rules events m) g
 
 -- of these events those before some send were applied to the machine's game `m`, and the game represents the
 -- result; a node of which no answer to them tells that it started or ran has the world that it had

@@ -10,7 +10,7 @@ use Rattle.dn_machine.specs.Game.{opening_game}
 use Rattle.dn_machine.specs.Worlds.{Rules}
 use Rattle.dn_game.specs.declared.played.Played.{Played}
 use Rattle.dn_game.specs.Contents.{contents, Represents}
-use Rattle.dn_game.specs.Frame.{KeepsGiven}
+use Rattle.dn_game.specs.Frame.{IsLater}
 use Rattle.dn_game.specs.Played.{Answers}
 use Rattle.dn_game.specs.Promised.{IsPromised}
 use Rattle.dn_game.specs.Schedule.{generator_of, behind_three, scheduled}
@@ -54,4 +54,4 @@ abbrev pub HasStormedFrom : {W S : Type 0} → (W → S) → Rules S → Setting
     → Type 0
 HasStormedFrom state rules settings worlds seed count played =
     (all : HasStormed state rules settings seed count played)
-    × KeepsGiven worlds all.stormed.events all.stormed.answers (contents played.game)
+    × IsLater worlds all.stormed.events all.stormed.answers (contents played.game)

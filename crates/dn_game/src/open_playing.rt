@@ -1,7 +1,7 @@
 //! Playing a list of open events: what each did, and what is promised on an open network.
 
 ghost use Rattle.std.specs.Prelude.{length, IfOk};
-ghost use Rattle.dn_game.specs.{Opening.AreLimited, Opening.IsAdmitted, Opening.rules_in, Frame.KeepsGivenOpen, OpenPromised.HasPlayedOpen, Contents.contents, Pool.IsWithinTwice, Room.room_of};
+ghost use Rattle.dn_game.specs.{Opening.AreLimited, Opening.IsAdmitted, Opening.rules_in, Frame.IsLaterOpen, OpenPromised.HasPlayedOpen, Contents.contents, Pool.IsWithinTwice, Room.room_of};
 
 use crate::config::{GameConfig, GameFault};
 use crate::game::Game;
@@ -43,7 +43,7 @@ pub fn play_open<W: World>(
     // started or ran. These are the answers by which all of this is promised.
     ensures given { IfOk result (λ played. (all : HasPlayedOpen W.state
         (rules_in W.physics config (length worlds.items)) seal config.settings events.now played)
-        × KeepsGivenOpen worlds.items events.now all.events_played.answers (contents played.game)) }
+        × IsLaterOpen worlds.items events.now all.events_played.answers (contents played.game)) }
     // Each demo has the limit of the configuration.
     ensures limits { IfOk result (λ played. AreLimited config.limit (contents played.game).nodes) }
     // There is memory for no more than twice the packets that were sent, and one.

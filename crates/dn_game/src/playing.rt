@@ -1,7 +1,7 @@
 //! Playing a list of events: what the whole project promises.
 
 ghost use Rattle.std.specs.Prelude.{◌≡◌, ◌⊎◌, length, Err, IfOk};
-ghost use Rattle.dn_game.specs.{Contents.contents, Opening.AreLimited, Opening.IsAdmitted, Opening.rules_in, Frame.KeepsGiven, Headline.HaveAgreed, Observed.IsPlayedObserved, Pool.IsWithinTwice, Promised.HasPlayed};
+ghost use Rattle.dn_game.specs.{Contents.contents, Opening.AreLimited, Opening.IsAdmitted, Opening.rules_in, Frame.IsLater, Headline.HaveAgreed, Observed.IsPlayedObserved, Pool.IsWithinTwice, Promised.HasPlayed};
 ghost use Rattle.dn_game.specs.{Room.room_of, declared.config.GameFault.TheVariants.Players, declared.config.GameFault.TheVariants.Limit};
 
 use crate::config::{GameConfig, GameFault};
@@ -35,7 +35,7 @@ pub fn play<W: World>(
     // started or ran. These are the answers by which all of this is promised.
     ensures given { IfOk result (λ played. (all : HasPlayed W.state
         (rules_in W.physics config (length worlds.items)) config.settings events.now played)
-        × KeepsGiven worlds.items events.now all.events_played.answers (contents played.game)) }
+        × IsLater worlds.items events.now all.events_played.answers (contents played.game)) }
     // Each demo has the limit of the configuration.
     ensures limits { IfOk result (λ played. AreLimited config.limit (contents played.game).nodes) }
     // There is memory for no more than twice the packets that were sent, and one.
@@ -62,7 +62,7 @@ pub fn play_observed<W: World, L: Observer>(
     ensures given { IfOk result (λ played. (all : IsPlayedObserved W.state
         (rules_in W.physics config (length worlds.items)) L.observes config.settings events.now observer.old
         observer.new played)
-        × KeepsGiven worlds.items events.now all.promised.events_played.answers (contents played.game)) }
+        × IsLater worlds.items events.now all.promised.events_played.answers (contents played.game)) }
     // Each demo has the limit of the configuration.
     ensures limits { IfOk result (λ played. AreLimited config.limit (contents played.game).nodes) }
     // There is memory for no more than twice the packets that were sent, and one.

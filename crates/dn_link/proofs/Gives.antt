@@ -1,5 +1,5 @@
 -- What a link gives to a peer, within one game.
-use Rattle.std.proofs.{Common.{◌≡◌, ◌<◌, ◌≤◌, ◌≢◌, ◌+◌, ◌%◌, ◌^◌, ℕ, true, List, refl, ap, sym, ◌∙◌, arith, Option, Some}, lemmas.Bool.cond_both}
+use Rattle.std.proofs.Common.{◌≡◌, ◌<◌, ◌≤◌, ◌≢◌, ◌+◌, ◌%◌, ◌^◌, ℕ, true, List, refl, ap, sym, ◌∙◌, arith, Option, Some}
 use Rattle.std.specs.{Prelude.{IfSome, nat_lt, slice_index}, Option.option_map}
 use Rattle.dn_setup.specs.Settings.{Settings}
 use Rattle.dn_machine.specs.{Flight.Flight, Limits.Limits, Node.put}
@@ -10,16 +10,10 @@ use Rattle.dn_lockstep.proofs.OneGame.{GoesBetween, sent_between, gave, relays}
 use Rattle.dn_seal.specs.declared.seal.Seal.{Seal}
 use Rattle.dn_link.specs.{declared.bundle.{Bundle.Bundle, Carried.Carried, Counts.Counts}, Counting.{counts_of, has_ended, has_of}, Ends.tells_end, LinkedGame.{WasBundled, AreLinked, IsLater}}
 use Rattle.dn_link.specs.{Hearing.carried_of, Kept.{kept_after, taken_by}, Line.own_echo, Linked.{Linked, Gives, PeerState}, Pacing.PaceState, Relays.{AreHandedOn, Handed, flights_of}}
-use Rattle.dn_link.proofs.{Growing.{HasAsMuch, grows, Holds, holds_same, send_holds}, Linking.{goes_given, stays_kept, at_most, same_reported, same_left}, Leaving.{counts_reach, tells_own}}
+use Rattle.dn_link.proofs.{Growing.{HasAsMuch, grows, sends_holds}, Linking.{goes_given, stays_kept, at_most, same_reported, same_left}, Leaving.{counts_reach, tells_own}}
 use Rattle.dn_link.proofs.{Relinking.{AreKept, found_later, found_on, later_by, relinked}, Handing.gives_all}
 use Rattle.dn_survivor.specs.declared.others.Others.{Others}
-use Rattle.dn_machine.specs.Node as machine
 use Rattle.dn_link.proofs.Linking as base
-
--- a packet that is sent, or none
-sends_holds : (limits : Limits) (me : ℕ) (m : machine.Node) (to : ℕ) → Holds m (sent_to to limits me m).0
-sends_holds limits me m to = cond_both (nat_lt to limits.players) _ _
-    (λ (x : machine.Node × Option Flight). Holds m x.0) (λ below. send_holds limits me m to) (λ past. holds_same m)
 
 module _ (marking : Marking) (limits : Limits) (settings : Settings) (session : Session) (links : ℕ → Linked)
     (player : ℕ) (linked : AreLinked marking limits settings session links) (mine : player < limits.players) where

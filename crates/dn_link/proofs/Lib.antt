@@ -19,6 +19,8 @@ pub mod Requests
 pub mod Growing
 pub mod Leaving
 pub mod Places
+pub mod Deciding
+pub mod Knowing
 pub mod Letters
 pub mod Handing
 pub mod RemainingCalls

@@ -1,6 +1,6 @@
 //! What holds of datagrams.
 
-ghost use Rattle.std.specs.Prelude.{◌≡◌, ◌≢◌, ◌<◌, ◌≤◌, ℕ, ℤ, pos, Bool, true, false, List, [], slice_index, All, get_or, length, Option, Some, IfSome, Result, Ok, Err};
+ghost use Rattle.std.specs.Prelude.{◌≡◌, ◌≢◌, ◌<◌, ◌≤◌, ℕ, ℤ, pos, Bool, false, List, [], slice_index, All, get_or, length, Option, IfSome, Result, Ok, Err};
 ghost use Rattle.dn_tic.specs.declared.{command.Move.Move, input.Input.Input};
 ghost use Rattle.dn_setup.specs.Settings.{IsSettings, Settings};
 ghost use Rattle.dn_machine.specs.{declared.answers.{Made.Made, Ran.Ran}, Flight.Flight, Limits.{Limits, IsWindow}, Running.{is_over, on_run, on_quit}, Started.started_node};
@@ -9,8 +9,8 @@ ghost use Rattle.dn_lockstep.specs.{Told.{Builds, got, made}, Contents.{Contents
 ghost use Rattle.dn_survivor.specs.OfOthers.{nothing_kept};
 ghost use Rattle.dn_seal.specs.{declared.{opened.Opened.Opened, seal.Seal.Seal}, Opening.Sealing};
 ghost use Rattle.dn_open.specs.Sealed.{sealing_of};
-ghost use Rattle.dn_link.specs.{LinkedGame.{IsGenuineDatagram, WasBundled, WasGiven, AreLinked, IsLater, StayLinked}, Linked.{Gives, Linked, Receives, certain, may_leave}, Ends.tells_end};
-ghost use Rattle.dn_link.specs.{declared.{bundle.{Bundle.Bundle, BundleFault.BundleFault}, received.Received.Received}, Counting.has_ended, Linking.new_peer, Hearing.HearsAll, Pacing.PaceState};
+ghost use Rattle.dn_link.specs.{LinkedGame.{IsGenuineDatagram, WasBundled, WasGiven, AreLinked, IsLater, StayLinked}, Linked.{Gives, Linked, Receives}, Ends.tells_end};
+ghost use Rattle.dn_link.specs.{declared.{bundle.{Bundle.Bundle, BundleFault.BundleFault}, received.Received.Received}, Linking.new_peer, Hearing.HearsAll, Pacing.PaceState};
 ghost use Rattle.dn_link.specs.{Reading.IsBundledAs, Relays.flights_of, Text.{IsBundle, sealed_bytes}};
 
 use dn_lockstep::{locksteps_agree, one_game_goes_on, one_game_starts};
@@ -127,33 +127,6 @@ pub fn links_agree()
     ensures { (marking : Marking) (limits : Limits) (settings : Settings) (session : Session) (links : ℕ → Linked)
         → AreLinked marking limits settings session links
         → AreAgreed limits settings session.inputs session.locksteps }
-{
-    locksteps_agree();
-}
-
-/// What a link takes as acknowledged is there: the other player has at least so many commands of this one, who
-/// has made them.
-pub fn acknowledged_is_there()
-    ensures { (marking : Marking) (limits : Limits) (settings : Settings) (session : Session) (links : ℕ → Linked)
-        (player other : ℕ)
-        → AreLinked marking limits settings session links → player < limits.players → other < limits.players
-        → other ≢ player
-        → certain (links player).node (slice_index ((links player).peers other).reported (links player).node.me)
-        ≤ got (session.locksteps other) player }
-{
-    locksteps_agree();
-}
-
-/// Who may leave is needed by nobody who plays on: each other player whose lockstep has not ended has all
-/// commands of this one and knows its end. A game has at most four players, as every lockstep's has.
-pub fn leaving_is_safe()
-    ensures { (marking : Marking) (limits : Limits) (settings : Settings) (session : Session) (links : ℕ → Linked)
-        (player other : ℕ)
-        → AreLinked marking limits settings session links → limits.players ≤ 4
-        → player < limits.players → other < limits.players → other ≢ player
-        → may_leave (links player) ≡ true → has_ended (session.locksteps other) ≡ false
-        → (got (session.locksteps other) player ≡ made (session.locksteps player))
-        × (end_in (session.locksteps other) player ≡ Some (made (session.locksteps player))) }
 {
     locksteps_agree();
 }

@@ -1,5 +1,5 @@
 use Rattle.std.proofs.Common.{◌≡◌, ◌+◌, length, take}
-use Rattle.dn_game.specs.{Opening.{rules_in, AreLimited}, Contents.contents, Frame.KeepsGiven, Observed.ObservesAll, Played.IsPlayed, Pool.IsWithinTwice, Room.room_of}
+use Rattle.dn_game.specs.{Opening.{rules_in, AreLimited}, Contents.contents, Frame.IsLater, Observed.ObservesAll, Played.IsPlayed, Pool.IsWithinTwice, Room.room_of}
 use Rattle.dn_game.proofs.playing.play_observed.Given as goal
 
 abbrev pub invariant-loop-event : goal.invariant-loop-event
@@ -9,6 +9,6 @@ invariant-loop-event g l =
     l.fn.config.settings (take l.event-index l.events) l.played)
     × ObservesAll g.L.Observer.observes l.initial.observer 0 (take l.event-index l.events) p.answers
     l.observer
-    × KeepsGiven l.fn.worlds.items (take l.event-index l.events) p.answers (contents l.played.game))
+    × IsLater l.fn.worlds.items (take l.event-index l.events) p.answers (contents l.played.game))
     × AreLimited l.fn.config.limit (contents l.played.game).nodes
     × IsWithinTwice (contents l.played.game).flights (room_of l.played.game)
