@@ -1,25 +1,22 @@
 -- What a node and a lockstep have of a player, with the player's end, never grows less; and one that has
 -- left, or ended, or started, stays so.
-use Rattle.std.proofs.Common.{◌≡◌, ◌≢◌, ◌<◌, ◌≤◌, ℕ, Bool, true, false, List, refl, ap, sym, ◌∙◌, subst, arith, Some, All, ◌&&◌, ℤ, eqb, ◌++◌, length, Option, None}
+use Rattle.std.proofs.Common.{◌≡◌, ◌≢◌, ◌<◌, ◌≤◌, ℕ, Bool, true, false, List, refl, ap, sym, ◌∙◌, subst, arith, Some, ◌&&◌, ℤ, eqb, ◌++◌, length, Option, None}
 use Rattle.std.proofs.lemmas.{Bool.{cond-false, lt-ltb, le-ltb, ne_eqb, cond_both}, List.length-append}
-use Rattle.std.specs.Prelude.{Ok, nat_lt, slice_get}
+use Rattle.std.specs.Prelude.{Ok, nat_lt}
 use Rattle.dn_tic.specs.declared.{command.TicCmd.TicCmd, input.Input.Input}
-use Rattle.dn_setup.specs.Settings.{Settings}
-use Rattle.dn_seal.specs.declared.opened.Opened.{Opened}
 use Rattle.dn_machine.specs.{Flight.{Flight, packet_of, is_close, is_request_close, is_exit, end_of}, Node.{has_left, is_ended, Node, put, with_peer, made, ends_of}, Limits.Limits}
 use Rattle.dn_machine.specs.{Hearing.{on_packet, is_within, after_request, after_exit}, declared.{answers.Heard.Heard, peer.Peer.Peer}, Sending.{on_build, after_sent, on_send}}
-use Rattle.dn_machine.specs.{Running.{on_run, on_run_but, on_quit}, Settling.settled_one}
+use Rattle.dn_machine.specs.{Running.{on_run_but, on_quit}, Settling.settled_one}
 use Rattle.dn_machine.specs.declared.answers.Phase.{Phase, TheVariants.{Listening, Gathering, Playing, Ended}}
 use Rattle.dn_setup.specs.Gathered.{all_noted}
 use Rattle.dn_remain.proofs.Each.{run_but_cases}
 use Rattle.dn_lockstep.specs.{Sent.sent_to, Settling.{is_no_peer, on_excuse, on_excuse_in}}
-use Rattle.dn_machine.proofs.{Calls.{build_cases, send_cases, run_cases, quit_cases, packet_cases, sender_after}, Put.{put_at, put_off}}
-use Rattle.dn_lockstep.specs.{Contents.Contents, Marking.Marking, Sent.IsFair, OneGame.{AreOneGame, Session, with_lockstep}, Phases.is_waiting, Represents.Represents}
-use Rattle.dn_lockstep.proofs.{Shown.{got_is, end_is}, Receiving.{told_by, told_is, near_received}}
-use Rattle.dn_open.specs.{Arrivals.{HearsOpened, IsRead, heard, on_opened}, declared.hearing.Arrived.Arrived, Sealed.{IsSmall, opened_of}}
-use Rattle.dn_open.proofs.{Sealables.alike, Deliveries.near_if, Fairness.are_sealable}
-use Rattle.dn_link.specs.{LinkedGame.WasGiven, Hearing.HearsAll, Counting.{with_end, has_ended, has_of}}
-use Rattle.dn_link.proofs.Keeping.{KeepsOne, all_along, LettersKeep, as_it_is, keeps_one}
+use Rattle.dn_machine.proofs.{Calls.{build_cases, send_cases, quit_cases, packet_cases, sender_after}, Put.{put_at, put_off}}
+use Rattle.dn_lockstep.specs.{Contents.Contents, Sent.IsFair, Phases.is_waiting, Represents.Represents}
+use Rattle.dn_lockstep.proofs.{Shown.{got_is, end_is}, Receiving.{told_by, near_received}}
+use Rattle.dn_open.specs.{Arrivals.{heard, on_opened}, declared.hearing.Arrived.Arrived, Sealed.{opened_of}}
+use Rattle.dn_open.proofs.{Sealables.alike, Deliveries.near_if}
+use Rattle.dn_link.specs.{Counting.{with_end, has_ended, has_of}}
 use Rattle.dn_machine.specs.Node as machine
 
 -- What a node has of a player, with the player's end, never grows less; and one that has left stays so.
@@ -91,14 +88,8 @@ module _ (limits : Limits) (i : ℕ) (node : Node) where
       sent : Holds node (after_sent limits i node to)
       sent = (peer_holds to _ node.held (λ p. omega arith) (λ count. omega arith), (λ left. left), (λ on. on))
 
-  pub run_holds : (marks : ℕ → ℤ) → Holds node (on_run limits node marks).0
-  run_holds marks = run_cases limits i node marks (λ (new : Node). Holds node new) (λ waits. holds_same node)
-      (λ player plays none off. ((λ p. omega arith), played_ends node.played (is_ended node.phase), (λ on. refl)))
-      (λ plays none full. ((λ p. omega arith), played_ends node.played (is_ended node.phase), (λ on. refl)))
-      (λ plays none free. ((λ p. omega arith), (λ left. left), (λ on. on)))
-
-  pub run_but_holds : (gone : ℕ → Bool) (marks : ℕ → ℤ) → Holds node (on_run_but limits gone node marks).0
-  run_but_holds gone marks = run_but_cases limits i gone node marks (λ (new : Node). Holds node new) (λ waits. holds_same node)
+  pub run_holds : (gone : ℕ → Bool) (marks : ℕ → ℤ) → Holds node (on_run_but limits gone node marks).0
+  run_holds gone marks = run_but_cases limits i gone node marks (λ (new : Node). Holds node new) (λ waits. holds_same node)
       (λ player plays none off. ((λ p. omega arith), played_ends node.played (is_ended node.phase), (λ on. refl)))
       (λ plays none full. ((λ p. omega arith), played_ends node.played (is_ended node.phase), (λ on. refl)))
       (λ plays none free. ((λ p. omega arith), (λ left. left), (λ on. on)))
@@ -233,46 +224,3 @@ opened_holds limits me m flight fair peer other =
         let step : on_opened limits me m (Ok (opened_of flight)) (Ok (packet_of flight)) (told_by flight.kind)
         ≡ (m, Arrived.Late) = rw far refl in
         subst (λ (x : machine.Node × Arrived). Holds m x.0) (sym step) (holds_same m)
-
-module _ (letters : LettersKeep) (marking : Marking) (limits : Limits) (settings : Settings) (session : Session)
-    (player : ℕ) (mine : player < limits.players) where
-  abbrev at : Contents → Session
-  at now = with_lockstep session player now
-
-  one_grows : (packet : Opened) (now next : Contents) (answer : Arrived)
-      → AreOneGame marking limits settings (at now) → WasGiven session.given player packet
-      → HearsOpened packet now next answer → HasAsMuch player now next
-  one_grows packet now next answer game (which, flight, found, to, is) hears =
-      let m = game.last.nodes player in
-      let r : Represents limits player now m = subst (λ (n : Contents). Represents limits player n m)
-      (put_at session.locksteps player player now refl) (game.nodes player mine) in
-      let there : slice_get game.last.flights which ≡ Some flight =
-      ap (λ (fs : List Flight). slice_get fs which) game.flights ∙ found in
-      let small = subst (λ (n : Contents). IsSmall n) (sym (put_at session.locksteps player player now refl)) hears.small in
-      let good = are_sealable marking limits settings game player mine small which flight there in
-      let reads : IsRead (Ok (opened_of flight)) (Ok (packet_of flight)) (told_by flight.kind) =
-      ((good.0.fair.packet, refl), told_is flight flight.kind good.0.fair.kind) in
-      let after = (subst (λ (p : Opened). HearsOpened p now next answer) is hears).step (Ok (packet_of flight))
-      (told_by flight.kind) reads limits player m r in
-      grows limits player now next m _ r after.node mine
-      (opened_holds limits player m flight good.0.fair good.1.from (λ e. good.1.apart (e ∙ sym to)))
-
-  -- the locksteps are those of one game with this one, which has as much as at first
-  abbrev GoesOn : Contents → Type 0
-  GoesOn now = AreOneGame marking limits settings (at now) × HasAsMuch player (session.locksteps player) now
-
-  goes_on : KeepsOne (WasGiven session.given player) GoesOn
-  goes_on packet now next answer here given hears spares = (
-    keeps_one letters marking limits settings session player packet now next answer here.0 given hears,
-    much_on player (session.locksteps player) now next here.1
-        (one_grows packet now next answer here.0 given hears),
-  )
-
-  pub all_grows : (packets : List Opened) (new : Contents)
-      → AreOneGame marking limits settings session → All (WasGiven session.given player) packets
-      → HearsAll packets (session.locksteps player) new → HasAsMuch player (session.locksteps player) new
-  all_grows packets new game all hears =
-      let begun = subst (AreOneGame marking limits settings)
-      (sym (as_it_is letters marking limits settings session player)) game in
-      (all_along (WasGiven session.given player) GoesOn goes_on packets (session.locksteps player) new
-      (begun, as_much player (session.locksteps player)) all hears).1

@@ -165,7 +165,7 @@ at_most_there false count all there None few known = min_first count all there f
 at_most_there false count all there (Some end) few known = absurd (let so = known refl in cc)
 
 -- the end of a player's own lockstep comes after all commands that it made
-own_end : (n : Contents) (player end : ℕ) → n.me ≡ player → end_in n player ≡ Some end → end ≡ made n
+pub own_end : (n : Contents) (player end : ℕ) → n.me ≡ player → end_in n player ≡ Some end → end ≡ made n
 own_end n player end own is =
     go (n.played && is_ended n.phase) (sym (rw (eq-eqb player n.me (sym own)) refl) ∙ is)
   where

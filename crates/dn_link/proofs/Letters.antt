@@ -5,14 +5,15 @@ use Rattle.dn_packet.specs.declared.packet.{Packet.Packet, PacketFault.PacketFau
 use Rattle.dn_setup.specs.{Settings.Settings, declared.setup.SetupFault.SetupFault}
 use Rattle.dn_machine.specs.{declared.answers.Heard.Heard, Flight.{Flight, packet_of, is_close, is_request_close}, Limits.Limits, Node.put}
 use Rattle.dn_machine.proofs.Put.{put_at}
+use Rattle.dn_remain.proofs.Vanished.Put.{twice_put}
 use Rattle.dn_lockstep.specs.{Contents.Contents, Hearing.{HearsAny, Spares}, Marking.Marking, Received.received, Represents.Represents, Sent.bytes_of, Steps.IsAfter, Told.made}
 use Rattle.dn_lockstep.proofs.{Shown.made_is, Receiving.{near_from_any, told_by, told_is}}
 use Rattle.dn_survivor.specs.{declared.others.Others.Others, OfOthers.has, OneGame.{AreRemaining, Session, with_survivor}, Surviving.{Surviving, has_given_up}}
 use Rattle.dn_seal.specs.declared.opened.Opened.{Opened}
 use Rattle.dn_open.specs.{Arrivals.{HearsOpened, IsRead, SparesSealed, heard, on_opened}, declared.hearing.Arrived.Arrived, Sealed.opened_of}
 use Rattle.dn_open.proofs.{Sealables.alike, Deliveries.near_if}
-use Rattle.dn_link.specs.LinkedGame.{WasGiven}
-use Rattle.dn_link.proofs.{Growing.{HasAsMuch, grows, much_on, opened_holds}, Keeping.{KeepsOne, put_twice}}
+use Rattle.dn_link.specs.RemainingLinks.{WasGiven}
+use Rattle.dn_link.proofs.{Growing.{HasAsMuch, grows, much_on, opened_holds}, Keeping.KeepsOne}
 use Rattle.dn_machine.specs.Node as machine
 use Rattle.dn_survivor.proofs.OneGame as one_game
 
@@ -144,7 +145,7 @@ module _ (marking : Marking) (limits : Limits) (settings : Settings) (session : 
       subst (AreRemaining marking limits settings)
       (λ i. record session {
         survivors = (ap (λ (k : ℕ). put (put session.survivors player (holding now)) k (holding next)) to
-            ∙ put_twice session.survivors player (holding now) (holding next)) i;
+            ∙ twice_put session.survivors player (holding now) (holding next)) i;
       }) after
 
   -- it has as much of each other player then as one had

@@ -10,8 +10,6 @@ pub mod Covered
 pub mod Packings
 pub mod Relinking
 pub mod Linking
-pub mod Gives
-pub mod Receives
 pub mod Sending
 pub mod Following
 pub mod Spelled
@@ -26,6 +24,7 @@ pub mod Handing
 pub mod RemainingCalls
 pub mod Reporting
 pub mod RemainingReceives
+pub mod Together
 pub mod Hearer
 pub mod Arriving
 pub mod Catching

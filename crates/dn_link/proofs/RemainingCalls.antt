@@ -11,7 +11,7 @@ use Rattle.dn_survivor.specs.{Calls.{GivesUp, HearsReport, GivesUpUnless, HearsR
 use Rattle.dn_survivor.specs.OneGame.{AreRemaining, Given, Session, after_build, after_report, after_run, with_survivor, reports_on}
 use Rattle.dn_survivor.specs.declared.{report.Report.Report, answers.{GivenUp.GivenUp, Reported.Reported}, others.Others.Others}
 use Rattle.dn_link.specs.{Linked.{Linked, probed, surviving_of}, RemainingLinks.{AreRemainingLinks, IsLater, IsTrulyTold}, Surviving.GivesUpPeer}
-use Rattle.dn_link.proofs.{Deciding.{give_up_holds, report_holds}, Growing.{HasAsMuch, Holds, as_much, build_holds, grows, quit_holds, run_but_holds}, Knowing.{nothing_given, put_told, told_on}}
+use Rattle.dn_link.proofs.{Deciding.{give_up_holds, report_holds}, Growing.{HasAsMuch, Holds, as_much, build_holds, grows, quit_holds, run_holds}, Knowing.{nothing_given, put_told, told_on}}
 use Rattle.dn_link.proofs.Relinking.{AreKept, all_later, all_put, found_on, put_kept}
 use Rattle.dn_machine.specs.Node as machine
 use Rattle.dn_survivor.proofs.OneGame as one_game
@@ -204,7 +204,7 @@ module _ (marking : Marking) (limits : Limits) (settings : Settings) (session : 
         (much_by new.node
         (λ limits me m. with_row limits m (on_run_but limits (has_given_up (surviving_of old)) m (marks_in marks)))
         (λ answer. (ran ≡ answer.0) × (row ≡ answer.1)) step.step
-        (run_but_holds limits player m (has_given_up (surviving_of old)) (marks_in marks))) peers
+        (run_holds limits player m (has_given_up (surviving_of old)) (marks_in marks))) peers
 
     pub quits : (new : Linked) (quit : Bool)
         → Steps old.node new.node (λ limits me m. on_quit m) (λ answer. quit ≡ answer)

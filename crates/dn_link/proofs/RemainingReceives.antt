@@ -6,16 +6,17 @@ use Rattle.dn_survivor.specs.OneGame.{AreRemaining, Session, with_survivor}
 use Rattle.dn_setup.specs.Settings.{Settings}
 use Rattle.dn_machine.specs.{Limits.Limits, Node.put}
 use Rattle.dn_machine.proofs.Put.{put_at}
+use Rattle.dn_remain.proofs.Vanished.Put.{twice_put}
 use Rattle.dn_lockstep.specs.{Contents.Contents, Marking.Marking}
 use Rattle.dn_seal.specs.declared.seal.Seal.{Seal}
 use Rattle.dn_link.specs.{declared.{bundle.{Bundle.Bundle, BundleFault.BundleFault}, received.Received.{Received, TheVariants.{Excluded, GivenUp, Heard, Stranger}}}, Ends.excludes, Counting.held_of}
-use Rattle.dn_link.specs.{LinkedGame.WasGiven, Hearing.ByTest, Packets.{heard_in, packets_in}, Reading.{IsBundledAs, IsDatagramOf}}
+use Rattle.dn_link.specs.{RemainingLinks.WasGiven, Hearing.ByTest, Packets.{heard_in, packets_in}, Reading.{IsBundledAs, IsDatagramOf}}
 use Rattle.dn_link.specs.RemainingLinks.{AreRemainingLinks, HasReached, IsGenuineIn, IsLater, IsTrulyTold, WasSealedIn, WasTold}
 use Rattle.dn_link.specs.Linked.{HearsPeer, Linked, Receives, ReceivesAs, TakesIn, TakesPackets, TakesRead, has_given_up, is_peer, met, surviving_of, takes}
 use Rattle.dn_open.specs.Sealed.{sealing_of}
 use Rattle.dn_link.proofs.{Keeping.all_along, Linking.same_bundle, Relinking.{AreKept, met_kept, reached_kept}, Letters.{AreWith, MayBeHeard, packet_grows}, RemainingCalls.GoOn}
 use Rattle.dn_link.proofs.{Growing.{HasAsMuch, as_much}, Knowing.{heard_told, later_on, met_told, nothing_given, reached_on, told_on}}
-use Rattle.dn_link.proofs.{Leaving.{parts_from, parts_heard}, Reporting.put_twice}
+use Rattle.dn_link.proofs.{Leaving.{parts_from, parts_heard}}
 use Rattle.dn_survivor.proofs.OneGame as one_game
 use Rattle.dn_link.proofs.RemainingCalls as base
 
@@ -90,9 +91,9 @@ module _ (marking : Marking) (limits : Limits) (settings : Settings) (session : 
         subst (λ (survivors : ℕ → Surviving). AreRemainingLinks marking limits settings
         (record session { survivors = survivors }) (put links player new)
         × IsLater session (record session { survivors = survivors }))
-        (put_twice session.survivors player (surviving_of mid) (surviving_of new)) (
+        (twice_put session.survivors player (surviving_of mid) (surviving_of new)) (
           subst (AreRemainingLinks marking limits settings (with_survivor later player (surviving_of new)))
-              (put_twice links player mid new) are,
+              (twice_put links player mid new) are,
           later_on session later (with_survivor later player (surviving_of new)) taken.1 is,
         )
 

@@ -1,9 +1,7 @@
 -- What a report changes in a link, where one comes with a datagram; and what it has as its bytes.
-use Rattle.std.proofs.{Common.{◌≡◌, ◌⊎◌, ℕ, Bool, true, false, List, [], refl, ap, sym, ◌∙◌, subst, Option, Some, None, inl, inr, length}, lemmas.Bool.{cases_eq}}
+use Rattle.std.proofs.{Common.{◌≡◌, ◌⊎◌, ℕ, Bool, true, false, List, [], refl, ap, sym, ◌∙◌, subst, Option, Some, None, inl, inr, length}}
 use Rattle.std.specs.Prelude.{IfSome, Result, Ok, Err, if◌then◌else◌, nat_lt, ◌==◌}
-use Rattle.dn_machine.specs.{Node.put}
 use Rattle.dn_machine.specs.declared.{answers.{Cause.TheVariants.{Quit, Full, Inconsistent}, Phase.{Phase, TheVariants.{Listening, Gathering, Playing, Ended}}}}
-use Rattle.dn_machine.proofs.Put.{put_at, put_off, same_functions}
 use Rattle.dn_lockstep.specs.{Contents.Contents}
 use Rattle.dn_survivor.specs.{OneGame.{Given, reports_on}}
 use Rattle.dn_survivor.specs.{ReportBytes.{IsReadAs, IsReport, report_bytes}, declared.{others.Others.Others, report.{Report.Report, ReportFault.ReportFault}}}
@@ -87,10 +85,3 @@ pub told_last : (reports : List Given) (from to : ℕ) (told : Option Report) (r
 told_last reports from to told report is =
     subst (λ (o : Option Report). WasTold (reports_on reports from to o) from to report) (sym is)
     (length reports, last_at reports (record { from = from; to = to; report = report }))
-
--- a function that has another value at one place, and then one more
-pub put_twice : {A : Type 0} (f : ℕ → A) (i : ℕ) (x y : A) → put (put f i x) i y ≡ put f i y
-put_twice f i x y = same_functions (λ j. elim (cases_eq j i) [
-  | inl at ↦ put_at (put f i x) i j y at ∙ sym (put_at f i j y at)
-  | inr off ↦ put_off (put f i x) i j y off ∙ put_off f i j x off ∙ sym (put_off f i j y off)
-])

@@ -3,11 +3,17 @@ use Rattle.std.specs.Prelude.{◌≡◌, ◌≢◌, ◌<◌, ◌≤◌, ℕ, Lis
 use Rattle.dn_setup.specs.Settings.{Settings}
 use Rattle.dn_survivor.specs.{OneGame.{AreRemaining, Given, Session, after_packet, after_relays, after_report}, declared.report.Report.Report, ReportBytes.IsReadAs}
 use Rattle.dn_machine.specs.{Flight.Flight, Limits.Limits, Node.put}
-use Rattle.dn_lockstep.specs.{Marking.Marking, Phases.is_waiting}
+use Rattle.dn_lockstep.specs.{Agreed.header_but_view, Marking.Marking, Phases.is_waiting, Told.HasStarted}
 use Rattle.dn_survivor.specs.Surviving.{Surviving}
-use Rattle.dn_seal.specs.declared.seal.Seal.{Seal}
-use Rattle.dn_open.specs.Sealed.{sealing_of}
-use Rattle.dn_link.specs.{declared.bundle.Bundle.Bundle, Counting.{has_ended, has_of}, Ends.tells_end, LinkedGame.WasGiven, Linked.{Gives, Linked, PeerState, report_beside, surviving_of}, Packets.{opened_from, packets_in}, Pacing.PaceState, Relays.flights_of, Reading.IsDatagramOf, Text.{IsBundle, sealed_bytes}}
+use Rattle.dn_seal.specs.declared.{opened.Opened.Opened, seal.Seal.Seal}
+use Rattle.dn_open.specs.Sealed.{opened_of, sealing_of}
+use Rattle.dn_link.specs.{declared.bundle.Bundle.Bundle, Counting.{has_ended, has_of}, Ends.tells_end, Linked.{Gives, Linked, PeerState, report_beside, surviving_of}, Packets.{opened_from, packets_in}, Pacing.PaceState, Relays.flights_of, Reading.IsDatagramOf, Text.{IsBundle, sealed_bytes}}
+
+-- one of these packets, to this player, is opened so
+abbrev pub WasGiven : List Flight → ℕ → Opened → Type 0
+WasGiven given to packet =
+    (which : ℕ) × (flight : Flight) × (slice_get given which ≡ Some flight) × (flight.to ≡ to)
+    × (packet ≡ opened_of flight)
 
 -- of each peer it was told of no more than the peer has of any other player, and that it has left only if it has
 pub record IsTrulyTold (survivors : ℕ → Surviving) (peers : ℕ → PeerState) : Type 0 where
@@ -82,3 +88,12 @@ WasSealedIn seal session bytes =
 abbrev pub IsGenuineIn : Seal → Session → ℕ → List ℕ → Type 0
 IsGenuineIn seal session player bytes =
     (bundle : Bundle) → IsDatagramOf (sealing_of seal player) bytes bundle → WasSealedIn seal session bytes
+
+-- What their demos have in common beside their commands: the headers of any two differ in the view alone, which is
+-- the player's own number
+pub record HeadersAgree (players : ℕ) (survivors : ℕ → Surviving) : Type 0 where
+  pub headers : (q r : ℕ) → q < players → r < players → HasStarted (survivors q).lockstep
+      → HasStarted (survivors r).lockstep
+      → header_but_view (survivors q).lockstep ≡ header_but_view (survivors r).lockstep
+  pub views : (p : ℕ) → p < players → HasStarted (survivors p).lockstep
+      → slice_get (survivors p).lockstep.demo.bytes 8 ≡ Some p

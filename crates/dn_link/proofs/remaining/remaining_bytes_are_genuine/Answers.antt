@@ -3,7 +3,7 @@ use Rattle.std.proofs.{Common.{◌≡◌, ℕ, List, [], refl, ap, sym, ◌∙�
 use Rattle.std.specs.{Prelude.{Result, Ok, Err}, List.flat_map}
 use Rattle.dn_survivor.specs.{OneGame.Session, Surviving.Surviving, ReportBytes.report_bytes, declared.report.Report.Report}
 use Rattle.dn_seal.specs.declared.seal.Seal.{Seal}
-use Rattle.dn_link.specs.{declared.bundle.{Bundle.Bundle, BundleFault.BundleFault, Part.Part}, LinkedGame.WasGiven, Packets.{packets_in, packets_of}, Reading.IsBundledAs}
+use Rattle.dn_link.specs.{declared.bundle.{Bundle.Bundle, BundleFault.BundleFault, Part.Part}, RemainingLinks.WasGiven, Packets.{packets_in, packets_of}, Reading.IsBundledAs}
 use Rattle.dn_link.specs.{RemainingLinks.{HasReached, IsGenuineIn, IsLater, WasSealedIn}, Text.{IsBundle, sealed_bytes}}
 use Rattle.dn_link.proofs.{Knowing.{counts_reached, reached_on}, Linking.opened_later, RemainingCalls.own, Wholes.only_bundle}
 use Rattle.dn_open.specs.Sealed.{sealing_of}
