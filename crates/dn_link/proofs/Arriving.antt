@@ -1,25 +1,29 @@
 -- What packets leave that ask for nothing, where there is no gap behind what was there of the maker of any.
 use Rattle.std.proofs.Common.{◌≡◌, ◌≢◌, ◌<◌, ◌≤◌, ◌+◌, ◌-◌, ◌/◌, ◌⊎◌, ◌&&◌, ℕ, Bool, true, false, List, [], ◌∷◌, length, refl, ap, sym, ◌∙◌, subst, arith, Option, Some, None, All, inl, inr}
-use Rattle.std.proofs.lemmas.{Bool.{cases_eq, ltb-true, not-false, true≢false}, List.Elements.{All-head, All-tail}}
+use Rattle.std.proofs.lemmas.{Bool.{and_right, cases_eq, ltb-true, not-false, true≢false}, List.Elements.{All-head, All-tail}}
 use Rattle.std.specs.Prelude.{Ok, max, nat_lt, slice_get}
 use Rattle.dn_packet.proofs.Texts.{length-commands}
 use Rattle.dn_packet.specs.Text.{text}
 use Rattle.dn_tic.specs.declared.command.Move.{Move}
 use Rattle.dn_setup.specs.Settings.{Settings}
-use Rattle.dn_machine.specs.{Flight.{Kind, SetUp, Play, Exit, Flight, packet_of, packet_of_kind, is_close, is_request_close, distance, end_of}, Game.Game, Hearing.on_packet, Limits.Limits}
-use Rattle.dn_machine.specs.{declared.{answers.{Heard.Heard, Phase.{Phase, TheVariants.{Listening, Gathering, Playing, Ended}}}, peer.Peer.Peer}, Node.is_ended, Worlds.Rules}
-use Rattle.dn_machine.proofs.{Invariant.{IsKept, history_of}, Put.{put_at, put_off}}
-use Rattle.dn_lockstep.specs.{Contents.Contents, Marking.Marking, Sent.IsFair, OneGame.{AreOneGame, beside, Session, with_lockstep}, Phases.is_waiting, Represents.Represents, Told.got}
-use Rattle.dn_lockstep.proofs.{OneGame.hear_quiet, Receiving.{told_by, told_is, near_received}, Shown.has}
+use Rattle.dn_machine.specs.{Flight.{Kind, SetUp, Play, Exit, Flight, packet_of, packet_of_kind, is_close, is_request_close, distance, end_of}, Hearing.on_packet, Limits.Limits}
+use Rattle.dn_machine.specs.{declared.{answers.{Heard.Heard, Phase.{Phase, TheVariants.{Listening, Gathering, Playing, Ended}}}, peer.Peer.Peer}, Node.is_ended}
+use Rattle.dn_machine.proofs.Put.{put_at, put_off}
+use Rattle.dn_lockstep.specs.{Contents.Contents, Marking.Marking, Sent.IsFair, Phases.is_waiting, Represents.Represents, Told.got}
+use Rattle.dn_remain.specs.{Remaining.heard_of, Wary.{now_of, reached}}
+use Rattle.dn_remain.proofs.{Arriving.made_it, Known.IsTold, Seeing.reached_cases}
+use Rattle.dn_survivor.specs.{OfOthers.has, OneGame.{AreRemaining, Session, with_survivor}, Surviving.Surviving, declared.others.Others.Others}
+use Rattle.dn_lockstep.proofs.{OneGame.hear_quiet, Receiving.{told_by, told_is, near_received}}
+use Rattle.dn_lockstep.proofs.Shown.{has as holds}
 use Rattle.dn_seal.specs.declared.opened.Opened.{Opened}
 use Rattle.dn_open.specs.{Arrivals.{HearsOpened, IsRead, SparesSealed, heard, on_opened}, declared.hearing.Arrived.Arrived, Sealed.opened_of}
 use Rattle.dn_open.proofs.{Sealables.alike, Deliveries.near_if}
-use Rattle.dn_link.specs.{LinkedGame.WasGiven, CaughtUp.{told_end, next_to}, Hearing.HearsAll}
-use Rattle.dn_link.proofs.{Hearer.{IsSpared, Leaves, settings_leave, word_leaves, word_reaches}, Keeping.{LettersKeep, keeps_one}, Makers.{HaveNoGaps, ends_of, then_end}}
+use Rattle.dn_link.specs.{RemainingLinks.WasGiven, CaughtUp.{told_end, next_to}, Hearing.HearsAll}
+use Rattle.dn_link.proofs.{Hearer.{IsSpared, Leaves, settings_leave, word_leaves, word_reaches}, Letters.{AreWith, holding, packet_keeps}, Makers.{HaveNoGaps, ends_of, then_end}}
+use Rattle.dn_machine.specs.Node.{put}
 use Rattle.dn_machine.specs.Node as machine
-use Rattle.dn_machine.proofs.Asking
-use Rattle.dn_machine.proofs.Invariant
-use Rattle.dn_machine.proofs.Promises
+use Rattle.dn_survivor.proofs.OneGame as one_game
+use Rattle.dn_survivor.proofs.Pairs
 
 -- who has started, and has not ended, plays
 plays_of : (phase : Phase) → is_waiting phase ≡ false → is_ended phase ≡ false → phase ≡ Playing
@@ -85,55 +89,65 @@ short_of flight fair = by_kind flight (λ settings is. omega (arith, settings_en
 
 -- a packet of which a playing node has every command, because it tells a tic that is far from those that the
 -- node makes
-module _ {S : Type 0} (rules : Rules S) (settings : Settings) (game : Game) (kept : IsKept rules settings game)
-    (which : ℕ) (flight : Flight) (there : slice_get game.flights which ≡ Some flight) where
+module _ (marking : Marking) (limits : Limits) (settings : Settings) (session : Session)
+    (game : AreRemaining marking limits settings session) (which : ℕ) (flight : Flight)
+    (found : slice_get session.packets which ≡ Some flight) where
   abbrev q : ℕ
   q = flight.to
 
-  far_has : (end : ℕ) → end ≤ end_of flight → end ≤ flight.start + 12 → (game.nodes q).phase ≡ Playing
-      → is_close (machine.made q (game.nodes q)) flight.start ≡ false
-      → end ≤ length ((game.nodes q).held flight.from)
-  far_has end within few plays far =
-      let piece = kept.from_inputs.pieces which flight there in
-      let reached = piece.reached in
-      let goes_on : is_ended (game.nodes q).phase ≡ false = ap is_ended plays in
-      let close = Invariant.close rules settings (history_of game) game.flights kept.from_inputs flight.from q piece.sender
-      piece.receiver (Promises.stays_in rules settings game kept q goes_on) in
-      let count = kept.from_inputs.counted q piece.receiver in
-      let ahead = kept.from_inputs.ahead q piece.receiver in
-      let back = kept.window.back in
-      let past = ltb-true 64 (distance flight.start (machine.made q (game.nodes q)))
-      (not-false (nat_lt 64 (distance flight.start (machine.made q (game.nodes q)))) far) in
-      elim (kept.from_inputs.run q flight.from piece.receiver piece.sender) [
-        | inl less ↦ omega (arith, few, within, reached, close, count, ahead, back, past, less)
-        | inr all ↦
-            let known = (kept.from_inputs.ended q flight.from all.0 piece.receiver piece.sender all.1).1 in
-            omega (arith, within, reached, known, all.2)
+  abbrev n : machine.Node
+  n = game.last.game.nodes q
+
+  far_has : (end : ℕ) → end ≤ end_of flight → end ≤ flight.start + 12 → game.last.gone q flight.from ≡ false
+      → n.phase ≡ Playing → is_close (machine.made q n) flight.start ≡ false → end ≤ length (n.held flight.from)
+  far_has end within few free plays far =
+      let known = one_game.known marking limits settings game in
+      let fits = Pairs.fits marking limits settings session game in
+      let told = one_game.told_there marking limits settings game which flight found in
+      let here : machine.has_left n ≡ false = and_right n.played (is_ended n.phase) (ap is_ended plays) in
+      let sent = fits.sent which flight (one_game.given_there marking limits settings game which flight found) here in
+      let ahead = fits.own q in
+      let own = fits.run q q told.receiver
+      (ap (λ (o : Option ℕ). reached (machine.got n q) o) (known.1.followed.follows.endless q)) in
+      let back = game.window.back in
+      let past = ltb-true 64 (distance flight.start (machine.made q n))
+      (not-false (nat_lt 64 (distance flight.start (machine.made q n))) far) in
+      elim (reached_cases (machine.got n flight.from) (machine.ends_of n flight.from)) [
+        | inl unknown ↦
+            let run = fits.run q flight.from told.sender unknown.0 in
+            omega (arith, few, within, sent, own, ahead, back, past, run)
+        | inr is ↦
+            let follows = known.1.followed.follows in
+            let count = (follows.ends q flight.from is.0 is.1 free).3 in
+            let made = made_it follows told free in
+            omega (arith, within, made, count, is.3)
       ]
 
-module _ (letters : LettersKeep) (marking : Marking) (limits : Limits) (settings : Settings) (session : Session)
-    (player : ℕ) (mine : player < limits.players) where
+module _ (marking : Marking) (limits : Limits) (settings : Settings) (session : Session) (player : ℕ)
+    (mine : player < limits.players) (rest : Others) (whole : (p : ℕ) → has rest.gone p ≡ false) where
+  -- with this lockstep at the player the survivors are those of one game
   abbrev at : Contents → Session
-  at now = with_lockstep session player now
+  at now = with_survivor session player (holding marking limits settings session player rest now)
+
+  abbrev pub AreHere : Contents → Type 0
+  AreHere now = AreWith marking limits settings session player rest now
 
   -- a lockstep that wants nothing again
   abbrev pub WantsNone : Contents → Type 0
   WantsNone now = (p : ℕ) → p < limits.players → p ≢ player → (now.peers p).want ≡ false
 
   -- a packet that was given is a player's
-  given_from : (now : Contents) → AreOneGame marking limits settings (at now) → (packet : Opened)
-      → WasGiven session.given player packet → packet.from < limits.players
+  given_from : (now : Contents) → AreHere now → (packet : Opened)
+      → WasGiven session.packets player packet → packet.from < limits.players
   given_from now game packet (which, flight, found, to, is) =
-      let kept = Asking.always (beside marking limits) settings game.window game.events game.last game.runs in
-      let there = ap (λ (fs : List Flight). slice_get fs which) game.flights ∙ found in
-      let sender = (kept.from_inputs.pieces which flight there).sender in
+      let sender = (one_game.told_there marking limits settings game which flight found).sender in
       omega (arith, sender, ap (λ (p : Opened). p.from) is)
 
   -- what a packet leaves
   pub record Hears (now next : Contents) (packet : Opened) : Type 0 where
     pub sender : packet.from < limits.players
     pub apart : packet.from ≢ player
-    pub game : AreOneGame marking limits settings (at next)
+    pub game : AreHere next
     pub ended : is_ended next.phase ≡ false → is_ended now.phase ≡ false
     pub stays : now.phase ≡ Playing → next.phase ≡ Playing
     pub others : (p : ℕ) → p < limits.players → p ≢ packet.from → got next p ≡ got now p
@@ -145,28 +159,34 @@ module _ (letters : LettersKeep) (marking : Marking) (limits : Limits) (settings
     pub reach : now.phase ≡ Playing → told_end packet ≤ got next packet.from
 
   one_hears : (packet : Opened) (now next : Contents) (answer : Arrived)
-      → AreOneGame marking limits settings (at now) → WasGiven session.given player packet → packet.ask ≡ None
+      → AreHere now → WasGiven session.packets player packet → packet.ask ≡ None
       → WantsNone now → (now.phase ≡ Playing → packet.start ≤ got now packet.from)
       → HearsOpened packet now next answer → SparesSealed now next answer → Hears now next packet
   one_hears packet now next answer game (which, flight, found, to, is) silent none low hears spares =
       subst (λ (p : Opened). Hears now next p) (sym is)
       (go (is_close (machine.made player m) flight.start && is_request_close (machine.made player m) flight.request) refl)
     where
+      old : put session.survivors player (holding marking limits settings session player rest now) player
+          ≡ holding marking limits settings session player rest now
+      old = put_at session.survivors player player (holding marking limits settings session player rest now) refl
+
       m : machine.Node
-      m = game.last.nodes player
+      m = game.last.game.nodes player
 
-      shows : Represents limits player now (game.last.nodes player)
-      shows = subst (λ (n : Contents). Represents limits player n (game.last.nodes player))
-          (put_at session.locksteps player player now refl) (game.nodes player mine)
+      shows : Represents limits player now (game.last.game.nodes player)
+      shows = subst (λ (s : Surviving). Represents limits player s.lockstep (game.last.game.nodes player)) old
+          (game.nodes player mine).node
 
-      there : slice_get game.last.flights which ≡ Some flight
-      there = ap (λ (fs : List Flight). slice_get fs which) game.flights ∙ found
-
-      kept : IsKept (beside marking limits) settings game.last
-      kept = Asking.always (beside marking limits) settings game.window game.events game.last game.runs
+      told : IsTold limits.players (now_of game.last.game game.last.gone
+          ∷ (one_game.known marking limits settings game).0) flight
+      told = one_game.told_there marking limits settings game which flight found
 
       fair : IsFair flight
       fair = game.fair which flight found
+
+      free : game.last.gone player flight.from ≡ false
+      free = sym ((game.nodes player mine).others.given_up flight.from told.sender)
+          ∙ ap (λ (s : Surviving). has s.others.gone flight.from) old ∙ whole flight.from
 
       asked : flight.request ≡ None
       asked = ap (λ (p : Opened). p.ask) (sym is) ∙ silent
@@ -176,17 +196,17 @@ module _ (letters : LettersKeep) (marking : Marking) (limits : Limits) (settings
           omega (arith, before, ap (λ (p : Opened). p.start) is, ap (λ (p : Opened). got now p.from) is)
 
       sender : flight.from < limits.players
-      sender = (kept.from_inputs.pieces which flight there).sender
+      sender = told.sender
 
       apart : flight.from ≢ player
-      apart e = (kept.from_inputs.pieces which flight there).apart (e ∙ sym to)
+      apart e = told.apart (e ∙ sym to)
 
-      keeps : AreOneGame marking limits settings (at next)
-      keeps = keeps_one letters marking limits settings session player packet now next answer game
-          (which, flight, found, to, is) hears
+      keeps : AreHere next
+      keeps = packet_keeps marking limits settings session player rest packet now next answer game
+          ((which, flight, found, to, is), whole packet.from) hears spares
 
       count : (p : ℕ) → p < limits.players → got now p ≡ length (m.held p)
-      count p l = has limits player now (game.last.nodes player) shows p l
+      count p l = holds limits player now (game.last.game.nodes player) shows p l
 
       -- it is not heard, as it tells a tic that is far
       late : next ≡ now → (now.phase ≡ Playing → told_end (opened_of flight) ≤ got now flight.from)
@@ -216,14 +236,14 @@ module _ (letters : LettersKeep) (marking : Marking) (limits : Limits) (settings
           let phase_was = shows.stands.phase in
           let phase_is = after.stands.phase in
           let was = count flight.from sender in
-          let is_now = has limits player next m' after flight.from sender in
+          let is_now = holds limits player next m' after flight.from sender in
           record {
             sender = sender;
             apart = apart;
             game = keeps;
             ended = λ e. ap is_ended phase_was ∙ leaves.ended (ap is_ended (sym phase_is) ∙ e);
             stays = λ e. phase_is ∙ leaves.stays (sym phase_was ∙ e);
-            others = λ p l n. has limits player next m' after p l ∙ leaves.others p n ∙ sym (count p l);
+            others = λ p l n. holds limits player next m' after p l ∙ leaves.others p n ∙ sym (count p l);
             least = omega (arith, leaves.least, was, is_now);
             idle = λ e. is_now ∙ leaves.idle (λ plays. e (phase_was ∙ plays)) ∙ sym was;
             sends = λ p l. ap (λ (x : Peer). x.resend) (after.peers.known p l) ∙ leaves.next p
@@ -261,10 +281,17 @@ module _ (letters : LettersKeep) (marking : Marking) (limits : Limits) (settings
 
       spared : IsSpared limits player m flight asked sender apart (on_packet limits player m flight).1
       spared number dropped =
-          let fine = subst (λ (k : ℕ). (on_packet limits k (game.last.nodes k) flight).1 ≡ Heard.Dropped number
-          → (number ≡ 6) ⊎ (number ≡ 13)) to
-          (λ e. Promises.drops (beside marking limits) settings game.last kept which flight number there e) in
-          fine dropped
+          let heard : heard_of limits game.last flight ≡ Heard.Dropped number =
+          rw (ap (λ (k : ℕ). game.last.gone k flight.from) to ∙ free)
+          (ap (λ (k : ℕ). (on_packet limits k (game.last.game.nodes k) flight).1) to ∙ dropped) in
+          elim ((Pairs.steady marking limits settings (at now) game).kept which flight number
+          (one_game.given_there marking limits settings game which flight found) heard) [
+            | inl place ↦ inl place
+            | inr others ↦ elim others [
+              | inl plays ↦ inr plays
+              | inr gone ↦ absurd (true≢false (sym gone.1 ∙ ap (λ (k : ℕ). game.last.gone k flight.from) to ∙ free))
+            ]
+          ]
 
       reaches : m.phase ≡ Playing → flight.start ≤ length (m.held flight.from)
           → told_end (opened_of flight) ≤ length ((on_packet limits player m flight).0.held flight.from)
@@ -290,11 +317,11 @@ module _ (letters : LettersKeep) (marking : Marking) (limits : Limits) (settings
           let away : is_close (machine.made player m) flight.start ≡ false =
           apart_from (is_close (machine.made player m) flight.start) flight.request asked far in
           late (subst (λ (a : Arrived). SparesSealed now next a) result.1 spares) (λ plays.
-          let all = subst (λ (k : ℕ). (game.last.nodes k).phase ≡ Playing
-          → is_close (machine.made k (game.last.nodes k)) flight.start ≡ false
-          → told_end (opened_of flight) ≤ length ((game.last.nodes k).held flight.from)) to
-          (far_has (beside marking limits) settings game.last kept which flight there (told_end (opened_of flight))
-          (no_later flight) (short_of flight fair)) (sym shows.stands.phase ∙ plays) away in
+          let all = subst (λ (k : ℕ). game.last.gone k flight.from ≡ false → (game.last.game.nodes k).phase ≡ Playing
+          → is_close (machine.made k (game.last.game.nodes k)) flight.start ≡ false
+          → told_end (opened_of flight) ≤ length ((game.last.game.nodes k).held flight.from)) to
+          (far_has marking limits settings (at now) game which flight found (told_end (opened_of flight))
+          (no_later flight) (short_of flight fair)) free (sym shows.stands.phase ∙ plays) away in
           omega (arith, all, count flight.from sender))
         where
           apart_from : (test : Bool) (request : Option ℕ) → request ≡ None
@@ -309,7 +336,7 @@ module _ (letters : LettersKeep) (marking : Marking) (limits : Limits) (settings
       → ((p : ℕ) → p < limits.players → tics p ≤ got now p) × HaveNoGaps tics packets
 
   abbrev IsQuiet : Opened → Type 0
-  IsQuiet packet = WasGiven session.given player packet × (packet.ask ≡ None)
+  IsQuiet packet = WasGiven session.packets player packet × (packet.ask ≡ None)
 
   -- what packets leave that end there
   pub record HearsThem (ends : ℕ → ℕ) (now new : Contents) : Type 0 where
@@ -324,7 +351,7 @@ module _ (letters : LettersKeep) (marking : Marking) (limits : Limits) (settings
 
   -- one after the other
   pub all_hears : (packets : List Opened) (now new : Contents) (tics : ℕ → ℕ)
-      → AreOneGame marking limits settings (at now) → is_waiting now.phase ≡ false → WantsNone now
+      → AreHere now → is_waiting now.phase ≡ false → WantsNone now
       → All IsQuiet packets → IsBehind tics packets now → HearsAll packets now new
       → HearsThem (ends_of tics packets) now new
   all_hears [] now new tics game started none all behind same =

@@ -5,7 +5,7 @@ use Rattle.std.specs.{Prelude.if◌then◌else◌, List.flat_map}
 use Rattle.dn_seal.specs.declared.{opened.Opened.Opened, seal.Seal.Seal}
 use Rattle.dn_link.specs.{CaughtUp.{next_to, AreCaughtUp, Brings, HasGrown, IsInStep, last_end}, declared.bundle.{Part.{Part, TheVariants.{Whole, Run, Relay}}, Bundle.Bundle, Carried.Carried}}
 use Rattle.dn_link.specs.{Linked.{Gives, Linked}, Pacing.PaceState, Packets.{own_in, packets_of, opened_from}, Packing.IsNeeded, Relays.{Handed, handed_part}, Counting.has_ended, Hearing.carried_of}
-use Rattle.dn_link.specs.{Kept.{going, taken_by, takes_packet}, LinkedGame.AreLinked, Text.parts_bytes}
+use Rattle.dn_link.specs.{Kept.{going, taken_by, takes_packet}, RemainingLinks.AreRemainingLinks}
 use Rattle.dn_link.specs.Packing.{parts_room}
 use Rattle.dn_link.specs.Pacing.{is_brief}
 use Rattle.std.proofs.Common.{subst}
@@ -13,12 +13,13 @@ use Rattle.std.proofs.lemmas.List.Elements.{All-nil}
 use Rattle.dn_setup.specs.Settings.{Settings}
 use Rattle.dn_machine.specs.{declared.{answers.Phase.TheVariants.Playing, peer.Peer.Peer}, Flight.Play, Limits.Limits, Node.put, Sending.{after_sent, commands_flight, on_send, request_to}}
 use Rattle.dn_machine.proofs.Put.{put_off}
-use Rattle.dn_lockstep.specs.{Marking.Marking, Represents.Represents, Sent.sent_to, OneGame.Session, Told.{got, made}}
+use Rattle.dn_lockstep.specs.{Marking.Marking, Represents.Represents, Sent.sent_to, Told.{got, made}}
+use Rattle.dn_survivor.specs.{OneGame.Session, Surviving.Surviving}
 use Rattle.dn_lockstep.proofs.Shown.{made_is}
 use Rattle.dn_link.proofs.{Catching.not_yet, Makers.{chain_goes, later_goes, own_of}, Following.gone_or_idle, Sending.{Follows, follows}}
 use Rattle.dn_machine.specs.Node as machine
 use Rattle.dn_link.specs.Kept as keep
-use Rattle.dn_link.proofs.Linking as base
+use Rattle.dn_link.proofs.RemainingCalls as base
 
 -- What a datagram carries of its sender's own packets.
 
@@ -81,7 +82,7 @@ unfolding on_send
 plays_sent limits me m to below apart plays = rw (lt-ltb to limits.players below, ne_eqb me to apart, plays) refl
 
 module _ (marking : Marking) (limits : Limits) (settings : Settings) (session : Session) (links : ℕ → Linked)
-    (player : ℕ) (linked : AreLinked marking limits settings session links) (mine : player < limits.players)
+    (linked : AreRemainingLinks marking limits settings session links) (player : ℕ) (mine : player < limits.players)
     (were : AreCaughtUp limits links) (to : ℕ) (below : to < limits.players) (apart : to ≢ player) (seal : Seal)
     (pace : PaceState) (new : Linked) (bytes : List ℕ) (full : is_brief pace to ≡ false)
     (gives : Gives seal pace to (links player) new bytes) (in_time : has_ended (links to).node ≡ false
@@ -93,10 +94,10 @@ module _ (marking : Marking) (limits : Limits) (settings : Settings) (session : 
   old = links player
 
   abbrev m : machine.Node
-  m = linked.game.last.nodes player
+  m = linked.game.last.game.nodes player
 
   shows : Represents limits player old.node m
-  shows = base.shows marking limits settings session links player linked mine
+  shows = base.shows marking limits settings session links linked player mine
 
   abbrev taken : Option Carried
   taken = taken_by (old.peers to).left gives.given
@@ -159,15 +160,16 @@ module _ (marking : Marking) (limits : Limits) (settings : Settings) (session : 
           let are = packets_are ∙ ap (λ (o : Option Carried). map (opened_from old.node.me) (going (old.peers to).kept o)) took in
           elim (gone_or_idle (old.peers to).left packet idle) [
             | inl gone ↦
-                let ended = linked.left player to gone.0 mine gone.1 in
-                absurd (true≢false (sym ended ∙ ap has_ended (sym (linked.nodes to below)) ∙ goes_on))
+                let ended = (linked.told player mine).left to gone.0 gone.1 in
+                absurd (true≢false (sym ended
+                ∙ ap (λ (s : Surviving). has_ended s.lockstep) (sym (linked.survivors to below)) ∙ goes_on))
             | inr none ↦
-                let was = were player to mine below apart in
+                let was = were.pairs player to mine below apart in
                 let chain = chain_goes old.node.me (old.peers to).kept.done (old.peers to).kept.packets
                 (old.peers to).kept.covered was.chain in
                 let there = was.there goes_on in
                 let same : got (links to).node player ≡ got (put links player new gives.bundle.to).node gives.bundle.from =
-                (λ i. got (sym theirs i).node (sym (gives.from ∙ base.own marking limits settings session links player linked mine) i)) in
+                (λ i. got (sym theirs i).node (sym (gives.from ∙ base.own marking limits settings session links linked player mine) i)) in
                 let up = last_up (old.peers to).kept.done (got (put links player new gives.bundle.to).node gives.bundle.from)
                 (map (opened_from old.node.me) (old.peers to).kept.packets) (omega (arith, there, same)) in
                 let last = ap (last_end (got (put links player new gives.bundle.to).node gives.bundle.from)) are in

@@ -2,12 +2,14 @@
 use Rattle.std.proofs.Common.{ℤ, ◌≡◌, ◌≢◌, ◌<◌, ◌≤◌, ◌++◌, [], ◌∷◌, ℕ, Bool, true, false, List, length, refl, ap, sym, ◌∙◌, subst, arith, inl, inr}
 use Rattle.std.proofs.lemmas.{Bool.{cases_eq, true≢false}, List.length-append}
 use Rattle.dn_tic.specs.declared.{command.TicCmd.TicCmd, input.Input.Input}
-use Rattle.dn_machine.specs.{Sending.on_build, Limits.Limits, Node.put, Running.{on_run, on_quit, row_held}}
-use Rattle.dn_machine.proofs.{Calls.{build_cases, run_cases, quit_cases}, Put.{put_at, put_off}}
-use Rattle.dn_remain.proofs.Vanished.Put.{at_put}
-use Rattle.dn_lockstep.specs.{Contents.Contents, Represents.Represents, OneGame.Session, Told.got}
+use Rattle.dn_machine.specs.{Sending.on_build, Limits.Limits, Node.put, Running.{on_run_but, on_quit, row_held}}
+use Rattle.dn_machine.proofs.{Calls.{build_cases, quit_cases}, Put.{put_at, put_off}}
+use Rattle.dn_remain.proofs.{Each.run_but_cases, Vanished.Put.at_put}
+use Rattle.dn_lockstep.specs.{Represents.Represents, Told.got}
+use Rattle.dn_survivor.specs.{OneGame.Session, Surviving.Surviving}
 use Rattle.dn_lockstep.proofs.Shown.{has}
-use Rattle.dn_link.specs.{CaughtUp.{AreCaughtUp, IsCaughtUp, IsKeptChain, StayCaughtUp, next_to}, Counting.has_ended, Kept.{IsKeptRising, Unacknowledged}, Linked.Linked, LinkedGame.IsLater}
+use Rattle.dn_link.specs.{CaughtUp.{AreCaughtUp, IsCaughtUp, IsKeptChain, StayCaughtUp, next_to}, Counting.has_ended, Kept.{IsKeptRising, Unacknowledged}, Linked.{IsWhole, Linked, surviving_of}, RemainingLinks.IsLater}
+use Rattle.dn_link.proofs.Relinking.{still_whole}
 use Rattle.dn_machine.specs.Node as machine
 
 -- one who has not ended had not
@@ -15,10 +17,13 @@ pub not_yet : {old new : Bool} → (old ≡ true → new ≡ true) → new ≡ f
 not_yet {old} {new} stays is = grind (arith, true≢false)
 
 -- who had ended has, in a later session
-pub ends_on : (session later : Session) (player : ℕ) (old new : Contents) → old ≡ session.locksteps player
-    → later.locksteps ≡ put session.locksteps player new → IsLater session later
-    → has_ended old ≡ true → has_ended new ≡ true
-ends_on session later player old new node locksteps is was = grind (arith, put_at)
+pub ends_on : (session later : Session) (player : ℕ) (old new : Linked) → surviving_of old ≡ session.survivors player
+    → later.survivors ≡ put session.survivors player (surviving_of new) → IsLater session later
+    → has_ended old.node ≡ true → has_ended new.node ≡ true
+ends_on session later player old new at placed is was =
+    ap (λ (s : Surviving). has_ended s.lockstep) (sym (ap (λ (f : ℕ → Surviving). f player) placed
+    ∙ put_at session.survivors player player (surviving_of new) refl))
+    ∙ is.ended player (ap (λ (s : Surviving). has_ended s.lockstep) (sym at) ∙ was)
 
 grown : (held : ℕ → List TicCmd) (player : ℕ) (more : List TicCmd)
     → length (held player) ≤ length (put held player (held player ++ more) player)
@@ -30,19 +35,24 @@ module _ (limits : Limits) (links : ℕ → Linked) (player : ℕ) (new : Linked
   old = links player
 
   -- a player's link is another now
-  pub relinked : ((peer : ℕ) → peer < limits.players → peer ≢ player → IsCaughtUp limits player peer new (links peer))
+  pub relinked : IsWhole new
+      → ((peer : ℕ) → peer < limits.players → peer ≢ player → IsCaughtUp limits player peer new (links peer))
       → ((which : ℕ) → which < limits.players → got old.node which ≤ got new.node which)
       → old.node.ran ≤ new.node.ran
       → ((which : ℕ) → which < limits.players → which ≢ player → has_ended (links which).node ≡ false
       → next_to old.node which ≤ next_to new.node which)
       → (has_ended old.node ≡ true → has_ended new.node ≡ true) → StayCaughtUp limits links player new
-  relinked pairs more further sends_on stays = (
-    (λ one other one_in other_in. at_put (λ (k : ℕ) (l : Linked). k < limits.players → other ≢ k
-        → IsCaughtUp limits k other l (put links player new other)) links player new
-        (λ inside away. at_put (λ (j : ℕ) (l : Linked). j < limits.players → j ≢ player → IsCaughtUp limits player j new l)
-        links player new (λ l n. absurd (n refl)) (λ j off. pairs j) other other_in away)
-        (λ k off inside away. at_put (λ (j : ℕ) (l : Linked). j < limits.players → j ≢ k → IsCaughtUp limits k j (links k) l)
-        links player new (λ l n. to_it k inside off) (λ j apart l n. were k j inside l n) other other_in away) one one_in),
+  relinked whole pairs more further sends_on stays = (
+    record {
+      whole = at_put (λ (k : ℕ) (l : Linked). k < limits.players → IsWhole l) links player new (λ inside. whole)
+          (λ k off. were.whole k);
+      pairs = λ one other one_in other_in. at_put (λ (k : ℕ) (l : Linked). k < limits.players → other ≢ k
+          → IsCaughtUp limits k other l (put links player new other)) links player new
+          (λ inside away. at_put (λ (j : ℕ) (l : Linked). j < limits.players → j ≢ player → IsCaughtUp limits player j new l)
+          links player new (λ l n. absurd (n refl)) (λ j off. pairs j) other other_in away)
+          (λ k off inside away. at_put (λ (j : ℕ) (l : Linked). j < limits.players → j ≢ k → IsCaughtUp limits k j (links k) l)
+          links player new (λ l n. to_it k inside off) (λ j apart l n. were.pairs k j inside l n) other other_in away) one one_in;
+    },
     record {
       got = λ one which one_in which_in. at_put (λ (k : ℕ) (l : Linked). got (links k).node which ≤ got l.node which)
           links player new (more which which_in) (λ k off. omega arith) one;
@@ -59,7 +69,7 @@ module _ (limits : Limits) (links : ℕ → Linked) (player : ℕ) (new : Linked
       -- what another keeps for it
       to_it : (one : ℕ) → one < limits.players → one ≢ player → IsCaughtUp limits one player (links one) new
       to_it one one_in off =
-          let was = were one player one_in mine (λ e. off (sym e)) in
+          let was = were.pairs one player one_in mine (λ e. off (sym e)) in
           record {
             rising = was.rising;
             chain = was.chain;
@@ -79,10 +89,10 @@ module _ (limits : Limits) (links : ℕ → Linked) (player : ℕ) (new : Linked
     pub wants : (p : ℕ) → p < limits.players → (new.node.peers p).want ≡ (old.node.peers p).want
     pub ran : old.node.ran ≤ new.node.ran
 
-  pub still : IsStill → ((peer : ℕ) → (new.peers peer).kept ≡ (old.peers peer).kept)
+  pub still : IsStill → new.others.gone ≡ old.others.gone → ((peer : ℕ) → (new.peers peer).kept ≡ (old.peers peer).kept)
       → (has_ended old.node ≡ true → has_ended new.node ≡ true) → StayCaughtUp limits links player new
-  still is kept stays = relinked (λ peer below apart.
-      let was = were player peer mine below apart in
+  still is gone kept stays = relinked (still_whole old new gone (were.whole player mine)) (λ peer below apart.
+      let was = were.pairs player peer mine below apart in
       let same = kept peer in
       let has_it = is.others peer below apart in
       let next = is.sends peer below in
@@ -120,8 +130,8 @@ module _ (limits : Limits) (links : ℕ → Linked) (player : ℕ) (new : Linked
         (grown m.held player _, (λ p. refl), omega arith),
       ))
 
-  pub run_quiet : (m : machine.Node) (marks : ℕ → ℤ) → IsQuiet m (on_run limits m marks).0
-  run_quiet m marks = run_cases limits player m marks (IsQuiet m) (λ waits. quiet_same m)
+  pub run_quiet : (m : machine.Node) (gone : ℕ → Bool) (marks : ℕ → ℤ) → IsQuiet m (on_run_but limits gone m marks).0
+  run_quiet m gone marks = run_but_cases limits player gone m marks (IsQuiet m) (λ waits. quiet_same m)
       (λ other plays none off. ((λ p n. refl), (omega arith, (λ p. refl), omega arith)))
       (λ plays none full. ((λ p n. refl), (omega arith, (λ p. refl), omega arith)))
       (λ plays none free. (

@@ -1,23 +1,26 @@
 -- The links of a game stay caught up where one takes in a datagram.
 use Rattle.std.proofs.Common.{◌≡◌, ◌≢◌, ◌<◌, ◌≤◌, ◌+◌, ◌-◌, ℕ, zero, suc, Bool, true, false, List, length, refl, ap, sym, ◌∙◌, subst, arith, Option, Some, None, All, inl, inr}
 use Rattle.std.proofs.lemmas.Bool.{and_from, and_parts, and_right, cases_eq, eq-eqb, ne_eqb, leb-true, lt-ltb, ltb-true, true≢false}
-use Rattle.std.specs.Prelude.{◌==◌, if◌then◌else◌, is_some, min, nat_le, nat_lt, not, slice_index, unwrap_or, Result, Ok, Err}
+use Rattle.std.specs.Prelude.{◌==◌, if◌then◌else◌, is_some, nat_le, nat_lt, not, slice_index, Result, Ok, Err}
 use Rattle.dn_setup.specs.Settings.{Settings}
 use Rattle.dn_machine.specs.{Limits.Limits, Node.{is_ended, put}}
 use Rattle.dn_machine.proofs.Put.{put_at, put_off}
-use Rattle.dn_lockstep.specs.{Agreed.AreAgreed, Contents.{Contents, end_in}, Marking.Marking, OneGame.{AreOneGame, Session, with_lockstep}, Tables.count_of, Told.{got, made}}
+use Rattle.dn_lockstep.specs.{Contents.{Contents, end_in}, Marking.Marking, Tables.count_of, Told.{got, made}}
+use Rattle.dn_survivor.specs.{OneGame.{Session, with_survivor}, Surviving.Surviving}
+use Rattle.dn_survivor.proofs.Pairs.{fitted}
 use Rattle.dn_seal.specs.{declared.seal.Seal.Seal, Opening.Sealing}
 use Rattle.dn_open.specs.Sealed.{sealing_of}
-use Rattle.dn_link.specs.{Linked.{HearsPeer, Linked, PeerState, Receives, ReceivesAs, TakesIn, after_report, certain, done_with, has_given_up, is_peer, met, takes}, Ends.{excludes, left_by}}
-use Rattle.dn_link.specs.{LinkedGame.{HasReached, IsGenuineDatagram, WasGiven, AreLinked, IsLater}, Counting.{has_ended, has_of, held_of, reached, with_end}, Hearing.{ByTest, HearsAll}}
+use Rattle.dn_link.specs.{Linked.{HearsPeer, Linked, PeerState, Receives, ReceivesAs, TakesIn, after_report, certain, done_with, has_given_up, is_peer, met, surviving_of, takes}, Ends.{excludes, left_by}}
+use Rattle.dn_link.specs.{RemainingLinks.{AreRemainingLinks, HasReached, IsGenuineIn, WasGiven, IsLater}, Counting.{has_ended, has_of, held_of, reached, with_end}, Hearing.{ByTest, HearsAll}}
 use Rattle.dn_link.specs.{CaughtUp.{next_to, AreCaughtUp, Brings, HasNoGap, IsCaughtUp, IsInStep, IsInStepTo, IsKeptChain, StayCaughtUp, last_end}, Kept.{IsKeptRising, Unacknowledged, acknowledged}}
 use Rattle.dn_link.specs.{declared.{bundle.{Bundle.Bundle, BundleFault.BundleFault}, received.Received.{Received, TheVariants.{Excluded, GivenUp, Heard, Stranger}}}, Text.{IsBundle, sealed_bytes}}
 use Rattle.dn_link.specs.{Packets.{heard_in, own_in, packets_in}, Reading.{IsBundledAs, IsDatagramOf}}
-use Rattle.dn_link.proofs.{Makers.{chain_past, HaveNoGaps, ends_of, parts_ask, parts_go}, Reporting.{AreTakenIn, taken_whole}, Arriving.all_hears, Catching.{ends_on, not_yet, relinked, still}}
-use Rattle.dn_link.proofs.{Linking.same_bundle, Keeping.{LettersKeep, as_it_is}, Leaving.{at_most_there, unended, parts_heard}, Covered.rises_past}
+use Rattle.dn_link.proofs.{Makers.{chain_past, HaveNoGaps, ends_of, parts_ask, parts_go}, Reporting.{AreTakenIn, taken_whole}, Arriving.{AreHere, all_hears}, Catching.{ends_on, not_yet, relinked, still}}
+use Rattle.dn_link.proofs.{Linking.same_bundle, Relinking.still_whole, Together.{AreTogether, together}, Leaving.{at_most_there, unended, parts_heard}, Covered.rises_past}
 use Rattle.dn_machine.specs.declared.answers.Phase.TheVariants as phase
 use Rattle.dn_link.specs.declared.bundle.Relay as relay
-use Rattle.dn_link.proofs.Linking as base
+use Rattle.dn_survivor.proofs.OneGame as one_game
+use Rattle.dn_link.proofs.RemainingCalls as base
 
 -- no more is certain than this, unless the peer has left
 at_most : (left : Option ℕ) (node : Contents) (count bound : ℕ) → ((cause : ℕ) → left ≢ Some cause)
@@ -49,22 +52,29 @@ held_most node (suc (suc (suc zero))) = by (nat_lt 3 node.players)
     by false = omega arith
 held_most node (suc (suc (suc (suc player)))) = omega arith
 
-module _ (letters : LettersKeep) (marking : Marking) (limits : Limits) (settings : Settings) (session : Session)
-    (links : ℕ → Linked) (player : ℕ) (linked : AreLinked marking limits settings session links)
-    (mine : player < limits.players) (agreed : AreAgreed limits settings session.inputs session.locksteps)
-    (were : AreCaughtUp limits links) (new : Linked)
-    (after : AreLinked marking limits settings (with_lockstep session player new.node) (put links player new))
-    (later : IsLater session (with_lockstep session player new.node))
-    (agreed_then : AreAgreed limits settings (with_lockstep session player new.node).inputs
-    (with_lockstep session player new.node).locksteps) where
+module _ (marking : Marking) (limits : Limits) (settings : Settings) (session : Session) (links : ℕ → Linked)
+    (linked : AreRemainingLinks marking limits settings session links) (player : ℕ)
+    (mine : player < limits.players) (were : AreCaughtUp limits links) (new : Linked)
+    (after : AreRemainingLinks marking limits settings (with_survivor session player (surviving_of new))
+    (put links player new)) (later : IsLater session (with_survivor session player (surviving_of new))) where
   abbrev old : Linked
   old = links player
 
-  node : old.node ≡ session.locksteps player
-  node = linked.nodes player mine
+  agreed : AreTogether limits session
+  agreed = together marking limits settings session links linked were.whole
+
+  -- the locksteps of the survivors
+  abbrev lockstep : ℕ → Contents
+  lockstep p = (session.survivors p).lockstep
+
+  nodes : (p : ℕ) → p < limits.players → (links p).node ≡ lockstep p
+  nodes p below = ap (λ (s : Surviving). s.lockstep) (linked.survivors p below)
+
+  node : old.node ≡ lockstep player
+  node = nodes player mine
 
   own : old.node.me ≡ player
-  own = base.own marking limits settings session links player linked mine
+  own = base.own marking limits settings session links linked player mine
 
   -- nothing was changed
   nothing : new ≡ old → StayCaughtUp limits links player new
@@ -74,41 +84,41 @@ module _ (letters : LettersKeep) (marking : Marking) (limits : Limits) (settings
     sends = λ p l. ap (λ (l : Linked). next_to l.node p) same;
     wants = λ p l. ap (λ (l : Linked). (l.node.peers p).want) same;
     ran = omega (arith, ap (λ (l : Linked). l.node.ran) same);
-  }) (λ peer. ap (λ (l : Linked). (l.peers peer).kept) same)
+  }) (ap (λ (l : Linked). l.others.gone) same) (λ peer. ap (λ (l : Linked). (l.peers peer).kept) same)
       (λ was. ap (λ (l : Linked). has_ended l.node) same ∙ was)
 
   module _ (bundle : Bundle) (below : bundle.from < limits.players) (apart : bundle.from ≢ player)
-      (goes : bundle.to ≡ player) (all : All (WasGiven session.given player) (packets_in bundle))
-      (reports : HasReached session.locksteps bundle) (in_step : IsInStep limits links bundle) where
+      (goes : bundle.to ≡ player) (all : All (WasGiven session.packets player) (packets_in bundle))
+      (reports : HasReached session.survivors bundle) (in_step : IsInStep limits links bundle) where
     abbrev from : ℕ
     from = bundle.from
 
     abbrev count : ℕ
     count = slice_index bundle.counts.got old.node.me
 
-    theirs : (links from).node ≡ session.locksteps from
-    theirs = linked.nodes from below
+    theirs : (links from).node ≡ lockstep from
+    theirs = nodes from below
 
     -- it has of the player's commands what it reports, or knows the end with them
-    told : count ≤ with_end (got (session.locksteps from) player) (end_in (session.locksteps from) player)
+    told : count ≤ with_end (got (lockstep from) player) (end_in (lockstep from) player)
     told =
-        let n = session.locksteps from in
+        let n = lockstep from in
         let is = reports.got player (λ e. apart (sym e)) in
         let same = ap (λ (k : ℕ). slice_index bundle.counts.got k) own in
         let has : has_of n player ≡ with_end (count_of n.rings player) (end_in n player) =
         rw (lt-ltb player n.players (omega (arith, mine, agreed.several from below))) refl in
         omega (arith, is, same, has)
 
-    ends : (end : Option ℕ) → end_in (session.locksteps from) player ≡ end → is_some end ≡ true
+    ends : (end : Option ℕ) → end_in (lockstep from) player ≡ end → is_some end ≡ true
         → is_some (end_in old.node old.node.me) ≡ true
     ends None is known = absurd (cc)
     ends (Some end) is known =
-        ap is_some ((λ i. end_in (node i) (own i)) ∙ (agreed.ends from player end below mine is).0)
+        ap is_some ((λ i. end_in (node i) (own i)) ∙ agreed.ends from player end below mine is)
 
     -- so this is there
-    certain_there : certain old.node count ≤ got (session.locksteps from) player
+    certain_there : certain old.node count ≤ got (lockstep from) player
     certain_there =
-        let n = session.locksteps from in
+        let n = lockstep from in
         at_most_there (is_some (end_in old.node old.node.me)) count (made old.node) (got n player) (end_in n player)
         told (ends (end_in n player) refl)
 
@@ -122,7 +132,7 @@ module _ (letters : LettersKeep) (marking : Marking) (limits : Limits) (settings
       ran : new.node.ran ≡ old.node.ran
 
     none : (p : ℕ) → p < limits.players → p ≢ player → (old.node.peers p).want ≡ false
-    none p l n = (were player p mine l n).asks
+    none p l n = (were.pairs player p mine l n).asks
 
     -- one that has not ended has not left
     going : is_ended old.node.phase ≡ false → has_ended old.node ≡ false
@@ -154,12 +164,14 @@ module _ (letters : LettersKeep) (marking : Marking) (limits : Limits) (settings
         (λ e. parts_go (takes old) from (got old.node) taken_low bundle.parts.items (got old.node) first (omega arith)
         (λ p. omega arith)
         (subst (λ (n : Contents). HasNoGap (got n from) (own_in bundle)) to (in_step.follows (here e)))) in
-        let them = all_hears letters marking limits settings session player mine (heard_in (takes old) bundle)
-        (session.locksteps player) new.node (got old.node) (subst (AreOneGame marking limits settings)
-        (sym (as_it_is letters marking limits settings session player)) linked.game) (linked.started player mine)
+        let game : AreHere marking limits settings session player mine old.others (were.whole player mine) (lockstep player) =
+        subst (λ (n : Contents). AreHere marking limits settings session player mine old.others (were.whole player mine) n)
+        node (one_game.keeps marking limits settings linked.game player (surviving_of old) (linked.survivors player mine)) in
+        let them = all_hears marking limits settings session player mine old.others (were.whole player mine)
+        (heard_in (takes old) bundle) (lockstep player) new.node (got old.node) game (linked.started player mine)
         (λ p l n. ap (λ (n : Contents). (n.peers p).want) (sym node) ∙ none p l n)
         (λ k d l. (
-          parts_heard (has_given_up old) (held_of old.node) from (WasGiven session.given player) bundle.parts.items all k d l,
+          parts_heard (has_given_up old) (held_of old.node) from (WasGiven session.packets player) bundle.parts.items all k d l,
           parts_ask (takes old) from (got old.node) taken_low bundle.parts.items in_step.asks k d l,
         ))
         (λ e. (
@@ -184,8 +196,8 @@ module _ (letters : LettersKeep) (marking : Marking) (limits : Limits) (settings
         )
 
     stays : has_ended old.node ≡ true → has_ended new.node ≡ true
-    stays was = ap has_ended (sym (put_at session.locksteps player player new.node refl))
-        ∙ later.ended player (ap has_ended (sym node) ∙ was)
+    stays = ends_on session (with_survivor session player (surviving_of new)) player old new
+        (linked.survivors player mine) refl later
 
     module _ (takes_it : AreTakenIn bundle old new) where
       came : Came
@@ -197,13 +209,7 @@ module _ (letters : LettersKeep) (marking : Marking) (limits : Limits) (settings
       has_reached peer l n goes_on = by (is_ended old.node.phase) refl
         where
           pair_was : IsCaughtUp limits player peer old (links peer)
-          pair_was = were player peer mine l n
-
-          now_is : (with_lockstep session player new.node).locksteps player ≡ new.node
-          now_is = put_at session.locksteps player player new.node refl
-
-          theirs_is : (with_lockstep session player new.node).locksteps peer ≡ session.locksteps peer
-          theirs_is = put_off session.locksteps player peer new.node n
+          pair_was = were.pairs player peer mine l n
 
           by : (test : Bool) → is_ended old.node.phase ≡ test
               → got new.node peer ≤ got (links peer).node player + limits.ahead
@@ -212,24 +218,19 @@ module _ (letters : LettersKeep) (marking : Marking) (limits : Limits) (settings
               let there = pair_was.there goes_on in
               omega (arith, same, there, pair_was.near)
           by false e =
-              let held = agreed_then.held player peer mine l in
+              let held = (fitted marking limits settings (with_survivor session player (surviving_of new)) after.game).held
+              player peer mine l in
               let ahead = agreed.ahead peer l in
-              let run = agreed.run peer player l mine in
-              let none : end_in (session.locksteps player) player ≡ None =
-              unended (session.locksteps player) player (agreed.numbers player mine)
-              (ap has_ended (sym node) ∙ going e) in
-              let ran = (session.locksteps peer).ran in
-              let low : min ran (unwrap_or (end_in (session.locksteps player) player) ran) ≡ ran =
-              ap (λ (o : Option ℕ). min ran (unwrap_or o ran)) none ∙ omega arith in
+              let run = agreed.run peer player l mine (unended (lockstep player) player (agreed.numbers player mine)
+              (ap has_ended (sym node) ∙ going e)) in
               omega (
                 arith,
                 held,
                 ahead,
                 run,
-                low,
-                ap (λ (n : Contents). got n peer) now_is,
-                ap made theirs_is,
-                ap (λ (n : Contents). got n player) (linked.nodes peer l),
+                ap (λ (s : Surviving). got s.lockstep peer) (put_at session.survivors player player (surviving_of new) refl),
+                ap (λ (s : Surviving). made s.lockstep) (put_off session.survivors player peer (surviving_of new) n),
+                ap (λ (n : Contents). got n player) (nodes peer l),
               )
 
       -- of a peer, which sent the datagram or did not, before what was heard acknowledges
@@ -242,7 +243,7 @@ module _ (letters : LettersKeep) (marking : Marking) (limits : Limits) (settings
       mid_same : (peer : ℕ) → peer < limits.players → peer ≢ player → (mid : PeerState)
           → mid.kept ≡ (old.peers peer).kept → IsMid peer mid
       mid_same peer l n mid same =
-          let was = were player peer mine l n in
+          let was = were.pairs player peer mine l n in
           record {
             rising = subst IsKeptRising (sym same) was.rising;
             chain = subst IsKeptChain (sym same) was.chain;
@@ -256,7 +257,7 @@ module _ (letters : LettersKeep) (marking : Marking) (limits : Limits) (settings
 
       mid_known : IsMid from mid_from
       mid_known =
-          let was = were player from mine below apart in
+          let was = were.pairs player from mine below apart in
           let left = left_by bundle (old.peers from).left in
           record {
             rising = rises_past _ _ _ (done_with left old.node count) was.rising;
@@ -275,9 +276,10 @@ module _ (letters : LettersKeep) (marking : Marking) (limits : Limits) (settings
               ap (λ (l : Linked). (l.peers from).left) (put_at links player player new refl) ∙ ap
               (λ (f : ℕ → PeerState). (f from).left) takes_it.peers ∙ ap (λ (t : PeerState). t.left)
               (put_at old.peers from from mid_from refl) ∙ left in
-              let gone = after.left player from cause mine here in
-              true≢false (sym gone ∙ ap has_ended (put_off session.locksteps player from new.node apart ∙ sym theirs)
-              ∙ goes_on)
+              let gone = (after.told player mine).left from cause here in
+              true≢false (sym gone
+              ∙ ap (λ (s : Surviving). has_ended s.lockstep) (put_off session.survivors player from (surviving_of new) apart)
+              ∙ ap has_ended (sym theirs) ∙ goes_on)
 
       mid_of : (peer : ℕ) → peer < limits.players → peer ≢ player → IsMid peer ((met bundle old).peers peer)
       mid_of peer l n = elim (cases_eq peer from) [
@@ -289,7 +291,7 @@ module _ (letters : LettersKeep) (marking : Marking) (limits : Limits) (settings
 
       pub pair : (peer : ℕ) → peer < limits.players → peer ≢ player → IsCaughtUp limits player peer new (links peer)
       pair peer l n =
-          let was = were player peer mine l n in
+          let was = were.pairs player peer mine l n in
           let mid = mid_of peer l n in
           let state = (met bundle old).peers peer in
           let kept : (new.peers peer).kept ≡ acknowledged state.kept (reached new.node peer) =
@@ -313,8 +315,8 @@ module _ (letters : LettersKeep) (marking : Marking) (limits : Limits) (settings
         where
           reached_is : (peer : ℕ) → peer < limits.players → reached new.node peer ≡ got new.node peer - limits.ahead
           reached_is peer l =
-              let shows = base.shows marking limits settings (with_lockstep session player new.node)
-              (put links player new) player after mine in
+              let shows = base.shows marking limits settings (with_survivor session player (surviving_of new))
+              (put links player new) after player mine in
               let now = put_at links player player new refl in
               let players = ap (λ (l : Linked). l.node.players) (sym now) ∙ shows.whose.players in
               let ahead = ap (λ (l : Linked). l.node.ahead) (sym now) ∙ shows.whose.ahead in
@@ -322,7 +324,7 @@ module _ (letters : LettersKeep) (marking : Marking) (limits : Limits) (settings
               rw in_game (ap (λ (k : ℕ). got new.node peer - k) ahead)
 
       pub taken_in : StayCaughtUp limits links player new
-      taken_in = relinked limits links player new mine were pair came.least (omega (arith, came.ran))
+      taken_in = relinked limits links player new mine were (still_whole old new takes_it.gone (were.whole player mine)) pair came.least (omega (arith, came.ran))
           (λ which l off goes_on. let same = came.sends which l in omega (arith, same)) stays
 
       -- a player that plays has all of them then
@@ -331,13 +333,13 @@ module _ (letters : LettersKeep) (marking : Marking) (limits : Limits) (settings
 
   -- any bytes that were sealed in step
   module _ (seal : Seal) (bytes : List ℕ) (answer : Received)
-      (genuine : IsGenuineDatagram seal session player bytes) (in_step : IsInStepTo seal limits links player bytes)
+      (genuine : IsGenuineIn seal session player bytes) (in_step : IsInStepTo seal limits links player bytes)
     where
       -- what holds of a bundle that is taken in, and of any other
       module _ (P : Type 0) (other : new ≡ old → P)
           (takes : (bundle : Bundle) (below : bundle.from < limits.players) (apart : bundle.from ≢ player)
-          (goes : bundle.to ≡ player) (all : All (WasGiven session.given player) (packets_in bundle))
-          (reached : HasReached session.locksteps bundle) (step : IsInStep limits links bundle)
+          (goes : bundle.to ≡ player) (all : All (WasGiven session.packets player) (packets_in bundle))
+          (reached : HasReached session.survivors bundle) (step : IsInStep limits links bundle)
           (is : IsDatagramOf (sealing_of seal player) bytes bundle) → AreTakenIn bundle old new → P) where
         as_bundle : (bundle : Bundle) → IsDatagramOf (sealing_of seal player) bytes bundle
             → ReceivesAs (Ok bundle) old new answer → P
@@ -349,18 +351,18 @@ module _ (letters : LettersKeep) (marking : Marking) (limits : Limits) (settings
             of_plain peer false comes =
                 let both = and_parts (nat_lt bundle.from old.node.players) (not (bundle.from == old.node.me)) peer in
                 let inside = ltb-true bundle.from old.node.players both.0 in
-                let count = (base.shows marking limits settings session links player linked mine).whose.players in
+                let count = (base.shows marking limits settings session links linked player mine).whose.players in
                 let was = genuine bundle is in
                 let same = same_bundle seal bytes bundle was.0 player is was.1 was.2 in
-                let all = subst (λ (b : Bundle). All (WasGiven session.given b.to) (packets_in b)) same was.3 in
-                let reached = subst (HasReached session.locksteps) same was.4 in
+                let all = subst (λ (b : Bundle). All (WasGiven session.packets b.to) (packets_in b)) same was.3 in
+                let reached = subst (HasReached session.survivors) same was.5 in
                 let step = in_step bundle is in
                 let one = same_bundle seal bytes bundle step.0 player is step.1 step.2 in
                 takes bundle (omega (arith, inside, count))
                 (λ e. true≢false (sym both.1 ∙ ap not (eq-eqb bundle.from old.node.me (e ∙ sym own))))
-                is.to (subst (λ (k : ℕ). All (WasGiven session.given k) (packets_in bundle)) is.to all) reached
+                is.to (subst (λ (k : ℕ). All (WasGiven session.packets k) (packets_in bundle)) is.to all) reached
                 (subst (IsInStep limits links) one step.3) is
-                (taken_whole bundle old new (linked.whole player mine) comes.1)
+                (taken_whole bundle old new (were.whole player mine) comes.1)
 
             of_peer : is_peer old.node bundle.from ≡ true → (test : Bool)
                 → ByTest test ((answer ≡ GivenUp bundle.from) × (new ≡ old)) (HearsPeer bundle old new answer) → P
@@ -397,8 +399,8 @@ module _ (letters : LettersKeep) (marking : Marking) (limits : Limits) (settings
       brought read_back bundle is plays count brings_it receives =
           let was = genuine bundle is in
           let same = same_bundle seal bytes bundle was.0 player is was.1 was.2 in
-          let all = subst (λ (b : Bundle). All (WasGiven session.given b.to) (packets_in b)) same was.3 in
-          let reached = subst (HasReached session.locksteps) same was.4 in
+          let all = subst (λ (b : Bundle). All (WasGiven session.packets b.to) (packets_in b)) same was.3 in
+          let reached = subst (HasReached session.survivors) same was.5 in
           let in_it = in_step bundle is in
           let one = same_bundle seal bytes bundle in_it.0 player is in_it.1 in_it.2 in
           let step = subst (IsInStep limits links) one in_it.3 in
@@ -408,7 +410,7 @@ module _ (letters : LettersKeep) (marking : Marking) (limits : Limits) (settings
           (lt-ltb bundle.from old.node.players (omega (
             arith,
             step.sender,
-            (base.shows marking limits settings session links player linked mine).whose.players,
+            (base.shows marking limits settings session links linked player mine).whose.players,
           ))) (ap not (ne_eqb bundle.from old.node.me (λ e. apart (e ∙ own)))) in
           let opened : receives.0 ≡ Ok bundle =
           read_back (sealing_of seal player) bundle is.game is.fits is.to
@@ -421,18 +423,19 @@ module _ (letters : LettersKeep) (marking : Marking) (limits : Limits) (settings
           ((answer ≡ Stranger bundle.from) × (new ≡ old))) peer comes in
           let heard : HearsPeer bundle old new answer =
           subst (λ (test : Bool). ByTest test ((answer ≡ GivenUp bundle.from) × (new ≡ old))
-          (HearsPeer bundle old new answer)) (linked.whole player mine bundle.from) inner in
+          (HearsPeer bundle old new answer)) (were.whole player mine bundle.from) inner in
           let taken : (answer ≡ Heard bundle.from) × TakesIn bundle old new =
           subst (λ (test : Bool). ByTest test ((answer ≡ Excluded bundle.from) × (new ≡ old))
           ((answer ≡ Heard bundle.from) × TakesIn bundle old new)) step.plain heard in
-          let last = brings bundle step.sender apart is.to (subst (λ (k : ℕ). All (WasGiven session.given k)
+          let last = brings bundle step.sender apart is.to (subst (λ (k : ℕ). All (WasGiven session.packets k)
           (packets_in bundle)) is.to all) reached step
-          (taken_whole bundle old new (linked.whole player mine) taken.1) plays in
+          (taken_whole bundle old new (were.whole player mine) taken.1) plays in
           let to : links bundle.to ≡ old = ap links is.to in
           let more = brings_it (ap (λ (l : Linked). has_ended l.node) to ∙ not_ended) in
           let same_end = ap (λ (l : Linked). last_end (got l.node bundle.from) (own_in bundle)) to in
           omega (arith, last, more, same_end)
         where
           not_ended : has_ended old.node ≡ false
-          not_ended = not_yet (ends_on session (with_lockstep session player new.node) player old.node new.node node refl later)
+          not_ended = not_yet (ends_on session (with_survivor session player (surviving_of new)) player old new
+              (linked.survivors player mine) refl later)
               (and_right new.node.played (is_ended new.node.phase) (ap is_ended plays))

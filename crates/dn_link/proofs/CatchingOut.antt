@@ -1,7 +1,7 @@
 -- The links of a game stay caught up where one gives a datagram, which is in step.
 use Rattle.std.proofs.Common.{◌≡◌, ◌≢◌, ◌<◌, ◌≤◌, ◌+◌, ◌-◌, ◌%◌, ◌^◌, ℕ, Bool, true, false, List, [], ◌∷◌, ◌++◌, length, map, take, refl, ap, sym, ◌∙◌, subst, arith, Option, Some, None, All, inl, inr}
 use Rattle.std.proofs.lemmas.{Bool.{cases_eq, cond_both, true≢false}, List.Elements.All-take, Option.{none-some, same_Some}}
-use Rattle.std.specs.{Prelude.{◌==◌, if◌then◌else◌, min, nat_lt, unwrap_or}, Option.option_map}
+use Rattle.std.specs.{Prelude.{◌==◌, if◌then◌else◌, nat_lt}, Option.option_map}
 use Rattle.dn_tic.specs.declared.command.{TicCmd.TicCmd, Move.Move}
 use Rattle.dn_link.specs.Pacing.{is_brief}
 use Rattle.dn_link.specs.Packets.{packets_of}
@@ -9,17 +9,18 @@ use Rattle.std.specs.List.{flat_map}
 use Rattle.dn_setup.specs.Settings.{Settings}
 use Rattle.dn_machine.specs.{declared.peer.Peer.Peer, Flight.Flight, Limits.Limits, Node.put, Sending.{lag, after_sent, set_up_flight}}
 use Rattle.dn_machine.proofs.{Calls.send_cases, Put.{put_at, put_off}}
-use Rattle.dn_lockstep.specs.{Agreed.AreAgreed, Contents.{Contents, end_in}, Marking.Marking, Represents.Represents, Sent.sent_to, OneGame.Session, Told.{got, made}}
+use Rattle.dn_lockstep.specs.{Marking.Marking, Represents.Represents, Sent.sent_to, Told.{got, made}}
+use Rattle.dn_survivor.specs.{OneGame.Session, Surviving.Surviving, declared.others.Others.Others}
 use Rattle.dn_lockstep.proofs.Shown.{made_is, has}
 use Rattle.dn_seal.specs.declared.seal.Seal.{Seal}
-use Rattle.dn_link.specs.{Kept.{IsKeptRising, Unacknowledged, going, is_news, kept_after, taken_by}, declared.bundle.Carried.Carried, Counting.has_ended, Hearing.carried_of, LinkedGame.AreLinked}
-use Rattle.dn_link.specs.{CaughtUp.{GoesOn, IsInTime, StillGoesOn, next_to, AreCaughtUp, HasNoGap, IsCaughtUp, IsInStep, IsKeptChain, StayCaughtUp, WasInStep}, Linked.{Gives, Linked, PeerState}}
+use Rattle.dn_link.specs.{Kept.{IsKeptRising, Unacknowledged, going, is_news, kept_after, taken_by}, declared.bundle.Carried.Carried, Counting.has_ended, Hearing.carried_of, RemainingLinks.AreRemainingLinks}
+use Rattle.dn_link.specs.{CaughtUp.{GoesOn, IsInTime, StillGoesOn, next_to, AreCaughtUp, HasNoGap, IsCaughtUp, IsInStep, IsKeptChain, StayCaughtUp, WasInStep}, Linked.{Gives, IsWhole, Linked, PeerState}}
 use Rattle.dn_link.specs.{Pacing.PaceState, Packets.{opened_from, own_in}}
 use Rattle.dn_link.proofs.{Makers.{IsQuiet, first_goes, going_asks, going_goes, keeps_chain, later_goes}, Catching.relinked, Bringing.gives_own, Following.{covers, kept_rises}, Leaving.unended}
-use Rattle.dn_link.proofs.{Linking.taken_given, Sending.{Sends, sends}, Reporting.told_plain}
+use Rattle.dn_link.proofs.{Linking.taken_given, Sending.{Sends, sends}, Reporting.told_plain, Growing.sends_holds, Relinking.still_whole, Together.together}
 use Rattle.dn_machine.specs.Node as machine
 use Rattle.dn_link.specs.Kept as keep
-use Rattle.dn_link.proofs.Linking as base
+use Rattle.dn_link.proofs.RemainingCalls as base
 
 -- a node that is asked for a packet has what it had, and asks for nothing if it wants nothing
 module _ (limits : Limits) (me : ℕ) (m : machine.Node) (to : ℕ) where
@@ -74,35 +75,31 @@ done_same kept (Some packet) = go (is_news kept packet)
 -- a player is at most a window ahead of what it has of a peer that has not ended, and two of what that needs no
 -- more
 module _ (marking : Marking) (limits : Limits) (settings : Settings) (session : Session) (links : ℕ → Linked)
-    (player : ℕ) (linked : AreLinked marking limits settings session links) (mine : player < limits.players)
-    (agreed : AreAgreed limits settings session.inputs session.locksteps) (were : AreCaughtUp limits links)
-    (to : ℕ) (below : to < limits.players) (apart : to ≢ player) (goes_on : has_ended (links to).node ≡ false) where
+    (linked : AreRemainingLinks marking limits settings session links) (player : ℕ) (mine : player < limits.players)
+    (were : AreCaughtUp limits links) (to : ℕ) (below : to < limits.players) (apart : to ≢ player) (goes_on : has_ended (links to).node ≡ false) where
   pub leads : got (links player).node player ≤ got (links player).node to + limits.ahead
   leads =
-      let n = session.locksteps player in
+      let agreed = together marking limits settings session links linked were.whole in
+      let n = (session.survivors player).lockstep in
       let ahead = agreed.ahead player mine in
-      let run = agreed.run player to mine below in
-      let none : end_in (session.locksteps to) to ≡ None =
-      unended (session.locksteps to) to (agreed.numbers to below)
-      (ap has_ended (sym (linked.nodes to below)) ∙ goes_on) in
-      let low : min n.ran (unwrap_or (end_in (session.locksteps to) to) n.ran) ≡ n.ran =
-      ap (λ (o : Option ℕ). min n.ran (unwrap_or o n.ran)) none ∙ omega arith in
+      let run = agreed.run player to mine below (unended (session.survivors to).lockstep to (agreed.numbers to below)
+      (ap (λ (s : Surviving). has_ended s.lockstep) (sym (linked.survivors to below)) ∙ goes_on)) in
       let ours : made n ≡ got n player = ap (λ (k : ℕ). got n k) (agreed.numbers player mine) in
+      let same = linked.survivors player mine in
       omega (
         arith,
         ahead,
         run,
-        low,
         ours,
-        ap (λ (c : Contents). got c player) (linked.nodes player mine),
-        ap (λ (c : Contents). got c to) (linked.nodes player mine),
+        ap (λ (s : Surviving). got s.lockstep player) same,
+        ap (λ (s : Surviving). got s.lockstep to) same,
       )
 
   pub two_windows : made (links player).node ≤ ((links player).peers to).kept.done + (limits.ahead + limits.ahead)
   two_windows =
       let more = leads in
-      let was = (were player to mine below apart).near in
-      let own = base.own marking limits settings session links player linked mine in
+      let was = (were.pairs player to mine below apart).near in
+      let own = base.own marking limits settings session links linked player mine in
       omega (arith, more, was, ap (λ (k : ℕ). got (links player).node k) own)
 
   -- so what it sends next is kept still
@@ -111,35 +108,31 @@ module _ (marking : Marking) (limits : Limits) (settings : Settings) (session : 
       → made (links player).node ≤ next_to (links player).node to + (links player).node.places
   on_time fits sent =
       let most = two_windows in
-      let was = were player to mine below apart in
+      let was = were.pairs player to mine below apart in
       let there = was.there goes_on in
-      let places = (base.shows marking limits settings session links player linked mine).whose.places in
+      let places = (base.shows marking limits settings session links linked player mine).whose.places in
       omega (arith, most, there, sent, places, fits)
 
 module _ (marking : Marking) (limits : Limits) (settings : Settings) (session : Session) (links : ℕ → Linked)
-    (player : ℕ) (linked : AreLinked marking limits settings session links) (mine : player < limits.players)
-    (agreed : AreAgreed limits settings session.inputs session.locksteps) (were : AreCaughtUp limits links)
-    (four : limits.players ≤ 4) (to : ℕ) (below : to < limits.players) (apart : to ≢ player) (seal : Seal)
+    (linked : AreRemainingLinks marking limits settings session links) (player : ℕ) (mine : player < limits.players)
+    (were : AreCaughtUp limits links) (to : ℕ) (below : to < limits.players) (apart : to ≢ player) (seal : Seal)
     (pace : PaceState) (new : Linked) (bytes : List ℕ)
     (gives : Gives seal pace to (links player) new bytes) (in_time : has_ended (links to).node ≡ false
     → made (links player).node ≤ next_to (links player).node to + (links player).node.places) where
   abbrev old : Linked
   old = links player
 
-  node : old.node ≡ session.locksteps player
-  node = linked.nodes player mine
-
   own : old.node.me ≡ player
-  own = base.own marking limits settings session links player linked mine
+  own = base.own marking limits settings session links linked player mine
 
   abbrev m : machine.Node
-  m = linked.game.last.nodes player
+  m = linked.game.last.game.nodes player
 
   shows : Represents limits player old.node m
-  shows = base.shows marking limits settings session links player linked mine
+  shows = base.shows marking limits settings session links linked player mine
 
   was : IsCaughtUp limits player to old (links to)
-  was = were player to mine below apart
+  was = were.pairs player to mine below apart
 
   abbrev taken : Option Carried
   taken = taken_by (old.peers to).left gives.given
@@ -192,7 +185,7 @@ module _ (marking : Marking) (limits : Limits) (settings : Settings) (session : 
   module _ (goes_on : has_ended (links to).node ≡ false) where
     -- the player is at most a window ahead of what it has of the peer
     lead : got old.node player ≤ got old.node to + limits.ahead
-    lead = leads marking limits settings session links player linked mine agreed were to below apart goes_on
+    lead = leads marking limits settings session links linked player mine were to below apart goes_on
 
     mades : made old.node ≡ got old.node player
     mades = ap (λ (k : ℕ). got old.node k) own
@@ -221,8 +214,9 @@ module _ (marking : Marking) (limits : Limits) (settings : Settings) (session : 
     next_on = elim covered.0.goes.next [
       | inl gone ↦
           let left : (old.peers to).left ≡ Some gone.0 = ap (λ (t : PeerState). t.left) (sym peer_is) ∙ gone.1 in
-          let ended = linked.left player to gone.0 mine left in
-          absurd (true≢false (sym ended ∙ ap has_ended (sym (linked.nodes to below)) ∙ goes_on))
+          let ended = (linked.told player mine).left to gone.0 left in
+          absurd (true≢false (sym ended
+          ∙ ap (λ (s : Surviving). has_ended s.lockstep) (sym (linked.survivors to below)) ∙ goes_on))
       | inr low ↦ low
     ]
 
@@ -312,7 +306,7 @@ module _ (marking : Marking) (limits : Limits) (settings : Settings) (session : 
   other_pair : (peer : ℕ) → peer < limits.players → peer ≢ player → peer ≢ to
       → IsCaughtUp limits player peer new (links peer)
   other_pair peer l n off =
-      let was = were player peer mine l n in
+      let was = were.pairs player peer mine l n in
       let same : new.peers peer ≡ old.peers peer =
       ap (λ (f : ℕ → PeerState). f peer) gives.peers ∙ put_off old.peers to peer _ off in
       let kept : (new.peers peer).kept ≡ (old.peers peer).kept = ap (λ (t : PeerState). t.kept) same in
@@ -330,8 +324,19 @@ module _ (marking : Marking) (limits : Limits) (settings : Settings) (session : 
         least = λ goes_on. let before = was.least goes_on in omega (arith, before, next, gave_it.gots player mine);
       }
 
-  pub given_on_time : (has_ended old.node ≡ true → has_ended new.node ≡ true) → StayCaughtUp limits links player new
-  given_on_time stays = relinked limits links player new mine were (λ peer l n. elim (cases_eq peer to) [
+  -- it has given up nobody since, nor ended before
+  whole : IsWhole new
+  whole = still_whole old new (ap (λ (o : Others). o.gone) gives.others) (were.whole player mine)
+
+  stays : has_ended old.node ≡ true → has_ended new.node ≡ true
+  stays was =
+      (base.much_by marking limits settings session links linked player mine new.node
+      (λ limits me m. sent_to to limits me m) (λ flight. gives.given ≡ option_map carried_of flight) gives.step.step
+      (sends_holds limits player m to)).1
+      (ap (λ (s : Surviving). has_ended s.lockstep) (sym (linked.survivors player mine)) ∙ was)
+
+  pub given_on_time : StayCaughtUp limits links player new
+  given_on_time = relinked limits links player new mine were whole (λ peer l n. elim (cases_eq peer to) [
     | inl at ↦ subst (λ (k : ℕ). IsCaughtUp limits player k new (links k)) (sym at) pair
     | inr off ↦ other_pair peer l n off
   ]) (λ which l. let same = gave_it.gots which l in omega (arith, same)) (omega (arith, gave_it.ran)) (λ which l n goes_on. elim (cases_eq which to) [

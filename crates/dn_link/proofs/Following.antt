@@ -3,13 +3,13 @@ use Rattle.std.proofs.Common.{ℤ, ◌≡◌, ◌≢◌, ◌≤◌, ◌+◌, ◌
 use Rattle.std.proofs.lemmas.{Bool.{and_parts, cond_both, eqb-true, lt-ltb, ltb-true, not-false, true≢false}, Option.{none-some, same_Some}}
 use Rattle.std.specs.{Prelude.{if◌then◌else◌, nat_lt, not, ◌%◌, ◌^◌}, Option.option_map}
 use Rattle.dn_tic.specs.declared.{command.Move.Move, input.Input.Input}
-use Rattle.dn_machine.specs.{declared.{answers.{Made.Made, Ran.Ran}, peer.Peer.Peer}, Sending.{on_build, on_send}, Flight.Flight, Limits.Limits, Node.put, Running.{on_run, on_quit}}
+use Rattle.dn_machine.specs.{declared.{answers.{Made.Made, Ran.Ran}, peer.Peer.Peer}, Sending.{on_build, on_send}, Flight.Flight, Limits.Limits, Running.{on_quit}}
 use Rattle.dn_machine.proofs.Put.{put_at, put_off}
-use Rattle.dn_lockstep.specs.{Represents.Represents, Steps.{RunsBy, marks_in, Steps}, Sent.sent_to, Told.made}
+use Rattle.dn_lockstep.specs.{Represents.Represents, Steps.{marks_in, Steps}, Sent.sent_to, Told.made}
 use Rattle.dn_lockstep.proofs.Shown.{made_is}
 use Rattle.dn_seal.specs.declared.seal.Seal.{Seal}
 use Rattle.dn_link.specs.{CaughtUp.{GoesOn, IsGone, IsInTime, StillGoesOn, next_to}, Kept.{IsKeptRising, Reaches, Unacknowledged, commands_in, end_of, is_idle, kept_after, taken_by, takes_packet}}
-use Rattle.dn_link.specs.{declared.bundle.Carried.Carried, Hearing.carried_of, Pacing.PaceState, Linked.{Gives, Linked, PeerState}}
+use Rattle.dn_link.specs.{declared.bundle.Carried.Carried, Hearing.carried_of, Pacing.PaceState, Linked.{Gives, Linked, PeerState, has_given_up}, Surviving.RunsBut}
 use Rattle.dn_link.proofs.{Sending.{Follows, Silent, resend_of, build_same, quit_same, run_same, send_same, sends}, Covered.{reached, few, news_rises}, Linking.taken_given}
 use Rattle.dn_machine.specs.Node as machine
 
@@ -68,10 +68,10 @@ module _ (limits : Limits) (me to : ℕ) (old new : Linked) (goes : GoesOn limit
       (build_same limits me goes.node to input)
 
   pub runs : (marks : List ℤ) (ran : Ran) (row : Option (List (Option Move)))
-      → RunsBy marks old.node new.node (λ limits m marks. on_run limits m marks) (λ answer told. (ran ≡ answer) × (row ≡ told))
+      → RunsBut marks old new (λ answer told. (ran ≡ answer) × (row ≡ told))
       → new.peers ≡ old.peers → StillGoesOn limits me to old new
   runs marks ran row step = same_peers _ (step.step limits me goes.node goes.shows).node
-      (run_same limits me goes.node to (marks_in marks))
+      (run_same limits me goes.node to (has_given_up old) (marks_in marks))
 
   pub quits : (quit : Bool) → Steps old.node new.node (λ limits me m. on_quit m) (λ answer. quit ≡ answer)
       → new.peers ≡ old.peers → StillGoesOn limits me to old new

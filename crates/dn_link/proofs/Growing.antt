@@ -1,21 +1,22 @@
 -- What a node and a lockstep have of a player, with the player's end, never grows less; and one that has
 -- left, or ended, or started, stays so.
-use Rattle.std.proofs.Common.{◌≡◌, ◌≢◌, ◌<◌, ◌≤◌, ℕ, Bool, true, false, List, refl, ap, sym, ◌∙◌, subst, arith, Some, All, ◌&&◌, ℤ, eqb, ◌++◌, length, Option, None}
+use Rattle.std.proofs.Common.{◌≡◌, ◌≢◌, ◌<◌, ◌≤◌, ℕ, Bool, true, false, List, refl, ap, sym, ◌∙◌, subst, arith, Some, ◌&&◌, ℤ, eqb, ◌++◌, length, Option, None}
 use Rattle.std.proofs.lemmas.{Bool.{cond-false, lt-ltb, le-ltb, ne_eqb, cond_both}, List.length-append}
-use Rattle.std.specs.Prelude.{Ok, slice_get}
+use Rattle.std.specs.Prelude.{Ok, nat_lt}
 use Rattle.dn_tic.specs.declared.{command.TicCmd.TicCmd, input.Input.Input}
-use Rattle.dn_setup.specs.Settings.{Settings}
-use Rattle.dn_seal.specs.declared.opened.Opened.{Opened}
 use Rattle.dn_machine.specs.{Flight.{Flight, packet_of, is_close, is_request_close, is_exit, end_of}, Node.{has_left, is_ended, Node, put, with_peer, made, ends_of}, Limits.Limits}
 use Rattle.dn_machine.specs.{Hearing.{on_packet, is_within, after_request, after_exit}, declared.{answers.Heard.Heard, peer.Peer.Peer}, Sending.{on_build, after_sent, on_send}}
-use Rattle.dn_machine.specs.Running.{on_run, on_quit}
-use Rattle.dn_machine.proofs.{Calls.{build_cases, send_cases, run_cases, quit_cases, packet_cases, sender_after}, Put.{put_at, put_off}}
-use Rattle.dn_lockstep.specs.{Contents.Contents, Marking.Marking, Sent.IsFair, OneGame.{AreOneGame, Session, with_lockstep}, Phases.is_waiting, Represents.Represents}
-use Rattle.dn_lockstep.proofs.{Shown.{got_is, end_is}, Receiving.{told_by, told_is, near_received}}
-use Rattle.dn_open.specs.{Arrivals.{HearsOpened, IsRead, heard, on_opened}, declared.hearing.Arrived.Arrived, Sealed.{IsSmall, opened_of}}
-use Rattle.dn_open.proofs.{Sealables.alike, Deliveries.near_if, Fairness.are_sealable}
-use Rattle.dn_link.specs.{LinkedGame.WasGiven, Hearing.HearsAll, Counting.{with_end, has_ended, has_of}}
-use Rattle.dn_link.proofs.Keeping.{KeepsOne, all_along, LettersKeep, as_it_is, keeps_one}
+use Rattle.dn_machine.specs.{Running.{on_run_but, on_quit}, Settling.settled_one}
+use Rattle.dn_machine.specs.declared.answers.Phase.{Phase, TheVariants.{Listening, Gathering, Playing, Ended}}
+use Rattle.dn_setup.specs.Gathered.{all_noted}
+use Rattle.dn_remain.proofs.Each.{run_but_cases}
+use Rattle.dn_lockstep.specs.{Sent.sent_to, Settling.{is_no_peer, on_excuse, on_excuse_in}}
+use Rattle.dn_machine.proofs.{Calls.{build_cases, send_cases, quit_cases, packet_cases, sender_after}, Put.{put_at, put_off}}
+use Rattle.dn_lockstep.specs.{Contents.Contents, Sent.IsFair, Phases.is_waiting, Represents.Represents}
+use Rattle.dn_lockstep.proofs.{Shown.{got_is, end_is}, Receiving.{told_by, near_received}}
+use Rattle.dn_open.specs.{Arrivals.{heard, on_opened}, declared.hearing.Arrived.Arrived, Sealed.{opened_of}}
+use Rattle.dn_open.proofs.{Sealables.alike, Deliveries.near_if}
+use Rattle.dn_link.specs.{Counting.{with_end, has_ended, has_of}}
 use Rattle.dn_machine.specs.Node as machine
 
 -- What a node has of a player, with the player's end, never grows less; and one that has left stays so.
@@ -36,6 +37,13 @@ Holds old new =
 
 pub holds_same : (node : Node) → Holds node node
 holds_same node = ((λ p. omega arith), (λ left. left), (λ on. on))
+
+pub holds_on : (old mid new : Node) → Holds old mid → Holds mid new → Holds old new
+holds_on old mid new first later = (
+  (λ p. let one = first.0 p in let other = later.0 p in omega (arith, one, other)),
+  (λ left. later.1 (first.1 left)),
+  (λ on. later.2 (first.2 on)),
+)
 
 -- one that ends has left, if it had played
 played_ends : (played ended : Bool) → (played && ended) ≡ true → (played && true) ≡ true
@@ -80,11 +88,34 @@ module _ (limits : Limits) (i : ℕ) (node : Node) where
       sent : Holds node (after_sent limits i node to)
       sent = (peer_holds to _ node.held (λ p. omega arith) (λ count. omega arith), (λ left. left), (λ on. on))
 
-  pub run_holds : (marks : ℕ → ℤ) → Holds node (on_run limits node marks).0
-  run_holds marks = run_cases limits i node marks (λ (new : Node). Holds node new) (λ waits. holds_same node)
+  pub run_holds : (gone : ℕ → Bool) (marks : ℕ → ℤ) → Holds node (on_run_but limits gone node marks).0
+  run_holds gone marks = run_but_cases limits i gone node marks (λ (new : Node). Holds node new) (λ waits. holds_same node)
       (λ player plays none off. ((λ p. omega arith), played_ends node.played (is_ended node.phase), (λ on. refl)))
       (λ plays none full. ((λ p. omega arith), played_ends node.played (is_ended node.phase), (λ on. refl)))
       (λ plays none free. ((λ p. omega arith), (λ left. left), (λ on. on)))
+
+  -- an end is taken, with the commands before it
+  pub settled_holds : (player : ℕ) (more : List TicCmd) → Holds node (settled_one node player (node.held player ++ more))
+  settled_holds player more = (
+    peer_holds player _ _ (longer node.held player more) (knows_some (node.peers player).end (length (node.held player ++ more))),
+    (λ left. left),
+    (λ on. on),
+  )
+
+  -- nobody waits longer for a player before the start
+  pub excuse_holds : (player : ℕ) → Holds node (on_excuse limits i node player).0
+  unfolding on_excuse
+  excuse_holds player = cond_both (is_no_peer limits.players i player) _ _ (λ (x : Node × Bool). Holds node x.0)
+      (λ none. holds_same node) (λ other. by node.phase refl)
+    where
+      by : (phase : Phase) → node.phase ≡ phase → Holds node (on_excuse_in limits node player phase).0
+      by Gathering e = cond_both (all_noted limits.players (put node.noted player true)) _ _
+          (λ (x : Node × Heard). Holds node x.0)
+          (λ all. ((λ p. omega arith), not_left node.played (is_ended node.phase) (ap is_ended e), (λ on. refl)))
+          (λ some. ((λ p. omega arith), (λ left. left), (λ on. on)))
+      by Listening e = holds_same node
+      by Playing e = holds_same node
+      by (Ended cause) e = holds_same node
 
   pub quit_holds : Holds node (on_quit node).0
   quit_holds = quit_cases limits i node (λ (new : Node). Holds node new) (holds_same node)
@@ -126,6 +157,11 @@ module _ (limits : Limits) (i : ℕ) (node : Node) where
         );
       })
 
+-- a packet that is sent, or none
+pub sends_holds : (limits : Limits) (me : ℕ) (m : Node) (to : ℕ) → Holds m (sent_to to limits me m).0
+sends_holds limits me m to = cond_both (nat_lt to limits.players) _ _
+    (λ (x : Node × Option Flight). Holds m x.0) (λ below. send_holds limits me m to) (λ past. holds_same m)
+
 -- The same of a lockstep.
 
 -- as the node that it represents
@@ -150,7 +186,7 @@ ended_is limits me n m r = λ i. r.stands.played i && is_ended (r.stands.phase i
 pub as_much : (me : ℕ) (n : Contents) → HasAsMuch me n n
 as_much me n = ((λ which other. omega arith), (λ ended. ended), (λ on. on))
 
-much_on : (me : ℕ) (old mid new : Contents) → HasAsMuch me old mid → HasAsMuch me mid new → HasAsMuch me old new
+pub much_on : (me : ℕ) (old mid new : Contents) → HasAsMuch me old mid → HasAsMuch me mid new → HasAsMuch me old new
 much_on me old mid new first later = (
   (λ which other. omega (arith, first.0 which other, later.0 which other)),
   (λ ended. later.1 (first.1 ended)),
@@ -169,7 +205,7 @@ grows limits me old new m next before after mine holds = (
     has_as_much which other = grind (arith, has_is, has_none)
 
 -- what is opened of a fair packet, by the tests that it passes or not
-opened_holds : (limits : Limits) (me : ℕ) (m : machine.Node) (flight : Flight) → IsFair flight
+pub opened_holds : (limits : Limits) (me : ℕ) (m : machine.Node) (flight : Flight) → IsFair flight
     → flight.from < limits.players → flight.from ≢ me
     → Holds m (on_opened limits me m (Ok (opened_of flight)) (Ok (packet_of flight)) (told_by flight.kind)).0
 opened_holds limits me m flight fair peer other =
@@ -188,46 +224,3 @@ opened_holds limits me m flight fair peer other =
         let step : on_opened limits me m (Ok (opened_of flight)) (Ok (packet_of flight)) (told_by flight.kind)
         ≡ (m, Arrived.Late) = rw far refl in
         subst (λ (x : machine.Node × Arrived). Holds m x.0) (sym step) (holds_same m)
-
-module _ (letters : LettersKeep) (marking : Marking) (limits : Limits) (settings : Settings) (session : Session)
-    (player : ℕ) (mine : player < limits.players) where
-  abbrev at : Contents → Session
-  at now = with_lockstep session player now
-
-  one_grows : (packet : Opened) (now next : Contents) (answer : Arrived)
-      → AreOneGame marking limits settings (at now) → WasGiven session.given player packet
-      → HearsOpened packet now next answer → HasAsMuch player now next
-  one_grows packet now next answer game (which, flight, found, to, is) hears =
-      let m = game.last.nodes player in
-      let r : Represents limits player now m = subst (λ (n : Contents). Represents limits player n m)
-      (put_at session.locksteps player player now refl) (game.nodes player mine) in
-      let there : slice_get game.last.flights which ≡ Some flight =
-      ap (λ (fs : List Flight). slice_get fs which) game.flights ∙ found in
-      let small = subst (λ (n : Contents). IsSmall n) (sym (put_at session.locksteps player player now refl)) hears.small in
-      let good = are_sealable marking limits settings game player mine small which flight there in
-      let reads : IsRead (Ok (opened_of flight)) (Ok (packet_of flight)) (told_by flight.kind) =
-      ((good.0.fair.packet, refl), told_is flight flight.kind good.0.fair.kind) in
-      let after = (subst (λ (p : Opened). HearsOpened p now next answer) is hears).step (Ok (packet_of flight))
-      (told_by flight.kind) reads limits player m r in
-      grows limits player now next m _ r after.node mine
-      (opened_holds limits player m flight good.0.fair good.1.from (λ e. good.1.apart (e ∙ sym to)))
-
-  -- the locksteps are those of one game with this one, which has as much as at first
-  abbrev GoesOn : Contents → Type 0
-  GoesOn now = AreOneGame marking limits settings (at now) × HasAsMuch player (session.locksteps player) now
-
-  goes_on : KeepsOne (WasGiven session.given player) GoesOn
-  goes_on packet now next answer here given hears spares = (
-    keeps_one letters marking limits settings session player packet now next answer here.0 given hears,
-    much_on player (session.locksteps player) now next here.1
-        (one_grows packet now next answer here.0 given hears),
-  )
-
-  pub all_grows : (packets : List Opened) (new : Contents)
-      → AreOneGame marking limits settings session → All (WasGiven session.given player) packets
-      → HearsAll packets (session.locksteps player) new → HasAsMuch player (session.locksteps player) new
-  all_grows packets new game all hears =
-      let begun = subst (AreOneGame marking limits settings)
-      (sym (as_it_is letters marking limits settings session player)) game in
-      (all_along (WasGiven session.given player) GoesOn goes_on packets (session.locksteps player) new
-      (begun, as_much player (session.locksteps player)) all hears).1

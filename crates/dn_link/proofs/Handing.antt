@@ -14,7 +14,7 @@ use Rattle.dn_lockstep.proofs.Keeping.{none_stops}
 use Rattle.dn_survivor.specs.{declared.report.Report.Report, OfOthers.newest_of, Telling.{MayRelay, told_gone}}
 use Rattle.dn_open.specs.Sealed.{opened_of}
 use Rattle.dn_link.specs.{Surviving.{names, reports_gone, IsHandedFor, may_hand, shares_gone}, Relays.{AreTold, AreHandedOn, AreLacked, Handed, handed_part, flights_of, run_flights}}
-use Rattle.dn_link.specs.{declared.bundle.Part.{Part, TheVariants.Relay}, Linked.{HasBehind, Linked, has_given_up, surviving_of}, LinkedGame.WasGiven}
+use Rattle.dn_link.specs.{declared.bundle.Part.{Part, TheVariants.Relay}, Linked.{HasBehind, Linked, has_given_up, surviving_of}, RemainingLinks.WasGiven}
 use Rattle.dn_link.specs.Packets.{opened_from, packets_of, short_packet, short_packets}
 use Rattle.dn_link.specs.declared.bundle.Relay as relay
 

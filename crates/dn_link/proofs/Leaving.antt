@@ -1,14 +1,15 @@
 -- Who is known to have left; and who may leave is needed by nobody who has not left, and what is
 -- acknowledged is there.
-use Rattle.std.proofs.Common.{◌≡◌, ◌≢◌, ◌<◌, ◌≤◌, ◌+◌, ◌-◌, ℕ, zero, suc, Bool, true, false, refl, ap, sym, ◌∙◌, arith, Option, Some, None, ◌&&◌, ◌/◌, ◌%◌, ◌^◌, List, [], ◌∷◌, ◌++◌, length, take, drop, All, inl, inr}
-use Rattle.std.proofs.lemmas.{Bool.{lt-ltb, ltb-true, ne_eqb, and_parts, not-true, eq-eqb}, List.Elements.{All-append, All-cons, All-nil, All-head, All-tail}, Option.none-some}
+use Rattle.std.proofs.Common.{◌≡◌, ◌≢◌, ◌<◌, ◌≤◌, ◌+◌, ◌-◌, ℕ, zero, suc, Bool, true, false, refl, ap, sym, ◌∙◌, subst, arith, Option, Some, None, ◌&&◌, ◌/◌, ◌%◌, ◌^◌, List, [], ◌∷◌, ◌++◌, length, take, drop, All, inl, inr}
+use Rattle.std.proofs.lemmas.{Bool.{lt-ltb, ltb-true, ne_eqb, and_parts, not-true, eq-eqb}, List.Elements.{All-append, All-cons, All-nil, All-head, All-tail}, Option.{none-some, same_Some}}
 use Rattle.std.specs.{Prelude.{◌==◌, if◌then◌else◌, is_some, min, nat_lt, slice_index, ◌⊎◌}, List.flat_map}
 use Rattle.dn_setup.specs.Settings.{Settings}
 use Rattle.dn_seal.specs.declared.opened.Opened.{Opened}
-use Rattle.dn_machine.specs.Limits.{Limits}
-use Rattle.dn_lockstep.specs.{Agreed.AreAgreed, Contents.{Contents, end_in}, Marking.Marking, Tables.count_of, OneGame.Session, Told.{got, made}}
-use Rattle.dn_link.specs.{Packets.{heard_of, opened_from, packets_of, short_packet, short_packets, takes_relay}, Linked.{Linked, certain, has_given_up, may_leave, needs_nothing}, CaughtUp.IsGone}
-use Rattle.dn_link.specs.{Counting.{counts_of, has_ended, has_of, with_end}, LinkedGame.AreLinked, Ends.{left_by, tells_end}}
+use Rattle.dn_machine.specs.{Limits.Limits, Node.is_ended}
+use Rattle.dn_lockstep.specs.{Contents.{Contents, end_in}, Marking.Marking, Tables.count_of, Told.{got, made}}
+use Rattle.dn_survivor.specs.{Agreed.{AreAgreedInPairs, FitInPairs}, OfOthers.has, OneGame.Session, Surviving.Surviving}
+use Rattle.dn_link.specs.{Packets.{heard_of, opened_from, packets_of, short_packet, short_packets, takes_relay}, Linked.{Linked, certain, has_given_up, may_leave, needs_nothing, surviving_of}, CaughtUp.IsGone}
+use Rattle.dn_link.specs.{Counting.{counts_of, has_ended, has_of, with_end}, RemainingLinks.AreRemainingLinks, Ends.{left_by, tells_end}}
 use Rattle.dn_link.specs.declared.bundle.{Bundle.Bundle, Part.{Part, TheVariants.{Whole, Run, Relay}}}
 
 -- Who is known to have left.
@@ -163,95 +164,124 @@ at_most_there true count all there (Some end) few known = min_first (count - 1) 
 at_most_there false count all there None few known = min_first count all there few
 at_most_there false count all there (Some end) few known = absurd (let so = known refl in cc)
 
+-- the end of a player's own lockstep comes after all commands that it made
+pub own_end : (n : Contents) (player end : ℕ) → n.me ≡ player → end_in n player ≡ Some end → end ≡ made n
+own_end n player end own is =
+    go (n.played && is_ended n.phase) (sym (rw (eq-eqb player n.me (sym own)) refl) ∙ is)
+  where
+    go : (test : Bool) → (if test then Some (made n) else None) ≡ Some end → end ≡ made n
+    go true e = sym (same_Some (made n) end e)
+    go false e = absurd (none-some end e)
+
 module _ (marking : Marking) (limits : Limits) (settings : Settings) (session : Session) (links : ℕ → Linked)
-    (player other : ℕ) (linked : AreLinked marking limits settings session links)
-    (agreed : AreAgreed limits settings session.inputs session.locksteps)
+    (player other : ℕ) (linked : AreRemainingLinks marking limits settings session links)
+    (agreed : AreAgreedInPairs limits settings session) (fit : FitInPairs limits session)
     (mine : player < limits.players) (below : other < limits.players) (apart : other ≢ player) where
   abbrev link : Linked
   link = links player
 
-  node : link.node ≡ session.locksteps player
-  node = linked.nodes player mine
+  -- the lockstep of the other, and how it is known to this one
+  abbrev n : Contents
+  n = (session.survivors other).lockstep
 
-  -- it has told that it has one more than all
-  has_told : needs_nothing link other ≡ true → end_in link.node other ≡ None → is_some (link.peers other).left ≡ false
-      → made link.node < slice_index (link.peers other).reported link.node.me
-  has_told needs stays here =
-      let number : link.node.me ≡ player = ap (λ (n : Contents). n.me) node ∙ agreed.numbers player mine in
-      let count : link.node.players ≡ limits.players =
-      ap (λ (n : Contents). n.players) node ∙ agreed.several player mine in
-      let in_game : nat_lt other link.node.players ≡ true = lt-ltb other link.node.players (omega (arith, below, count)) in
-      let another : (other == link.node.me) ≡ false = ne_eqb other link.node.me (λ e. apart (e ∙ number)) in
-      let unknown : is_some (end_in link.node other) ≡ false = ap is_some stays in
-      let remains : has_given_up link other ≡ false = linked.whole player mine other in
-      ltb-true (made link.node) (slice_index (link.peers other).reported link.node.me)
-      (sym (rw (in_game, unknown, another, remains, here) refl) ∙ needs)
+  its : surviving_of link ≡ session.survivors player
+  its = linked.survivors player mine
+
+  node : link.node ≡ (session.survivors player).lockstep
+  node = ap (λ (s : Surviving). s.lockstep) its
+
+  there : (links other).node ≡ n
+  there = ap (λ (s : Surviving). s.lockstep) (linked.survivors other below)
 
   own : link.node.me ≡ player
   own = ap (λ (n : Contents). n.me) node ∙ agreed.numbers player mine
 
-  -- what the other knows to be the end is the end
-  ends : (end : Option ℕ) → end_in (session.locksteps other) player ≡ end → is_some end ≡ true
-      → is_some (end_in link.node link.node.me) ≡ true
-  ends None is known = absurd (cc)
-  ends (Some end) is known =
-      ap is_some ((λ i. end_in (node i) (own i)) ∙ (agreed.ends other player end below mine is).0)
-
-  pub acknowledged : certain link.node (slice_index (link.peers other).reported link.node.me)
-      ≤ got (session.locksteps other) player
-  acknowledged =
-      let n = session.locksteps other in
-      let is = linked.reported player other player mine (λ e. apart (sym e)) in
+  -- what it reported is there
+  told : slice_index (link.peers other).reported link.node.me ≤ with_end (got n player) (end_in n player)
+  told =
+      let is = (linked.told player mine).reported other player (λ e. apart (sym e)) in
       let same = ap (λ (k : ℕ). slice_index (link.peers other).reported k) own in
-      let has : has_of n player ≡ with_end (count_of n.rings player) (end_in n player) =
+      let has : has_of n player ≡ with_end (got n player) (end_in n player) =
       rw (lt-ltb player n.players (omega (arith, mine, agreed.several other below))) refl in
-      at_most_there (is_some (end_in link.node link.node.me)) (slice_index (link.peers other).reported link.node.me)
-      (made link.node) (count_of n.rings player) (end_in n player) (omega (arith, is, same, has))
-      (ends (end_in n player) refl)
+      omega (arith, is, same, has)
 
-  -- it knows no end of one that has not ended
-  goes_on : has_ended (session.locksteps other) ≡ false → end_in link.node other ≡ None
-  goes_on here = go (end_in link.node other) refl
-    where
-      go : (end : Option ℕ) → end_in link.node other ≡ end → end_in link.node other ≡ None
-      go None is = is
-      go (Some end) is =
-          let known = agreed.ends player other end mine below (ap (λ (n : Contents). end_in n other) (sym node) ∙ is) in
-          absurd (none-some end (sym (unended (session.locksteps other) other (agreed.numbers other below) here)
-          ∙ known.0))
+  -- one who has not given up the player knows no end of it but the player's own
+  module _ (open_to : has_given_up (links other) player ≡ false) where
+    true_end : (end : ℕ) → end_in n player ≡ Some end → end_in (session.survivors player).lockstep player ≡ Some end
+    true_end end is =
+        agreed.ends other player end below mine
+        (ap (λ (s : Surviving). has s.others.gone player) (sym (linked.survivors other below)) ∙ open_to) is
 
-  -- nor takes it to have left
-  stays : has_ended (session.locksteps other) ≡ false → is_some (link.peers other).left ≡ false
-  stays here = go (link.peers other).left refl
-    where
-      go : (left : Option ℕ) → (link.peers other).left ≡ left → is_some left ≡ false
-      go (Some cause) is = clash (linked.left player other cause mine is) here
-      go None is = refl
+    ends : (end : Option ℕ) → end_in n player ≡ end → is_some end ≡ true
+        → is_some (end_in link.node link.node.me) ≡ true
+    ends None is known = absurd (cc)
+    ends (Some end) is known = ap is_some ((λ i. end_in (node i) (own i)) ∙ true_end end is)
 
-  leaves : limits.players ≤ 4 → may_leave link ≡ true → end_in link.node other ≡ None
-      → is_some (link.peers other).left ≡ false → (got (session.locksteps other) player ≡ made (session.locksteps player))
-      × (end_in (session.locksteps other) player ≡ Some (made (session.locksteps player)))
-  leaves few all stays here =
-      let needs = each_needs link all other (omega (arith, few, below)) in
-      let told = has_told needs stays here in
-      let number : link.node.me ≡ player = ap (λ (n : Contents). n.me) node ∙ agreed.numbers player mine in
-      let n = session.locksteps other in
-      let is = linked.reported player other player mine (λ e. apart (sym e)) in
-      let same = ap (λ (k : ℕ). slice_index (link.peers other).reported k) number in
-      let count = ap made node in
-      let held = agreed.held other player below mine in
-      let has : has_of n player ≡ with_end (count_of n.rings player) (end_in n player) =
-      rw (lt-ltb player n.players (omega (arith, mine, agreed.several other below))) refl in
-      let both = both_there (count_of n.rings player) (made (session.locksteps player)) (end_in n player)
-      (omega (arith, told, is, same, count, has)) held in
-      (both.0, end_known (end_in n player) both.1 refl)
-    where
-      end_known : (end : Option ℕ) → is_some end ≡ true → end_in (session.locksteps other) player ≡ end
-          → end_in (session.locksteps other) player ≡ Some (made (session.locksteps player))
-      end_known None known is = absurd (cc)
-      end_known (Some end) known is = is ∙ ap Some (agreed.ends other player end below mine is).1
+    pub acknowledged : certain link.node (slice_index (link.peers other).reported link.node.me)
+        ≤ got (links other).node player
+    acknowledged = subst (λ (x : Contents). certain link.node (slice_index (link.peers other).reported link.node.me)
+        ≤ got x player) (sym there)
+        (at_most_there (is_some (end_in link.node link.node.me)) (slice_index (link.peers other).reported link.node.me)
+        (made link.node) (got n player) (end_in n player) told (ends (end_in n player) refl))
 
-  pub safe : limits.players ≤ 4 → may_leave link ≡ true → has_ended (session.locksteps other) ≡ false
-      → (got (session.locksteps other) player ≡ made (session.locksteps player))
-      × (end_in (session.locksteps other) player ≡ Some (made (session.locksteps player)))
-  safe few all here = leaves few all (goes_on here) (stays here)
+  -- it has told that it has one more than all, if it needs nothing and has not ended
+  module _ (free : has_given_up link other ≡ false) (here : has_ended n ≡ false) where
+    -- no end of it is known
+    goes_on : end_in link.node other ≡ None
+    goes_on = go (end_in link.node other) refl
+      where
+        go : (end : Option ℕ) → end_in link.node other ≡ end → end_in link.node other ≡ None
+        go None is = is
+        go (Some end) is =
+            let known = agreed.ends player other end mine below
+            (ap (λ (s : Surviving). has s.others.gone other) (sym its) ∙ free)
+            (ap (λ (n : Contents). end_in n other) (sym node) ∙ is) in
+            absurd (none-some end (sym (unended n other (agreed.numbers other below) here) ∙ known))
+
+    -- nor is it taken to have left
+    stays : is_some (link.peers other).left ≡ false
+    stays = go (link.peers other).left refl
+      where
+        go : (left : Option ℕ) → (link.peers other).left ≡ left → is_some left ≡ false
+        go (Some cause) is = clash ((linked.told player mine).left other cause is) here
+        go None is = refl
+
+    has_told : needs_nothing link other ≡ true
+        → made link.node < slice_index (link.peers other).reported link.node.me
+    has_told needs =
+        let count : link.node.players ≡ limits.players =
+        ap (λ (n : Contents). n.players) node ∙ agreed.several player mine in
+        let in_game : nat_lt other link.node.players ≡ true = lt-ltb other link.node.players (omega (arith, below, count)) in
+        let another : (other == link.node.me) ≡ false = ne_eqb other link.node.me (λ e. apart (e ∙ own)) in
+        let unknown : is_some (end_in link.node other) ≡ false = ap is_some goes_on in
+        ltb-true (made link.node) (slice_index (link.peers other).reported link.node.me)
+        (sym (rw (in_game, unknown, another, free, stays) refl) ∙ needs)
+
+    both : may_leave link ≡ true
+        → (got n player ≡ made (session.survivors player).lockstep) × (is_some (end_in n player) ≡ true)
+    both all =
+        let few = (linked.game.nodes player mine).few in
+        let more = has_told (each_needs link all other (omega (arith, few, below))) in
+        let count = ap made node in
+        let held = fit.held other player below mine in
+        both_there (got n player) (made (session.survivors player).lockstep) (end_in n player)
+        (omega (arith, more, told, count)) held
+
+    end_known : (end : Option ℕ) → is_some end ≡ true → end_in n player ≡ end → has_given_up (links other) player ≡ false
+        → end_in n player ≡ Some (made (session.survivors player).lockstep)
+    end_known None known is open_to = absurd (cc)
+    end_known (Some end) known is open_to =
+        is ∙ ap Some (own_end (session.survivors player).lockstep player end (agreed.numbers player mine)
+        (true_end open_to end is))
+
+  pub safe : has_given_up link other ≡ false → may_leave link ≡ true → has_ended (links other).node ≡ false
+      → (got (links other).node player ≡ made link.node) × (has_given_up (links other) player ≡ false
+      → end_in (links other).node player ≡ Some (made link.node))
+  safe free all on =
+      let here : has_ended n ≡ false = ap has_ended (sym there) ∙ on in
+      let is = both free here all in (
+        ap (λ (x : Contents). got x player) there ∙ is.0 ∙ ap made (sym node),
+        λ open_to. ap (λ (x : Contents). end_in x player) there
+            ∙ end_known free here (end_in n player) is.1 refl open_to
+            ∙ ap (λ (x : Contents). Some (made x)) (sym node),
+      )

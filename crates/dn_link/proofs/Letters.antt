@@ -5,14 +5,15 @@ use Rattle.dn_packet.specs.declared.packet.{Packet.Packet, PacketFault.PacketFau
 use Rattle.dn_setup.specs.{Settings.Settings, declared.setup.SetupFault.SetupFault}
 use Rattle.dn_machine.specs.{declared.answers.Heard.Heard, Flight.{Flight, packet_of, is_close, is_request_close}, Limits.Limits, Node.put}
 use Rattle.dn_machine.proofs.Put.{put_at}
+use Rattle.dn_remain.proofs.Vanished.Put.{twice_put}
 use Rattle.dn_lockstep.specs.{Contents.Contents, Hearing.{HearsAny, Spares}, Marking.Marking, Received.received, Represents.Represents, Sent.bytes_of, Steps.IsAfter, Told.made}
 use Rattle.dn_lockstep.proofs.{Shown.made_is, Receiving.{near_from_any, told_by, told_is}}
 use Rattle.dn_survivor.specs.{declared.others.Others.Others, OfOthers.has, OneGame.{AreRemaining, Session, with_survivor}, Surviving.{Surviving, has_given_up}}
 use Rattle.dn_seal.specs.declared.opened.Opened.{Opened}
 use Rattle.dn_open.specs.{Arrivals.{HearsOpened, IsRead, SparesSealed, heard, on_opened}, declared.hearing.Arrived.Arrived, Sealed.opened_of}
 use Rattle.dn_open.proofs.{Sealables.alike, Deliveries.near_if}
-use Rattle.dn_link.specs.LinkedGame.{WasGiven}
-use Rattle.dn_link.proofs.Keeping.{KeepsOne, put_twice}
+use Rattle.dn_link.specs.RemainingLinks.{WasGiven}
+use Rattle.dn_link.proofs.{Growing.{HasAsMuch, grows, much_on, opened_holds}, Keeping.KeepsOne}
 use Rattle.dn_machine.specs.Node as machine
 use Rattle.dn_survivor.proofs.OneGame as one_game
 
@@ -144,5 +145,23 @@ module _ (marking : Marking) (limits : Limits) (settings : Settings) (session : 
       subst (AreRemaining marking limits settings)
       (λ i. record session {
         survivors = (ap (λ (k : ℕ). put (put session.survivors player (holding now)) k (holding next)) to
-            ∙ put_twice session.survivors player (holding now) (holding next)) i;
+            ∙ twice_put session.survivors player (holding now) (holding next)) i;
       }) after
+
+  -- it has as much of each other player then as one had
+  pub packet_grows : player < limits.players → (first : Contents)
+      → KeepsOne MayBeHeard (λ now. AreWith now × HasAsMuch player first now)
+  packet_grows mine first packet now next answer (game, much) ((which, flight, found, to, is), free) hears spares =
+      let m = game.last.game.nodes player in
+      let r : Represents limits player now m = subst (λ (s : Surviving). Represents limits player s.lockstep m)
+      (put_at session.survivors player player (holding now) refl) (game.nodes player mine).node in
+      let fair = game.fair which flight found in
+      let told = one_game.told_there marking limits settings game which flight found in
+      let reads : IsRead (Ok (opened_of flight)) (Ok (packet_of flight)) (told_by flight.kind) =
+      ((fair.packet, refl), told_is flight flight.kind fair.kind) in
+      let after = (subst (λ (p : Opened). HearsOpened p now next answer) is hears).step (Ok (packet_of flight))
+      (told_by flight.kind) reads limits player m r in (
+        packet_keeps packet now next answer game ((which, flight, found, to, is), free) hears spares,
+        much_on player first now next much (grows limits player now next m _ r after.node mine
+            (opened_holds limits player m flight fair told.sender (λ e. told.apart (e ∙ sym to)))),
+      )

@@ -10,8 +10,6 @@ pub mod Covered
 pub mod Packings
 pub mod Relinking
 pub mod Linking
-pub mod Gives
-pub mod Receives
 pub mod Sending
 pub mod Following
 pub mod Spelled
@@ -19,11 +17,14 @@ pub mod Requests
 pub mod Growing
 pub mod Leaving
 pub mod Places
+pub mod Deciding
+pub mod Knowing
 pub mod Letters
 pub mod Handing
 pub mod RemainingCalls
 pub mod Reporting
 pub mod RemainingReceives
+pub mod Together
 pub mod Hearer
 pub mod Arriving
 pub mod Catching

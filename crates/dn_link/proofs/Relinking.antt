@@ -1,18 +1,17 @@
 -- The links of one game stay those of one game.
-use Rattle.std.proofs.Common.{arith, ℕ, Bool, true, false, List, ◌≡◌, ap, ◌∙◌, ◌≢◌, ◌<◌, ◌≤◌, zero, suc, [], ◌∷◌, ◌++◌, length, map, refl, sym, subst, Option, Some, None, All}
+use Rattle.std.proofs.Common.{arith, ℕ, Bool, true, false, List, ◌≡◌, ap, ◌∙◌, zero, suc, [], ◌∷◌, ◌++◌, length, map, refl, sym, subst, Option, Some, None, All}
 use Rattle.std.proofs.lemmas.{List.Elements.{All-nil, All-cons, All-head, All-tail, All-append, All-take, All-map}, Option.{none-some, same_Some}}
-use Rattle.std.specs.{Prelude.{if◌then◌else◌, nat_le, slice_get, slice_index}, List.flat_map, Option.option_map}
+use Rattle.std.specs.{Prelude.{if◌then◌else◌, nat_le, slice_get}, List.flat_map, Option.option_map}
 use Rattle.dn_machine.specs.{Flight.Flight, Node.put, Limits.Limits, Started.started_node}
-use Rattle.dn_remain.proofs.Vanished.Put.{at_put, at_both}
-use Rattle.dn_link.specs.{Linked.{Linked, PeerState, met, with_reached, IsWhole}, Kept.{Unacknowledged, going, is_news, kept_after, without, end_of}, Counting.{reached, has_ended, has_of}}
-use Rattle.dn_link.specs.{declared.bundle.{Bundle.Bundle, Part.Part, Carried.Carried}, LinkedGame.{WasGiven, AreLinked, IsLater}, Hearing.carried_of, Packets.{opened_from, packets_of}}
+use Rattle.dn_remain.proofs.Vanished.Put.{at_put}
+use Rattle.dn_link.specs.{Linked.{Linked, PeerState, met, with_reached, IsWhole}, Kept.{Unacknowledged, going, is_news, kept_after, without, end_of}, Counting.{reached}}
+use Rattle.dn_link.specs.{declared.bundle.{Bundle.Bundle, Part.Part, Carried.Carried}, RemainingLinks.{WasGiven}, Hearing.carried_of, Packets.{opened_from, packets_of}}
 use Rattle.dn_link.specs.Packing.{ArePacked}
-use Rattle.dn_lockstep.specs.{Contents.Contents, Marking.Marking, OneGame.{AreOneGame, Session, given_on}, Phases.is_waiting, Represents.Represents}
+use Rattle.dn_lockstep.specs.{Contents.Contents, OneGame.{given_on}, Phases.is_waiting, Represents.Represents}
 use Rattle.dn_survivor.specs.{OfOthers.{has, nothing_kept}, declared.others.Others.Others}
 use Rattle.dn_setup.specs.Settings.{Settings}
 use Rattle.dn_lockstep.proofs.OneGame.{GoesBetween}
 use Rattle.dn_seal.specs.declared.opened.Opened.{Opened}
-use Rattle.dn_link.proofs.Growing.{HasAsMuch}
 
 -- Links that have given up nobody.
 
@@ -131,25 +130,6 @@ pub found_later : (given : List Flight) (flight : Option Flight) (which : ℕ) (
 found_later given None which one found = found
 found_later given (Some new) which one found = found_on given (new ∷ []) which one found
 
--- one of the locksteps is another now, and has as much
-pub later_by : (session later : Session) (player : ℕ) (new : Contents)
-    → later.locksteps ≡ put session.locksteps player new
-    → ((which : ℕ) (flight : Flight) → slice_get session.given which ≡ Some flight
-    → slice_get later.given which ≡ Some flight)
-    → HasAsMuch player (session.locksteps player) new → IsLater session later
-later_by session later player new locksteps given much = record {
-  given = given;
-  got = subst (λ (f : ℕ → Contents). (k which : ℕ) → which ≢ k → has_of (session.locksteps k) which ≤ has_of (f k) which)
-      (sym locksteps) (at_put (λ (k : ℕ) (n : Contents). (which : ℕ) → which ≢ k
-      → has_of (session.locksteps k) which ≤ has_of n which) session.locksteps player new much.0 (λ k off which apart. omega arith));
-  ended = subst (λ (f : ℕ → Contents). (k : ℕ) → has_ended (session.locksteps k) ≡ true → has_ended (f k) ≡ true)
-      (sym locksteps) (at_put (λ (k : ℕ) (n : Contents). has_ended (session.locksteps k) ≡ true → has_ended n ≡ true)
-      session.locksteps player new much.1 (λ k off was. was));
-  started = subst (λ (f : ℕ → Contents). (k : ℕ) → is_waiting (session.locksteps k).phase ≡ false → is_waiting (f k).phase ≡ false)
-      (sym locksteps) (at_put (λ (k : ℕ) (n : Contents). is_waiting (session.locksteps k).phase ≡ false → is_waiting n.phase ≡ false)
-      session.locksteps player new much.2 (λ k off was. was));
-}
-
 -- what the links keep was given later, too, where what another link keeps that takes the place of one was
 pub all_put : (given later : List Flight) → ((which : ℕ) (flight : Flight) → slice_get given which ≡ Some flight
     → slice_get later which ≡ Some flight) → (links : ℕ → Linked) (player : ℕ) (new : Linked)
@@ -160,38 +140,6 @@ all_put given later stay links player new kept other peer = at_put (λ (k : ℕ)
     AreGiven given k peer ((links k).peers peer).kept.packets → AreGiven later k peer (l.peers peer).kept.packets)
     links player new (λ was. kept peer)
     (λ k off. all_later given later stay k peer ((links k).peers peer).kept.packets) other
-
--- a link is another now, and the session another
-pub relinked : (marking : Marking) (limits : Limits) (settings : Settings) (session later : Session)
-    (links : ℕ → Linked) (player : ℕ) (new : Linked) → AreLinked marking limits settings session links
-    → AreOneGame marking limits settings later → later.locksteps ≡ put session.locksteps player new.node
-    → IsLater session later → new.others.gone ≡ (links player).others.gone
-    → ((peer : ℕ) → AreGiven later.given player peer (new.peers peer).kept.packets)
-    → ((peer which : ℕ) → which ≢ peer → slice_index (new.peers peer).reported which ≤ has_of
-    (later.locksteps peer) which) → ((peer cause : ℕ) → (new.peers peer).left ≡ Some cause → has_ended
-    (later.locksteps peer) ≡ true) → AreLinked marking limits settings later (put links player new)
-relinked marking limits settings session later links player new linked game locksteps is others kept told left =
-    record {
-      game = game;
-      nodes = λ other below. at_both (λ (k : ℕ) (l : Linked) (n : Contents). k < limits.players → l.node ≡ n)
-          links session.locksteps player new new.node (λ l. refl) (λ k off. linked.nodes k) other below
-          ∙ sym (ap (λ (f : ℕ → Contents). f other) locksteps);
-      started = λ other below. is.started other (linked.started other below);
-      kept = λ other peer below. all_put session.given later.given is.given links player new kept other peer
-          (linked.kept other peer below);
-      reported = λ other peer which. at_put (λ (k : ℕ) (l : Linked). k < limits.players → which ≢ peer
-          → slice_index (l.peers peer).reported which ≤ has_of (later.locksteps peer) which) links player new
-          (λ l. told peer which)
-          (λ k off below apart. still (linked.reported k peer which below apart) (is.got peer which apart)) other;
-      left = λ other peer cause. at_put (λ (k : ℕ) (l : Linked). k < limits.players
-          → (l.peers peer).left ≡ Some cause → has_ended (later.locksteps peer) ≡ true) links player new
-          (λ l. left peer cause) (λ k off below was. is.ended peer (linked.left k peer cause below was)) other;
-      whole = at_put (λ (k : ℕ) (l : Linked). k < limits.players → IsWhole l) links player new
-          (λ mine. still_whole (links player) new others (linked.whole player mine)) (λ k off. linked.whole k);
-    }
-  where
-    still : {a b c : ℕ} → a ≤ b → b ≤ c → a ≤ c
-    still one other = omega (arith, one, other)
 
 -- What is kept for peers was given, where one of them is another now.
 

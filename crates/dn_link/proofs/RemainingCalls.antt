@@ -1,16 +1,19 @@
 -- The links of one game in which players may be given up stay so.
-use Rattle.std.proofs.{Common.{◌≡◌, ◌<◌, ℕ, ℤ, pos, Bool, false, List, get_or, refl, ap, sym, ◌∙◌, subst, Option, Some, inl, inr, None, [], ◌∷◌}, lemmas.Bool.cases_eq}
+use Rattle.std.proofs.{Common.{◌≡◌, ◌<◌, ℕ, ℤ, pos, Bool, false, List, get_or, refl, ap, sym, ◌∙◌, subst, arith, Option, Some, inl, inr, None, [], ◌∷◌}, lemmas.Bool.cases_eq}
 use Rattle.std.specs.Prelude.{slice_get}
 use Rattle.dn_tic.specs.declared.{command.Move.Move, input.Input.Input}
 use Rattle.dn_setup.specs.Settings.{Settings}
-use Rattle.dn_machine.specs.{declared.answers.{Made.Made, Ran.Ran}, Sending.on_build, Flight.Flight, Limits.Limits, Node.put, Running.{is_over, on_quit, on_run_but}}
+use Rattle.dn_machine.specs.{declared.answers.{Made.Made, Ran.Ran}, Sending.on_build, Limits.Limits, Node.put, Running.{is_over, on_quit, on_run_but}}
 use Rattle.dn_machine.proofs.Put.{put_at, put_off}
-use Rattle.dn_lockstep.specs.{Contents.end_in, Marking.Marking, OneGame.world_told, Steps.{RunsBy, Steps}}
-use Rattle.dn_survivor.specs.{Calls.{GivesUp, HearsReport, GivesUpUnless, HearsReportUnless, refused_give_up, refused_report}, Surviving.{Surviving, has_given_up}, Telling.report_for}
+use Rattle.dn_lockstep.specs.{Contents.{Contents, end_in}, Marking.Marking, OneGame.world_told, Represents.Represents, Steps.{RunsBy, Simulates, Steps, marks_in, with_row}}
+use Rattle.dn_remain.proofs.Vanished.Put.{at_put}
+use Rattle.dn_survivor.specs.{Calls.{GivesUp, HearsReport, GivesUpUnless, HearsReportUnless, given_up_by, heard_by, refused_give_up, refused_report}, OfOthers.with_newest, Surviving.{Surviving, has_given_up}, Telling.report_for}
 use Rattle.dn_survivor.specs.OneGame.{AreRemaining, Given, Session, after_build, after_report, after_run, with_survivor, reports_on}
 use Rattle.dn_survivor.specs.declared.{report.Report.Report, answers.{GivenUp.GivenUp, Reported.Reported}, others.Others.Others}
-use Rattle.dn_link.specs.{Linked.{Linked, PeerState, probed, surviving_of}, RemainingLinks.{AreRemainingLinks, KeepsGiven}, Surviving.GivesUpPeer}
+use Rattle.dn_link.specs.{Linked.{Linked, probed, surviving_of}, RemainingLinks.{AreRemainingLinks, IsLater, IsTrulyTold}, Surviving.GivesUpPeer}
+use Rattle.dn_link.proofs.{Deciding.{give_up_holds, report_holds}, Growing.{HasAsMuch, Holds, as_much, build_holds, grows, quit_holds, run_holds}, Knowing.{nothing_given, put_told, told_on}}
 use Rattle.dn_link.proofs.Relinking.{AreKept, all_later, all_put, found_on, put_kept}
+use Rattle.dn_machine.specs.Node as machine
 use Rattle.dn_survivor.proofs.OneGame as one_game
 
 -- Whose a survivor is stays.
@@ -45,25 +48,17 @@ reports_stay reports from to None which given found = found
 reports_stay reports from to (Some report) which given found =
     found_on reports (record { from = from; to = to; report = report } ∷ []) which given found
 
--- what was given is where no more was
-pub nothing_given : (session later : Session) → later.packets ≡ session.packets → later.reports ≡ session.reports
-    → KeepsGiven session later
-nothing_given session later packets reports = record {
-  packets = λ which packet found. ap (λ (fs : List Flight). slice_get fs which) packets ∙ found;
-  reports = λ which given found. ap (λ (gs : List Given). slice_get gs which) reports ∙ found;
-}
-
 module _ (marking : Marking) (limits : Limits) (settings : Settings) (session : Session) (links : ℕ → Linked)
     (linked : AreRemainingLinks marking limits settings session links) where
-  -- they are those of one game after a call, and what was given stays so
+  -- they are those of one game after a call, in a later session
   abbrev pub GoOn : Session → (ℕ → Linked) → Type 0
-  GoOn later next = AreRemainingLinks marking limits settings later next × KeepsGiven session later
+  GoOn later next = AreRemainingLinks marking limits settings later next × IsLater session later
 
   -- a link is another now, and the session another
   pub relinked : (later : Session) (player : ℕ) (new : Linked) → AreRemaining marking limits settings later
-      → later.survivors ≡ put session.survivors player (surviving_of new) → KeepsGiven session later
-      → AreKept later.packets player new.peers → GoOn later (put links player new)
-  relinked later player new game placed given kept = (
+      → later.survivors ≡ put session.survivors player (surviving_of new) → IsLater session later
+      → AreKept later.packets player new.peers → IsTrulyTold later.survivors new.peers → GoOn later (put links player new)
+  relinked later player new game placed is kept told = (
     record {
       game = game;
       survivors = λ other below. elim (cases_eq other player) [
@@ -74,10 +69,13 @@ module _ (marking : Marking) (limits : Limits) (settings : Settings) (session : 
             ∙ sym (ap (λ (f : ℕ → Surviving). f other) placed
             ∙ put_off session.survivors player other (surviving_of new) off)
       ];
-      kept = λ other peer below. all_put session.packets later.packets given.packets links player new kept other
+      started = λ other below. is.started other (linked.started other below);
+      kept = λ other peer below. all_put session.packets later.packets is.packets links player new kept other
           peer (linked.kept other peer below);
+      told = at_put (λ (k : ℕ) (l : Linked). k < limits.players → IsTrulyTold later.survivors l.peers) links player new
+          (λ below. told) (λ k off below. told_on session later (links k).peers is (linked.told k below));
     },
-    given,
+    is,
   )
 
   module _ (player : ℕ) (mine : player < limits.players) where
@@ -87,34 +85,82 @@ module _ (marking : Marking) (limits : Limits) (settings : Settings) (session : 
     pub survivor : surviving_of old ≡ session.survivors player
     survivor = linked.survivors player mine
 
+    abbrev pub m : machine.Node
+    m = linked.game.last.game.nodes player
+
+    pub shows : Represents limits player old.node m
+    shows = subst (λ (s : Surviving). Represents limits player s.lockstep m) (sym survivor)
+        (linked.game.nodes player mine).node
+
     pub own : old.node.me ≡ player
-    own = ap (λ (s : Surviving). s.lockstep.me) survivor ∙ (linked.game.nodes player mine).node.whose.number
+    own = shows.whose.number
 
     pub all_kept : AreKept session.packets player old.peers
     all_kept peer = linked.kept player peer mine
 
-    -- a call that keeps the peers
+    -- it has as much of each other player then
+    abbrev pub HasMuch : Contents → Type 0
+    HasMuch new = HasAsMuch player (session.survivors player).lockstep new
+
+    pub much_on : (new : Contents) → HasAsMuch player old.node new → HasMuch new
+    much_on new = subst (λ (s : Surviving). HasAsMuch player s.lockstep new) survivor
+
+    pub same_much : (new : Contents) → new ≡ old.node → HasMuch new
+    same_much new same = much_on new (subst (HasAsMuch player old.node) (sym same) (as_much player old.node))
+
+    pub much_by : {A : Type 0} (new : Contents) (by : Limits → ℕ → machine.Node → machine.Node × A)
+        (IsAnswer : A → Type 0) → Simulates old.node new by IsAnswer → Holds m (by limits player m).0 → HasMuch new
+    much_by new by IsAnswer step holds =
+        much_on new (grows limits player old.node new m _ shows (step limits player m shows).node mine holds)
+
+    gave_up_much : (peer : ℕ) (now : Surviving) (answer : GivenUp) → GivesUp peer (surviving_of old) now answer
+        → HasMuch now.lockstep
+    gave_up_much peer now answer gives = go (refused_give_up (surviving_of old) peer) gives
+      where
+        go : (refused : Option GivenUp) → GivesUpUnless refused peer (surviving_of old) now answer → HasMuch now.lockstep
+        go (Some reason) stays = same_much now.lockstep (ap (λ (s : Surviving). s.lockstep) stays.1)
+        go None steps = much_by now.lockstep (λ limits me m. given_up_by limits me old.others peer m)
+            (λ given. answer ≡ given) steps.1.step (give_up_holds limits player old.others peer m)
+
+    heard_much : (from : ℕ) (report : Report) (now : Surviving) (answer : Reported)
+        → HearsReport from report (surviving_of old) now answer → HasMuch now.lockstep
+    heard_much from report now answer hears = go (refused_report (surviving_of old) from report) hears
+      where
+        go : (refused : Option Reported) → HearsReportUnless refused from report (surviving_of old) now answer
+            → HasMuch now.lockstep
+        go (Some reason) stays = same_much now.lockstep (ap (λ (s : Surviving). s.lockstep) stays.1)
+        go None steps = much_by now.lockstep (λ limits me m. heard_by limits me (with_newest old.others from report) m)
+            (λ told. answer ≡ told) steps.1.step (report_holds limits player (with_newest old.others from report) m)
+
+    -- a call that keeps the peers, and gives nothing
     pub called : (later : Session) (new : Linked) → AreRemaining marking limits settings later
-        → later.survivors ≡ put session.survivors player (surviving_of new) → KeepsGiven session later
-        → new.peers ≡ old.peers → GoOn later (put links player new)
-    called later new game placed given peers =
-        relinked later player new game placed given (subst (λ (f : ℕ → PeerState). AreKept later.packets player
-        f) (sym peers) (λ peer. all_later session.packets later.packets given.packets player peer
-        (old.peers peer).kept.packets (all_kept peer)))
+        → later.survivors ≡ put session.survivors player (surviving_of new) → later.packets ≡ session.packets
+        → later.reports ≡ session.reports → HasMuch new.node → new.peers ≡ old.peers → GoOn later (put links player new)
+    called later new game placed packets reports much peers =
+        let is = nothing_given session later player (surviving_of new) placed much packets reports in
+        relinked later player new game placed is
+        (subst (AreKept later.packets player) (sym peers) (λ peer. all_later session.packets later.packets is.packets
+        player peer (old.peers peer).kept.packets (all_kept peer)))
+        (subst (IsTrulyTold later.survivors) (sym peers) (told_on session later old.peers is (linked.told player mine)))
 
     -- and one that changes nothing but who is there, and how far each is known to be
     pub stays : (new : Linked) → surviving_of new ≡ surviving_of old → AreKept session.packets player new.peers
+        → IsTrulyTold session.survivors new.peers
         → GoOn (with_survivor session player (surviving_of new)) (put links player new)
-    stays new same kept =
-        relinked (with_survivor session player (surviving_of new)) player new
-        (one_game.keeps marking limits settings linked.game player (surviving_of new) (same ∙ survivor)) refl
-        (nothing_given session (with_survivor session player (surviving_of new)) refl refl) kept
+    stays new same kept told =
+        let later : Session = with_survivor session player (surviving_of new) in
+        let is = nothing_given session later player (surviving_of new) refl
+        (same_much new.node (ap (λ (s : Surviving). s.lockstep) same)) refl refl in
+        relinked later player new
+        (one_game.keeps marking limits settings linked.game player (surviving_of new) (same ∙ survivor)) refl is kept
+        (told_on session later new.peers is told)
 
     pub same_link : (new : Linked) → new ≡ old
         → GoOn (with_survivor session player (surviving_of new)) (put links player new)
     same_link new same =
         stays new (ap surviving_of same)
         (subst (λ (l : Linked). AreKept session.packets player l.peers) (sym same) all_kept)
+        (subst (λ (l : Linked). IsTrulyTold session.survivors l.peers) (sym same) (linked.told player mine))
 
     pub counted : (to : ℕ) (new : Linked) → new ≡ probed old to
         → GoOn (with_survivor session player (surviving_of new)) (put links player new)
@@ -122,6 +168,8 @@ module _ (marking : Marking) (limits : Limits) (settings : Settings) (session : 
         stays new (ap surviving_of same)
         (subst (λ (l : Linked). AreKept session.packets player l.peers) (sym same)
         (put_kept session.packets player old.peers to _ all_kept (all_kept to)))
+        (subst (λ (l : Linked). IsTrulyTold session.survivors l.peers) (sym same)
+        (put_told session.survivors old.peers (linked.told player mine) to (old.peers to).kept _))
 
     pub built : (new : Linked) (input : Input) (made : Made)
         → Steps old.node new.node (λ limits me m. on_build limits me m input) (λ answer. made ≡ answer)
@@ -131,8 +179,9 @@ module _ (marking : Marking) (limits : Limits) (settings : Settings) (session : 
         called (after_build session player input made (surviving_of new)) new
         (one_game.builds marking limits settings linked.game player mine (surviving_of new) input made
         (subst (λ (s : Surviving). Steps s.lockstep new.node (λ limits me m. on_build limits me m input)
-        (λ answer. made ≡ answer)) survivor step) (others ∙ ap (λ (s : Surviving). s.others) survivor)) refl
-        (nothing_given session (after_build session player input made (surviving_of new)) refl refl) peers
+        (λ answer. made ≡ answer)) survivor step) (others ∙ ap (λ (s : Surviving). s.others) survivor)) refl refl refl
+        (much_by new.node (λ limits me m. on_build limits me m input) (λ answer. made ≡ answer) step.step
+        (build_holds limits player m input)) peers
 
     pub runs : (new : Linked) (marks : List ℤ) (ran : Ran) (row : Option (List (Option Move)))
         → ((tic other : ℕ) → ran ≡ Ran.Ran tic → other < limits.players
@@ -151,8 +200,11 @@ module _ (marking : Marking) (limits : Limits) (settings : Settings) (session : 
         survivor honest) (subst (λ (s : Surviving). RunsBy marks s.lockstep new.node
         (λ limits m marks. on_run_but limits (has_given_up s) m marks)
         (λ answer told. (ran ≡ answer) × (row ≡ told))) survivor step)
-        (others ∙ ap (λ (s : Surviving). s.others) survivor)) refl
-        (nothing_given session (after_run session player row (surviving_of new)) refl refl) peers
+        (others ∙ ap (λ (s : Surviving). s.others) survivor)) refl refl refl
+        (much_by new.node
+        (λ limits me m. with_row limits m (on_run_but limits (has_given_up (surviving_of old)) m (marks_in marks)))
+        (λ answer. (ran ≡ answer.0) × (row ≡ answer.1)) step.step
+        (run_holds limits player m (has_given_up (surviving_of old)) (marks_in marks))) peers
 
     pub quits : (new : Linked) (quit : Bool)
         → Steps old.node new.node (λ limits me m. on_quit m) (λ answer. quit ≡ answer)
@@ -162,8 +214,8 @@ module _ (marking : Marking) (limits : Limits) (settings : Settings) (session : 
         called (with_survivor session player (surviving_of new)) new
         (one_game.quits marking limits settings linked.game player mine (surviving_of new) quit
         (subst (λ (s : Surviving). Steps s.lockstep new.node (λ limits me m. on_quit m) (λ answer. quit ≡ answer))
-        survivor step) (others ∙ ap (λ (s : Surviving). s.others) survivor)) refl
-        (nothing_given session (with_survivor session player (surviving_of new)) refl refl) peers
+        survivor step) (others ∙ ap (λ (s : Surviving). s.others) survivor)) refl refl refl
+        (much_by new.node (λ limits me m. on_quit m) (λ answer. quit ≡ answer) step.step (quit_holds limits player m)) peers
 
     pub gives_up : (peer : ℕ) (new : Linked) (answer : GivenUp) → GivesUpPeer peer old new answer
         → GoOn (with_survivor session player (surviving_of new)) (put links player new)
@@ -172,8 +224,8 @@ module _ (marking : Marking) (limits : Limits) (settings : Settings) (session : 
         called (with_survivor session player (surviving_of new)) new
         (subst (λ (s : Surviving). AreRemaining marking limits settings (with_survivor session player s)) (sym same)
         (one_game.gives_up marking limits settings linked.game player mine peer now answer
-        (subst (λ (s : Surviving). GivesUp peer s now answer) survivor gives))) refl
-        (nothing_given session (with_survivor session player (surviving_of new)) refl refl)
+        (subst (λ (s : Surviving). GivesUp peer s now answer) survivor gives))) refl refl refl
+        (subst HasMuch (ap (λ (s : Surviving). s.lockstep) (sym same)) (gave_up_much peer now answer gives))
         (ap (λ (l : Linked). l.peers) is)
 
     pub told : (to : ℕ) (report : Option Report) → report ≡ report_for (surviving_of old) to
@@ -183,11 +235,16 @@ module _ (marking : Marking) (limits : Limits) (settings : Settings) (session : 
         game = one_game.tells marking limits settings linked.game player mine to report
             (is ∙ ap (λ (s : Surviving). report_for s to) survivor);
         survivors = linked.survivors;
+        started = linked.started;
         kept = linked.kept;
+        told = linked.told;
       },
       record {
         packets = λ which packet found. found;
         reports = λ which given found. reports_stay session.reports player to report which given found;
+        got = λ other which apart. omega arith;
+        ended = λ other was. was;
+        started = λ other was. was;
       },
     )
 
@@ -203,5 +260,5 @@ module _ (marking : Marking) (limits : Limits) (settings : Settings) (session : 
       called given.to below (with_survivor session given.to (surviving_of new)) new
       (one_game.reports marking limits settings linked.game which given found (surviving_of new) answer
       (subst (λ (s : Surviving). HearsReport given.from given.report s (surviving_of new) answer)
-      (linked.survivors given.to below) hears)) refl
-      (nothing_given session (with_survivor session given.to (surviving_of new)) refl refl) peers
+      (linked.survivors given.to below) hears)) refl refl refl
+      (heard_much given.to below given.from given.report (surviving_of new) answer hears) peers

@@ -6,15 +6,17 @@ use Rattle.dn_survivor.specs.OneGame.{AreRemaining, Session, with_survivor}
 use Rattle.dn_setup.specs.Settings.{Settings}
 use Rattle.dn_machine.specs.{Limits.Limits, Node.put}
 use Rattle.dn_machine.proofs.Put.{put_at}
+use Rattle.dn_remain.proofs.Vanished.Put.{twice_put}
 use Rattle.dn_lockstep.specs.{Contents.Contents, Marking.Marking}
 use Rattle.dn_seal.specs.declared.seal.Seal.{Seal}
 use Rattle.dn_link.specs.{declared.{bundle.{Bundle.Bundle, BundleFault.BundleFault}, received.Received.{Received, TheVariants.{Excluded, GivenUp, Heard, Stranger}}}, Ends.excludes, Counting.held_of}
-use Rattle.dn_link.specs.{LinkedGame.WasGiven, Hearing.ByTest, Packets.{heard_in, packets_in}, Reading.{IsBundledAs, IsDatagramOf}}
-use Rattle.dn_link.specs.RemainingLinks.{AreRemainingLinks, IsGenuineIn, WasSealedIn, WasTold}
-use Rattle.dn_link.specs.Linked.{HearsPeer, Linked, Receives, ReceivesAs, TakesIn, TakesPackets, TakesRead, PeerState, has_given_up, is_peer, met, surviving_of, takes}
+use Rattle.dn_link.specs.{RemainingLinks.WasGiven, Hearing.ByTest, Packets.{heard_in, packets_in}, Reading.{IsBundledAs, IsDatagramOf}}
+use Rattle.dn_link.specs.RemainingLinks.{AreRemainingLinks, HasReached, IsGenuineIn, IsLater, IsTrulyTold, WasSealedIn, WasTold}
+use Rattle.dn_link.specs.Linked.{HearsPeer, Linked, Receives, ReceivesAs, TakesIn, TakesPackets, TakesRead, has_given_up, is_peer, met, surviving_of, takes}
 use Rattle.dn_open.specs.Sealed.{sealing_of}
-use Rattle.dn_link.proofs.{Keeping.all_along, Linking.same_bundle, Relinking.{AreKept, met_kept, reached_kept}, Letters.{AreWith, MayBeHeard, packet_keeps}, RemainingCalls.{GoOn, nothing_given}}
-use Rattle.dn_link.proofs.{Leaving.{parts_from, parts_heard}, Reporting.put_twice}
+use Rattle.dn_link.proofs.{Keeping.all_along, Linking.same_bundle, Relinking.{AreKept, met_kept, reached_kept}, Letters.{AreWith, MayBeHeard, packet_grows}, RemainingCalls.GoOn}
+use Rattle.dn_link.proofs.{Growing.{HasAsMuch, as_much}, Knowing.{heard_told, later_on, met_told, nothing_given, reached_on, told_on}}
+use Rattle.dn_link.proofs.{Leaving.{parts_from, parts_heard}}
 use Rattle.dn_survivor.proofs.OneGame as one_game
 use Rattle.dn_link.proofs.RemainingCalls as base
 
@@ -45,11 +47,13 @@ module _ (marking : Marking) (limits : Limits) (settings : Settings) (session : 
       (base.survivor marking limits settings session links linked player mine)
 
   taken_in : (bundle : Bundle) (new : Linked) → All (WasGiven session.packets player) (packets_in bundle)
-      → has old.others.gone bundle.from ≡ false → TakesPackets bundle old new → HasTaken new
-  taken_in bundle new all free takes_it =
-      let game = all_along (MayBeHeard marking limits settings session player old.others) AreHere
-      (packet_keeps marking limits settings session player old.others) (heard_in (takes old) bundle) old.node
-      new.node here
+      → HasReached session.survivors bundle → has old.others.gone bundle.from ≡ false → TakesPackets bundle old new
+      → HasTaken new
+  taken_in bundle new all reached free takes_it =
+      let on = all_along (MayBeHeard marking limits settings session player old.others)
+      (λ now. AreHere now × HasAsMuch player old.node now)
+      (packet_grows marking limits settings session player old.others mine old.node) (heard_in (takes old) bundle) old.node
+      new.node (here, as_much player old.node)
       (λ k d below. (
         parts_heard (has_given_up old) (held_of old.node) bundle.from (WasGiven session.packets player) bundle.parts.items all k d below,
         elim (parts_from (has_given_up old) (held_of old.node) bundle.from bundle.parts.items k d below) [
@@ -57,14 +61,20 @@ module _ (marking : Marking) (limits : Limits) (settings : Settings) (session : 
           | inr third ↦ third.0
         ],
       )) takes_it.heard in
-      base.relinked marking limits settings session links linked (with_survivor session player
-      (surviving_of new)) player new (subst (λ (o : Others). AreRemaining marking limits settings
-      (with_survivor session player (record { lockstep = new.node; others = o }))) (sym takes_it.others) game) refl
-      (nothing_given session (with_survivor session player (surviving_of new)) refl refl)
-      (subst (λ (f : ℕ → PeerState). AreKept session.packets player f) (sym takes_it.peers)
+      let later : Session = with_survivor session player (surviving_of new) in
+      let is = nothing_given session later player (surviving_of new) refl
+      (base.much_on marking limits settings session links linked player mine new.node on.1) refl refl in
+      base.relinked marking limits settings session links linked later player new
+      (subst (λ (o : Others). AreRemaining marking limits settings
+      (with_survivor session player (record { lockstep = new.node; others = o }))) (sym takes_it.others) on.0) refl is
+      (subst (AreKept session.packets player) (sym takes_it.peers)
       (reached_kept session.packets player new.node (met bundle old).peers
       (met_kept session.packets player old bundle
       (base.all_kept marking limits settings session links linked player mine))))
+      (subst (IsTrulyTold later.survivors) (sym takes_it.peers)
+      (heard_told later.survivors (met bundle old).peers
+      (met_told later.survivors old bundle (told_on session later old.peers is (linked.told player mine))
+      (reached_on session later bundle is reached)) new.node))
 
   -- and then the report, if it is one
   module _ (bundle : Bundle) (mid new : Linked) (taken : HasTaken mid) (of : bundle.to ≡ player)
@@ -75,15 +85,17 @@ module _ (marking : Marking) (limits : Limits) (settings : Settings) (session : 
 
     -- the session and the links of two calls, one after the other, are those of one
     as_one : (new : Linked) → AreRemainingLinks marking limits settings
-        (with_survivor later player (surviving_of new)) (put (put links player mid) player new) → HasTaken new
-    as_one new are = (
-      subst (λ (survivors : ℕ → Surviving). AreRemainingLinks marking limits settings
-          (record session { survivors = survivors }) (put links player new))
-          (put_twice session.survivors player (surviving_of mid) (surviving_of new))
-          (subst (AreRemainingLinks marking limits settings (with_survivor later player (surviving_of new)))
-          (put_twice links player mid new) are),
-      nothing_given session (with_survivor session player (surviving_of new)) refl refl,
-    )
+        (with_survivor later player (surviving_of new)) (put (put links player mid) player new)
+        → IsLater later (with_survivor later player (surviving_of new)) → HasTaken new
+    as_one new are is =
+        subst (λ (survivors : ℕ → Surviving). AreRemainingLinks marking limits settings
+        (record session { survivors = survivors }) (put links player new)
+        × IsLater session (record session { survivors = survivors }))
+        (twice_put session.survivors player (surviving_of mid) (surviving_of new)) (
+          subst (AreRemainingLinks marking limits settings (with_survivor later player (surviving_of new)))
+              (twice_put links player mid new) are,
+          later_on session later (with_survivor later player (surviving_of new)) taken.1 is,
+        )
 
     reported : (read : Result Report ReportFault) → IsReadAs bundle.report.items read
         → TakesRead bundle.from read mid new → HasTaken new
@@ -95,8 +107,10 @@ module _ (marking : Marking) (limits : Limits) (settings : Settings) (session : 
         (record { from = bundle.from; to = bundle.to; report = report }) new answer was.1
         (subst (λ (l : Linked). HearsReport bundle.from report (surviving_of l) (surviving_of new) answer) (sym here) hears)
         (peers ∙ ap (λ (l : Linked). l.peers) (sym here)) in
-        as_one new (subst (λ (k : ℕ). AreRemainingLinks marking limits settings
-        (with_survivor later k (surviving_of new)) (put (put links player mid) k new)) of on.0)
+        let both = subst (λ (k : ℕ). AreRemainingLinks marking limits settings
+        (with_survivor later k (surviving_of new)) (put (put links player mid) k new)
+        × IsLater later (with_survivor later k (surviving_of new))) of on in
+        as_one new both.0 both.1
 
   -- a datagram that is opened
   opened_in : (seal : Seal) (bytes : List ℕ) (new : Linked)
@@ -109,7 +123,8 @@ module _ (marking : Marking) (limits : Limits) (settings : Settings) (session : 
       let told = subst (λ (b : Bundle). (report : Report) → IsReadAs b.report.items (Ok report)
       → WasTold session.reports b.from b.to report) same was.4 in
       let taken = taken_in bundle mid
-      (subst (λ (k : ℕ). All (WasGiven session.packets k) (packets_in bundle)) is.to all) free packets in
+      (subst (λ (k : ℕ). All (WasGiven session.packets k) (packets_in bundle)) is.to all)
+      (subst (HasReached session.survivors) same was.5) free packets in
       reported bundle mid new taken is.to told read reads comes
 
   received_as : (seal : Seal) (bytes : List ℕ) (new : Linked)

@@ -1,19 +1,14 @@
 -- What a report changes in a link, where one comes with a datagram; and what it has as its bytes.
-use Rattle.std.proofs.{Common.{◌≡◌, ◌⊎◌, ℕ, Bool, true, false, List, [], ◌++◌, zero, suc, refl, ap, sym, ◌∙◌, subst, Option, Some, None, inl, inr, length}, lemmas.Bool.{cases_eq, cond_both}}
+use Rattle.std.proofs.{Common.{◌≡◌, ◌⊎◌, ℕ, Bool, true, false, List, [], refl, ap, sym, ◌∙◌, subst, Option, Some, None, inl, inr, length}}
 use Rattle.std.specs.Prelude.{IfSome, Result, Ok, Err, if◌then◌else◌, nat_lt, ◌==◌}
-use Rattle.dn_tic.specs.declared.command.TicCmd.{TicCmd}
-use Rattle.dn_machine.specs.{Limits.Limits, Node.put, Settling.settled_one}
-use Rattle.dn_machine.specs.declared.{peer.Peer.Peer, answers.{Cause.TheVariants.{Quit, Full, Inconsistent}, Phase.{Phase, TheVariants.{Listening, Gathering, Playing, Ended}}}}
-use Rattle.dn_machine.proofs.Put.{put_at, put_off, same_functions}
-use Rattle.dn_remain.specs.Vanished.Calls.{can_decide}
-use Rattle.dn_lockstep.specs.{Contents.Contents, Settling.{missing, on_settle, refused_end, settled_unless}, declared.lockstep.settling.Settled.Settled}
-use Rattle.dn_survivor.specs.{Calls.{decided_by, end_by, heard_by, settled_below}, OfOthers.{commands_of, first_of, has, nodes_of, own_of}, OneGame.{Given, reports_on}}
+use Rattle.dn_machine.specs.declared.{answers.{Cause.TheVariants.{Quit, Full, Inconsistent}, Phase.{Phase, TheVariants.{Listening, Gathering, Playing, Ended}}}}
+use Rattle.dn_lockstep.specs.{Contents.Contents}
+use Rattle.dn_survivor.specs.{OneGame.{Given, reports_on}}
 use Rattle.dn_survivor.specs.{ReportBytes.{IsReadAs, IsReport, report_bytes}, declared.{others.Others.Others, report.{Report.Report, ReportFault.ReportFault}}}
 use Rattle.dn_survivor.proofs.ReportBytes.{one_reading}
 use Rattle.dn_link.specs.{Linked.{IsWhole, Linked, TakesIn, TakesRead, fitting, met, surviving_of, takes, with_reached, written}, Ends.told_cause, declared.bundle.Bundle.Bundle, Hearing.HearsAll}
 use Rattle.dn_link.specs.{Packets.heard_in, RemainingLinks.WasTold}
-use Rattle.dn_link.proofs.{RemainingCalls.hears_same, Relinking.{last_at, still_whole}, Sending.resend_of}
-use Rattle.dn_machine.specs.Node as machine
+use Rattle.dn_link.proofs.{RemainingCalls.hears_same, Relinking.{last_at, still_whole}}
 
 -- Where nobody is given up.
 
@@ -59,53 +54,6 @@ told_plain (Ended Quit) = refl
 told_plain (Ended Full) = refl
 told_plain (Ended (Inconsistent player was should)) = refl
 
--- From which tic on a player is sent commands stays, whoever's end is taken.
-module _ (limits : Limits) (me to : ℕ) where
-  abbrev Same : machine.Node → machine.Node → Type 0
-  Same m new = resend_of new to ≡ resend_of m to
-
-  abbrev IsSame : {A : Type 0} → machine.Node → machine.Node × A → Type 0
-  IsSame m after = Same m after.0
-
-  one_same : (m : machine.Node) (player : ℕ) (commands : List TicCmd) → Same m (settled_one m player commands)
-  one_same m player commands =
-      let peer : Peer = record (m.peers player) { end = Some (length commands); want = false } in
-      elim (cases_eq to player) [
-        | inl at ↦ ap (λ (p : Peer). p.resend) (put_at m.peers player to peer at)
-            ∙ ap (λ (k : ℕ). (m.peers k).resend) (sym at)
-        | inr off ↦ ap (λ (p : Peer). p.resend) (put_off m.peers player to peer off)
-      ]
-
-  unless_same : (refused : Option Settled) (m : machine.Node) (player end first : ℕ) (commands : List TicCmd)
-      → Same m (settled_unless refused m player end first commands).0
-  unless_same (Some reason) m player end first commands = refl
-  unless_same None m player end first commands =
-      one_same m player (m.held player ++ missing (machine.got m player) end first commands)
-
-  settle_same : (m : machine.Node) (player end first : ℕ) (commands : List TicCmd)
-      → Same m (on_settle limits me m player end first commands).0
-  unfolding on_settle
-  settle_same m player end first commands =
-      unless_same (refused_end limits me m player end first commands) m player end first commands
-
-  below_same : (others : Others) (bound : ℕ) (m : machine.Node) → Same m (settled_below limits me others bound m).0
-  unfolding settled_below
-  below_same others zero m = refl
-  below_same others (suc player) m =
-      cond_both (has others.gone player) _ _ (IsSame m)
-      (λ on. settle_same (settled_below limits me others player m).0 player (end_by limits me others player
-      (settled_below limits me others player m).0) (first_of limits.players me others player)
-      (commands_of limits.players me others player) ∙ below_same others player m)
-      (λ off. below_same others player m)
-
-  decided_same : (others : Others) (m : machine.Node) → Same m (decided_by limits me others m).0
-  decided_same others m =
-      cond_both (can_decide limits.players me (own_of others (λ player. 0)) (nodes_of others)) _ _ (IsSame m)
-      (λ on. below_same others limits.players m) (λ off. refl)
-
-  pub report_same : (others : Others) (m : machine.Node) → Same m (heard_by limits me others m).0
-  report_same others m = decided_same others m
-
 -- The bytes of a report are read as it, and none as any.
 pub written_is : (told : Option Report) (bytes : List ℕ) (report : Report) → IfSome told IsReport
     → bytes ≡ written told → IsReadAs bytes (Ok report) → told ≡ Some report
@@ -137,10 +85,3 @@ pub told_last : (reports : List Given) (from to : ℕ) (told : Option Report) (r
 told_last reports from to told report is =
     subst (λ (o : Option Report). WasTold (reports_on reports from to o) from to report) (sym is)
     (length reports, last_at reports (record { from = from; to = to; report = report }))
-
--- a function that has another value at one place, and then one more
-pub put_twice : {A : Type 0} (f : ℕ → A) (i : ℕ) (x y : A) → put (put f i x) i y ≡ put f i y
-put_twice f i x y = same_functions (λ j. elim (cases_eq j i) [
-  | inl at ↦ put_at (put f i x) i j y at ∙ sym (put_at f i j y at)
-  | inr off ↦ put_off (put f i x) i j y off ∙ put_off f i j x off ∙ sym (put_off f i j y off)
-])

@@ -18,7 +18,7 @@ use Rattle.dn_link.specs.{Hearing.ByTest, Hearing.HearsAll, Kept.IsKeptRising, C
 use Rattle.dn_link.specs.{Linked.Linked, Linked.PeerState, Linked.Receives, Linked.ReceivesAs, Linked.TakesIn, Linked.TakesPackets, Linked.TakesRead, Linked.HearsPeer, Linked.surviving_of, Linked.after_report, Linked.has_given_up, Linked.is_peer, Linked.met, Linked.takes, Linked.with_reached}
 use Rattle.dn_link.proofs.{Sending.opened_asked, Following.next_same, Following.same_peers, Following.still, Leaving.parts_from, Leaving.parts_heard, Leaving.stays_left, Covered.rises_past, Sending.resend_of}
 use Rattle.dn_survivor.specs.{Calls.HearsReport, Calls.HearsReportUnless, Calls.refused_report, OfOthers.with_newest, Surviving.Surviving, declared.answers.Reported.Reported, declared.report.Report.Report, declared.report.ReportFault.ReportFault}
-use Rattle.dn_link.proofs.Reporting.{report_same}
+use Rattle.dn_link.proofs.Deciding.{report_same}
 use Rattle.dn_link.proofs.Spelled.{IsSpelled, packets_of_bytes}
 use Rattle.dn_link.specs.Packets.{heard_in, packets_in}
 

@@ -7,10 +7,11 @@ use Rattle.dn_packet.proofs.Texts.{length-commands}
 use Rattle.dn_packet.specs.{declared.packet.{Packet.Packet, PacketFault.PacketFault}, Text.text}
 use Rattle.dn_setup.specs.{Settings.Settings, declared.setup.SetupFault.SetupFault}
 use Rattle.dn_seal.specs.declared.opened.Opened.{Opened}
-use Rattle.dn_machine.specs.{Flight.{Kind, Play, Exit, Flight, is_close, is_request_close, request_byte}, Node.{Node, put, with_peer, got, made}, Limits.Limits, Running.{on_run, on_quit}}
+use Rattle.dn_machine.specs.{Flight.{Kind, Play, Exit, Flight, is_close, is_request_close, request_byte}, Node.{Node, put, with_peer, got, made}, Limits.Limits, Running.{on_run_but, on_quit}}
 use Rattle.dn_machine.specs.{Sending.{on_build, after_sent, commands_flight, first_sent, lag, last_sent, left_kind, on_send, request_to, set_up_flight}, Hearing.{after_request, after_exit, on_packet}}
 use Rattle.dn_machine.specs.declared.{answers.{Heard.Heard, Phase.Phase}, peer.Peer.Peer}
-use Rattle.dn_machine.proofs.{Calls.{build_cases, send_cases, run_cases, quit_cases, packet_cases, sender_after}, Put.{put_at, put_off}, Stages.lag_low}
+use Rattle.dn_machine.proofs.{Calls.{build_cases, send_cases, quit_cases, packet_cases, sender_after}, Put.{put_at, put_off}, Stages.lag_low}
+use Rattle.dn_remain.proofs.Each.{run_but_cases}
 use Rattle.dn_lockstep.specs.{Received.{has_flag, request_in, flight_from, heard_as, read_flight, received}, Phases.hears_none}
 use Rattle.dn_open.specs.{Arrivals.{IsRead, asks_alike, flag_in, heard, is_alike, on_opened}, declared.hearing.Arrived.Arrived}
 use Rattle.dn_open.proofs.Sealables.{flags_at}
@@ -31,8 +32,8 @@ module _ (limits : Limits) (me : ℕ) (node : Node) (to : ℕ) where
   pub build_same : (input : Input) → Same (on_build limits me node input).0
   build_same input = build_cases limits me node Same input (λ full. refl) (λ plays free. refl)
 
-  pub run_same : (marks : ℕ → ℤ) → Same (on_run limits node marks).0
-  run_same marks = run_cases limits me node marks Same (λ waits. refl) (λ player plays none off. refl)
+  pub run_same : (gone : ℕ → Bool) (marks : ℕ → ℤ) → Same (on_run_but limits gone node marks).0
+  run_same gone marks = run_but_cases limits me gone node marks Same (λ waits. refl) (λ player plays none off. refl)
       (λ plays none full. refl) (λ plays none free. refl)
 
   pub quit_same : Same (on_quit node).0

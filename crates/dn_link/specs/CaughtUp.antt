@@ -5,7 +5,7 @@ use Rattle.dn_machine.specs.{Limits.Limits, Node.put, Sending.lag}
 use Rattle.dn_machine.specs.Node as machine
 use Rattle.dn_lockstep.specs.{Told.got, Told.made, Contents.Contents, Represents.Represents}
 use Rattle.dn_open.specs.Sealed.{sealing_of}
-use Rattle.dn_link.specs.{declared.bundle.Bundle.Bundle, declared.bundle.Carried.Carried, Counting.has_ended, Ends.excludes, Kept.IsKeptRising, Kept.Unacknowledged, Kept.end_of, Linked.Linked, Packets.own_in, Packets.packets_in, Reading.IsDatagramOf, Text.IsBundle, Text.sealed_bytes}
+use Rattle.dn_link.specs.{declared.bundle.Bundle.Bundle, declared.bundle.Carried.Carried, Counting.has_ended, Ends.excludes, Kept.IsKeptRising, Kept.Unacknowledged, Kept.end_of, Linked.IsWhole, Linked.Linked, Packets.own_in, Packets.packets_in, Reading.IsDatagramOf, Text.IsBundle, Text.sealed_bytes}
 
 -- from which tic on a peer is to be sent commands: the next packet begins there, unless more were made from
 -- there on than are kept; then it begins with the newest, or behind it where packets repeat none
@@ -82,11 +82,11 @@ pub record IsCaughtUp (limits : Limits) (player peer : ℕ) (mine theirs : Linke
   pub next : has_ended theirs.node ≡ false → next_to mine.node peer ≤ (mine.peers peer).kept.covered
   pub least : has_ended theirs.node ≡ false → next_to mine.node peer ≤ got mine.node player - lag limits
 
--- any two of them
-abbrev pub AreCaughtUp : Limits → (ℕ → Linked) → Type 0
-AreCaughtUp limits links =
-    (player peer : ℕ) → player < limits.players → peer < limits.players → peer ≢ player
-    → IsCaughtUp limits player peer (links player) (links peer)
+-- any two of them, and none has given up another
+pub record AreCaughtUp (limits : Limits) (links : ℕ → Linked) : Type 0 where
+  pub whole : (player : ℕ) → player < limits.players → IsWhole (links player)
+  pub pairs : (player peer : ℕ) → player < limits.players → peer < limits.players → peer ≢ player
+      → IsCaughtUp limits player peer (links player) (links peer)
 
 -- a datagram between two players is one of its sender to a peer who is not given up, and asks for nothing
 -- again; and unless its receiver has ended, its sender's packets have no gap behind what the receiver has of the

@@ -12,10 +12,9 @@ pub mod Linking
 pub mod Packing
 pub mod Kept
 pub mod Hearing
-pub mod LinkedGame
+pub mod RemainingLinks
 pub mod CaughtUp
 pub mod Rounds
-pub mod RemainingLinks
 pub mod Congestion
 pub mod Line
 pub mod Leaning

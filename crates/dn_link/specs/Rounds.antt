@@ -2,17 +2,18 @@
 use Rattle.std.specs.{Prelude.{◌≡◌, ◌≢◌, ◌<◌, ◌≤◌, ℕ, suc, false, ◌+◌, ℤ, List, Option, length}, Prelude.{false}}
 use Rattle.dn_tic.specs.{declared.command.Move.Move, declared.input.Input.Input}
 use Rattle.dn_setup.specs.Settings.{Settings}
-use Rattle.dn_machine.specs.{declared.answers.Made.Made, declared.answers.Phase.TheVariants.Playing, declared.answers.Ran.Ran, Limits.Limits, Running.on_run}
-use Rattle.dn_lockstep.specs.{Told.Builds, Told.made, Marking.Marking, Steps.RunsBy, OneGame.Session}
+use Rattle.dn_machine.specs.{declared.answers.Made.Made, declared.answers.Phase.TheVariants.Playing, declared.answers.Ran.Ran, Limits.Limits}
+use Rattle.dn_lockstep.specs.{Told.Builds, Told.made, Marking.Marking}
+use Rattle.dn_survivor.specs.OneGame.{Session}
 use Rattle.dn_seal.specs.declared.seal.Seal.{Seal}
-use Rattle.dn_link.specs.{declared.received.Received.Received, LinkedGame.IsGenuineDatagram, LinkedGame.AreLinked, CaughtUp.AreCaughtUp, CaughtUp.HasGrown, CaughtUp.IsInStepTo, CaughtUp.next_to, Linked.Gives, Linked.Linked, Linked.Receives, Pacing.PaceState, Packing.parts_room, Pacing.{is_brief}}
+use Rattle.dn_link.specs.{declared.received.Received.Received, RemainingLinks.AreRemainingLinks, RemainingLinks.IsGenuineIn, Surviving.RunsBut, CaughtUp.AreCaughtUp, CaughtUp.HasGrown, CaughtUp.IsInStepTo, CaughtUp.next_to, Linked.Gives, Linked.Linked, Linked.Receives, Pacing.PaceState, Packing.parts_room, Pacing.{is_brief}}
 
 -- the links of a game from one moment to another, in which all players play. From each moment to the next they
 -- grow, as they do by any calls on them (`links_stay_caught_up`)
 pub record Stretch (marking : Marking) (limits : Limits) (settings : Settings) (last : ℕ) : Type 0 where
   pub sessions : ℕ → Session
   pub links : ℕ → ℕ → Linked
-  pub are : (moment : ℕ) → moment ≤ last → AreLinked marking limits settings (sessions moment) (links moment)
+  pub are : (moment : ℕ) → moment ≤ last → AreRemainingLinks marking limits settings (sessions moment) (links moment)
   pub caught_up : (moment : ℕ) → moment ≤ last → AreCaughtUp limits (links moment)
   pub grows : (moment : ℕ) → moment < last → HasGrown limits (links moment) (links (suc moment))
   pub plays : (moment player : ℕ) → moment ≤ last → player < limits.players
@@ -28,7 +29,7 @@ MakesAt links moment player =
 abbrev pub WaitsAt : (ℕ → ℕ → Linked) → ℕ → ℕ → Type 0
 WaitsAt links moment player =
     (marks : List ℤ) × (other : ℕ) × (row : Option (List (Option Move)))
-    × RunsBy marks (links moment player).node (links (suc moment) player).node (λ limits m marks. on_run limits m marks)
+    × RunsBut marks (links moment player) (links (suc moment) player)
     (λ answer told. (Ran.Waiting other ≡ answer) × (row ≡ told))
 
 -- in each of its rounds a player's link is asked for a command, and later runs tics until it waits
@@ -68,7 +69,7 @@ pub record Arrives {marking : Marking} {limits : Limits} {settings : Settings} {
   pub short : parts_room gives.own ≤ 998
   pub size : length bytes ≤ 1200
   pub answer : Received
-  pub genuine : IsGenuineDatagram seal (stretch.sessions taken) peer bytes
+  pub genuine : IsGenuineIn seal (stretch.sessions taken) peer bytes
   pub in_step : IsInStepTo seal limits (stretch.links taken) peer bytes
   pub takes : Receives seal bytes (stretch.links taken peer) (stretch.links (suc taken) peer) answer
 

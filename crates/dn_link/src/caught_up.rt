@@ -1,28 +1,29 @@
-//! That the links of a game are caught up.
+//! That the links of a game are caught up, of which nobody is given up.
 
 ghost use Rattle.std.specs.Prelude.{◌≡◌, ◌≢◌, ◌<◌, ◌≤◌, ◌+◌, ◌*◌, ℕ, ℤ, Bool, false, List, Option, Some, IfSome, length};
 ghost use Rattle.dn_tic.specs.declared.{command.Move.Move, input.Input.Input};
 ghost use Rattle.dn_setup.specs.Settings.{Settings};
-ghost use Rattle.dn_machine.specs.{declared.answers.{Made.Made, Ran.Ran, Phase.TheVariants.Playing}, Limits.Limits, Node.put, Running.{on_run, on_quit}, Sending.lag, Started.started_node};
-ghost use Rattle.dn_lockstep.specs.{Told.{Builds, got, made}, Marking.Marking, Sent.{IsFair, sent_to}, Represents.Represents, Steps.{RunsBy, Steps, Tells}, OneGame.Session};
+ghost use Rattle.dn_machine.specs.{declared.answers.{Made.Made, Ran.Ran, Phase.TheVariants.Playing}, Limits.Limits, Node.put, Running.on_quit, Sending.lag, Started.started_node};
+ghost use Rattle.dn_lockstep.specs.{Told.{Builds, got, made}, Marking.Marking, Sent.{IsFair, sent_to}, Represents.Represents, Steps.{Steps, Tells}};
+ghost use Rattle.dn_survivor.specs.{OfOthers.nothing_kept, OneGame.Session};
 ghost use Rattle.dn_open.specs.Sealed.{sealing_of};
 ghost use Rattle.dn_seal.specs.declared.seal.Seal.{Seal};
-ghost use Rattle.dn_link.specs.{CaughtUp.{Brings, HasGrown, IsInStep, AreCaughtUp, IsInStepTo, StayCaughtUp, WasInStep, next_to}, Kept.{end_of, taken_by}, Reading.IsDatagramOf, Text.parts_bytes};
-ghost use Rattle.dn_link.specs.{declared.{bundle.{Bundle.Bundle, Carried.Carried}, received.Received.Received}, LinkedGame.{IsGenuineDatagram, AreLinked}, Counting.has_ended, Linking.new_peer};
-ghost use Rattle.dn_link.specs.{Rounds.{AreRounds, AreFairLines, Stretch}, Linked.{Gives, Linked, Receives}, Pacing.PaceState};
+ghost use Rattle.dn_link.specs.{CaughtUp.{Brings, HasGrown, IsInStep, AreCaughtUp, IsInStepTo, StayCaughtUp, WasInStep, next_to}, Kept.{end_of, taken_by}, Reading.IsDatagramOf};
+ghost use Rattle.dn_link.specs.{declared.{bundle.{Bundle.Bundle, Carried.Carried}, received.Received.Received}, RemainingLinks.{AreRemainingLinks, IsGenuineIn}, Counting.has_ended, Linking.new_peer};
+ghost use Rattle.dn_link.specs.{Rounds.{AreRounds, AreFairLines, Stretch}, Linked.{Gives, Linked, Receives}, Pacing.PaceState, Surviving.RunsBut};
 ghost use Rattle.dn_link.specs.Packing.{parts_room};
 ghost use Rattle.dn_link.specs.Pacing.{is_brief};
 
-use crate::laws::{bundles_are_read_back, linked_game_goes_on};
-use dn_lockstep::locksteps_agree;
-use dn_open::letters_keep_one_game;
+use crate::laws::bundles_are_read_back;
+use crate::remaining::remaining_links_go_on;
 
 /// New links of the same limits are caught up.
-#[tactic(auto, using(dn_lockstep::proofs::Shown::has))]
+#[tactic(auto, using(crate::proofs::Relinking::new_whole, dn_lockstep::proofs::Shown::has))]
 pub fn links_open_caught_up()
     ensures { (limits : Limits) (settings : Settings) (links : ℕ → Linked)
         → ((player : ℕ) → player < limits.players
         → Represents limits player (links player).node (started_node limits.players settings player))
+        → ((player : ℕ) → player < limits.players → (links player).others ≡ nothing_kept)
         → ((player peer : ℕ) → player < limits.players → (links player).peers peer ≡ new_peer)
         → AreCaughtUp limits links }
 {}
@@ -32,23 +33,23 @@ pub fn links_open_caught_up()
 pub fn links_stay_caught_up()
     ensures built { (marking : Marking) (limits : Limits) (settings : Settings) (session : Session) (links : ℕ → Linked)
         (player : ℕ) (new : Linked) (input : Input) (made : Made)
-        → AreLinked marking limits settings session links → AreCaughtUp limits links → player < limits.players
-        → Builds (links player).node new.node input made → new.peers ≡ (links player).peers
+        → AreRemainingLinks marking limits settings session links → AreCaughtUp limits links → player < limits.players
+        → Builds (links player).node new.node input made → new.others ≡ (links player).others
+        → new.peers ≡ (links player).peers
         → StayCaughtUp limits links player new }
     ensures ran { (marking : Marking) (limits : Limits) (settings : Settings) (session : Session) (links : ℕ → Linked)
         (player : ℕ) (new : Linked) (marks : List ℤ) (ran : Ran) (row : Option (List (Option Move)))
-        → AreLinked marking limits settings session links → AreCaughtUp limits links → player < limits.players
-        → RunsBy marks (links player).node new.node (λ limits m marks. on_run limits m marks)
-        (λ answer told. (ran ≡ answer) × (row ≡ told))
-        → new.peers ≡ (links player).peers → StayCaughtUp limits links player new }
+        → AreRemainingLinks marking limits settings session links → AreCaughtUp limits links → player < limits.players
+        → RunsBut marks (links player) new (λ answer told. (ran ≡ answer) × (row ≡ told))
+        → new.others ≡ (links player).others → new.peers ≡ (links player).peers → StayCaughtUp limits links player new }
     ensures quit { (marking : Marking) (limits : Limits) (settings : Settings) (session : Session) (links : ℕ → Linked)
         (player : ℕ) (new : Linked) (quit : Bool)
-        → AreLinked marking limits settings session links → AreCaughtUp limits links → player < limits.players
+        → AreRemainingLinks marking limits settings session links → AreCaughtUp limits links → player < limits.players
         → Steps (links player).node new.node (λ limits me m. on_quit m) (λ answer. quit ≡ answer)
-        → new.peers ≡ (links player).peers → StayCaughtUp limits links player new }
+        → new.others ≡ (links player).others → new.peers ≡ (links player).peers → StayCaughtUp limits links player new }
     ensures gave { (marking : Marking) (limits : Limits) (settings : Settings) (session : Session) (links : ℕ → Linked)
         (player to : ℕ) (seal : Seal) (pace : PaceState) (new : Linked) (bytes : List ℕ)
-        → AreLinked marking limits settings session links → AreCaughtUp limits links → limits.players ≤ 4
+        → AreRemainingLinks marking limits settings session links → AreCaughtUp limits links
         → player < limits.players → to < limits.players → to ≢ player
         → Tells (links player).node (λ limits me m. IfSome (sent_to to limits me m).1 IsFair)
         → (has_ended (links to).node ≡ false
@@ -57,19 +58,18 @@ pub fn links_stay_caught_up()
         → WasInStep seal limits (put links player new) bytes × StayCaughtUp limits links player new }
     ensures received { (marking : Marking) (limits : Limits) (settings : Settings) (session : Session) (links : ℕ → Linked)
         (player : ℕ) (seal : Seal) (bytes : List ℕ) (new : Linked) (answer : Received)
-        → AreLinked marking limits settings session links → AreCaughtUp limits links → player < limits.players
-        → IsGenuineDatagram seal session player bytes → IsInStepTo seal limits links player bytes
+        → AreRemainingLinks marking limits settings session links → AreCaughtUp limits links → player < limits.players
+        → IsGenuineIn seal session player bytes → IsInStepTo seal limits links player bytes
         → Receives seal bytes (links player) new answer
         → StayCaughtUp limits links player new }
     ensures kept { (marking : Marking) (limits : Limits) (settings : Settings) (session : Session) (links : ℕ → Linked)
         (player : ℕ) (new : Linked)
-        → AreLinked marking limits settings session links → AreCaughtUp limits links → player < limits.players
-        → new.node ≡ (links player).node → new.peers ≡ (links player).peers
+        → AreRemainingLinks marking limits settings session links → AreCaughtUp limits links → player < limits.players
+        → new.node ≡ (links player).node → new.others.gone ≡ (links player).others.gone
+        → new.peers ≡ (links player).peers
         → StayCaughtUp limits links player new }
 {
-    linked_game_goes_on();
-    locksteps_agree();
-    letters_keep_one_game();
+    remaining_links_go_on();
 }
 
 /// So nothing of a peer that has not ended is lost or left out. A player has made at most two windows of
@@ -79,27 +79,25 @@ pub fn links_stay_caught_up()
 pub fn caught_up_links_cover()
     ensures few { (marking : Marking) (limits : Limits) (settings : Settings) (session : Session) (links : ℕ → Linked)
         (player to : ℕ)
-        → AreLinked marking limits settings session links → AreCaughtUp limits links
+        → AreRemainingLinks marking limits settings session links → AreCaughtUp limits links
         → player < limits.players → to < limits.players → to ≢ player → has_ended (links to).node ≡ false
         → made (links player).node ≤ ((links player).peers to).kept.done + (limits.ahead + limits.ahead) }
     ensures in_time { (marking : Marking) (limits : Limits) (settings : Settings) (session : Session) (links : ℕ → Linked)
         (player to : ℕ)
-        → AreLinked marking limits settings session links → AreCaughtUp limits links
+        → AreRemainingLinks marking limits settings session links → AreCaughtUp limits links
         → player < limits.players → to < limits.players → to ≢ player
         → limits.ahead + limits.ahead + lag limits ≤ limits.places → has_ended (links to).node ≡ false
         → got (links to).node player ≤ next_to (links player).node to + lag limits
         → made (links player).node ≤ next_to (links player).node to + (links player).node.places }
     ensures covered { (marking : Marking) (limits : Limits) (settings : Settings) (session : Session) (links : ℕ → Linked)
         (player to : ℕ) (seal : Seal) (pace : PaceState) (new : Linked) (bytes : List ℕ)
-        → AreLinked marking limits settings session links → AreCaughtUp limits links → limits.players ≤ 4
+        → AreRemainingLinks marking limits settings session links → AreCaughtUp limits links
         → player < limits.players → to < limits.players → to ≢ player → has_ended (links to).node ≡ false
         → made (links player).node ≤ next_to (links player).node to + (links player).node.places
         → (gives : Gives seal pace to (links player) new bytes) (packet : Carried)
         → taken_by ((links player).peers to).left gives.given ≡ Some packet
         → end_of packet ≤ (new.peers to).kept.covered }
-{
-    locksteps_agree();
-}
+{}
 
 /// What arrives brings all. Whatever datagram of one that plays comes to a player that plays, whenever it
 /// comes, and however many others did not, if it is no brief one: the player has then each command that its sender
@@ -109,7 +107,7 @@ pub fn caught_up_links_cover()
 pub fn links_bring_all()
     ensures given { (marking : Marking) (limits : Limits) (settings : Settings) (session : Session) (links : ℕ → Linked)
         (player to : ℕ) (seal : Seal) (pace : PaceState) (new : Linked) (bytes : List ℕ)
-        → AreLinked marking limits settings session links → AreCaughtUp limits links
+        → AreRemainingLinks marking limits settings session links → AreCaughtUp limits links
         → player < limits.players → to < limits.players → to ≢ player
         → (has_ended (links to).node ≡ false
         → made (links player).node ≤ next_to (links player).node to + (links player).node.places)
@@ -123,16 +121,14 @@ pub fn links_bring_all()
         → IsInStep limits later bundle × Brings count later bundle }
     ensures brought { (marking : Marking) (limits : Limits) (settings : Settings) (session : Session) (links : ℕ → Linked)
         (player : ℕ) (seal : Seal) (bytes : List ℕ) (new : Linked) (answer : Received) (bundle : Bundle) (count : ℕ)
-        → AreLinked marking limits settings session links → AreCaughtUp limits links → player < limits.players
-        → IsGenuineDatagram seal session player bytes → IsInStepTo seal limits links player bytes
+        → AreRemainingLinks marking limits settings session links → AreCaughtUp limits links → player < limits.players
+        → IsGenuineIn seal session player bytes → IsInStepTo seal limits links player bytes
         → Receives seal bytes (links player) new answer
         → IsDatagramOf (sealing_of seal player) bytes bundle → new.node.phase ≡ Playing
         → Brings count links bundle → count ≤ got new.node bundle.from }
 {
-    linked_game_goes_on();
-    locksteps_agree();
+    remaining_links_go_on();
     bundles_are_read_back();
-    letters_keep_one_game();
 }
 
 /// A game goes on, and at full speed. Let the lines between any two who play let through one of the datagrams
@@ -159,5 +155,4 @@ pub fn links_run_on()
         → least + (round + 2) ≤ (stretch.links (rounds.waited round player) player).node.ran + (k + d) }
 {
     links_bring_all();
-    locksteps_agree();
 }

@@ -40,17 +40,14 @@ pub use caught_up::{
     links_stay_caught_up,
 };
 pub use ends::PROBE;
-pub use laws::{
-    acknowledged_is_there, bundles_are_read_back, datagrams_keep_one_game, leaving_is_safe,
-    linked_game_goes_on, linked_game_starts, links_agree, sealed_datagrams_are_genuine,
-};
+pub use laws::bundles_are_read_back;
 pub use link::Link;
 pub use onward::{given_is_covered, kept_covers};
 pub use reading::open_bundle;
 pub use received::Received;
 pub use remaining::{
-    remaining_bytes_are_genuine, remaining_links_agree, remaining_links_go_on,
-    remaining_links_start,
+    acknowledged_is_there, leaving_is_safe, links_have_windows, remaining_bytes_are_genuine,
+    remaining_links_agree, remaining_links_go_on, remaining_links_start,
 };
 pub use resting::players_rest_briefly;
 pub use tally::Figures;

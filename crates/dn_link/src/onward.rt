@@ -7,11 +7,11 @@ ghost use Rattle.dn_link.specs.Pacing.{is_brief};
 ghost use Rattle.std.specs.Prelude.{false};
 ghost use Rattle.dn_packet.specs.Read.{AreBytes};
 ghost use Rattle.dn_setup.specs.Settings.{Settings};
-ghost use Rattle.dn_machine.specs.{declared.answers.{Made.Made, Ran.Ran}, Sending.on_build, Started.started_node, Limits.Limits, Running.{on_run, on_quit}};
-ghost use Rattle.dn_lockstep.specs.{Represents.Represents, Steps.{RunsBy, Steps}, Told.made};
+ghost use Rattle.dn_machine.specs.{declared.answers.{Made.Made, Ran.Ran}, Sending.on_build, Started.started_node, Limits.Limits, Running.on_quit};
+ghost use Rattle.dn_lockstep.specs.{Represents.Represents, Steps.Steps, Told.made};
 ghost use Rattle.dn_seal.specs.declared.seal.Seal.{Seal};
 ghost use Rattle.dn_link.specs.{Kept.{end_of, taken_by, Reaches, IsCovering, IsKeptRising, Unacknowledged, has_tic}, declared.{bundle.Carried.Carried, received.Received.Received, link.Link.Link}};
-ghost use Rattle.dn_link.specs.{Linked.{Gives, Linked, Receives}, Linking.{new_peer, linked}, CaughtUp.{AsksWithin, GoesOn, IsInTime, StillGoesOn}, Pacing.PaceState, Text.parts_bytes};
+ghost use Rattle.dn_link.specs.{Linked.{Gives, Linked, Receives}, Linking.{new_peer, linked}, CaughtUp.{AsksWithin, GoesOn, IsInTime, StillGoesOn}, Pacing.PaceState, Surviving.RunsBut};
 ghost use Rattle.dn_link.specs.Packets.{opened_from, packets_of};
 ghost use Rattle.dn_link.specs.Packing.{parts_room};
 
@@ -49,7 +49,7 @@ pub fn kept_covers()
 /// not acknowledged. While nobody is given up, the links of one game are caught up: then a peer asks for no
 /// commands again, and has acknowledged all but two windows of them, which are twenty-four at most. So
 /// `caught_up_links_cover` (`covered`) needs neither premise, but only that no more commands were made than the
-/// node keeps. A run counts where nobody is given up; of giving a player up for good nothing is said here.
+/// node keeps. Of giving a player up for good nothing is said here.
 #[tactic(auto, using(crate::proofs::Requests::received, crate::proofs::Following::builds, crate::proofs::Following::covers, crate::proofs::Following::gives_another, crate::proofs::Following::quits, crate::proofs::Following::runs))]
 pub fn given_is_covered()
     ensures opened { (limits : Limits) (settings : Settings) (me to : ℕ) (link : Linked)
@@ -61,8 +61,7 @@ pub fn given_is_covered()
         → new.peers ≡ old.peers → StillGoesOn limits me to old new }
     ensures ran { (limits : Limits) (me to : ℕ) (old new : Linked) (marks : List ℤ) (ran : Ran)
         (row : Option (List (Option Move))) → GoesOn limits me to old
-        → RunsBy marks old.node new.node (λ limits m marks. on_run limits m marks)
-        (λ answer told. (ran ≡ answer) × (row ≡ told))
+        → RunsBut marks old new (λ answer told. (ran ≡ answer) × (row ≡ told))
         → new.peers ≡ old.peers → StillGoesOn limits me to old new }
     ensures quit { (limits : Limits) (me to : ℕ) (old new : Linked) (quit : Bool) → GoesOn limits me to old
         → Steps old.node new.node (λ limits me m. on_quit m) (λ answer. quit ≡ answer)

@@ -12,7 +12,7 @@ use Rattle.dn_machine.specs.{Limits.Limits, Node.put}
 use Rattle.dn_machine.proofs.Put.{put_at, put_off, view_kept}
 use Rattle.dn_seal.specs.declared.seal.Seal.{Seal}
 use Rattle.dn_survivor.specs.OneGame.{Session}
-use Rattle.dn_link.specs.{Linking.{linked, seal_of}, RemainingLinks.{IsGenuineIn, KeepsGiven, WasSealedIn}, Linked.Linked}
+use Rattle.dn_link.specs.{Linking.{linked, seal_of}, RemainingLinks.{IsGenuineIn, IsLater, WasSealedIn}, Linked.Linked}
 use Rattle.dn_link_game.specs.{Games.IsLinkGame, Applied.AddsToGiven, Does.with_one, Genuine.{IsGenuine, IsGenuineEvent, WasGiven, was_given}, Headline.HasPlayer, declared.game.LinkGame.LinkGame, declared.player.Player.Player, Playing.{Asked, GoesOnIf, GoesTo, IsPlayer, Seen, is_send}}
 use Rattle.dn_link_game.specs.declared.calls.{LinkCall.{LinkCall, TheVariants.{Build, CatchUp, Tick, Run, Send, Receive, GiveUp, Quit}}, LinkDone.LinkDone, LinkEvent.TheVariants.Call, LinkRefusal.LinkRefusal, Sending.Sending}
 
@@ -54,7 +54,7 @@ keeps old new answer (Some bytes) is told = record {
 
 -- what was sealed stays so
 abbrev Stays : Type 0
-Stays = (seal : Seal) (session later : Session) (bytes : List ℕ) → KeepsGiven session later
+Stays = (seal : Seal) (session later : Session) (bytes : List ℕ) → IsLater session later
     → WasSealedIn seal session bytes → WasSealedIn seal later bytes
 
 module _ {W S : Type 0} (state : W → S) (physics : Physics S) (old new : LinkGame W) (me : ℕ) (before after : Player W)

@@ -9,7 +9,8 @@ use Rattle.dn_lockstep.specs.{Marking.Marking, OneGame.told_on}
 use Rattle.dn_seal.specs.declared.seal.Seal.{Seal}
 use Rattle.dn_survivor.specs.OneGame.{Session, after_build, after_run, with_survivor}
 use Rattle.dn_link.specs.{Linked.surviving_of, Linking.linked, Linking.seal_of, Pacing.pace_of, RemainingLinks.AreRemainingLinks}
-use Rattle.dn_link.specs.{Linked.Receives, RemainingLinks.IsGenuineIn, RemainingLinks.KeepsGiven, RemainingLinks.StayRemaining, declared.link.Link.Link}
+use Rattle.dn_link.specs.{Linked.Receives, RemainingLinks.IsGenuineIn, RemainingLinks.IsLater, RemainingLinks.StayRemaining, declared.link.Link.Link}
+use Rattle.dn_link.proofs.Knowing.{later_on}
 use Rattle.dn_link.proofs.RemainingCalls as calls
 use Rattle.dn_link.proofs.RemainingReceives.{received}
 use Rattle.dn_session.specs.Playing.{Builds, CatchesUp, EndsNow, GivesUpNow, GivesWhen, HearsBytes, LeavesGame, PassesTime, Playing, PlaysOn, Polls, RunsNext, RunsTic, TicksWhen, after_half, looks, view}
@@ -45,19 +46,13 @@ untold told p other = elim (cases_eq other p) [
   | inr off ↦ sym (put_off told p other (told p) off)
 ]
 
-later_given : (one two three : Session) → KeepsGiven one two → KeepsGiven two three → KeepsGiven one three
-later_given one two three a b = record {
-  packets = λ which packet found. b.packets which packet (a.packets which packet found);
-  reports = λ which given found. b.reports which given (a.reports which given found);
-}
-
 -- with a new part of a player they are those of the game in a later session, in which nothing that was given is
 -- gone, and this player's run told this row, if there is one
 pub record GoOn (marking : Marking) (limits : Limits) (settings : Settings) (seal : Seal) (session : Session)
     (parts : ℕ → Playing) (player : ℕ) (new : Playing) (row : Option (List (Option Move))) : Type 0 where
   pub later : Session
   pub stay : AreParts marking limits settings seal later (put parts player new)
-  pub given : KeepsGiven session later
+  pub given : IsLater session later
   pub told : (other : ℕ) → later.told other ≡ put session.told player (told_on (session.told player) row) other
 
 module _ (marking : Marking) (limits : Limits) (settings : Settings) (seal : Seal) where
@@ -133,7 +128,7 @@ module _ (marking : Marking) (limits : Limits) (settings : Settings) (seal : Sea
     andthen mid new row first second = record {
       later = second.later;
       stay = subst (Are second.later) (twice parts p mid new) second.stay;
-      given = later_given session first.later second.later first.given second.given;
+      given = later_on session first.later second.later first.given second.given;
       told = λ other. second.told other ∙ sym (untold first.later.told p other) ∙ first.told other;
     }
 

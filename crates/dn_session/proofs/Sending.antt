@@ -7,8 +7,8 @@ use Rattle.dn_machine.specs.{Flight.Flight, Limits.Limits}
 use Rattle.dn_lockstep.specs.Marking.{Marking}
 use Rattle.dn_seal.specs.declared.seal.Seal.{Seal}
 use Rattle.dn_survivor.specs.OneGame.{Session, with_survivor}
-use Rattle.dn_link.specs.{Linked.Gives, Linked.Linked, Linked.exclusion, Linked.has_given_up, Linked.is_peer, Linked.probe, Linked.remains, Linked.surviving_of, Linking.linked, Linking.seal_of}
-use Rattle.dn_link.specs.{Pacing.pace_of, RemainingLinks.StayRemaining, RemainingLinks.WasSealedIn, RemainingLinks.after_datagram, Text.IsBundle, Text.sealed_bytes, declared.bundle.Bundle.Bundle}
+use Rattle.dn_link.specs.{Counting.counts_of, Line.own_echo, Linked.Gives, Linked.Linked, Linked.exclusion, Linked.has_given_up, Linked.is_peer, Linked.probe, Linked.remains, Linked.surviving_of, Linking.linked, Linking.seal_of}
+use Rattle.dn_link.specs.{Pacing.pace_of, RemainingLinks.IsLater, RemainingLinks.StayRemaining, RemainingLinks.WasSealedIn, RemainingLinks.after_datagram, Text.IsBundle, Text.sealed_bytes, declared.bundle.Bundle.Bundle}
 use Rattle.dn_link.proofs.RemainingCalls.{counted}
 use Rattle.dn_session.specs.{Parts.AreParts, Parts.links_of, Playing.Playing, Playing.ended_as, Playing.from_turn, declared.greeting.Address.Address}
 use Rattle.dn_session.specs.Sent.{Excludes, IsFairTo, SendsFirst, SendsNext, SendsOn, SendsTo, Probes, ProbesFirst, first_owed, first_owed_exclusion, first_owed_probe, is_owed, is_owed_probe}
@@ -67,18 +67,23 @@ module _ (marking : Marking) (limits : Limits) (settings : Settings) (seal : Sea
       × WasSealedIn own (after_datagram session p to packet gives) bytes
       × StayRemaining marking limits settings session links p (linked new.link)
       (after_datagram session p to packet gives))
-      (empty : (later : Session) (told : Bundle) → IsBundle told → told.parts.items ≡ [] → told.report.items ≡ []
-      → WasSealedIn seal later (sealed_bytes seal told)) where
+      (empty : (told : Bundle) (echo : ℕ) → IsBundle told → told.from ≡ (links p).node.me
+      → told.counts ≡ counts_of (links p).node echo → told.parts.items ≡ [] → told.report.items ≡ []
+      → WasSealedIn seal session (sealed_bytes seal told))
+      (stay : (later : Session) (bytes : List ℕ) → IsLater session later → WasSealedIn seal session bytes
+      → WasSealedIn seal later bytes) where
     -- one without packets was sent
-    sends_empty : (test : Bool) (told : Bundle) (to : Address) (bytes : List ℕ)
-        → (if test then Some (sealed_bytes own told) else None) ≡ Some bytes → IsBundle told → told.parts.items ≡ []
+    sends_empty : (test : Bool) (told : Bundle) (echo : ℕ) (to : Address) (bytes : List ℕ)
+        → (if test then Some (sealed_bytes own told) else None) ≡ Some bytes → IsBundle told
+        → told.from ≡ (links p).node.me → told.counts ≡ counts_of (links p).node echo → told.parts.items ≡ []
         → told.report.items ≡ [] → sent ≡ Some (to, bytes) → On → Sends
-    sends_empty test told to bytes spelled fits parts_none report_none is on =
+    sends_empty test told echo to bytes spelled fits from counts parts_none report_none is on =
         let text : bytes ≡ sealed_bytes seal told = given_if test (sealed_bytes own told) bytes spelled
         ∙ ap (λ (k : Seal). sealed_bytes k told) (are.sealed p few) in (
           on,
           was_sealed on.later to bytes is
-              (subst (WasSealedIn seal on.later) (sym text) (empty on.later told fits parts_none report_none)),
+              (subst (WasSealedIn seal on.later) (sym text) (stay on.later (sealed_bytes seal told) on.given
+              (empty told echo fits from counts parts_none report_none))),
         )
 
     excludes : (first : Option ℕ) → Excludes first (parts p) new sent → Sends
@@ -88,8 +93,8 @@ module _ (marking : Marking) (limits : Limits) (settings : Settings) (seal : Sea
           inr (subst (λ (o : Option (Address × List ℕ)). IfSome o (λ one. WasSealedIn seal on.later one.1)) (sym is.0) tt),
         )
     excludes (Some player) is =
-        sends_empty (is_peer (links p).node player && has_given_up (links p) player) (exclusion (links p) player) is.0
-        is.1 is.4 is.5 refl refl is.3
+        sends_empty (is_peer (links p).node player && has_given_up (links p) player) (exclusion (links p) player) 0 is.0
+        is.1 is.4 is.5 refl refl refl refl is.3
         (same (ap (λ (q : Playing). linked q.link) is.6) (ap (λ (q : Playing). seal_of q.link) is.6))
 
     sends_to : (player : ℕ) → remains (links p) player ≡ true → SendsTo player (parts p) new sent → Sends
@@ -101,8 +106,8 @@ module _ (marking : Marking) (limits : Limits) (settings : Settings) (seal : Sea
 
     probes : (player : ℕ) → Probes player (parts p) new sent → Sends
     probes player is =
-        sends_empty (remains (links p) player) (probe (pace_of (parts p).link) (links p) player) is.0 is.1 is.4 is.5
-        refl refl is.3
+        sends_empty (remains (links p) player) (probe (pace_of (parts p).link) (links p) player)
+        (own_echo ((pace_of (parts p).link).lines player)) is.0 is.1 is.4 is.5 refl refl refl refl is.3
         (silently marking limits settings seal session parts p are few new
         (with_survivor session p (surviving_of (linked new.link))) is.7
         (counted marking limits settings session links are.links p few player (linked new.link) is.6) refl)

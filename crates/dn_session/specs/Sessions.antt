@@ -4,7 +4,7 @@ use Rattle.dn_tic.specs.declared.command.Move.{Move}
 use Rattle.dn_machine.specs.Node.{put}
 use Rattle.dn_lockstep.specs.{Marking.Marking, OneGame.told_on}
 use Rattle.dn_survivor.specs.OneGame.{Session}
-use Rattle.dn_link.specs.RemainingLinks.{KeepsGiven}
+use Rattle.dn_link.specs.RemainingLinks.{IsLater}
 use Rattle.dn_session.specs.{Parts.AreParts, Parts.limits_of, Playing.Playing, Playing.playing, Roster.IsSide, Roster.Place, Roster.key_of, Roster.number_of_game, Roster.place_in, Roster.text_of_game, Session.IsLinkOf, Session.Meeting, Session.begun_in, Text.game_seal, declared.part.Part.Part, declared.side.Begun.Begun, declared.side.Side.Side}
 
 -- a session plays the game that another has begun, as this player: its own has begun, under the same key, with the same
@@ -37,7 +37,7 @@ pub record StaySessions (marking : Marking) (secret : Option (List ℕ)) (b : Be
     (meetings : ℕ → Meeting) (player : ℕ) (new : Meeting) (row : Option (List (Option Move))) : Type 0 where
   pub later : Session
   pub stay : AreSessions marking secret b later (put meetings player new)
-  pub given : KeepsGiven session later
+  pub given : IsLater session later
   pub told : (other : ℕ) → later.told other ≡ put session.told player (told_on (session.told player) row) other
 
 -- whatever does this to one of them, they stay so, and no row is told

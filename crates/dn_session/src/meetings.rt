@@ -11,8 +11,9 @@ ghost use Rattle.dn_session.specs.{Parts.limits_of, Parts.links_of, Parts.AreMar
 ghost use Rattle.dn_session.specs.Session.{begins_now, begun_in, link_in, passing_in, Begins, GivesPart, GivesUpPart, HearsAny, IsLinkOf, IsPartOf, Kicks, Meeting, PassesTo, QuitsPart, RunsPart, Sends};
 ghost use Rattle.dn_session.specs.Sessions.{AreKeptBy, AreSessions, IsPartFor, PlaysWith, StaySessions};
 
-use dn_link::{remaining_bytes_are_genuine, remaining_links_go_on, remaining_links_start};
-use dn_lockstep::windows_hold;
+use dn_link::{
+    links_have_windows, remaining_bytes_are_genuine, remaining_links_go_on, remaining_links_start,
+};
 
 /// Two sessions that play a game in one place have one number: where no two have drawn one, they are one session.
 /// The part that a session makes has the link of its place. And the sessions of a game, as long as each part has
@@ -32,7 +33,7 @@ pub fn sessions_play()
         (started_session b.terms.players b.terms.settings (λ p. surviving_of (links_of parts p))) meetings }
 {
     remaining_links_start();
-    windows_hold();
+    links_have_windows();
 }
 
 /// And so they stay after each call on one of them, as long as what a part opens was sealed in this game before. What

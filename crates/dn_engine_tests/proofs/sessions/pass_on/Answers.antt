@@ -4,18 +4,11 @@ use Rattle.std.specs.Option.{option_map}
 use Rattle.std.specs.Prelude.{IfSome}
 use Rattle.dn_machine.specs.Node.{put}
 use Rattle.dn_machine.proofs.Put.{put_off}
-use Rattle.dn_survivor.specs.OneGame.{Session}
-use Rattle.dn_link.specs.RemainingLinks.{KeepsGiven, WasSealedIn}
+use Rattle.dn_link.proofs.Knowing.{later_on}
+use Rattle.dn_link.specs.RemainingLinks.{WasSealedIn}
 use Rattle.dn_session.specs.{Parts.limits_of, Parts.links_of, Passing.sent_of, Session.HearsAny, Session.Meeting, Session.Sends, Session.meeting, Session.passing_in, Text.game_seal}
 use Rattle.dn_session.specs.declared.{greeting.Address.Address, part.sending.Transmit.Transmit}
 use Rattle.dn_engine_tests.proofs.sessions.pass_on.Goals as goal
-
--- what was given stays so over two calls
-twice_given : (one two three : Session) → KeepsGiven one two → KeepsGiven two three → KeepsGiven one three
-twice_given one two three a b = record {
-  packets = λ which packet found. b.packets which packet (a.packets which packet found);
-  reports = λ which given found. b.reports which given (a.reports which given found);
-}
 
 pub returns-in-Some : goal.returns-in-Some
 returns-in-Some c = λ marking secret b history meetings p q are mine yours apart here there no_reply no_call no_passing.
@@ -41,7 +34,7 @@ returns-in-Some c = λ marking secret b history meetings p q are mine yours apar
     record {
       later = came.later;
       are = came.stay;
-      given = twice_given history gone.0.later came.later gone.0.given came.given;
+      given = later_on history gone.0.later came.later gone.0.given came.given;
       agreed = c.remaining_links_agree.ensures.agreed marking (limits_of b.terms) b.terms.settings came.later
           (links_of came.stay.parts) came.stay.are.links;
     }
@@ -58,7 +51,7 @@ returns-in_default c = λ marking secret b history meetings p q are mine yours a
     record {
       later = came.later;
       are = came.stay;
-      given = twice_given history gone.0.later came.later gone.0.given came.given;
+      given = later_on history gone.0.later came.later gone.0.given came.given;
       agreed = c.remaining_links_agree.ensures.agreed marking (limits_of b.terms) b.terms.settings came.later
           (links_of came.stay.parts) came.stay.are.links;
     }

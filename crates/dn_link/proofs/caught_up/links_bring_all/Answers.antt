@@ -1,11 +1,10 @@
-use Rattle.dn_lockstep.specs.OneGame.{with_lockstep}
 use Rattle.dn_link.proofs.{Bringing.brings, Bringing.brings_on, Bringing.in_step_on, CatchingIn.brought}
 use Rattle.dn_link.proofs.caught_up.links_bring_all.Goals as goal
 
 pub returns-clause-given : goal.returns-clause-given
 returns-clause-given c = λ marking limits settings session links player to seal pace new bytes linked
     were mine below apart in_time near plays full gives few short. brings marking limits settings session links
-    player linked mine were to below apart seal pace new bytes full gives in_time near plays few short
+    linked player mine were to below apart seal pace new bytes full gives in_time near plays few short
 
 pub returns-clause-stay : goal.returns-clause-stay
 returns-clause-stay c = λ limits links later bundle count grown step brings_it. (
@@ -16,10 +15,7 @@ returns-clause-stay c = λ limits links later bundle count grown step brings_it.
 pub returns-clause-brought : goal.returns-clause-brought
 returns-clause-brought c = λ marking limits settings session links player seal bytes new answer bundle count
     linked were mine genuine in_step receives is plays brings_it.
-    let agreed = c.locksteps_agree.ensures.agreed marking limits settings session linked.game in
-    let later = c.linked_game_goes_on.ensures.received marking limits settings session links player seal
+    let later = c.remaining_links_go_on.ensures.received marking limits settings session links player seal
     bytes new answer linked mine genuine receives in
-    brought c.letters_keep_one_game.ensures marking limits settings session links player linked mine agreed were
-    new later.0 later.1 (c.locksteps_agree.ensures.agreed marking limits settings
-    (with_lockstep session player new.node) later.0.game) seal bytes answer genuine in_step
-    c.bundles_are_read_back.ensures bundle is plays count brings_it receives
+    brought marking limits settings session links linked player mine were new later.0 later.1 seal bytes answer genuine
+    in_step c.bundles_are_read_back.ensures bundle is plays count brings_it receives

@@ -1,21 +1,22 @@
 -- How many tics are run in rounds, over plain numbers.
 use Rattle.std.proofs.Common.{◌≡◌, ◌<◌, ◌≤◌, ◌+◌, ◌-◌, ◌*◌, ℕ, zero, suc, subst, arith, inl, inr, ℤ, ◌≢◌, ◌++◌, [], ◌∷◌, Bool, true, false, List, length, refl, ap, sym, ◌∙◌, Option, Some, None}
 use Rattle.std.proofs.{lemmas.{Bool.{cases_lt, and_parts, and_right, cases_eq, cond_both, leb-true}, List.length-append, Option.{none-some, same_Some}}, Math.Nat.{mul-zero, mul-suc}}
-use Rattle.std.specs.{Prelude.{min, if◌then◌else◌, ◌==◌, nat_le, not, unwrap_or}, Option.option_or}
+use Rattle.std.specs.{Prelude.{min, if◌then◌else◌, ◌==◌, nat_le, not}, Option.option_or}
 use Rattle.dn_tic.specs.declared.{command.TicCmd.TicCmd, input.Input.Input}
 use Rattle.dn_setup.specs.Settings.{Settings}
-use Rattle.dn_machine.specs.{Running.{first_off_but, is_absent, is_awaited, nobody, on_run, on_run_but_in, on_run_playing, full_at, row_held}, Sending.on_build, Limits.Limits}
+use Rattle.dn_machine.specs.{Running.{first_off_but, is_absent, is_awaited, on_run_but, on_run_but_in, on_run_playing, full_at, row_held}, Sending.on_build, Limits.Limits}
 use Rattle.dn_machine.specs.{declared.answers.{Phase.{Phase, TheVariants.Playing}, Ran.Ran}, Node.{is_ended, lowest, put}}
 use Rattle.dn_machine.proofs.{Calls.build_cases, Put.{put_at, put_off}}
-use Rattle.dn_lockstep.specs.{Agreed.AreAgreed, Contents.{Contents, end_in}, Marking.Marking, Represents.Represents, Steps.marks_in, OneGame.Session, Told.{got, made}}
+use Rattle.dn_lockstep.specs.{Marking.Marking, Represents.Represents, Steps.marks_in, Told.{got, made}}
+use Rattle.dn_survivor.specs.{OneGame.Session, Surviving.Surviving}
 use Rattle.dn_lockstep.proofs.Shown.{has}
 use Rattle.dn_seal.specs.declared.seal.Seal.{Seal}
 use Rattle.dn_open.specs.Sealed.{sealing_of}
 use Rattle.dn_link.specs.{CaughtUp.{AreCaughtUp, Brings, HasGrown, IsInStepTo, last_end}, Rounds.{AreRounds, Arrives, AreFairLines, MakesAt, Stretch, WaitsAt}, Counting.has_ended, Packets.own_in}
-use Rattle.dn_link.specs.{declared.{bundle.Bundle.Bundle, received.Received.Received}, LinkedGame.{IsGenuineDatagram, AreLinked}, Linked.{Linked, Receives}, Reading.IsDatagramOf}
-use Rattle.dn_link.proofs.{Bringing.{brings, brings_on}, Leaving.unended}
+use Rattle.dn_link.specs.{declared.{bundle.Bundle.Bundle, received.Received.Received}, RemainingLinks.{AreRemainingLinks, IsGenuineIn}, Linked.{Linked, Receives, has_given_up}, Reading.IsDatagramOf}
+use Rattle.dn_link.proofs.{Bringing.{brings, brings_on}, Leaving.unended, Together.together}
 use Rattle.dn_machine.specs.Node as machine
-use Rattle.dn_link.proofs.Linking as base
+use Rattle.dn_link.proofs.RemainingCalls as base
 use Rattle.dn_link.proofs.caught_up.links_run_on.Goals as goal
 
 -- of each round and player: how many commands it has made before its build and after it, how many tics it has
@@ -161,12 +162,12 @@ module _ (limits : Limits) (me : ℕ) (m : machine.Node) (plays : m.phase ≡ Pl
           omega (arith, at)
 
   -- it waits for a player of whom it has run all commands
-  run_waits : (marks : ℕ → ℤ) (other : ℕ) → Ran.Waiting other ≡ (on_run limits m marks).1
+  run_waits : (gone : ℕ → Bool) (marks : ℕ → ℤ) (other : ℕ) → Ran.Waiting other ≡ (on_run_but limits gone m marks).1
       → (other < limits.players) × (length (m.held other) ≤ machine.ran m)
-  unfolding on_run
-  run_waits marks other e =
-      go (lowest limits.players (is_awaited m)) (first_off_but limits nobody m) refl
-      (e ∙ ap (λ (p : Phase). (on_run_but_in limits nobody m marks p).1) plays)
+  unfolding on_run_but
+  run_waits gone marks other e =
+      go (lowest limits.players (is_awaited m)) (first_off_but limits gone m) refl
+      (e ∙ ap (λ (p : Phase). (on_run_but_in limits gone m marks p).1) plays)
     where
       go : (awaited off : Option ℕ) → lowest limits.players (is_awaited m) ≡ awaited
           → Ran.Waiting other ≡ (on_run_playing limits m marks awaited off).1
@@ -188,8 +189,7 @@ module _ (limits : Limits) (me : ℕ) (m : machine.Node) (plays : m.phase ≡ Pl
           × (length (m.held other) ≤ machine.ran m)) (λ full e. absurd (cc)) (λ free e. absurd (cc)) e
 
 module _ {marking : Marking} {limits : Limits} {settings : Settings} {last : ℕ}
-    (stretch : Stretch marking limits settings last) (agreed : (moment : ℕ) → moment ≤ last
-    → AreAgreed limits settings (stretch.sessions moment).inputs (stretch.sessions moment).locksteps) where
+    (stretch : Stretch marking limits settings last) where
   abbrev links : ℕ → ℕ → Linked
   links = stretch.links
 
@@ -226,14 +226,14 @@ module _ {marking : Marking} {limits : Limits} {settings : Settings} {last : ℕ
   ]
 
   module _ (moment player : ℕ) (inside : moment < last) (mine : player < limits.players) where
-    linked : AreLinked marking limits settings (stretch.sessions moment) (links moment)
+    linked : AreRemainingLinks marking limits settings (stretch.sessions moment) (links moment)
     linked = stretch.are moment (omega (arith, inside))
 
     abbrev m : machine.Node
-    m = linked.game.last.nodes player
+    m = linked.game.last.game.nodes player
 
     shows : Represents limits player (links moment player).node m
-    shows = base.shows marking limits settings (stretch.sessions moment) (links moment) player linked mine
+    shows = base.shows marking limits settings (stretch.sessions moment) (links moment) linked player mine
 
     plays : m.phase ≡ Playing
     plays = sym shows.stands.phase ∙ stretch.plays moment player (omega (arith, inside)) mine
@@ -252,7 +252,7 @@ module _ {marking : Marking} {limits : Limits} {settings : Settings} {last : ℕ
         × (got (links moment player).node other ≤ (links moment player).node.ran)
     waits (marks, other, row, step) =
         let answer = (step.step limits player m shows).answer.0 in
-        let lacks = run_waits limits player m plays (marks_in marks) other answer in
+        let lacks = run_waits limits player m plays (has_given_up (links moment player)) (marks_in marks) other answer in
         let before = has limits player (links moment player).node m shows other lacks.0 in
         (other, lacks.0, omega (arith, lacks.1, before, shows.table.ran))
 
@@ -264,30 +264,26 @@ module _ {marking : Marking} {limits : Limits} {settings : Settings} {last : ℕ
     -- and has made what it has run
     owns : (links moment player).node.ran ≤ got (links moment player).node player
     owns =
-        let n = (stretch.sessions moment).locksteps player in
-        let node = linked.nodes player mine in
-        let all = agreed moment (omega (arith, inside)) in
-        let run = all.run player player mine mine in
-        let none : end_in n player ≡ None =
-        unended n player (all.numbers player mine) (ap has_ended (sym node) ∙ unfinished) in
-        let low : min n.ran (unwrap_or (end_in n player) n.ran) ≡ n.ran =
-        ap (λ (o : Option ℕ). min n.ran (unwrap_or o n.ran)) none ∙ omega arith in
-        omega (arith, run, low, ap (λ (c : Contents). got c player) node, ap (λ (c : Contents). c.ran) node)
+        let same = linked.survivors player mine in
+        let all = together marking limits settings (stretch.sessions moment) (links moment) linked
+        (stretch.caught_up moment (omega (arith, inside))).whole in
+        let none = unended ((stretch.sessions moment).survivors player).lockstep player (all.numbers player mine)
+        (ap (λ (s : Surviving). has_ended s.lockstep) (sym same) ∙ unfinished) in
+        let run = all.run player player mine mine none in
+        omega (arith, run, ap (λ (s : Surviving). got s.lockstep player) same, ap (λ (s : Surviving). s.lockstep.ran) same)
 
 -- what a law says of a datagram that arrives
 abbrev Brought : Marking → Limits → Settings → Type 0
 Brought marking limits settings =
     (session : Session) (links : ℕ → Linked) (player : ℕ) (seal : Seal)
-    (bytes : List ℕ) (new : Linked) (answer : Received) (bundle : Bundle) (count : ℕ) → AreLinked marking limits
-    settings session links → AreCaughtUp limits links → player < limits.players → IsGenuineDatagram seal session
+    (bytes : List ℕ) (new : Linked) (answer : Received) (bundle : Bundle) (count : ℕ) → AreRemainingLinks marking limits
+    settings session links → AreCaughtUp limits links → player < limits.players → IsGenuineIn seal session
     player bytes → IsInStepTo seal limits links player bytes → Receives seal bytes (links player)
     new answer → IsDatagramOf (sealing_of seal player) bytes bundle → new.node.phase
     ≡ Playing → Brings count links bundle → count ≤ got new.node bundle.from
 
 module _ {marking : Marking} {limits : Limits} {settings : Settings} {last : ℕ}
-    (stretch : Stretch marking limits settings last) (agreed : (moment : ℕ) → moment ≤ last
-    → AreAgreed limits settings (stretch.sessions moment).inputs (stretch.sessions moment).locksteps)
-    (brought : Brought marking limits settings) {count : ℕ} (rounds : AreRounds stretch count) (seal : Seal)
+    (stretch : Stretch marking limits settings last) (brought : Brought marking limits settings) {count : ℕ} (rounds : AreRounds stretch count) (seal : Seal)
     (game : 8 ≤ length seal.game) (places : 12 ≤ limits.places) (k d : ℕ) (some : 1 ≤ k)
     (fair : AreFairLines rounds seal k d) where
   abbrev at : ℕ → ℕ → Linked
@@ -338,22 +334,22 @@ module _ {marking : Marking} {limits : Limits} {settings : Settings} {last : ℕ
     abbrev bundle : Bundle
     bundle = it.gives.bundle
 
-    was : AreLinked marking limits settings (stretch.sessions it.given) (at it.given)
+    was : AreRemainingLinks marking limits settings (stretch.sessions it.given) (at it.given)
     was = stretch.are it.given (omega (arith, before))
 
     own : (at it.given player).node.me ≡ player
-    own = base.own marking limits settings (stretch.sessions it.given) (at it.given) player was mine
+    own = base.own marking limits settings (stretch.sessions it.given) (at it.given) was player mine
 
     room : 12 ≤ (at it.given player).node.places
     room = omega (
       arith,
       places,
-      (base.shows marking limits settings (stretch.sessions it.given) (at it.given) player was mine).whose.places,
+      (base.shows marking limits settings (stretch.sessions it.given) (at it.given) was player mine).whose.places,
     )
 
     brings_then : Brings (made (at it.given player).node) (at it.given) bundle
     brings_then =
-        let there = brings marking limits settings (stretch.sessions it.given) (at it.given) player was mine
+        let there = brings marking limits settings (stretch.sessions it.given) (at it.given) was player mine
         (stretch.caught_up it.given (omega (arith, before))) peer below apart seal it.pace
         (at (suc it.given) player) it.bytes it.full it.gives
         (λ goes_on. let soon = it.soon in omega (arith, soon, room)) it.soon
@@ -365,7 +361,7 @@ module _ {marking : Marking} {limits : Limits} {settings : Settings} {last : ℕ
 
     brings_later : Brings (made (at it.given player).node) (at it.taken) bundle
     brings_later = brings_on limits (at it.given) (at it.taken) bundle (made (at it.given player).node)
-        (grown stretch agreed it.taken it.given (omega (arith, it.comes)) (omega (arith, in_time)))
+        (grown stretch it.taken it.given (omega (arith, it.comes)) (omega (arith, in_time)))
         (omega (arith, it.gives.from, own, mine)) (omega (arith, it.gives.goes, below)) brings_then
 
     is_datagram : IsDatagramOf (sealing_of seal peer) it.bytes bundle
@@ -404,9 +400,9 @@ module _ {marking : Marking} {limits : Limits} {settings : Settings} {last : ℕ
       let all = all_there s player peer mine theirs apart it in_time in
       let round_in : it.round < count = omega (arith, it.below, same, below) in
       let from = built_up it.round s player it.from round_in mine in
-      let one = (grown stretch agreed it.given (suc (built s player)) (omega (arith, from, it.built))
+      let one = (grown stretch it.given (suc (built s player)) (omega (arith, from, it.built))
       (omega (arith, it.comes, in_time))).got player player mine mine in
-      let two = (grown stretch agreed (waited r peer) (suc it.taken) (omega (arith, it.waited, wait_up))
+      let two = (grown stretch (waited r peer) (suc it.taken) (omega (arith, it.waited, wait_up))
       (omega (arith, ends))).got peer player theirs mine in
       omega (arith, all, one, two)
 
@@ -416,12 +412,12 @@ module _ {marking : Marking} {limits : Limits} {settings : Settings} {last : ℕ
       → (q : ℕ) → q < limits.players → bound ≤ (at (waited r q) q).node.ran
   runs s r bound below same all q mine =
       let ends = rounds.within r q below mine in
-      let wait = waits stretch agreed (waited r q) q ends.1 mine (rounds.waits r q below mine) in
+      let wait = waits stretch (waited r q) q ends.1 mine (rounds.waits r q below mine) in
       let low : bound ≤ got (at (waited r q) q).node wait.0 = elim (cases_eq wait.0 q) [
         | inl own ↦
             let made_then = all q mine in
             let from = built_up r s q (omega (arith, same, some)) below mine in
-            let more = (grown stretch agreed (waited r q) (suc (built s q)) (omega (arith, from, ends.0))
+            let more = (grown stretch (waited r q) (suc (built s q)) (omega (arith, from, ends.0))
             (omega (arith, ends.1))).got q q mine mine in
             omega (arith, made_then, more, ap (λ (n : ℕ). got (at (waited r q) q).node n) own)
         | inr other ↦
@@ -448,31 +444,31 @@ module _ {marking : Marking} {limits : Limits} {settings : Settings} {last : ℕ
     build : (r p : ℕ) → r < count → p < limits.players → min (had r p + 1) (begun r p + limits.ahead) ≤ made_by r p
     build r p below l =
         let ends = rounds.within r p below l in
-        makes stretch agreed (built r p) p (omega (arith, ends.0, ends.1)) l (rounds.builds r p below l)
+        makes stretch (built r p) p (omega (arith, ends.0, ends.1)) l (rounds.builds r p below l)
 
     mine_too : (r p : ℕ) → r < count → p < limits.players → begun r p ≤ had r p
     mine_too r p below l =
         let ends = rounds.within r p below l in
-        owns stretch agreed (built r p) p (omega (arith, ends.0, ends.1)) l
+        owns stretch (built r p) p (omega (arith, ends.0, ends.1)) l
 
     on : (r p : ℕ) → r < count → p < limits.players → begun r p ≤ ran_by r p
     on r p below l =
         let ends = rounds.within r p below l in
-        (grown stretch agreed (waited r p) (built r p) (omega (arith, ends.0)) (omega (arith, ends.1))).ran p l
+        (grown stretch (waited r p) (built r p) (omega (arith, ends.0)) (omega (arith, ends.1))).ran p l
 
     keeps : (r p : ℕ) → suc r < count → p < limits.players → made_by r p ≤ had (suc r) p
     keeps r p below l =
         let ends = rounds.within r p (omega (arith, below)) l in
         let next = rounds.later r p below l in
         let more = rounds.within (suc r) p below l in
-        (grown stretch agreed (built (suc r) p) (suc (built r p)) (omega (arith, ends.0, next))
+        (grown stretch (built (suc r) p) (suc (built r p)) (omega (arith, ends.0, next))
         (omega (arith, more.0, more.1))).got p p l l
 
     waits_on : (r p : ℕ) → suc r < count → p < limits.players → ran_by r p ≤ begun (suc r) p
     waits_on r p below l =
         let next = rounds.later r p below l in
         let more = rounds.within (suc r) p below l in
-        (grown stretch agreed (built (suc r) p) (waited r p) (omega (arith, next))
+        (grown stretch (built (suc r) p) (waited r p) (omega (arith, next))
         (omega (arith, more.0, more.1))).ran p l
 
     -- it goes on
@@ -493,11 +489,7 @@ module _ {marking : Marking} {limits : Limits} {settings : Settings} {last : ℕ
 pub returns-clause-goes_on : goal.returns-clause-goes_on
 returns-clause-goes_on c = λ marking limits settings last stretch count rounds seal k d first tics round least game places
     ahead some fair more same below all player mine.
-    let agreed : (moment : ℕ) → moment ≤ last
-    → AreAgreed limits settings (stretch.sessions moment).inputs (stretch.sessions moment).locksteps =
-    (λ moment inside. c.locksteps_agree.ensures.agreed marking limits settings (stretch.sessions moment)
-    (stretch.are moment inside).game) in
-    by first (k + d) round least _ tics more same (λ fewer is. go_on stretch agreed (c.links_bring_all.ensures.brought marking limits settings)
+    by first (k + d) round least _ tics more same (λ fewer is. go_on stretch (c.links_bring_all.ensures.brought marking limits settings)
     rounds seal game places k d some fair ahead first fewer round least below is all player mine)
   where
     by : (first delay round least ran tics : ℕ) → 1 ≤ tics → first + delay * tics ≡ round + 1
@@ -508,10 +500,6 @@ returns-clause-goes_on c = λ marking limits settings last stretch count rounds 
 pub returns-clause-full_speed : goal.returns-clause-full_speed
 returns-clause-full_speed c = λ marking limits settings last stretch count rounds seal k d round least game places ahead
     some fair fits below all player mine.
-    let agreed : (moment : ℕ) → moment ≤ last
-    → AreAgreed limits settings (stretch.sessions moment).inputs (stretch.sessions moment).locksteps =
-    (λ moment inside. c.locksteps_agree.ensures.agreed marking limits settings (stretch.sessions moment)
-    (stretch.are moment inside).game) in
-    let one = at_speed stretch agreed (c.links_bring_all.ensures.brought marking limits settings) rounds seal game places
+    let one = at_speed stretch (c.links_bring_all.ensures.brought marking limits settings) rounds seal game places
     k d some fair ahead least (λ p inside l. all p l) fits round player below mine in
     omega (arith, one)

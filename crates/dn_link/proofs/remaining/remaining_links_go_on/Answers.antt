@@ -10,13 +10,14 @@ use Rattle.dn_machine.specs.{Flight.{Play, Exit, Flight, packet_of}, Limits.Limi
 use Rattle.dn_machine.proofs.{Calls.send_cases, Put.put_at}
 use Rattle.dn_lockstep.specs.{declared.lockstep.aiming.Aim.Aim, Sent.{IsFair, aim_of, bytes_of, sent_to}, Marking.Marking, Represents.Represents, Steps.{Steps, Tells}, OneGame.given_on}
 use Rattle.dn_lockstep.specs.Told.{command_told}
-use Rattle.dn_link.specs.{RemainingLinks.{AreRemainingLinks, KeepsGiven, WasSealedIn, WasTold, after_datagram}, Linked.{Gives, Linked, is_peer, remains, report_beside, surviving_of}, Pacing.PaceState}
-use Rattle.dn_link.specs.{declared.bundle.Carried.Carried, Hearing.{carried_of, SendsCarried}, Relays.{Handed, flights_of}, Text.parts_bytes}
+use Rattle.dn_link.specs.{RemainingLinks.{AreRemainingLinks, IsLater, IsTrulyTold, WasSealedIn, WasTold, after_datagram}, Line.own_echo, Linked.{Gives, Linked, is_peer, remains, report_beside, surviving_of}, Pacing.PaceState}
+use Rattle.dn_link.specs.{declared.bundle.Carried.Carried, Hearing.{carried_of, SendsCarried}, Relays.{Handed, flights_of}}
 use Rattle.dn_link.specs.Packing.{parts_room}
 use Rattle.dn_lockstep.proofs.OneGame.{GoesBetween}
 use Rattle.dn_survivor.specs.{OneGame.{AreRemaining, Session, after_packet, after_relays, after_report, reports_on}, Telling.{MayRelay, report_for}, declared.report.Report.Report}
 use Rattle.dn_survivor.specs.Surviving.{Surviving, has_given_up}
 use Rattle.dn_link.proofs.{RemainingCalls.{built, counted, gives_up, quits, reports_stay, runs, same_link, told}, Handing.gives_all, Linking.{goes_given, stays_kept}, RemainingReceives.received}
+use Rattle.dn_link.proofs.{Growing.sends_holds, Knowing.{counts_reached, later_by, put_told, told_on}}
 use Rattle.dn_link.proofs.{Relinking.{found_later, found_on}, Reporting.{fits_or_not, told_last, written_is}}
 use Rattle.dn_seal.specs.declared.seal.Seal.{Seal}
 use Rattle.dn_machine.specs.Node as machine
@@ -132,7 +133,7 @@ module _ (marking : Marking) (limits : Limits) (settings : Settings) (session : 
     IsGiven packet =
         WasSealedIn seal (after_datagram session player to packet gives) bytes
         × AreRemainingLinks marking limits settings (after_datagram session player to packet gives)
-        (put links player new) × KeepsGiven session (after_datagram session player to packet gives)
+        (put links player new) × IsLater session (after_datagram session player to packet gives)
 
     -- commands of third players are handed on with it
     hands_on : (packet : Option Flight)
@@ -182,14 +183,23 @@ module _ (marking : Marking) (limits : Limits) (settings : Settings) (session : 
     gave_by packet game between answer =
         let own = base.own marking limits settings session links linked player mine in
         let all = base.all_kept marking limits settings session links linked player mine in
+        let much = base.much_by marking limits settings session links linked player mine new.node
+        (λ limits me m. sent_to to limits me m) (λ packet. gives.given ≡ option_map carried_of packet) gives.step.step
+        (sends_holds limits player (linked.game.last.game.nodes player) to) in
+        let is = later_by session (after_all packet) player (surviving_of new) refl much
+        (λ which one found. found_on (given_on session.packets packet) (flights_of to gives.behind.handed) which one
+        (found_later session.packets packet which one found)) (λ which given found. found) in
         let on = base.relinked marking limits settings session links linked
-        (after_all packet) player new (hands_on packet game) refl
-        (record {
-          packets = λ which one found. found_on (given_on session.packets packet) (flights_of to gives.behind.handed) which one
-              (found_later session.packets packet which one found);
-          reports = λ which given found. found;
-        })
-        (stays_kept session.packets packet player old new own seal pace to bytes gives between answer all) in (
+        (after_all packet) player new (hands_on packet game) refl is
+        (stays_kept session.packets packet player old new own seal pace to bytes gives between answer all)
+        (subst (IsTrulyTold (after_all packet).survivors) (sym gives.peers)
+        (put_told (after_all packet).survivors old.peers
+        (told_on session (after_all packet) old.peers is (linked.told player mine)) to _ _)) in
+        let here : put session.survivors player (surviving_of new) gives.bundle.from ≡ surviving_of new =
+        put_at session.survivors player gives.bundle.from (surviving_of new) (gives.from ∙ own) in
+        let same : new.node.me ≡ gives.bundle.from =
+        ap (λ (s : Surviving). s.lockstep.me) (sym (put_at session.survivors player player (surviving_of new) refl))
+        ∙ ((hands_on packet game).nodes player mine).node.whose.number ∙ sym (gives.from ∙ own) in (
           (
             gives.bundle,
             gives.fits,
@@ -200,11 +210,16 @@ module _ (marking : Marking) (limits : Limits) (settings : Settings) (session : 
                 subst (λ (from : ℕ). WasTold (reports_on session.reports player to told_now) from gives.bundle.to report)
                 (sym (gives.from ∙ own)) (subst (λ (k : ℕ). WasTold (reports_on session.reports player to told_now) player k report)
                 (sym gives.goes) (told_last session.reports player to told_now report is)),
+            counts_reached (put session.survivors player (surviving_of new)) gives.bundle new.node
+                (own_echo (pace.lines to)) (ap (λ (s : Surviving). s.lockstep) here) same gives.counts,
           ),
           tells_on packet on.0,
           record {
-            packets = on.1.packets;
+            packets = is.packets;
             reports = λ which given found. reports_stay session.reports player to told_now which given found;
+            got = is.got;
+            ended = is.ended;
+            started = is.started;
           },
         )
 
@@ -219,8 +234,7 @@ module _ (marking : Marking) (limits : Limits) (settings : Settings) (session : 
       m = linked.game.last.game.nodes player
 
       shows : Represents limits player old.node m
-      shows = subst (λ (s : Surviving). Represents limits player s.lockstep m) (sym survivor)
-          (linked.game.nodes player mine).node
+      shows = base.shows marking limits settings session links linked player mine
 
       spelled : Steps old.node new.node (λ limits me m. sent_to to limits me m)
           (λ packet. spelling ≡ option_map bytes_of packet)

@@ -1,4 +1,4 @@
-use Rattle.std.proofs.Common.{◌≡◌, None, refl, sym, subst, ◌∙◌, arith, inl, inr}
+use Rattle.std.proofs.Common.{◌≡◌, None, refl, sym, subst, ◌∙◌, inl, inr}
 use Rattle.std.specs.Prelude.{nat_le}
 use Rattle.std.proofs.lemmas.Bool.{and_parts, cases_Bool, leb-true}
 use Rattle.std.proofs.lemmas.Option.{none-some}
@@ -35,12 +35,12 @@ returns-clause-opens c = λ marking secret one b meetings parts side begun each.
     let place = ones_game one b begun in
     let proper : IsTerms b.terms = subst IsTerms (sym place.3) (fixed one place.0 side place.1).terms in
     let can = can_be b.terms proper.fits in
-    let few = can.1.1 in
+    let window = c.links_have_windows.ensures (config_for b.terms) b.terms.ahead can.1 in
     record {
       parts = parts;
       are = record {
         links = c.remaining_links_start.ensures marking (limits_of b.terms) b.terms.settings (links_of parts)
-            (c.windows_hold.ensures.window (config_for b.terms) b.terms.ahead can.1) can.0 (omega (arith, few)) proper.settings
+            window.0 can.0 window.1 proper.settings
             (λ p low. (each p low).1.opened) (λ p low. (each p low).1.others) (λ p peer low. (each p low).1.peers peer);
         sealed = λ p low. (each p low).1.sealed;
       };

@@ -95,7 +95,9 @@ returns-clause-sends c = λ marking secret b session meetings player new sent ar
           (λ to bytes. c.remaining_links_go_on.ensures.gave marking (limits_of b.terms) b.terms.settings session
           (links_of are.parts) player to (seal_of (are.parts player).link) (pace_of (are.parts player).link)
           (linked (playing next).link) bytes are.are.links few)
-          (c.remaining_bytes_are_genuine.ensures.empty seal)
+          (λ told echo. c.remaining_bytes_are_genuine.ensures.empty marking (limits_of b.terms) b.terms.settings session
+          (links_of are.parts) player seal told echo are.are.links few)
+          (λ later bytes. c.remaining_bytes_are_genuine.ensures.stay seal session later bytes)
           (subst (λ (q : Playing). SendsNext q (playing next) sent) (sym same) s) in
           let sealed : Sealed gone.0.later = elim gone.1 [
             | inl passed ↦ inl (passed ∙ ap (λ (q : Playing). q.passing) same ∙ sym (ap passing_in had))
