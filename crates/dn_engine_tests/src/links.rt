@@ -1,6 +1,9 @@
-//! Games of links that there are not. What such games do is tested by `checks/scripts/linked`.
+//! Games of links that there are not, and datagrams that there is no room for. What such games do is tested by
+//! `checks/scripts/linked`.
 
-use dn_link_game::{LinkGameConfig, play_links};
+use dn_link_game::{
+    LinkCall, LinkDone, LinkEvent, LinkGameConfig, LinkRefusal, Sending, play_links,
+};
 use dn_lockstep::NodeFault;
 use dn_seal::Seal;
 use dn_setup::Settings;
@@ -49,5 +52,39 @@ fn refused_memory_is_told_of_links(rt: HostRuntime) -> Result<(), Fail> {
         }
         Ok(played) => assert!(&rt; played.answers.is_empty()),
     }
+    Ok(())
+}
+
+/// A datagram for which there is no room is left out, and no more of them than memory is refused for.
+#[test]
+fn play_links_goes_on_without_a_packet(rt: HostRuntime) -> Result<(), Fail> {
+    let Ok(worlds) = walks(rt.alloc(), 2) else {
+        return Ok(());
+    };
+    let call = LinkCall::Send {
+        to: 1,
+        what: Sending::Datagram,
+    };
+    let list = [LinkEvent::Call { player: 0, call }; 4];
+    let Ok(played) = play_links(rt.alloc(), &config(5, 1024)?, worlds, &list) else {
+        return Ok(());
+    };
+    let given = played.game.given.len();
+    for answer in &played.answers {
+        if *answer == Err(LinkRefusal::Memory) {
+            let _ = println!(&rt; "no memory: a send of play_links");
+        } else {
+            assert_eq!(&rt; *answer, Ok(LinkDone::Sent(true)));
+        }
+    }
+    assert!(&rt; given == 4 || given == 3);
+    assert_eq!(&rt;
+        played
+            .answers
+            .iter()
+            .filter(|answer| answer.is_ok())
+            .count(),
+        given
+    );
     Ok(())
 }

@@ -4,7 +4,7 @@ use Rattle.std.specs.Prelude.{IsTrue, count_by, is_ok, is_err}
 use Rattle.std.proofs.lemmas.List.Sums.{sum_by-append}
 use Rattle.dn_setup.specs.Settings.{Settings}
 use Rattle.dn_machine.specs.{declared.events.Done.Done, declared.events.Event.Event, declared.events.Refusal.Refusal, Game.{Game, applied, opening_game, refused}, Runs.{Leads, Next, is_send}, Worlds.Rules}
-use Rattle.dn_game.specs.{Applied.IsApplied, Contents.{Contents, contents, Represents}, Played.{Answers, Plays, PlaysBy, IsPlayed, IsPlayedBy}, declared.played.Played.Played}
+use Rattle.dn_game.specs.{Applied.IsApplied, Contents.{Contents, contents, Represents}, Played.{Answers, Plays, PlaysBy, IsPlayed}, declared.played.Played.Played}
 
 -- what is counted by a test, with one more
 pub counts_more : {A : Type 0} (p : A → Bool) (xs : List A) (x : A) (old new : ℕ) → old ≡ count_by p xs
@@ -96,12 +96,11 @@ answers_one {W} {S} state rules old new m event answer r (inl after) =
 answers_one {W} {S} state rules old new m event answer r (inr (free, left)) =
     (m, inr (free, left.asks, refl, left.answered), rw left.same r)
 
--- a game that was played by such steps: with no event so far, and with one more. Abbrevs, so that their answers
--- compute where they are cited.
-module _ {W S E A : Type 0} (state : W → S) (rules : Rules S)
-    (Step : Game → E → Result A Refusal → Game → Type 0) (settings : Settings) where
+-- a game that was played: with no event so far, and with one more. Abbrevs, so that their answers compute where
+-- they are cited.
+module _ {W S : Type 0} (state : W → S) (rules : Rules S) (settings : Settings) where
   abbrev pub none_played : (played : Played W) → Represents state rules (contents played.game) (opening_game settings)
-      → played.done ≡ 0 → played.refused ≡ 0 → IsPlayedBy state rules Step settings [] played
+      → played.done ≡ 0 → played.refused ≡ 0 → IsPlayed state rules settings [] played
   none_played played opened done refused =
       record {
         last = opening_game settings;
@@ -112,31 +111,21 @@ module _ {W S E A : Type 0} (state : W → S) (rules : Rules S)
         refused = refused;
       }
 
-  abbrev pub step_played : (events : List E) (event : E) (answer : Result A Refusal) (played next : Played W)
-      → (r : IsPlayedBy state rules Step settings events played) → (last : Game) → Step r.last event answer last
-      → Represents state rules (contents next.game) last
+  abbrev pub played_more : (events : List Event) (event : Event) (answer : Result Done Refusal) (played next : Played W)
+      → (r : IsPlayed state rules settings events played)
+      → IsApplied state rules (contents played.game) (contents next.game) r.last event answer
       → next.done ≡ played.done + count_by is_ok (answer ∷ [])
       → next.refused ≡ played.refused + count_by is_err (answer ∷ [])
-      → IsPlayedBy state rules Step settings (events ++ event ∷ []) next
-  step_played events event answer played next r last step game done refused =
+      → IsPlayed state rules settings (events ++ event ∷ []) next
+  played_more events event answer played next r is done refused =
+      let one = answers_one state rules (contents played.game) (contents next.game) r.last event answer r.game
+      is in
       record {
-        last = last;
+        last = one.0;
         answers = r.answers ++ answer ∷ [];
-        plays = plays_more Step events r.answers event answer (opening_game settings) r.last last r.plays step;
-        game = game;
+        plays = plays_more (Answers rules) events r.answers event answer (opening_game settings) r.last one.0 r.plays
+            one.1;
+        game = one.2;
         done = counts_more is_ok r.answers answer _ _ r.done done;
         refused = counts_more is_err r.answers answer _ _ r.refused refused;
       }
-
--- one event more, played. An abbrev, so that its answers compute where it is cited.
-abbrev pub played_more : {W S : Type 0} (state : W → S) (rules : Rules S) (settings : Settings)
-    (events : List Event) (event : Event) (answer : Result Done Refusal) (played next : Played W)
-    → (r : IsPlayed state rules settings events played)
-    → IsApplied state rules (contents played.game) (contents next.game) r.last event answer
-    → next.done ≡ played.done + count_by is_ok (answer ∷ [])
-    → next.refused ≡ played.refused + count_by is_err (answer ∷ [])
-    → IsPlayed state rules settings (events ++ event ∷ []) next
-played_more state rules settings events event answer played next r is done refused =
-    let one = answers_one state rules (contents played.game) (contents next.game) r.last event answer r.game
-    is in
-    step_played state rules (Answers rules) settings events event answer played next r one.0 one.1 one.2 done refused

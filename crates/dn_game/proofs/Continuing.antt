@@ -1,12 +1,13 @@
 -- A game goes on as the machine's game that it represents.
 use Rattle.std.proofs.Common.{◌<◌, ◌≤◌, ◌+◌, ◌≡◌, ℕ, List, Result, Err, refl, ap, sym, ◌∙◌, inl, inr, arith, subst}
-use Rattle.dn_game.proofs.{Standing.{window_of, swift_of, packet_of, there_is}, Agreeing.{inside, shown, promised}, Answering.{plays_leads, plays_on}, Rounding.plays_rounds}
+use Rattle.dn_game.proofs.{Standing.{window_of, swift_of, packet_of, there_is}, Agreeing.{inside, shown, promised}, Answering.{as_many, plays_leads, plays_on}, Rounding.{keeps_all, plays_rounds}}
 use Rattle.dn_setup.specs.Settings.{Settings}
 use Rattle.dn_machine.specs.{declared.events.Done.Done, Limits.Limits, declared.events.Event.Event, declared.events.Refusal.Refusal, Game.{Game, opening_game}, Node.is_ended, Progress.good_rounds, Running.tic_limit, Worlds.Rules}
 use Rattle.dn_machine.proofs.{Invariant.IsKept, Progress.goes_on_with, Games.always}
 use Rattle.dn_node.specs.declared.node.Node.{Node}
 use Rattle.dn_game.specs.{declared.going_on.PlayOnFault.PlayOnFault, declared.going_on.PlayOnFault.TheVariants.Round, declared.rounds.RoundFault.RoundFault, declared.played.Played.Played, Contents.{Contents, contents, Represents}}
-use Rattle.dn_game.specs.{GoingOn.{NoneLost, AllRan, HasRoom, GoesOn, HasGoneOn, HasPlayedOn}, Played.{Answers, IsReachedWith}, Promised.{IsReached, HasPlayed}, Agreed.HasNode}
+use Rattle.dn_game.specs.{GoingOn.{NoneLost, AllRan, HasRoom, GoesOn, HasGoneOn, HasPlayedOn}, Played.{Answers, IsPlayedFrom, IsReachedWith}, Promised.IsReached, Agreed.HasNode}
+use Rattle.dn_game.specs.{Frame.KeepsFlights, Rounds.{KeepsIdleWorlds, answers_to, rounds_events}}
 use Rattle.dn_lockstep.proofs.Shown.{started, end_is}
 use Rattle.dn_tic.specs.declared.input.Input.{Input}
 use Rattle.dn_machine.specs.Progress as machine
@@ -107,19 +108,25 @@ module _ {W S : Type 0} (state : W → S) (rules : Rules S) (settings : Settings
       }
 
   -- what is promised of playing on. An abbrev, so that its parts compute where it is cited.
-  abbrev pub has_played_on : (events : List Event) (inputs : ℕ → Input) (rounds : ℕ) (before played : Played W)
-      (first : HasPlayed state rules settings events before) → 2 ≤ rules.players
-      → Represents state rules (contents played.game)
-      (good_rounds rules (λ round. inputs) rounds first.events_played.last)
+  abbrev pub has_played_on : (worlds : List W) (events : List Event) (inputs : ℕ → Input) (rounds : ℕ)
+      (before played : Played W) (run : IsPlayedFrom state rules settings worlds events before)
+      → 2 ≤ rules.players
+      → Represents state rules (contents played.game) (good_rounds rules (λ round. inputs) rounds run.0.last)
+      → KeepsFlights (contents before.game) (contents played.game)
+      → KeepsIdleWorlds rules run.0.last (rounds_events rules (λ round. inputs) rounds run.0.last)
+      (contents before.game) (contents played.game)
       → played.done ≡ before.done → played.refused ≡ before.refused
-      → HasPlayedOn state rules settings events inputs rounds played
-  has_played_on events inputs rounds before played first several shown done refused =
-      let e = first.events_played in
+      → HasPlayedOn state rules settings worlds events inputs rounds played
+  has_played_on worlds events inputs rounds before played run several shown more idle done refused =
+      let e = run.0 in
+      let behind = rounds_events rules (λ round. inputs) rounds e.last in
       record {
         before = before;
-        first = first;
+        first = e;
         on = gone_on events e.answers (contents before.game) (contents played.game)
             (record { last = e.last; plays = e.plays; game = e.game }) several (λ round. inputs) rounds shown;
         done = done;
         refused = refused;
+        given = keeps_all worlds events behind e.answers (answers_to rules behind e.last) (contents before.game)
+            (contents played.game) (as_many (Answers rules) events e.answers _ e.last e.plays) run.1 more idle;
       }

@@ -1,16 +1,13 @@
 -- What the step of one node leaves as it is, and the limits of demos with it.
 use Rattle.std.proofs.Common.{◌≡◌, ◌≢◌, ◌++◌, ℕ, zero, suc, List, [], ◌∷◌, Option, Some, Result, Ok, append-nil, map, set, ap, sym, ◌∙◌, refl, subst}
-use Rattle.std.specs.{Borrow.Bor, Prelude.{slice_get, slice_index_or}}
+use Rattle.std.specs.Prelude.{slice_get, slice_index_or}
 use Rattle.std.specs.List.{All}
 use Rattle.std.proofs.Math.Seq.{map-set_same}
 use Rattle.std.proofs.lemmas.List.Elements.{All-nil, All-cons, All-head, All-tail, All-map}
-use Rattle.dn_machine.specs.{declared.answers.Heard.Heard, declared.answers.Ran.Ran, declared.events.Done.Done, declared.events.Event.Event, declared.events.Refusal.Refusal}
+use Rattle.dn_machine.specs.{declared.answers.Ran.Ran, declared.events.Done.Done, declared.events.Event.Event, declared.events.Refusal.Refusal}
 use Rattle.dn_lockstep.specs.Contents.{Whose}
-use Rattle.dn_open.specs.declared.hearing.Arrived.{Arrived}
-use Rattle.dn_open.specs.declared.open_event.OpenEvent.{OpenEvent}
-use Rattle.dn_open.specs.declared.open_event.OpenEvent.TheVariants.{Own, Arrive}
 use Rattle.dn_node.specs.declared.node.Node.{Node}
-use Rattle.dn_game.specs.{declared.flight.Flight.Flight, declared.open_playing.OpenDone.OpenDone, Contents.Contents, Frame.{KeepsOthers, KeepsWorlds, KeepsRest, KeepsRestOpen, Keeping, MovesNoWorld, MovesNoWorldOpen}, OpenPlayed.arrival_answer}
+use Rattle.dn_game.specs.{declared.flight.Flight.Flight, Contents.Contents, Frame.{KeepsRest, MovesNoWorld, named_by}}
 use Rattle.dn_game.specs.Opening.{worlds_of, AreLimited}
 use Rattle.dn_node.specs.Contents as node
 use Rattle.dn_node.specs.Contents.{contents, whose, whose_of}
@@ -39,38 +36,24 @@ module _ {W : Type 0} (nodes : List (Node W)) (place : ℕ) (next : Node W) wher
       let own = λ (n : Node W). (node.contents n).world in
       map-set_same own nodes place next old (kept ∙ ap own read)
 
-  -- and what the nodes hold, where the step changes nothing
-  pub holds_step : (old : Node W) → old ≡ slice_index_or nodes place old
-      → node.contents next ≡ node.contents old
-      → map node.contents (set nodes place next) ≡ map node.contents nodes
-  holds_step old read kept =
-      let own = λ (n : Node W). node.contents n in
-      map-set_same own nodes place next old (kept ∙ ap own read)
-
 -- where neither the nodes nor the packets change, all is left
-pub rest_all : {W : Type 0} (named : Option ℕ) (IsStill : Type 0) (old new : Contents W)
-    → new.nodes ≡ old.nodes → new.flights ≡ old.flights → Keeping named IsStill old new
-rest_all {W} named IsStill old new nodes flights =
+pub rest_all : {W : Type 0} (old new : Contents W) (event : Event) (answer : Result Done Refusal)
+    → new.nodes ≡ old.nodes → new.flights ≡ old.flights → KeepsRest old new event answer
+rest_all {W} old new event answer nodes flights =
     record {
       others = λ i apart. ap (λ (ns : List (Node W)). slice_get ns i) nodes;
       worlds = λ still. ap worlds_of nodes;
       more = ([], flights ∙ sym (append-nil old.flights));
     }
 
-pub rest_same : {W : Type 0} (named : Option ℕ) (IsStill : Type 0) (old new : Contents W) → new ≡ old
-    → Keeping named IsStill old new
-rest_same {W} named IsStill old new same =
-    rest_all named IsStill old new (ap (λ (g : Contents W). g.nodes) same)
-    (ap (λ (g : Contents W). g.flights) same)
-
 -- the step of the node that is named leaves the others, and the worlds where it keeps its own
-pub rest_step : {W : Type 0} (g : Contents W) (place : ℕ) (old next : Node W) (named : Option ℕ)
-    (IsStill : Type 0) → named ≡ Some place → old ≡ slice_index_or g.nodes place old
-    → (IsStill → (node.contents next).world ≡ (node.contents old).world)
-    → Keeping named IsStill g (record g { nodes = set g.nodes place next })
-rest_step g place old next named IsStill is read kept =
+pub rest_step : {W : Type 0} (g : Contents W) (place : ℕ) (old next : Node W) (event : Event)
+    (answer : Result Done Refusal) → named_by g event ≡ Some place → old ≡ slice_index_or g.nodes place old
+    → (MovesNoWorld answer → (node.contents next).world ≡ (node.contents old).world)
+    → KeepsRest g (record g { nodes = set g.nodes place next }) event answer
+rest_step g place old next event answer is read kept =
     record {
-      others = others_step g.nodes place next named is;
+      others = others_step g.nodes place next (named_by g event) is;
       worlds = λ still. worlds_step g.nodes place next old read (kept still);
       more = ([], sym (append-nil g.flights));
     }
@@ -79,23 +62,6 @@ rest_step g place old next named IsStill is read kept =
 pub rest_as : {W : Type 0} (old new : Contents W) (event is : Event) (answer : Result Done Refusal)
     → event ≡ is → KeepsRest old new is answer → KeepsRest old new event answer
 rest_as old new event is answer same left = rw same left
-
--- an open event that is one of the game, and bytes that came
-pub own_rest : {W : Type 0} (old new : Contents W) (event : OpenEvent) (own : Event) (done : Done)
-    → event ≡ Own own → KeepsRest old new own (Ok done) → KeepsRestOpen old new event (Ok (OpenDone.Own done))
-own_rest old new event own done same left =
-    rw same (record { others = left.others; worlds = left.worlds; more = left.more })
-
-pub arrival_leaves : {W : Type 0} (old new : Contents W) (event : OpenEvent) (node : ℕ) (bytes : Bor (List ℕ))
-    (arrived : Arrived) → event ≡ Arrive node bytes → KeepsOthers (Some node) old new
-    → (◌≢◌ {A = Result Arrived Refusal} (Ok arrived) (Ok (Arrived.Heard Heard.Started)) → KeepsWorlds old new)
-    → new.flights ≡ old.flights → KeepsRestOpen old new event (Ok (OpenDone.Arrived arrived))
-arrival_leaves old new event node bytes arrived same others worlds flights =
-    rw same (record {
-      others = others;
-      worlds = λ moves. worlds (λ is. subst (λ (r : Result Arrived Refusal). MovesNoWorldOpen (arrival_answer r)) is moves refl);
-      more = ([], flights ∙ sym (append-nil old.flights));
-    })
 
 -- packets that joined those that were kept
 pub sent_after : (old kept new more : List Flight) → new ≡ kept ++ more → kept ≡ old

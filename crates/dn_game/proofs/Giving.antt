@@ -2,12 +2,9 @@
 use Rattle.std.proofs.Common.{◌≡◌, ◌≢◌, ◌⊎◌, ◌++◌, ℕ, zero, suc, List, [], ◌∷◌, Option, Some, None, Result, length, ap, sym, ◌∙◌, refl, inl, inr}
 use Rattle.std.specs.{Prelude.slice_get, Option.option_map}
 use Rattle.std.proofs.lemmas.{Bool.cases_eq, Option.{none-some, same_Some, slice_get-map}}
-use Rattle.dn_world.specs.Physics.{Physics}
 use Rattle.dn_machine.specs.{declared.events.Done.Done, declared.events.Event.Event, declared.events.Event.TheVariants.{Build, Give, Send, Deliver, Run, Quit, Stop}, declared.events.Refusal.Refusal}
 use Rattle.dn_node.specs.declared.node.Node.{Node}
-use Rattle.dn_open.specs.{declared.open_event.OpenEvent.OpenEvent, declared.open_event.OpenEvent.TheVariants.{Own, Arrive}}
-use Rattle.dn_game.specs.{declared.flight.Flight.Flight, declared.played.Played.Played, Contents.{Contents, contents}, Frame.{KeepsOthers, KeepsWorlds, MovesNoWorld, named_in, named_in_open, KeepsGiven, NeverMoves}, Opening.worlds_of}
-use Rattle.dn_game.specs.{Played.AppliesOne}
+use Rattle.dn_game.specs.{declared.flight.Flight.Flight, Contents.Contents, Frame.{KeepsRest, MovesNoWorld, named_in, KeepsGiven}, Opening.worlds_of}
 use Rattle.dn_node.specs.Contents as node
 
 -- this node is named, or it is not
@@ -41,60 +38,39 @@ receiver_stays [] more which i h = absurd (none-some i h)
 receiver_stays (f ∷ flights) more zero i h = h
 receiver_stays (f ∷ flights) more (suc which) i h = receiver_stays flights more which i h
 
-pub own_stays : (flights more : List Flight) (event : Event) (i : ℕ) → named_in flights event ≡ Some i
-    → named_in (flights ++ more) event ≡ Some i
-own_stays flights more (Build node keys) i h = h
-own_stays flights more (Give node command) i h = h
-own_stays flights more (Send node to) i h = h
-own_stays flights more (Deliver which) i h = receiver_stays flights more which i h
-own_stays flights more (Run node) i h = h
-own_stays flights more (Quit node) i h = h
-own_stays flights more (Stop node) i h = h
-
 -- who is named is named when more packets were sent
-pub named_stays : (flights more : List Flight) (event : OpenEvent) (i : ℕ) → named_in_open flights event ≡ Some i
-    → named_in_open (flights ++ more) event ≡ Some i
-named_stays flights more (Own event) i h = own_stays flights more event i h
-named_stays flights more (Arrive node bytes) i h = h
+pub named_stays : (flights more : List Flight) (event : Event) (i : ℕ) → named_in flights event ≡ Some i
+    → named_in (flights ++ more) event ≡ Some i
+named_stays flights more (Build node keys) i h = h
+named_stays flights more (Give node command) i h = h
+named_stays flights more (Send node to) i h = h
+named_stays flights more (Deliver which) i h = receiver_stays flights more which i h
+named_stays flights more (Run node) i h = h
+named_stays flights more (Quit node) i h = h
+named_stays flights more (Stop node) i h = h
 
-module _ {W E A : Type 0} (named_of : List Flight → E → Option ℕ) (MovesNone : A → Type 0)
-    (stays : (flights more : List Flight) (event : E) (i : ℕ) → named_of flights event ≡ Some i
-    → named_of (flights ++ more) event ≡ Some i)
-    (old new : Contents W) (event : E) (answer : A) (others : KeepsOthers (named_of old.flights event) old new)
-    (quiet : MovesNone answer → KeepsWorlds old new) (more : List Flight)
-    (sent : new.flights ≡ old.flights ++ more) where
+module _ {W : Type 0} (old new : Contents W) (event : Event) (answer : Result Done Refusal)
+    (left : KeepsRest old new event answer) where
   -- the world of a node that this event does not move
-  pub stays_at : (i : ℕ) → (named_of old.flights event ≡ Some i → MovesNone answer)
+  pub stays_at : (i : ℕ) → (named_in old.flights event ≡ Some i → MovesNoWorld answer)
       → slice_get (worlds_of new.nodes) i ≡ slice_get (worlds_of old.nodes) i
   stays_at i still =
       let own = λ (n : Node W). (node.contents n).world in
-      elim (named_or (named_of old.flights event) i) [
-        | inl is ↦ same_at _ _ i (quiet (still is))
-        | inr apart ↦ slice_get-map own new.nodes i ∙ ap (option_map own) (others i apart)
+      elim (named_or (named_in old.flights event) i) [
+        | inl is ↦ same_at _ _ i (left.worlds (still is))
+        | inr apart ↦ slice_get-map own new.nodes i ∙ ap (option_map own) (left.others i apart)
             ∙ sym (slice_get-map own old.nodes i)
       ]
 
   -- one event more
-  pub keeps_more : (worlds : List W) (events : List E) (answers : List A) → length events ≡ length answers
-      → ((i : ℕ) → NeverMoves (named_of old.flights) MovesNone i events answers
-      → slice_get (worlds_of old.nodes) i ≡ slice_get worlds i)
-      → (i : ℕ) → NeverMoves (named_of new.flights) MovesNone i (events ++ event ∷ []) (answers ++ answer ∷ [])
-      → slice_get (worlds_of new.nodes) i ≡ slice_get worlds i
-  keeps_more worlds events answers count before i never =
-      let later : (e : E) → named_of old.flights e ≡ Some i → named_of new.flights e ≡ Some i =
-      λ e is. rw sent (stays old.flights more e i is) in
+  pub given_more : (worlds : List W) (events : List Event) (answers : List (Result Done Refusal))
+      → length events ≡ length answers → KeepsGiven worlds events answers old
+      → KeepsGiven worlds (events ++ event ∷ []) (answers ++ answer ∷ []) new
+  given_more worlds events answers count before i never =
+      let later : (e : Event) → named_in old.flights e ≡ Some i → named_in new.flights e ≡ Some i =
+      λ e is. rw left.more.1 (named_stays old.flights left.more.0 e i is) in
       let last_answer : slice_get (answers ++ answer ∷ []) (length events) ≡ Some answer =
       ap (slice_get (answers ++ answer ∷ [])) count ∙ at_end answers answer in
       stays_at i (λ is. never (length events) event answer (at_end events event) last_answer (later event is))
       ∙ before i (λ k e a here answered is. never k e a (at_front events (event ∷ []) k e here)
       (at_front answers (answer ∷ []) k a answered) (later e is))
-
--- one event of the game more
-pub given_more : {W S : Type 0} (state : W → S) (physics : Physics S) (played next : Played W) (event : Event)
-    (answer : Result Done Refusal) → AppliesOne state physics played next event answer → (worlds : List W)
-    (events : List Event) (answers : List (Result Done Refusal)) → length events ≡ length answers
-    → KeepsGiven worlds events answers (contents played.game)
-    → KeepsGiven worlds (events ++ event ∷ []) (answers ++ answer ∷ []) (contents next.game)
-given_more state physics played next event answer one =
-    keeps_more named_in MovesNoWorld own_stays (contents played.game) (contents next.game) event answer
-    one.rest.others one.rest.worlds one.rest.more.0 one.rest.more.1

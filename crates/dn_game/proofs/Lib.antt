@@ -13,6 +13,4 @@ pub mod Giving
 pub mod Arriving
 pub mod Continuing
 pub mod Observed
-pub mod OpenAnswering
-pub mod OpenSteps
-pub mod OpenStanding
+pub mod Leading

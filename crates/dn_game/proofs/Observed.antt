@@ -3,10 +3,10 @@ use Rattle.std.proofs.Common.{◌≡◌, ◌+◌, ℕ, List, [], ◌∷◌, ◌+
 use Rattle.std.specs.Prelude.{count_by, is_ok, is_err}
 use Rattle.rand_pcg.specs.Lcg.{Lcg}
 use Rattle.dn_setup.specs.Settings.{Settings}
-use Rattle.dn_machine.specs.{declared.events.Done.Done, declared.events.Event.Event, declared.events.Refusal.Refusal, Game.{Game, opening_game, refused}, Worlds.Rules}
-use Rattle.dn_game.specs.{Applied.IsApplied, Contents.contents, Played.{Answers, Plays, IsPlayed}, Schedule.{behind_three, generator_of, scheduled}, Stormed.{Follows, IsStormed}, declared.played.Played.Played}
-use Rattle.dn_game.specs.{Observed.{Observing, ObservesAll, IsPlayedObserved, IsStormedObserved}}
-use Rattle.dn_game.proofs.{Answering.{answers_one, counts_more}, Agreeing.promised}
+use Rattle.dn_machine.specs.{declared.events.Done.Done, declared.events.Event.Event, declared.events.Refusal.Refusal, Game.{Game, opening_game, refused}, Limits.Limits, Promise.Agree, Worlds.{Inputs, Rules}}
+use Rattle.dn_game.specs.{Applied.IsApplied, Agreed.AreAgreed, Contents.{contents, Represents}, Played.{Answers, Plays, IsPlayed}, Schedule.{behind_three, generator_of, scheduled}, Stormed.{Follows, IsStormed}, declared.played.Played.Played}
+use Rattle.dn_game.specs.{Headline.HaveAgreed, Observed.{Observing, ObservesAll}}
+use Rattle.dn_game.proofs.{Answering.{answers_one, counts_more}, Agreeing.promised, Headlines.have_agreed}
 
 -- One event more of a schedule.
 
@@ -82,32 +82,26 @@ module _ {L : Type 0} (observes : Observing L) where
             (omega (arith, counted)) told,
       )
 
--- what was played and told is promised. Abbrevs, so that the answers compute where they are cited.
-module _ {W S L : Type 0} (state : W → S) (rules : Rules S) (observes : Observing L) (settings : Settings)
-    (old new : L) (played : Played W) where
-  abbrev pub played_observed : (events : List Event) → (p : IsPlayed state rules settings events played)
-      → ObservesAll observes old 0 events p.answers new
-      → IsPlayedObserved state rules observes settings events old new played
-  played_observed events p told =
-      record {
-        promised = record {
-          events_played = p;
-          promised = promised state rules settings events p.answers p.last (contents played.game) p.plays
-              p.game;
-        };
-        observed = told;
-      }
+-- and what it was told of led to games that agree
+module _ {W S : Type 0} (state : W → S) (rules : Rules S) (settings : Settings) (played : Played W) where
+  -- in the window of 1997
+  agrees : (last : Game) (r : Represents state rules (contents played.game) last) → Agree rules settings last
+      → (inputs : Inputs) → AreAgreed state rules settings inputs (contents played.game)
+      → HaveAgreed state rules.physics settings rules.players (contents played.game)
+  agrees last r agree inputs agreed =
+      have_agreed state rules settings (contents played.game) last r agree inputs agreed
+      (ap (λ (l : Limits). l.ahead) r.vanilla) (ap (λ (l : Limits). l.places) r.vanilla)
 
-  abbrev pub stormed_observed : (seed count : ℕ) → (s : IsStormed state rules settings seed count played)
-      → ObservesAll observes old 0 s.events s.answers new
-      → IsStormedObserved state rules observes settings seed count old new played
-  stormed_observed seed count s told =
-      record {
-        promised = record {
-          stormed = s;
-          promised = promised state rules settings s.events s.answers s.last (contents played.game)
-              (follows_plays rules (generator_of seed) s.events s.answers s.rest (opening_game settings)
-              s.last s.follows) s.game;
-        };
-        observed = told;
-      }
+  pub played_agrees : (events : List Event) → IsPlayed state rules settings events played
+      → HaveAgreed state rules.physics settings rules.players (contents played.game)
+  played_agrees events run =
+      let all = promised state rules settings events run.answers run.last (contents played.game) run.plays run.game in
+      agrees run.last run.game all.agree _ all.agreed
+
+  pub stormed_agrees : (seed count : ℕ) → IsStormed state rules settings seed count played
+      → HaveAgreed state rules.physics settings rules.players (contents played.game)
+  stormed_agrees seed count run =
+      let all = promised state rules settings run.events run.answers run.last (contents played.game)
+      (follows_plays rules (generator_of seed) run.events run.answers run.rest (opening_game settings) run.last
+      run.follows) run.game in
+      agrees run.last run.game all.agree _ all.agreed

@@ -5,10 +5,10 @@ use Rattle.std.proofs.lemmas.Bool.{cases_lt}
 use Rattle.std.proofs.lemmas.Grind.{flat_map-append}
 use Rattle.dn_machine.specs.{declared.events.Done.Done, declared.events.Event.Event, declared.events.Refusal.Refusal, Game.{Game}, Worlds.Rules}
 use Rattle.dn_machine.specs.{Progress.{after, in_order, exchange, turn, good_round, good_rounds}}
-use Rattle.dn_game.specs.{declared.flight.Flight.Flight, Applied.IsApplied, Contents.{Contents, contents}, Frame.{KeepsFlights, KeepsRest, MovesNoWorld, named_in, KeepsGiven}, Opening.worlds_of}
+use Rattle.dn_game.specs.{declared.flight.Flight.Flight, Applied.IsApplied, Contents.{Contents, contents}, Frame.{KeepsFlights, KeepsRest, MovesNoWorld, KeepsGiven}, Opening.worlds_of}
 use Rattle.dn_game.specs.{Rounds.{after_all, answers_to, events_in_order, exchange_events, turn_events, round_events, rounds_events, KeepsIdleWorlds}, Played.Plays}
 use Rattle.dn_game.specs.{declared.game.Game.Game as GameOf, Room.{Continues, KeepsWhose, room_of}, Pool.{Room, HasGrown, IsWithinTwice, grown}}
-use Rattle.dn_game.proofs.Giving.{at_front, own_stays, stays_at}
+use Rattle.dn_game.proofs.Giving.{at_front, named_stays, stays_at}
 use Rattle.dn_tic.specs.declared.input.Input.{Input}
 
 module _ {S : Type 0} (rules : Rules S) where
@@ -127,7 +127,7 @@ module _ {W : Type 0} where
       then i (λ k e a here answered. never (length events + k) e a (at_back events more k ∙ here)
       (ap (λ (n : ℕ). slice_get (answers ++ others) (n + k)) count ∙ at_back answers others k ∙ answered))
       ∙ before i (λ k e a here answered is. never k e a (at_front events more k e here)
-      (at_front answers others k a answered) (rw sent.1 (own_stays mid.flights sent.0 e i is)))
+      (at_front answers others k a answered) (rw sent.1 (named_stays mid.flights sent.0 e i is)))
 
 module _ {W S : Type 0} (rules : Rules S) where
   -- events that the machine meets, and then more
@@ -147,10 +147,9 @@ module _ {W S : Type 0} (rules : Rules S) where
       (old new : Contents W) → KeepsRest old new event answer → IsApplied state rules old new m event answer
       → KeepsIdleWorlds rules m (event ∷ []) old new
   idle_one state m event answer old new left (inl done) i never =
-      stays_at named_in MovesNoWorld own_stays old new event answer left.others left.worlds left.more.0
-      left.more.1 i
+      stays_at old new event answer left i
       (λ is. subst MovesNoWorld (sym done.answered)
-      (never 0 event _ refl refl (rw left.more.1 (own_stays old.flights left.more.0 event i is))))
+      (never 0 event _ refl refl (rw left.more.1 (named_stays old.flights left.more.0 event i is))))
   idle_one state m event answer old new left (inr (free, out)) i never =
       ap (λ (g : Contents W). slice_get (worlds_of g.nodes) i) out.same
 

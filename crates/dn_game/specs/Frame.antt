@@ -1,5 +1,5 @@
 -- What an event leaves as it is, and what events leave of the worlds that were given for a game's nodes.
-use Rattle.std.specs.Prelude.{◌≡◌, ◌≢◌, ◌++◌, ℕ, List, Option, Some, Result, Ok, map, slice_get}
+use Rattle.std.specs.Prelude.{◌≡◌, ◌≢◌, ◌++◌, ℕ, List, Option, Some, Result, Ok, slice_get}
 use Rattle.std.specs.Option.{option_map}
 use Rattle.dn_machine.specs.declared.answers.Heard.{Heard}
 use Rattle.dn_machine.specs.declared.answers.Ran.{Ran}
@@ -7,12 +7,7 @@ use Rattle.dn_machine.specs.declared.events.Done.{Done}
 use Rattle.dn_machine.specs.declared.events.Event.{Event}
 use Rattle.dn_machine.specs.declared.events.Event.TheVariants.{Build, Give, Send, Deliver, Run, Quit, Stop}
 use Rattle.dn_machine.specs.declared.events.Refusal.{Refusal}
-use Rattle.dn_open.specs.declared.hearing.Arrived.{Arrived}
-use Rattle.dn_open.specs.declared.open_event.OpenEvent.{OpenEvent}
-use Rattle.dn_open.specs.declared.open_event.OpenEvent.TheVariants.{Own, Arrive}
-use Rattle.dn_node.specs.Contents as node
 use Rattle.dn_game.specs.declared.flight.Flight.{Flight}
-use Rattle.dn_game.specs.declared.open_playing.OpenDone.{OpenDone}
 use Rattle.dn_game.specs.Contents.{Contents}
 use Rattle.dn_game.specs.Opening.{worlds_of}
 
@@ -26,15 +21,8 @@ named_in flights (Run node) = Some node
 named_in flights (Quit node) = Some node
 named_in flights (Stop node) = Some node
 
-abbrev pub named_in_open : List Flight → OpenEvent → Option ℕ
-named_in_open flights (Own event) = named_in flights event
-named_in_open flights (Arrive node bytes) = Some node
-
 abbrev pub named_by : {W : Type 0} → Contents W → Event → Option ℕ
 named_by g event = named_in g.flights event
-
-abbrev pub named_by_open : {W : Type 0} → Contents W → OpenEvent → Option ℕ
-named_by_open g event = named_in_open g.flights event
 
 -- each node but the one that is named is as it was
 abbrev pub KeepsOthers : {W : Type 0} → Option ℕ → Contents W → Contents W → Type 0
@@ -50,49 +38,24 @@ MovesNoWorld (Ok (Done.Heard heard)) = heard ≢ Heard.Started
 MovesNoWorld (Ok (Done.Ran (Ran.Ran tic))) = ⊥
 MovesNoWorld answer = Unit {0}
 
-abbrev pub MovesNoWorldOpen : Result OpenDone Refusal → Type 0
-MovesNoWorldOpen (Ok (OpenDone.Own done)) = MovesNoWorld (Ok done)
-MovesNoWorldOpen (Ok (OpenDone.Arrived (Arrived.Heard heard))) = heard ≢ Heard.Started
-MovesNoWorldOpen answer = Unit {0}
-
 -- the packets that were sent stay, and others may follow them
 abbrev pub KeepsFlights : {W : Type 0} → Contents W → Contents W → Type 0
 KeepsFlights old new = (more : List Flight) × (new.flights ≡ old.flights ++ more)
 
--- what stays as it is: each node but the one that is named, each world if none moves, and the packets
-pub record Keeping {W : Type 0} (named : Option ℕ) (IsStill : Type 0) (old new : Contents W) : Type 0 where
-  pub others : KeepsOthers named old new
-  pub worlds : IsStill → KeepsWorlds old new
+-- what an event with this answer leaves as it is: each node but the one that it names, each world if none moves, and
+-- the packets
+pub record KeepsRest {W : Type 0} (old new : Contents W) (event : Event) (answer : Result Done Refusal) : Type 0 where
+  pub others : KeepsOthers (named_by old event) old new
+  pub worlds : MovesNoWorld answer → KeepsWorlds old new
   pub more : KeepsFlights old new
 
--- what an event with this answer leaves as it is
-abbrev pub KeepsRest : {W : Type 0} → Contents W → Contents W → Event → Result Done Refusal → Type 0
-KeepsRest old new event answer = Keeping (named_by old event) (MovesNoWorld answer) old new
-
-abbrev pub KeepsRestOpen : {W : Type 0} → Contents W → Contents W → OpenEvent → Result OpenDone Refusal → Type 0
-KeepsRestOpen old new event answer = Keeping (named_by_open old event) (MovesNoWorldOpen answer) old new
-
--- each node holds what it held, the same have stopped, and no packet was sent
-pub record HoldsTheSame {W : Type 0} (old new : Contents W) : Type 0 where
-  pub nodes : map node.contents new.nodes ≡ map node.contents old.nodes
-  pub stopped : new.stopped ≡ old.stopped
-  pub flights : new.flights ≡ old.flights
-
--- no answer to an event that names this node tells that it started or ran
-abbrev pub NeverMoves : {E A : Type 0} → (E → Option ℕ) → (A → Type 0) → ℕ → List E → List A → Type 0
-NeverMoves {E} {A} named MovesNone i events answers =
-    (k : ℕ) (event : E) (answer : A) → slice_get events k ≡ Some event → slice_get answers k ≡ Some answer
-    → named event ≡ Some i → MovesNone answer
+-- no answer to an event that names this node tells that it started or ran; these are the packets
+abbrev pub NeverMoves : List Flight → ℕ → List Event → List (Result Done Refusal) → Type 0
+NeverMoves flights i events answers =
+    (k : ℕ) (event : Event) (answer : Result Done Refusal) → slice_get events k ≡ Some event
+    → slice_get answers k ≡ Some answer → named_in flights event ≡ Some i → MovesNoWorld answer
 
 -- after events with these answers a node that neither started nor ran has the world that was given for it
 abbrev pub KeepsGiven : {W : Type 0} → List W → List Event → List (Result Done Refusal) → Contents W → Type 0
 KeepsGiven worlds events answers g =
-    (i : ℕ) → NeverMoves (named_in g.flights) MovesNoWorld i events answers
-    → slice_get (worlds_of g.nodes) i ≡ slice_get worlds i
-
--- and so after open events
-abbrev pub KeepsGivenOpen : {W : Type 0} → List W → List OpenEvent → List (Result OpenDone Refusal) → Contents W
-    → Type 0
-KeepsGivenOpen worlds events answers g =
-    (i : ℕ) → NeverMoves (named_in_open g.flights) MovesNoWorldOpen i events answers
-    → slice_get (worlds_of g.nodes) i ≡ slice_get worlds i
+    (i : ℕ) → NeverMoves g.flights i events answers → slice_get (worlds_of g.nodes) i ≡ slice_get worlds i

@@ -16,7 +16,8 @@ use Rattle.dn_game.specs.declared.played.Played.{Played}
 use Rattle.dn_game.specs.declared.rounds.RoundFault.{RoundFault}
 use Rattle.dn_game.specs.Contents.{Contents, contents, Represents}
 use Rattle.dn_game.specs.Frame.{KeepsGiven}
-use Rattle.dn_game.specs.Promised.{IsPromised, HasPlayed}
+use Rattle.dn_game.specs.Played.{IsPlayed}
+use Rattle.dn_game.specs.Promised.{IsPromised}
 use Rattle.dn_game.specs.Rounds.{rounds_events, answers_to, IsUnsent, IsCutShort}
 use Rattle.dn_game.specs.Agreed.{HasNode}
 use Rattle.dn_tic.specs.declared.input.Input.{Input}
@@ -66,24 +67,18 @@ pub record HasGoneOn {W S : Type 0} (state : W → S) (rules : Rules S) (setting
       (answers ++ answers_to rules (rounds_events rules inputs rounds last) last)
       (good_rounds rules inputs rounds last) g
 
--- the events were played and left `before`, which is promised; then `rounds` good rounds with the same inputs
--- in each were played, which are not counted
-pub record HasPlayedOn {W S : Type 0} (state : W → S) (rules : Rules S) (settings : Settings)
+-- the events were played and left `before`; then `rounds` good rounds with the same inputs in each were played,
+-- which are not counted. A node has the world that was given for it, unless an answer to an event that names it, one
+-- of the list or one of the rounds, tells that it started or ran
+pub record HasPlayedOn {W S : Type 0} (state : W → S) (rules : Rules S) (settings : Settings) (worlds : List W)
     (events : List Event) (inputs : ℕ → Input) (rounds : ℕ) (played : Played W) : Type 0 where
   pub before : Played W
-  pub first : HasPlayed state rules settings events before
-  pub on : HasGoneOn state rules settings events first.events_played.answers first.events_played.last
-      (λ round. inputs) rounds (contents before.game) (contents played.game)
+  pub first : IsPlayed state rules settings events before
+  pub on : HasGoneOn state rules settings events first.answers first.last (λ round. inputs) rounds
+      (contents before.game) (contents played.game)
   pub done : played.done ≡ before.done
   pub refused : played.refused ≡ before.refused
-
--- events and rounds were played so; and a node has the world that was given for it, unless an answer to an
--- event that names it, one of the list or one of the rounds, tells that it started or ran
-pub record HasPlayedOnFrom {W S : Type 0} (state : W → S) (rules : Rules S) (settings : Settings)
-    (worlds : List W) (events : List Event) (inputs : ℕ → Input) (rounds : ℕ) (played : Played W) : Type 0 where
-  pub played_on : HasPlayedOn state rules settings events inputs rounds played
-  pub given : let first = played_on.first.events_played in
-      let behind = rounds_events rules (λ round. inputs) rounds first.last in
+  pub given : let behind = rounds_events rules (λ round. inputs) rounds first.last in
       KeepsGiven worlds (events ++ behind) (first.answers ++ answers_to rules behind first.last)
       (contents played.game)
 
@@ -91,8 +86,8 @@ pub record HasPlayedOnFrom {W S : Type 0} (state : W → S) (rules : Rules S) (s
 pub record HasBrokenOff {W S : Type 0} (state : W → S) (rules : Rules S) (settings : Settings)
     (events : List Event) (inputs : ℕ → Input) (rounds : ℕ) (fault : RoundFault) : Type 0 where
   pub before : Played W
-  pub first : HasPlayed state rules settings events before
+  pub first : IsPlayed state rules settings events before
   pub left : Contents W
   pub unsent : IsUnsent left fault
-  pub cut : IsCutShort state rules (rounds_events rules (λ round. inputs) rounds first.events_played.last)
-      first.events_played.last (contents before.game) left
+  pub cut : IsCutShort state rules (rounds_events rules (λ round. inputs) rounds first.last) first.last
+      (contents before.game) left

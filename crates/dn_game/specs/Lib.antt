@@ -14,6 +14,3 @@ pub mod Stormed
 pub mod Observed
 pub mod Pool
 pub mod Room
-pub mod Arrived
-pub mod OpenPlayed
-pub mod OpenPromised

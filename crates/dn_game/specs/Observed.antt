@@ -7,11 +7,8 @@ use Rattle.dn_machine.specs.declared.events.Refusal.{Refusal}
 use Rattle.dn_machine.specs.Worlds.{Rules}
 use Rattle.dn_world.specs.Physics.{Physics}
 use Rattle.dn_game.specs.declared.played.Played.{Played}
-use Rattle.dn_game.specs.Contents.{contents}
-use Rattle.dn_game.specs.Frame.{KeepsGiven}
-use Rattle.dn_game.specs.Played.{AppliesOne}
-use Rattle.dn_game.specs.Promised.{HasPlayed}
-use Rattle.dn_game.specs.Stormed.{HasStormed}
+use Rattle.dn_game.specs.Played.{AppliesOne, IsPlayedFrom}
+use Rattle.dn_game.specs.Stormed.{IsStormedFrom}
 
 -- what an observer says of one event: before, the event's number, the event, its answer, after
 abbrev pub Observing : Type 0 → Type 1
@@ -34,22 +31,14 @@ pub record ObservesOne {W S L : Type 0} (state : W → S) (physics : Physics S) 
   pub applied : AppliesOne state physics old new event answer
   pub observed : observes before (old.done + old.refused) event answer after
 
--- the events were played, and an observer was told of each
+-- the events were played, as `IsPlayedFrom` says, and an observer was told of each
 pub record IsPlayedObserved {W S L : Type 0} (state : W → S) (rules : Rules S) (observes : Observing L)
-    (settings : Settings) (events : List Event) (old new : L) (played : Played W) : Type 0 where
-  pub promised : HasPlayed state rules settings events played
-  pub observed : ObservesAll observes old 0 events promised.events_played.answers new
+    (settings : Settings) (worlds : List W) (events : List Event) (old new : L) (played : Played W) : Type 0 where
+  pub run : IsPlayedFrom state rules settings worlds events played
+  pub observed : ObservesAll observes old 0 events run.0.answers new
 
 -- events of a schedule were played, and an observer was told of each
 pub record IsStormedObserved {W S L : Type 0} (state : W → S) (rules : Rules S) (observes : Observing L)
-    (settings : Settings) (seed count : ℕ) (old new : L) (played : Played W) : Type 0 where
-  pub promised : HasStormed state rules settings seed count played
-  pub observed : ObservesAll observes old 0 promised.stormed.events promised.stormed.answers new
-
--- and a node has the world that was given for it, unless one of the answers that the observer was told, to an event
--- that names it, tells that it started or ran a tic
-abbrev pub IsStormedObservedFrom : {W S L : Type 0} → (W → S) → Rules S → Observing L → Settings → List W
-    → (seed count : ℕ) → L → L → Played W → Type 0
-IsStormedObservedFrom state rules observes settings worlds seed count old new played =
-    (all : IsStormedObserved state rules observes settings seed count old new played)
-    × KeepsGiven worlds all.promised.stormed.events all.promised.stormed.answers (contents played.game)
+    (settings : Settings) (worlds : List W) (seed count : ℕ) (old new : L) (played : Played W) : Type 0 where
+  pub run : IsStormedFrom state rules settings worlds seed count played
+  pub observed : ObservesAll observes old 0 run.0.events run.0.answers new

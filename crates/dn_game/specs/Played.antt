@@ -12,7 +12,7 @@ use Rattle.dn_machine.specs.Worlds.{Rules}
 use Rattle.dn_game.specs.declared.played.Played.{Played}
 use Rattle.dn_game.specs.Applied.{Tells, IsApplied}
 use Rattle.dn_game.specs.Contents.{Contents, contents, Represents}
-use Rattle.dn_game.specs.Frame.{KeepsRest}
+use Rattle.dn_game.specs.Frame.{KeepsGiven, KeepsRest}
 
 -- an event leads from a game to the next with this answer; a send that nothing else refuses may be left out,
 -- where memory is refused
@@ -43,21 +43,23 @@ pub record IsReachedWith {W S : Type 0} (state : W → S) (rules : Rules S) (set
   pub plays : Plays rules (opening_game settings) events answers last
   pub game : Represents state rules g last
 
--- the game that is left represents one that the events lead to from the opening, each by such a step with its
--- answer, and the answers are counted
-pub record IsPlayedBy {W S E A : Type 0} (state : W → S) (rules : Rules S)
-    (Step : machine.Game → E → Result A Refusal → machine.Game → Type 0) (settings : Settings)
-    (events : List E) (played : Played W) : Type 0 where
+-- the game that is left represents one that the events lead to from the opening, each with its answer, and the
+-- answers are counted
+pub record IsPlayed {W S : Type 0} (state : W → S) (rules : Rules S) (settings : Settings)
+    (events : List Event) (played : Played W) : Type 0 where
   pub last : machine.Game
-  pub answers : List (Result A Refusal)
-  pub plays : PlaysBy Step (opening_game settings) events answers last
+  pub answers : List (Result Done Refusal)
+  pub plays : Plays rules (opening_game settings) events answers last
   pub game : Represents state rules (contents played.game) last
   pub done : played.done ≡ count_by is_ok answers
   pub refused : played.refused ≡ count_by is_err answers
 
--- by events of the game
-abbrev pub IsPlayed : {W S : Type 0} → (W → S) → Rules S → Settings → List Event → Played W → Type 0
-IsPlayed state rules = IsPlayedBy state rules (Answers rules)
+-- and a node has the world that was given for it, unless one of these answers, to an event that names it, tells that
+-- it started or ran a tic
+abbrev pub IsPlayedFrom : {W S : Type 0} → (W → S) → Rules S → Settings → List W → List Event → Played W → Type 0
+IsPlayedFrom state rules settings worlds events played =
+    (run : IsPlayed state rules settings events played)
+    × KeepsGiven worlds events run.answers (contents played.game)
 
 -- one more event was applied, and counted by its answer
 pub record AppliesOne {W S : Type 0} (state : W → S) (physics : Physics S) (old new : Played W)

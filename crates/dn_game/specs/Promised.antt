@@ -17,10 +17,10 @@ use Rattle.dn_machine.specs.Game as machine
 use Rattle.dn_machine.specs.Game.{opening_game}
 use Rattle.dn_machine.specs.Runs.{Runs}
 use Rattle.dn_machine.specs.Promise.{Agree, Fits, Steady}
-use Rattle.dn_game.specs.declared.played.Played.{Played}
 use Rattle.dn_game.specs.Agreed.{AreAgreed}
-use Rattle.dn_game.specs.Contents.{Contents, contents, Represents}
-use Rattle.dn_game.specs.Played.{Plays, IsPlayed, IsReachedWith}
+use Rattle.dn_game.specs.Applied.{IsApplied, Tells}
+use Rattle.dn_game.specs.Contents.{Contents, Represents}
+use Rattle.dn_game.specs.Played.{Plays, IsReachedWith}
 
 -- the input of a player's build, if that is the event and it made a command
 abbrev pub inputs_by : Event → Result Done Refusal → Inputs
@@ -59,6 +59,13 @@ pub record IsCarriedOn {W S : Type 0} (state : W → S) (physics : Physics S) (o
       → IsReachedWith state (rules_of physics players extra capacity) settings (events ++ event ∷ [])
       (answers ++ answer ∷ []) new
 
+-- an event is applied as the machine applies it. Whatever events led to the game, they and this one lead to what
+-- it is afterwards.
+pub record LeadsOn {W S : Type 0} (state : W → S) (physics : Physics S) (old new : Contents W) (event : Event)
+    (answer : Result Done Refusal) : Type 0 where
+  pub applied : Tells state physics old (λ rules m. IsApplied state rules old new m event answer)
+  pub carried : IsCarriedOn state physics old new event answer
+
 -- an answer that tells of no failed check: no mark was off, and a packet was dropped only as set-up out of
 -- place, or by a node that does not play
 pub record IsSteady (answer : Result Done Refusal) : Type 0 where
@@ -83,10 +90,3 @@ pub record IsPromised {W S : Type 0} (state : W → S) (rules : Rules S) (settin
   pub answered : All IsSteady answers
   -- the nodes agree in what they tell of themselves; the inputs are those of the builds that made a command
   pub agreed : AreAgreed state rules settings (inputs_made events answers) g
-
--- the events were played, and the game that is left is promised
-pub record HasPlayed {W S : Type 0} (state : W → S) (rules : Rules S) (settings : Settings)
-    (events : List Event) (played : Played W) : Type 0 where
-  pub events_played : IsPlayed state rules settings events played
-  pub promised : IsPromised state rules settings events events_played.answers events_played.last
-      (contents played.game)

@@ -12,7 +12,6 @@ use Rattle.dn_game.specs.declared.played.Played.{Played}
 use Rattle.dn_game.specs.Contents.{contents, Represents}
 use Rattle.dn_game.specs.Frame.{KeepsGiven}
 use Rattle.dn_game.specs.Played.{Answers}
-use Rattle.dn_game.specs.Promised.{IsPromised}
 use Rattle.dn_game.specs.Schedule.{generator_of, behind_three, scheduled}
 
 -- events that lead from a game to another, each with its answer, and each the one that the generator gives
@@ -41,17 +40,9 @@ pub record IsStormed {W S : Type 0} (state : W → S) (rules : Rules S) (setting
   pub done : played.done ≡ count_by is_ok answers
   pub refused : played.refused ≡ count_by is_err answers
 
--- `count` events of the schedule were played, and the game that is left is promised
-pub record HasStormed {W S : Type 0} (state : W → S) (rules : Rules S) (settings : Settings) (seed count : ℕ)
-    (played : Played W) : Type 0 where
-  pub stormed : IsStormed state rules settings seed count played
-  pub promised : IsPromised state rules settings stormed.events stormed.answers stormed.last
-      (contents played.game)
-
--- and a node has the world that was given for it, unless an answer to an event that names it tells that it
--- started or ran
-abbrev pub HasStormedFrom : {W S : Type 0} → (W → S) → Rules S → Settings → List W → (seed count : ℕ) → Played W
+-- and a node has the world that was given for it, as after `IsPlayedFrom`
+abbrev pub IsStormedFrom : {W S : Type 0} → (W → S) → Rules S → Settings → List W → (seed count : ℕ) → Played W
     → Type 0
-HasStormedFrom state rules settings worlds seed count played =
-    (all : HasStormed state rules settings seed count played)
-    × KeepsGiven worlds all.stormed.events all.stormed.answers (contents played.game)
+IsStormedFrom state rules settings worlds seed count played =
+    (run : IsStormed state rules settings seed count played)
+    × KeepsGiven worlds run.events run.answers (contents played.game)

@@ -5,7 +5,6 @@ ghost use Rattle.std.specs.{Vec.vec_capacity};
 ghost use Rattle.dn_game.specs.Pool.{joined};
 
 mod applying;
-mod arriving;
 mod opening;
 
 use crate::flight::Flight;

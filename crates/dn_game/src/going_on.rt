@@ -5,7 +5,7 @@ ghost use Rattle.dn_tic.specs.{declared.input.Input.Input, Inputs.input_of};
 ghost use Rattle.dn_setup.specs.Settings.{Settings};
 ghost use Rattle.dn_machine.specs.{declared.events.Done.Done, declared.events.Event.Event, declared.events.Refusal.Refusal, Progress.good_rounds, Worlds.rules_of};
 ghost use Rattle.dn_game.specs.{Contents.Contents, Contents.contents, Opening.AreLimited, GoingOn.NoneLost, GoingOn.AllRan, GoingOn.HasRoom, GoingOn.GoesOn, GoingOn.HasGoneOn, GoingOn.HasPlayedOn};
-ghost use Rattle.dn_game.specs.{GoingOn.HasPlayedOnFrom, GoingOn.HasBrokenOff, Opening.IsAdmittedOn, Opening.rules_in, Played.IsReachedWith, Pool.IsWithinTwice, Promised.IsReached};
+ghost use Rattle.dn_game.specs.{GoingOn.HasBrokenOff, Opening.IsAdmittedOn, Opening.rules_in, Played.IsReachedWith, Pool.IsWithinTwice, Promised.IsReached};
 ghost use Rattle.dn_game.specs.{Contents.Represents, Room.room_of, Rounds.pressed_by, declared.going_on.PlayOnFault.TheVariants.Round, declared.rounds.RoundFault.RoundFault};
 
 use crate::config::{GameConfig, GameFault};
@@ -77,14 +77,9 @@ pub fn play_on_with<W: World>(
     rounds: u32,
 ) -> Result<Played<W>, PlayOnFault>
     ensures admitted { IsAdmittedOn config (length worlds.items) result }
-    // What is promised of `play` is so before the rounds, no losses among the events can make the nodes
-    // wait for good, and after the rounds it is so too, since they are events like any other.
+    // The game before the rounds is a run, as `play` says; no losses among the events can make the nodes wait for
+    // good; and what is promised of a run is so after the rounds, since they are events like any other.
     ensures promised { IfOk result (λ played. HasPlayedOn W.state
-        (rules_in W.physics config (length worlds.items)) config.settings events.now (input_of inputs.now) rounds
-        played) }
-    // A node has the world that was given for it, unless an answer to an event that names it, one of the list
-    // or one of the rounds, tells that it started or ran.
-    ensures given { IfOk result (λ played. HasPlayedOnFrom W.state
         (rules_in W.physics config (length worlds.items)) config.settings worlds.items events.now
         (input_of inputs.now) rounds played) }
     // Where a round stops, the events before some send of the rounds were applied. Of `Memory` nothing more is
@@ -118,9 +113,6 @@ pub fn play_on<W: World>(
 ) -> Result<Played<W>, PlayOnFault>
     ensures admitted { IsAdmittedOn config (length worlds.items) result }
     ensures promised { IfOk result (λ played. HasPlayedOn W.state
-        (rules_in W.physics config (length worlds.items)) config.settings events.now (pressed_by keys) rounds
-        played) }
-    ensures given { IfOk result (λ played. HasPlayedOnFrom W.state
         (rules_in W.physics config (length worlds.items)) config.settings worlds.items events.now
         (pressed_by keys) rounds played) }
     ensures stopped { (fault : RoundFault) → result ≡ Err (Round fault) → HasBrokenOff W.state

@@ -3,13 +3,9 @@
 ghost use Rattle.std.specs.Prelude.{ℕ, Bool, List, Result};
 ghost use Rattle.dn_setup.specs.Settings.{Settings};
 ghost use Rattle.dn_machine.specs.{declared.events.Done.Done, declared.events.Event.Event, declared.events.Refusal.Refusal, Game.applied, Promise.inputs_of, Worlds.rules_of};
-ghost use Rattle.dn_lockstep.specs.Opening.{IsGame};
-ghost use Rattle.dn_seal.specs.declared.seal.Seal.{Seal};
-ghost use Rattle.dn_open.specs.declared.open_event.OpenEvent.{OpenEvent};
-ghost use Rattle.dn_game.specs.{Agreed.AreAgreed, Contents.Contents, declared.open_playing.OpenDone.OpenDone, OpenPlayed.IsReachedOpen, OpenPromised.AreGenuine, OpenPromised.IsPromisedOpen};
+ghost use Rattle.dn_game.specs.{Agreed.AreAgreed, Contents.Contents};
 ghost use Rattle.dn_game.specs.{Headline.HaveAgreed, Played.IsReachedWith, Promised.IsReached, Promised.IsPromised, Promised.IsSteady};
 
-use dn_setup::settings_found_again;
 use dn_world::World;
 
 /// Whatever game of the machine a game represents: if a list of events may lead to that one, all that is
@@ -43,18 +39,3 @@ pub fn reached_games_agree<W: World>()
         → (event : Event) → IsSteady (applied (rules_of W.physics players extra capacity) reached.last
         event).1 }
 {}
-
-/// Whatever open events led to a game, one by one, with these answers: if what the nodes opened was sealed in
-/// that game before, all that `play_open` promises holds of it.
-pub fn reached_open_games_agree<W: World>()
-    ensures { (players : ℕ) (extra : Bool) (capacity : ℕ) (seal : Seal) (settings : Settings)
-        (events : List OpenEvent) (answers : List (Result OpenDone Refusal)) (g : Contents W)
-        → IsGame players
-        → (reached : IsReachedOpen W.state (rules_of W.physics players extra capacity) seal settings events answers
-        g)
-        → AreGenuine seal g.flights 0 events answers
-        → IsPromisedOpen W.state (rules_of W.physics players extra capacity) seal settings events answers
-        reached.last g }
-{
-    settings_found_again();
-}

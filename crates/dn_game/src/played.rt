@@ -4,10 +4,7 @@ ghost use Rattle.std.specs.Prelude.{◌≡◌, ◌<◌, ◌+◌, ◌^◌, OnOk};
 
 use crate::game::Game;
 use crate::observing::Observer;
-use crate::open_playing::OpenDone;
 use dn_machine::{Done, Event, Refusal};
-use dn_open::OpenEvent;
-use dn_seal::Seal;
 use dn_world::World;
 use std::alloc::AllocError;
 
@@ -23,7 +20,7 @@ pub struct Played<W> {
 }
 
 impl<W: World> Played<W> {
-    ghost use Rattle.dn_game.specs.{Contents.contents, Observed.ObservesOne, OpenPlayed.AppliesOpen, Played.AppliesOne, Pool.HasGrown, Room.room_of, Room.KeepsWhose};
+    ghost use Rattle.dn_game.specs.{Contents.contents, Observed.ObservesOne, Played.AppliesOne, Pool.HasGrown, Room.room_of, Room.KeepsWhose};
 
     /// A game of which no event was applied yet.
     pub(crate) fn new(game: Game<W>) -> Played<W>
@@ -73,22 +70,5 @@ impl<W: World> Played<W> {
         let number = self.done + self.refused;
         let answer = self.apply(*event);
         observer.observe(number, *event, answer)
-    }
-
-    /// Applies one more open event, and answers what it did.
-    pub(crate) fn apply_open(&mut self, seal: Seal, event: &OpenEvent) -> Result<OpenDone, Refusal>
-        requires { self.old.done + self.old.refused + 1 < 2 ^ 64 }
-        ensures applied { AppliesOpen W.state W.physics seal self.old self.new event.now result }
-        ensures grown { HasGrown (contents self.old.game).flights (room_of self.old.game)
-            (room_of self.new.game) }
-        ensures whose { KeepsWhose (contents self.old.game) (contents self.new.game) }
-        ensures counted { self.new.done + self.new.refused ≡ self.old.done + self.old.refused + 1 }
-    {
-        let answer = self.game.apply_open(seal, event);
-        match answer {
-            Ok(_) => self.done += 1,
-            Err(_) => self.refused += 1,
-        }
-        answer
     }
 }

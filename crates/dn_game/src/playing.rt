@@ -1,7 +1,7 @@
 //! Playing a list of events: what the whole project promises.
 
 ghost use Rattle.std.specs.Prelude.{◌≡◌, ◌⊎◌, length, Err, IfOk};
-ghost use Rattle.dn_game.specs.{Contents.contents, Opening.AreLimited, Opening.IsAdmitted, Opening.rules_in, Frame.KeepsGiven, Headline.HaveAgreed, Observed.IsPlayedObserved, Pool.IsWithinTwice, Promised.HasPlayed};
+ghost use Rattle.dn_game.specs.{Contents.contents, Opening.AreLimited, Opening.IsAdmitted, Opening.rules_in, Headline.HaveAgreed, Observed.IsPlayedObserved, Played.IsPlayedFrom, Pool.IsWithinTwice};
 ghost use Rattle.dn_game.specs.{Room.room_of, declared.config.GameFault.TheVariants.Players, declared.config.GameFault.TheVariants.Limit};
 
 use crate::config::{GameConfig, GameFault};
@@ -27,15 +27,12 @@ pub fn play<W: World>(
     // prefix of the other's.
     ensures agreed { IfOk result (λ played. HaveAgreed W.state W.physics config.settings (length worlds.items)
         (contents played.game)) }
-    // Each event is applied as the machine applies it, but for sends that are left out since memory was
-    // refused, and each is counted by its answer; and all else that is promised of such a game.
-    ensures promised { IfOk result (λ played. HasPlayed W.state
-        (rules_in W.physics config (length worlds.items)) config.settings events.now played) }
-    // A node has the world that was given for it, unless an answer to an event that names it tells that it
-    // started or ran. These are the answers by which all of this is promised.
-    ensures given { IfOk result (λ played. (all : HasPlayed W.state
-        (rules_in W.physics config (length worlds.items)) config.settings events.now played)
-        × KeepsGiven worlds.items events.now all.events_played.answers (contents played.game)) }
+    // The game is a run of the machine: each event is applied as the machine applies it, but for sends that are
+    // left out since memory was refused, and each is counted by its answer. A node has the world that was given for
+    // it, unless an answer to an event that names it tells that it started or ran. All else that is promised of a
+    // run says `reached_games_agree`.
+    ensures run { IfOk result (λ played. IsPlayedFrom W.state
+        (rules_in W.physics config (length worlds.items)) config.settings worlds.items events.now played) }
     // Each demo has the limit of the configuration.
     ensures limits { IfOk result (λ played. AreLimited config.limit (contents played.game).nodes) }
     // There is memory for no more than twice the packets that were sent, and one.
@@ -54,15 +51,12 @@ pub fn play_observed<W: World, L: Observer>(
     observer: &mut L,
 ) -> Result<Played<W>, GameFault>
     ensures admitted { IsAdmitted config (length worlds.items) result }
-    // What is promised of `play` is so, and the observer was told of the events with their answers.
-    ensures promised { IfOk result (λ played. IsPlayedObserved W.state
-        (rules_in W.physics config (length worlds.items)) L.observes config.settings events.now observer.old
-        observer.new played) }
-    // And so it is with the worlds that were given, by the answers that the observer was told.
-    ensures given { IfOk result (λ played. (all : IsPlayedObserved W.state
-        (rules_in W.physics config (length worlds.items)) L.observes config.settings events.now observer.old
-        observer.new played)
-        × KeepsGiven worlds.items events.now all.promised.events_played.answers (contents played.game)) }
+    // What is promised of `play` is so, by the answers that the observer was told.
+    ensures agreed { IfOk result (λ played. HaveAgreed W.state W.physics config.settings (length worlds.items)
+        (contents played.game)) }
+    ensures run { IfOk result (λ played. IsPlayedObserved W.state
+        (rules_in W.physics config (length worlds.items)) L.observes config.settings worlds.items events.now
+        observer.old observer.new played) }
     // Each demo has the limit of the configuration.
     ensures limits { IfOk result (λ played. AreLimited config.limit (contents played.game).nodes) }
     // There is memory for no more than twice the packets that were sent, and one.

@@ -1,8 +1,8 @@
 //! A storm: a game under the events of a schedule.
 
 ghost use Rattle.std.specs.Prelude.{◌≡◌, ◌⊎◌, length, Err, IfOk};
-ghost use Rattle.dn_game.specs.{Contents.contents, Opening.AreLimited, Opening.IsAdmitted, Opening.rules_in, Observed.IsStormedObserved, Observed.IsStormedObservedFrom, Pool.IsWithinTwice, Room.room_of};
-ghost use Rattle.dn_game.specs.{Stormed.HasStormed, Stormed.HasStormedFrom, declared.config.GameFault.TheVariants.Players, declared.config.GameFault.TheVariants.Limit};
+ghost use Rattle.dn_game.specs.{Contents.contents, Opening.AreLimited, Opening.IsAdmitted, Opening.rules_in, Headline.HaveAgreed, Observed.IsStormedObserved, Pool.IsWithinTwice, Room.room_of};
+ghost use Rattle.dn_game.specs.{Stormed.IsStormedFrom, declared.config.GameFault.TheVariants.Players, declared.config.GameFault.TheVariants.Limit};
 
 use crate::config::{GameConfig, GameFault};
 use crate::game::Game;
@@ -23,10 +23,9 @@ pub fn storm<W: World>(
 ) -> Result<Played<W>, GameFault>
     ensures admitted { IsAdmitted config (length worlds.items) result }
     // What is promised of `play` is so after these events.
-    ensures promised { IfOk result (λ played. HasStormed W.state
-        (rules_in W.physics config (length worlds.items)) config.settings seed count played) }
-    // A node has the world that was given for it, as after `play`.
-    ensures given { IfOk result (λ played. HasStormedFrom W.state
+    ensures agreed { IfOk result (λ played. HaveAgreed W.state W.physics config.settings (length worlds.items)
+        (contents played.game)) }
+    ensures run { IfOk result (λ played. IsStormedFrom W.state
         (rules_in W.physics config (length worlds.items)) config.settings worlds.items seed count played) }
     // Each demo has the limit of the configuration.
     ensures limits { IfOk result (λ played. AreLimited config.limit (contents played.game).nodes) }
@@ -47,12 +46,10 @@ pub fn storm_observed<W: World, L: Observer>(
     observer: &mut L,
 ) -> Result<Played<W>, GameFault>
     ensures admitted { IsAdmitted config (length worlds.items) result }
-    // What is promised of `storm` is so, and the observer was told of the events with their answers.
-    ensures promised { IfOk result (λ played. IsStormedObserved W.state
-        (rules_in W.physics config (length worlds.items)) L.observes config.settings seed count observer.old
-        observer.new played) }
-    // And so it is with the worlds that were given, by the answers that the observer was told.
-    ensures given { IfOk result (λ played. IsStormedObservedFrom W.state
+    // What is promised of `storm` is so, by the answers that the observer was told.
+    ensures agreed { IfOk result (λ played. HaveAgreed W.state W.physics config.settings (length worlds.items)
+        (contents played.game)) }
+    ensures run { IfOk result (λ played. IsStormedObserved W.state
         (rules_in W.physics config (length worlds.items)) L.observes config.settings worlds.items seed count
         observer.old observer.new played) }
     // Each demo has the limit of the configuration.

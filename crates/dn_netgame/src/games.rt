@@ -4,7 +4,7 @@ ghost use Rattle.std.specs.Prelude.{◌≡◌, length, IfOk};
 ghost use Rattle.dn_world.specs.Plane.{walking};
 ghost use Rattle.dn_demo.specs.Recorded.{IsLimit};
 ghost use Rattle.dn_lockstep.specs.Opening.{IsGame};
-ghost use Rattle.dn_game.specs.{Observed.IsStormedObserved, Opening.rules_in};
+ghost use Rattle.dn_game.specs.{Observed.ObservesAll, Opening.rules_in, Stormed.IsStormed};
 
 use dn_game::{GameConfig, GameFault, Observer, Played, storm_observed};
 use dn_world::Walk;
@@ -33,9 +33,9 @@ pub(crate) fn storm_walks<L: Observer>(
 ) -> Result<Played<Walk>, AllocError>
     requires players { IsGame players }
     requires limit { IsLimit config.limit }
-    ensures { IfOk result (λ played. IsStormedObserved (λ spots. spots) (rules_in walking config players)
-        L.observes
-        config.settings seed count observer.old observer.new played) }
+    ensures { IfOk result (λ played. (run : IsStormed (λ spots. spots) (rules_in walking config players)
+        config.settings seed count played)
+        × ObservesAll L.observes observer.old 0 run.events run.answers observer.new) }
 {
     let walks = new_walks(alloc, players)?;
     match storm_observed(alloc, config, walks, seed, count, observer) {

@@ -3,7 +3,7 @@
 ghost use Rattle.std.specs.Prelude.{◌≡◌, ◌≢◌, ◌<◌, ◌⊎◌, false, true, Some, None, Ok, Err, length, nat_lt, slice_get, slice_index_or, if◌then◌else◌, OnErr};
 ghost use Rattle.dn_machine.specs.{declared.answers.Heard.TheVariants.Started, declared.events.Event.TheVariants.Send, declared.events.Event.TheVariants.Deliver, declared.events.Done.Done};
 ghost use Rattle.dn_machine.specs.{Game.refused, Game.refused_at, Game.refused_flight, Game.on_event, Runs.is_send, declared.events.Refusal.Refusal};
-ghost use Rattle.dn_game.specs.{OpenPlayed.LeadsOn, Pool.HasGrown};
+ghost use Rattle.dn_game.specs.{Promised.LeadsOn, Pool.HasGrown};
 
 use super::Game;
 use dn_machine::{Done, Event, Heard, Refusal};
@@ -35,7 +35,7 @@ impl<W: World> Game<W> {
     }
 
     /// Why an event of one node is refused, if it is.
-    pub(crate) fn refused_at(&self, node: u32) -> Option<Refusal>
+    fn refused_at(&self, node: u32) -> Option<Refusal>
         ensures told { Tells W.state W.physics (contents self.now)
             (λ rules m. result ≡ refused_at rules.players m node) }
         ensures not_memory { result ≢ Some Refusal.Memory }
@@ -138,8 +138,8 @@ impl<W: World> Game<W> {
     // Inlined, so that a caller that knows the event's kind does not ask for it again.
     #[inline(always)]
     pub fn apply(&mut self, event: Event) -> Result<Done, Refusal>
-        // As the machine applies it. Whatever events led to the game, or open events in whichever game of sealed
-        // nodes: they and this one lead to what it is afterwards.
+        // As the machine applies it. Whatever events led to the game, they and this one lead to what it is
+        // afterwards.
         ensures leads { LeadsOn W.state W.physics (contents self.old) (contents self.new) event result }
         ensures unchanged { OnErr result (contents self.new ≡ contents self.old) }
         // `Memory` is answered only to a send, and where there is no room for one more packet; that more was

@@ -2,9 +2,7 @@
 
 use super::super::input_of;
 use super::{applied, config, no_keys, play_list, play_storm, send, small_game, walks};
-use dn_game::{Arrived, Done, Event, OpenDone, OpenEvent, Schedule, play_on_with};
-use dn_node::{Heard, Phase};
-use dn_seal::Seal;
+use dn_game::{Event, Schedule, play_on_with};
 use dn_shared_tests::{holds, must, same};
 use dn_world::Belt;
 use std::alloc::{AllocError, Global};
@@ -36,20 +34,6 @@ fn schedules_give_events(rt: HostRuntime) {
     holds!(rt; applied(&mut game, Event::Stop(0)).is_ok());
     holds!(rt; applied(&mut game, Event::Stop(1)).is_ok());
     same!(rt; schedule.next(&game), None);
-}
-
-#[test]
-fn envelopes_arrive(rt: HostRuntime) {
-    let rt = &rt;
-    let seal = Seal::new([7; 32], [9; 16]);
-    let mut game = must!(rt; small_game(rt, rt.alloc()).ok_or("no game"));
-    let sent = Ok(OpenDone::Own(Done::Sent(0)));
-    same!(rt; game.apply_open(seal, &OpenEvent::Own(send(0, 1))), sent);
-    let Some(bytes) = game.sealed(seal, 0) else {
-        panic!(rt; "no envelope");
-    };
-    same!(rt; game.arrive(seal, 1, bytes.as_slice()), Ok(Arrived::Heard(Heard::Started)));
-    same!(rt; game.node(1).map(|node| node.phase()), Some(Phase::Playing));
 }
 
 /// Makes two belts.

@@ -1,11 +1,8 @@
 //! Tests of refused memory, in games and while a script is read.
 
 use super::{applied, config, play_list, play_storm, send, small_game, walks};
-use dn_game::{
-    Done, Event, Game, GameFault, OpenEvent, Refusal, ScriptFault, play_open, read_script,
-};
+use dn_game::{Done, Event, Game, GameFault, Refusal, ScriptFault, read_script};
 use dn_node::Aim;
-use dn_seal::Seal;
 use dn_shared_tests::{finds_no_memory, granted, holds, list, must, same};
 use dn_tic::Keys;
 use dn_world::Walk;
@@ -91,28 +88,6 @@ fn play_goes_on_without_a_packet(rt: HostRuntime) {
     if let Some(played) = granted!(rt; "play", played, GameFault::Memory) {
         all_counted(rt, "a send of play", (played.done, played.refused), 15);
         holds!(rt; played.refused > 0 || played.game.flights() == 5);
-    }
-}
-
-/// And out of a list of open events, of which no more is left out than memory is refused for.
-#[test]
-fn play_open_goes_on_without_a_packet(rt: HostRuntime) {
-    let rt = &rt;
-    let Ok(worlds) = walks(rt.alloc(), 2) else {
-        return;
-    };
-    let seal = Seal::new([7; 32], [9; 16]);
-    let list = [
-        OpenEvent::Own(send(0, 1)),
-        OpenEvent::Own(send(0, 1)),
-        OpenEvent::Own(send(0, 1)),
-        OpenEvent::Own(send(0, 1)),
-    ];
-    let played = play_open(rt.alloc(), must!(rt; config(1_024)), worlds, seal, &list);
-    if let Some(played) = granted!(rt; "play_open", played, GameFault::Memory) {
-        all_counted(rt, "a send of play_open", (played.done, played.refused), 4);
-        same!(rt; played.game.flights(), played.done);
-        holds!(rt; played.refused <= 1);
     }
 }
 

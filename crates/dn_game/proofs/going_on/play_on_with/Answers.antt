@@ -1,48 +1,28 @@
 use Rattle.std.proofs.Common.{length, refl, subst}
 use Rattle.dn_demo.specs.Recorded.{capacity}
-use Rattle.dn_game.specs.{Contents.contents, Opening.rules_in, Played.Answers, Rounds.{IsUnsent, answers_to, rounds_events}}
+use Rattle.dn_game.specs.{Contents.contents, Opening.rules_in, Rounds.IsUnsent}
 use Rattle.dn_tic.specs.Inputs.{input_of}
-use Rattle.dn_game.proofs.{Continuing.{has_played_on, same_round}, Answering.as_many, Rounding.keeps_all, Framing.limits_stay}
+use Rattle.dn_game.proofs.{Continuing.{has_played_on, same_round}, Framing.limits_stay}
 use Rattle.dn_game.proofs.going_on.play_on_with.Goals as goal
 
 pub returns-in-Ok-good_rounds_with-clause-promised : goal.returns-in-Ok-good_rounds_with-clause-promised
 returns-in-Ok-good_rounds_with-clause-promised g c =
     let config = c.args.config in
     let players = length c.args.worlds.items in
-    let first = c.in-Ok.ensures.promised in
-    let e = first.events_played in
-    has_played_on g.W.World.state (rules_in g.W.World.physics config players) config.settings c.args.events.now
-    (input_of c.args.inputs.now) c.args.rounds c.in-Ok.played _ first c.in-Ok.ensures.admitted.0.0
-    (c.in-Ok-good_rounds_with.ensures.good players config.extra (capacity config.limit players) e.last e.game).0
-    refl refl
-
-pub returns-in-Ok-good_rounds_with-clause-given : goal.returns-in-Ok-good_rounds_with-clause-given
-returns-in-Ok-good_rounds_with-clause-given g c =
-    let config = c.args.config in
-    let players = length c.args.worlds.items in
-    let rules = rules_in g.W.World.physics config players in
-    let first = c.in-Ok.ensures.given in
-    let e = first.0.events_played in
-    let good = c.in-Ok-good_rounds_with.ensures.good players config.extra (capacity config.limit players) e.last
-    e.game in
-    let behind = rounds_events rules (λ round. input_of c.args.inputs.now) c.args.rounds e.last in
-    record {
-      played_on = has_played_on g.W.World.state rules config.settings c.args.events.now
-          (input_of c.args.inputs.now) c.args.rounds c.in-Ok.played _ first.0 c.in-Ok.ensures.admitted.0.0
-          good.0 refl refl;
-      given = keeps_all c.args.worlds.items c.args.events.now behind e.answers (answers_to rules behind e.last)
-          (contents c.in-Ok.played.game) (contents c.good_rounds_with.new.self)
-          (as_many (Answers rules) c.args.events.now e.answers _ e.last e.plays) first.1
-          c.good_rounds_with.ensures.continues.more good.1;
-    }
+    let run = c.in-Ok.ensures.run in
+    let good = c.in-Ok-good_rounds_with.ensures.good players config.extra (capacity config.limit players) run.0.last
+    run.0.game in
+    has_played_on g.W.World.state (rules_in g.W.World.physics config players) config.settings c.args.worlds.items
+    c.args.events.now (input_of c.args.inputs.now) c.args.rounds c.in-Ok.played _ run c.in-Ok.ensures.admitted.0.0
+    good.0 c.good_rounds_with.ensures.continues.more good.1 refl refl
 
 pub returns-in-Err-good_rounds_with-clause-stopped : goal.returns-in-Err-good_rounds_with-clause-stopped
 returns-in-Err-good_rounds_with-clause-stopped g c fault is =
     let config = c.args.config in
     let players = length c.args.worlds.items in
-    let first = c.in-Ok.ensures.promised in
-    let e = first.events_played in
-    let at = c.in-Err-good_rounds_with.ensures.good players config.extra (capacity config.limit players) e.last e.game in
+    let first = c.in-Ok.ensures.run.0 in
+    let at = c.in-Err-good_rounds_with.ensures.good players config.extra (capacity config.limit players) first.last
+    first.game in
     record {
       before = c.in-Ok.played;
       first = first;

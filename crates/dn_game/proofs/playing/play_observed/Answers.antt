@@ -1,14 +1,15 @@
-use Rattle.std.proofs.Common.{[], ◌∷◌, ◌++◌, take, ap, refl, sym, ◌∙◌, arith}
+use Rattle.std.proofs.Common.{[], ◌∷◌, ◌++◌, length, take, ap, refl, sym, ◌∙◌, arith}
 use Rattle.std.proofs.lemmas.List.{take_all, take_more, length-take-le}
 use Rattle.dn_machine.specs.declared.events.Event.{Event}
-use Rattle.dn_game.proofs.{Answering.{as_many, none_played, played_more}, Giving.{given_more, same_at}, Observed.{observes_more, played_observed}, Rounding.{none_within, stays}, Framing.limits_stay}
+use Rattle.dn_game.specs.Opening.{rules_in}
+use Rattle.dn_game.proofs.{Answering.{as_many, none_played, played_more}, Giving.{given_more, same_at}, Observed.{observes_more, played_agrees}, Rounding.{none_within, stays}, Framing.limits_stay}
 use Rattle.dn_game.proofs.playing.play_observed.Goals as goal
 
 pub loop-event-init : goal.loop-event-init
 loop-event-init g c = rw c.new-played.ensures (
   refl,
   (
-    none_played _ _ _ _ _ c.in_ok-game.ensures.opened refl refl,
+    none_played _ _ _ _ c.in_ok-game.ensures.opened refl refl,
     refl,
     λ i never. same_at _ _ i c.in_ok-game.ensures.given,
   ),
@@ -36,28 +37,23 @@ loop-event-preserved g c =
         observes_more g.L.Observer.observes (take at events) before.1.0.answers _ _ 0 _ _ _ _ before.1.1
             (omega (arith, before.0, length-take-le at events (omega (arith, c.loop-event-test.true))))
             told.observed,
-        given_more _ _ c.loop-event.played next _ _ one c.args.worlds.items (take at events) before.1.0.answers
+        given_more _ _ _ _ one.rest c.args.worlds.items (take at events) before.1.0.answers
             (as_many _ (take at events) before.1.0.answers _ before.1.0.last before.1.0.plays) before.1.2,
       ),
       limits_stay _ _ _ c.apply_observed.ensures.whose before.2,
       stays _ _ _ _ c.apply_observed.ensures.grown one.rest.more before.3,
     )
 
-pub returns-clause-promised : goal.returns-clause-promised
-returns-clause-promised g c =
+pub returns-clause-agreed : goal.returns-clause-agreed
+returns-clause-agreed g c =
+    let rules = rules_in g.W.World.physics c.args.config (length c.args.worlds.items) in
+    played_agrees _ rules c.args.config.settings c.loop-event.played _ c.loop-event.invariant.1.0
+
+pub returns-clause-run : goal.returns-clause-run
+returns-clause-run g c =
     let all = rw (take_all c.loop-event.event-index c.args.events.now c.loop-event-test.false)
     at c.loop-event.invariant.1 in
-    played_observed _ _ g.L.Observer.observes c.args.config.settings _ _ c.loop-event.played c.args.events.now
-    all.0 all.1
-
-pub returns-clause-given : goal.returns-clause-given
-returns-clause-given g c =
-    let all = rw (take_all c.loop-event.event-index c.args.events.now c.loop-event-test.false)
-    at c.loop-event.invariant.1 in (
-      played_observed _ _ g.L.Observer.observes c.args.config.settings _ _ c.loop-event.played c.args.events.now
-          all.0 all.1,
-      all.2,
-    )
+    record { run = (all.0, all.2); observed = all.1 }
 
 pub returns-clause-limits : goal.returns-clause-limits
 returns-clause-limits g c = c.loop-event.invariant.2

@@ -6,7 +6,7 @@ use Rattle.dn_machine.specs.{declared.events.Done.Done, declared.events.Event.Ev
 use Rattle.dn_game.specs.{Played.Answers, Schedule.{word, behind, behind_three, generator_of, event_of, scheduled, AllStopped}, Contents.contents, Stormed.{Follows, IsStormed}, declared.played.Played.Played, Opening.rules_in}
 use Rattle.dn_setup.specs.Settings.{Settings}
 use Rattle.dn_demo.specs.Recorded.{capacity}
-use Rattle.dn_game.proofs.{Answering.as_many, Observed.{follows_plays, stormed_more, observes_more, stormed_observed}, Giving.{given_more, same_at}, Rounding.{none_within, stays}, Framing.limits_stay}
+use Rattle.dn_game.proofs.{Answering.as_many, Observed.{follows_plays, stormed_more, observes_more, stormed_agrees}, Giving.{given_more, same_at}, Rounding.{none_within, stays}, Framing.limits_stay}
 use Rattle.dn_game.proofs.{storming.storm_observed.Goals.{in-Some+in_ok-apply_observed, in_default}}
 use Rattle.dn_game.proofs.storming.storm_observed.Goals as goal
 
@@ -99,7 +99,7 @@ loop-preserved g c =
           (omega (arith, c.loop.invariant.0, s.counted)) told.observed in
           let plays = follows_plays game (generator_of c.args.seed) s.events s.answers s.rest
           (opening_game config.settings) s.last s.follows in
-          let given_on = given_more _ _ c.loop.played next _ told.answer one c.args.worlds.items s.events s.answers
+          let given_on = given_more _ _ _ told.answer one.rest c.args.worlds.items s.events s.answers
           (as_many (Answers game) s.events s.answers _ s.last plays) c.loop.invariant.1.3 in
           rw (w.observer-is, w.played-is) (
             omega (arith, counted, c.loop.invariant.0),
@@ -113,21 +113,18 @@ loop-preserved g c =
           (c.next.ensures.stopped.0 w.in_default.is))
     ]
 
-pub returns-clause-promised : goal.returns-clause-promised
-returns-clause-promised g c =
-    let all : c.args.count ≡ c.loop.counter = omega (arith, c.loop-test.false, c.loop.auto.counter-end) in
-    rw all
-    (stormed_observed _ _ g.L.Observer.observes c.args.config.settings _ _ c.loop.played c.args.seed _
-    c.loop.invariant.1.0 c.loop.invariant.1.2)
+pub returns-clause-agreed : goal.returns-clause-agreed
+returns-clause-agreed g c =
+    let rules = rules_in g.W.World.physics c.args.config (length c.args.worlds.items) in
+    stormed_agrees _ rules c.args.config.settings c.loop.played _ _ c.loop.invariant.1.0
 
-pub returns-clause-given : goal.returns-clause-given
-returns-clause-given g c =
+pub returns-clause-run : goal.returns-clause-run
+returns-clause-run g c =
     let all : c.args.count ≡ c.loop.counter = omega (arith, c.loop-test.false, c.loop.auto.counter-end) in
-    rw all (
-      stormed_observed _ _ g.L.Observer.observes c.args.config.settings _ _ c.loop.played c.args.seed _
-          c.loop.invariant.1.0 c.loop.invariant.1.2,
-      c.loop.invariant.1.3,
-    )
+    rw all (record {
+      run = (c.loop.invariant.1.0, c.loop.invariant.1.3);
+      observed = c.loop.invariant.1.2;
+    })
 
 pub returns-clause-limits : goal.returns-clause-limits
 returns-clause-limits g c = c.loop.invariant.2

@@ -11,9 +11,9 @@ returns-in-Ok g c =
     let a = c.args in
     let all : length c.in_ok-walks.walks.items ≡ a.players = search rules in
     let By : ℕ → Type 0 = λ players. IsPlayedObserved (λ spots. spots) (rules_in walking a.config players)
-    g.T.Observer.observes a.config.settings a.events.now c.new-teller.result c.play_observed.new.observer c.in-Ok.played in
-    let seen = subst By all c.in-Ok.ensures.promised in
-    let p = seen.promised.events_played in
+    g.T.Observer.observes a.config.settings c.in_ok-walks.walks.items a.events.now c.new-teller.result c.play_observed.new.observer c.in-Ok.played in
+    let seen = subst By all c.in-Ok.ensures.run in
+    let p = seen.run.0 in
     IfOk-weaker c.finish.result _
     (λ t. ArePlayed g.T.Teller.account a.config a.players a.events.now (string_bytes t) 0)
     (λ t has. (c.in-Ok.played, p, has _ a.events.now p.answers c.new-teller.ensures seen.observed, refl))

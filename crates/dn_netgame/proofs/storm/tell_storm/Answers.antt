@@ -34,15 +34,15 @@ returns-then-not-branch g c =
     prints_such g.W.Write.contents _ a.output.now c.print.new.output _ _ 3 c.print.result c.print.ensures.printed
     c.as_bytes.ensures.value
     (storm_cut g.T.Teller.account a.config a.players a.storm.seed a.storm.count c.in_ok-played.played _
-    c.in_ok-played.ensures.promised.stormed _ a.storm.calm c.in_ok-calm_after.ensures off)
+    c.in_ok-played.ensures.0 _ a.storm.calm c.in_ok-calm_after.ensures off)
 
 pub returns : goal.returns
 returns g c =
     let a = c.args in
-    let s = c.in_ok-played.ensures.promised.stormed in
+    let s = c.in_ok-played.ensures.0 in
     let on : c.in_ok-calm_after.field-0 ≡ true = search rules in
     prints_such g.W.Write.contents _ a.output.now c.print-2.new.output _ _ 0 c.print-2.result
     c.print-2.ensures.printed c.as_bytes-2.ensures.value
     (storm_told g.T.Teller.account a.config a.players a.storm.seed a.storm.count c.in_ok-played.played _ s _
     a.storm.calm _ c.in_ok-calm_after.ensures on
-    (c.in_ok-text.ensures _ s.events s.answers c.new-teller.ensures c.in_ok-played.ensures.observed))
+    (c.in_ok-text.ensures _ s.events s.answers c.new-teller.ensures c.in_ok-played.ensures.1))

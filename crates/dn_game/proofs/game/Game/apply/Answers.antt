@@ -1,7 +1,7 @@
 use Rattle.std.proofs.Common.{◌<◌, append-nil, inl, refl, ap, sym, ◌∙◌, subst, arith, length}
 use Rattle.dn_machine.specs.{declared.events.Done.Done, Game.refused, Worlds.rules_of}
 use Rattle.dn_game.specs.{Contents.contents, Applied.IsAddressed, Frame.named_by}
-use Rattle.dn_game.proofs.{Applying.{after_refused, after_event, after_send, stops}, Framing.{rest_all, rest_as, rest_same, rest_step, run_keeps}, OpenAnswering.{leads_on, step_leads}}
+use Rattle.dn_game.proofs.{Applying.{after_refused, after_event, after_send, stops}, Framing.{rest_all, rest_as, rest_step, run_keeps}, Leading.{leads_on, step_leads}}
 use Rattle.dn_node.proofs.Stepping.{whose_step}
 use Rattle.dn_game.proofs.game.Game.apply.Goals as goal
 
@@ -80,7 +80,7 @@ pub returns-in-Stop-clause-whose : goal.returns-in-Stop-clause-whose
 returns-in-Stop-clause-whose g c = refl
 
 pub returns-in-Some-clause-rest : goal.returns-in-Some-clause-rest
-returns-in-Some-clause-rest g c = rest_same _ _ _ _ refl
+returns-in-Some-clause-rest g c = rest_all _ _ _ _ refl refl
 
 pub returns-in-Send-clause-rest : goal.returns-in-Send-clause-rest
 returns-in-Send-clause-rest g c = grind (arith, rest_as)
