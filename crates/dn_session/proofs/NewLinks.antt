@@ -13,6 +13,7 @@ use Rattle.dn_survivor.specs.Represents as survivor
 use Rattle.dn_survivor.specs.Surviving.{Surviving}
 use Rattle.dn_survivor.specs.declared.others.Others.{Others}
 use Rattle.dn_link.specs.{Linked.surviving_of, Linking.linked, declared.link.Link.Link}
+use Rattle.dn_link.proofs.Growing.{grows, holds_same}
 use Rattle.dn_link.proofs.RemainingCalls as calls
 use Rattle.dn_session.specs.{Parts.AreParts, Parts.limits_of, Parts.links_of, Playing.Playing, Roster.IsSide, Roster.own_number, Roster.session_at}
 use Rattle.dn_session.specs.{Session.IsLinkOf, Session.begun_in, Sessions.PlaysWith, Text.game_seal, declared.side.Begun.Begun, declared.side.Side.Side}
@@ -162,5 +163,7 @@ replaces marking secret b session parts player new are few old is =
     silently marking limits b.terms.settings (game_seal secret b.game) session parts player are few new later
     (is.sealed ∙ sym old.sealed)
     (calls.called marking limits b.terms.settings session links are.links player few later (linked new.link) game refl
-    (calls.nothing_given session later refl refl)
+    refl refl (calls.much_on marking limits b.terms.settings session links are.links player few now.lockstep
+    (grows limits player (links player).node now.lockstep (wary_of g.last player).node (wary_of g.last player).node
+    was.node here.node few (holds_same (wary_of g.last player).node)))
     (same_functions (λ q. is.peers q ∙ sym (old.peers q)))) refl

@@ -1,5 +1,5 @@
 -- The sessions of one game after a call on one of them.
-use Rattle.std.proofs.Common.{◌≡◌, ◌<◌, ℕ, List, refl, ap, sym, subst, ◌∙◌, Option, Some, None, inl, inr}
+use Rattle.std.proofs.Common.{◌≡◌, ◌<◌, ℕ, List, refl, ap, sym, subst, ◌∙◌, arith, Option, Some, None, inl, inr}
 use Rattle.std.proofs.lemmas.Bool.{cases_eq}
 use Rattle.dn_tic.specs.declared.command.Move.{Move}
 use Rattle.dn_machine.specs.Node.{put}
@@ -71,7 +71,13 @@ module _ (marking : Marking) (secret : Option (List ℕ)) (b : Begun) (session :
             (sym (put_off meetings player other new off)) (are.own other low)
       ];
     };
-    given = record { packets = λ which packet found. found; reports = λ which given found. found };
+    given = record {
+      packets = λ which packet found. found;
+      reports = λ which given found. found;
+      got = λ other which apart. omega arith;
+      ended = λ other was. was;
+      started = λ other was. was;
+    };
     told = λ other. untold session.told player other;
   }
 
