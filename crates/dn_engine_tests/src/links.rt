@@ -1,6 +1,8 @@
 //! Games of links that there are not. What such games do is tested by `checks/scripts/linked`.
 
-use dn_link_game::{LinkGameConfig, play_links};
+use dn_link_game::{
+    LinkCall, LinkDone, LinkEvent, LinkGameConfig, LinkRefusal, Sending, play_links,
+};
 use dn_lockstep::NodeFault;
 use dn_seal::Seal;
 use dn_setup::Settings;
@@ -48,6 +50,45 @@ fn refused_memory_is_told_of_links(rt: HostRuntime) -> Result<(), Fail> {
             let _ = println!(&rt; "no memory: play_links");
         }
         Ok(played) => assert!(&rt; played.answers.is_empty()),
+    }
+    Ok(())
+}
+
+/// A datagram for which there is no room is not given, and cannot come; the next is given as if it were the first.
+#[test]
+fn links_go_on_without_a_packet(rt: HostRuntime) -> Result<(), Fail> {
+    let Ok(worlds) = walks(rt.alloc(), 2) else {
+        return Ok(());
+    };
+    let what = Sending::Datagram;
+    let send = LinkEvent::Call {
+        player: 0,
+        call: LinkCall::Send { to: 1, what },
+    };
+    let events = [
+        send,
+        LinkEvent::Deliver {
+            player: 1,
+            which: 0,
+        },
+        send,
+    ];
+    let Ok(played) = play_links(rt.alloc(), &config(5, 1024)?, worlds, &events) else {
+        return Ok(());
+    };
+    let given = played.game.given.len();
+    match played.answers.as_slice() {
+        [Ok(_), Ok(LinkDone::Received(_)), Ok(_)] => assert_eq!(&rt; given, 2),
+        [
+            Err(LinkRefusal::Memory),
+            Err(LinkRefusal::NoDatagram),
+            Ok(_),
+        ]
+        | [Ok(_), Ok(LinkDone::Received(_)), Err(LinkRefusal::Memory)] => {
+            assert_eq!(&rt; given, 1);
+            let _ = println!(&rt; "no memory: a send of play_links");
+        }
+        _ => return Err("another answer".into()),
     }
     Ok(())
 }
