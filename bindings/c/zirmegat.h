@@ -747,7 +747,7 @@ size_t zmg_lockstep_demo(zmg_lockstep *node, size_t from, uint8_t *out, size_t r
  *     a tick, 35 times a second by the caller's own clock:
  *         zmg_link_build(&link, keys);  or zmg_link_give
  *         later = zmg_link_lean(&link);  the next tick is due (1 + later / 32.0) / 35 s after this one was
- *         send to each other player what zmg_link_datagram gives
+ *         send to each other player for whom not zmg_link_is_resting(&link, player) what zmg_link_datagram gives
  *         run
  *     half a tick later:
  *         send one more datagram to each player for whom zmg_link_wants_second(&link, player)
@@ -756,7 +756,7 @@ size_t zmg_lockstep_demo(zmg_lockstep *node, size_t from, uint8_t *out, size_t r
  *         run
  *     to run:
  *         while (zmg_link_run(&link, marks of the world, row).code == ZMG_RUN_RAN) step the world by row
- *         if (zmg_link_catch_up(&link).code == ZMG_BUILD_MADE) send to each other player, and run once more
+ *         if (zmg_link_catch_up(&link).code == ZMG_BUILD_MADE) send as above, and run once more
  *     where a player has vanished for good, and the others are to play on, at each of them:
  *         zmg_link_give_up(&link, player);  and go on with ticks: their datagrams tell the others
  *     to leave:
@@ -822,6 +822,10 @@ int32_t zmg_link_lean(zmg_link *link);
  * longer than on an empty line. Then give it one more datagram, half a tick after the tick's own, in case that one
  * is lost too. Else returns 0. */
 uint32_t zmg_link_wants_second(zmg_link *link, uint8_t player);
+
+/* Returns 1 if no datagram should go to the player at this tick, since this player's own line is full: then leave the
+ * tick's datagram out. At one of any four ticks in a row, and once a line is empty at every tick, it returns 0. */
+uint32_t zmg_link_is_resting(zmg_link *link, uint8_t player);
 
 uint32_t zmg_link_can_build(zmg_link *link);
 zmg_known_command zmg_link_command(zmg_link *link, uint8_t player, uint32_t tic);

@@ -613,6 +613,7 @@ static void no_link(void) {
     IS(zmg_link_catch_up(&other_link).code, ZMG_BUILD_NONE_OWED);
     IS(zmg_link_lean(&other_link), 0);
     IS(zmg_link_wants_second(&other_link, 1), 0);
+    IS(zmg_link_is_resting(&other_link, 1), 0);
     IS(zmg_link_left(&other_link, 1).known, 0);
     IS(zmg_link_line(&other_link, 1).known, 0);
     IS(zmg_link_refused(&other_link), 0);

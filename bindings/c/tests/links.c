@@ -43,8 +43,9 @@ static zmg_link links[LINKS];
 static player all[NODES];
 static uint8_t secret[ZMG_SECRET_SIZE], number[ZMG_NUMBER_SIZE], ahead;
 static uint32_t limit;
-static unsigned long games, heard, unopened[16], strangers, full, caught_up, seconds, alone, early,
+static unsigned long games, heard, unopened[16], strangers, full, caught_up, seconds, rests, alone, early,
     carried;
+static uint8_t rested[NODES][NODES];
 
 static void tell_where(FILE *out) { fprintf(out, "in game %lu at turn %u", games, (unsigned)now); }
 
@@ -156,8 +157,16 @@ static void give(unsigned from, uint8_t to) {
     carry(&f);
 }
 
+/* At no tick of four in a row a link rests for a player. */
+static void rest(uint8_t me, uint8_t to) {
+    rested[me][to] = zmg_link_is_resting(&links[me], to) ? rested[me][to] + 1 : 0;
+    MUST(rested[me][to] < 4);
+    rests += rested[me][to] > 0;
+}
+
 static void give_all(uint8_t me) {
-    for (uint8_t to = 0; to < NODES + 1; to++) give(me, to);
+    for (uint8_t to = 0; to < NODES + 1; to++)
+        if (!zmg_link_is_resting(&links[me], to)) give(me, to);
 }
 
 static void give_strange(void) {
@@ -210,6 +219,7 @@ static void tick(uint8_t me) {
     build(me);
     lean = zmg_link_lean(&links[me]);
     MUST(-9 <= lean && lean <= 41);
+    for (uint8_t to = 0; to < NODES; to++) rest(me, to);
     give_all(me);
     run_and_catch_up(me);
     if (below(200) == 0) all[me].stopped = now + below(STOP);
@@ -297,6 +307,7 @@ static void arrive(void) {
 
 static void come(uint8_t me) {
     make(me, me, players, secret, number);
+    memset(rested[me], 0, sizeof rested[me]);
     all[me].is = HERE;
     all[me].stopped = 0;
     all[me].last_run = now;
@@ -395,15 +406,15 @@ int main(int argc, char **argv) {
     unsigned long count = argc > 1 ? strtoul(argv[1], NULL, 10) : 300;
     if (argc > 2) begin_chance(argv[2]);
     while (games < count) game();
-    printf("%lu games: heard %lu, strangers %lu, full %lu, caught up %lu, second %lu, alone %lu,"
+    printf("%lu games: heard %lu, strangers %lu, full %lu, caught up %lu, second %lu, rests %lu, alone %lu,"
         " without a command %lu, carried over %lu\nunopened",
-        games, heard, strangers, full, caught_up, seconds, alone, early, carried);
+        games, heard, strangers, full, caught_up, seconds, rests, alone, early, carried);
     for (unsigned k = 1; k < 16; k++) printf(" %lu", unopened[k]);
     printf("\n");
     if (games < 100) return 0;
     /* in so many games all of it comes */
     MUST(unopened[ZMG_BUNDLE_TAG] > 0 && unopened[ZMG_BUNDLE_RECEIVER] > 0 && unopened[ZMG_BUNDLE_GAME] > 0);
-    MUST(strangers > 0 && full > 0 && caught_up > 0 && seconds > 0 && alone > 0);
+    MUST(strangers > 0 && full > 0 && caught_up > 0 && seconds > 0 && rests > 0 && alone > 0);
     MUST(early > 0 && carried > 0);
     return 0;
 }

@@ -111,6 +111,13 @@ impl Link {
         unsafe { raw::zmg_link_wants_second(self.0.at(), player) != 0 }
     }
 
+    /// Returns true if no datagram should go to the player at this tick, since this player's own line is full:
+    /// then leave the tick's datagram out. At one of any four ticks in a row it returns false.
+    pub fn is_resting(&self, player: u8) -> bool {
+        // SAFETY: the call has exclusive use of the handle (`Held`).
+        unsafe { raw::zmg_link_is_resting(self.0.at(), player) != 0 }
+    }
+
     /// Returns the current datagram to player `to`. It has every packet that is kept for the player, oldest
     /// first, as far as they fit, also once the link has ended. Behind them, if there is room, it may hand on
     /// commands of third players of whom the player seems to hear nothing: so two who cannot reach each other
@@ -359,9 +366,12 @@ pub(crate) fn received(raw: raw::Received) -> Received {
 /// ```
 /// use zirmegat::{Keys, LinkNode, Made, World};
 ///
-/// /// Sends a datagram to each other player, as each tick does.
+/// /// Sends a datagram to each other player, as each tick does, but to those for whom it rests.
 /// fn send_all<W: World>(node: &mut LinkNode<W>, send: &mut impl FnMut(u8, &[u8])) {
 ///     for to in 0..node.players() {
+///         if node.is_resting(to) {
+///             continue;
+///         }
 ///         if let Some(datagram) = node.datagram(to) {
 ///             send(to, &datagram);
 ///         }
@@ -468,6 +478,11 @@ impl<W: World> LinkNode<W> {
     /// [`Link::wants_second`] does.
     pub fn wants_second(&self, player: u8) -> bool {
         self.node.wants_second(player)
+    }
+
+    /// Returns true if no datagram should go to the player at this tick, as [`Link::is_resting`] does.
+    pub fn is_resting(&self, player: u8) -> bool {
+        self.node.is_resting(player)
     }
 
     /// Returns the current datagram to player `to`, as [`Link::datagram`] does; None if `to` is not another

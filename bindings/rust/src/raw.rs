@@ -227,6 +227,7 @@ extern "C" {
     pub fn zmg_link_catch_up(link: *mut Handle) -> Coded;
     pub fn zmg_link_lean(link: *mut Handle) -> i32;
     pub fn zmg_link_wants_second(link: *mut Handle, player: u8) -> u32;
+    pub fn zmg_link_is_resting(link: *mut Handle, player: u8) -> u32;
     pub fn zmg_link_left(link: *mut Handle, player: u8) -> Number;
     pub fn zmg_link_give_up(link: *mut Handle, player: u8) -> GivenUp;
     pub fn zmg_link_has_given_up(link: *mut Handle, player: u8) -> u32;

@@ -161,9 +161,9 @@ pub third_is_full : (first second third : PaceState) (to : ℕ)
     → first.given to ≡ false → is_brief first to ≡ true
     → second.given to ≡ false → second.briefs to ≡ (given_to to first).briefs to → is_brief second to ≡ true
     → third.given to ≡ false → third.briefs to ≡ (given_to to second).briefs to → is_brief third to ≡ false
-third_is_full first second third to one brief two after also three then =
+third_is_full first second third to one brief two after also three later =
     let once : second.briefs to ≡ min (first.briefs to + 1) 2 = after ∙ counted first to one brief in
-    let twice : third.briefs to ≡ min (second.briefs to + 1) 2 = then ∙ counted second to two also in
+    let twice : third.briefs to ≡ min (second.briefs to + 1) 2 = later ∙ counted second to two also in
     let both : third.briefs to ≡ 2 = omega (arith, once, twice) in
     let few = at_most_two third.congestion in
     grind (arith, three, both, few)

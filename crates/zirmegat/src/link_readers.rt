@@ -12,7 +12,7 @@ ghost use Rattle.zirmegat.specs.Links.{link_of, figures_at, left_of, line_told};
 ghost use Rattle.zirmegat.specs.Answers.{phase_told, phase_at, number_told, settings_told};
 ghost use Rattle.dn_packet.specs.Written.{IsWritten};
 ghost use Rattle.dn_link.specs.Linked.{unacknowledged, may_leave};
-ghost use Rattle.dn_link.specs.Pace.{wants_second};
+ghost use Rattle.dn_link.specs.Pace.{is_resting, wants_second};
 
 use crate::ask::ask;
 use crate::bytes;
@@ -182,6 +182,15 @@ pub extern "C" fn zmg_link_wants_second(link: &mut LinkHandle, player: u8) -> u3
         (λ n. result ≡ bit (wants_second n.link n.pace player)) (result ≡ 0) }
 {
     ask!(link, held => flag(held.wants_second(player)), 0)
+}
+
+/// 1 if no datagram goes to the player at this tick, since this player's own line is full; else 0.
+#[unsafe(no_mangle)]
+pub extern "C" fn zmg_link_is_resting(link: &mut LinkHandle, player: u8) -> u32
+    ensures { Reads (link_of link.old) (link_of link.new)
+        (λ n. result ≡ bit (is_resting n.link n.pace player)) (result ≡ 0) }
+{
+    ask!(link, held => flag(held.is_resting(player)), 0)
 }
 
 /// Why a player has left, if its datagrams told: 1 where it quit, 2 where its demo was full, and 3 where

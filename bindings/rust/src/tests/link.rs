@@ -360,11 +360,11 @@ fn a_build_without_room_is_owed() {
     assert_eq!(key.catch_up(), None);
 }
 
-/// Who misses two datagrams of the last asks for a second, which goes once the line was not full for 96 ticks.
+/// Who misses two datagrams of the last asks for a second, which goes once the line was not full for 80 ticks.
 #[test]
 fn holes_ask_for_a_second_datagram() {
     let (mut key, mut other) = pair();
-    for _ in 0..96 {
+    for _ in 0..80 {
         key.lean();
     }
     passes(&mut other, &mut key);
