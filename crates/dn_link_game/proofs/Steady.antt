@@ -1,5 +1,5 @@
 -- No answer to an event of a game of links tells of a failed check.
-use Rattle.std.proofs.Common.{◌≡◌, ◌<◌, ℕ, ℤ, Bool, List, Option, Some, sym, ap, ◌∙◌, subst, arith}
+use Rattle.std.proofs.Common.{◌≡◌, ◌<◌, ℕ, ℤ, Bool, List, Option, sym, ap, ◌∙◌, subst, arith}
 use Rattle.std.specs.Prelude.{slice_get, Result, Ok, Err, set}
 use Rattle.std.proofs.lemmas.Option.{slice_get_within}
 use Rattle.arrayvec.specs.ArrayVec.{ArrayVec}
@@ -9,12 +9,12 @@ use Rattle.dn_world.specs.Physics.{Physics}
 use Rattle.dn_machine.specs.{Limits.Limits, Node.Node, Running.on_run_but, declared.answers.Ran.Ran}
 use Rattle.dn_machine.specs.declared.answers.Phase.TheVariants.{Ended}
 use Rattle.dn_machine.specs.declared.answers.Cause.TheVariants as Cause
-use Rattle.dn_lockstep.specs.{Contents.Contents, Represents.Represents, Steps.marks_in, declared.lockstep.settling.Settled.Settled}
+use Rattle.dn_lockstep.specs.{Represents.Represents, Steps.marks_in, declared.lockstep.settling.Settled.Settled}
 use Rattle.dn_seal.specs.declared.seal.Seal.{Seal}
 use Rattle.dn_remain.specs.Remaining.{wary_of}
-use Rattle.dn_survivor.specs.{Agreed.AreAgreedInPairs, Calls.GivesUp, OneGame.Session, Surviving.Surviving, declared.answers.GivenUp.GivenUp}
-use Rattle.dn_link.specs.{Linked.{Linked, has_given_up, surviving_of}, Linking.linked}
-use Rattle.dn_link_game.specs.{Applied.IsSteady, Does.{Does, DoesEvent, Runs}, Games.IsLinkGame, Headline.HasPlayer, Playing.{Seen, marking_of}}
+use Rattle.dn_survivor.specs.{Agreed.AreAgreedInPairs, Calls.GivesUp, Surviving.Surviving, declared.answers.GivenUp.GivenUp}
+use Rattle.dn_link.specs.{Linked.{has_given_up, surviving_of}, Linking.linked}
+use Rattle.dn_link_game.specs.{Applied.IsSteady, Does.{Does, DoesEvent, Runs}, Games.IsLinkGame, Headline.HasPlayer, Playing.Seen}
 use Rattle.dn_link_game.specs.declared.{calls.{LinkCall.{LinkCall, TheVariants.{Build, CatchUp, Tick, Run, Send, Receive, GiveUp, Quit}}, LinkDone.LinkDone, LinkEvent.{LinkEvent, TheVariants.{Call, Deliver}}, LinkRefusal.LinkRefusal, Sending.TheVariants.{Datagram, Probe, Exclusion}}, game.LinkGame.LinkGame, player.Player.Player}
 use Rattle.dn_link_game.proofs.Going.{set_here}
 
