@@ -31,7 +31,6 @@ PLACES = [
     ('promise', 0, 602, [['dn_link'], ['dn_open']]),
     ('promise', 1, 375, [['dn_game']]),
     ('promise', 1, 480, [['dn_link_game']]),
-    ('promise', 2, 394, [['dn_remain_game']]),
     ('promise', 2, 508, [['zirmegat']]),
     ('promise', 2, 602, [['dn_session']]),
     ('promise', 3, 262, [['dn_netgame', 'dn_program', 'netgame']]),

@@ -6,7 +6,6 @@ ghost use Rattle.std.specs.Prelude.{◌≡◌, ◌<◌, Some};
 mod demo;
 mod game;
 mod node;
-mod remaining;
 mod ring;
 mod turn;
 mod world;

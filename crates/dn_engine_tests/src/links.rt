@@ -55,36 +55,41 @@ fn refused_memory_is_told_of_links(rt: HostRuntime) -> Result<(), Fail> {
     Ok(())
 }
 
-/// A datagram for which there is no room is left out, and no more of them than memory is refused for.
+/// A datagram for which there is no room is not given, and cannot come; the next is given as if it were the first.
 #[test]
-fn play_links_goes_on_without_a_packet(rt: HostRuntime) -> Result<(), Fail> {
+fn links_go_on_without_a_packet(rt: HostRuntime) -> Result<(), Fail> {
     let Ok(worlds) = walks(rt.alloc(), 2) else {
         return Ok(());
     };
-    let call = LinkCall::Send {
-        to: 1,
-        what: Sending::Datagram,
+    let what = Sending::Datagram;
+    let send = LinkEvent::Call {
+        player: 0,
+        call: LinkCall::Send { to: 1, what },
     };
-    let list = [LinkEvent::Call { player: 0, call }; 4];
-    let Ok(played) = play_links(rt.alloc(), &config(5, 1024)?, worlds, &list) else {
+    let events = [
+        send,
+        LinkEvent::Deliver {
+            player: 1,
+            which: 0,
+        },
+        send,
+    ];
+    let Ok(played) = play_links(rt.alloc(), &config(5, 1024)?, worlds, &events) else {
         return Ok(());
     };
     let given = played.game.given.len();
-    for answer in &played.answers {
-        if *answer == Err(LinkRefusal::Memory) {
+    match played.answers.as_slice() {
+        [Ok(_), Ok(LinkDone::Received(_)), Ok(_)] => assert_eq!(&rt; given, 2),
+        [
+            Err(LinkRefusal::Memory),
+            Err(LinkRefusal::NoDatagram),
+            Ok(_),
+        ]
+        | [Ok(_), Ok(LinkDone::Received(_)), Err(LinkRefusal::Memory)] => {
+            assert_eq!(&rt; given, 1);
             let _ = println!(&rt; "no memory: a send of play_links");
-        } else {
-            assert_eq!(&rt; *answer, Ok(LinkDone::Sent(true)));
         }
+        _ => return Err("another answer".into()),
     }
-    assert!(&rt; given == 4 || given == 3);
-    assert_eq!(&rt;
-        played
-            .answers
-            .iter()
-            .filter(|answer| answer.is_ok())
-            .count(),
-        given
-    );
     Ok(())
 }

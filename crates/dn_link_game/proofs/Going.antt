@@ -16,7 +16,7 @@ use Rattle.dn_link.specs.{Linking.{linked, seal_of}, RemainingLinks.{IsGenuineIn
 use Rattle.dn_link_game.specs.{Games.IsLinkGame, Applied.AddsToGiven, Does.with_one, Genuine.{IsGenuine, IsGenuineEvent, WasGiven, was_given}, Headline.HasPlayer, declared.game.LinkGame.LinkGame, declared.player.Player.Player, Playing.{Asked, GoesOnIf, GoesTo, IsPlayer, Seen, is_send}}
 use Rattle.dn_link_game.specs.declared.calls.{LinkCall.{LinkCall, TheVariants.{Build, CatchUp, Tick, Run, Send, Receive, GiveUp, Quit}}, LinkDone.LinkDone, LinkEvent.TheVariants.Call, LinkRefusal.LinkRefusal, Sending.Sending}
 
-set_here : {A : Type 0} (xs : List A) (i : ℕ) (x : A) → i < length xs → slice_get (set xs i x) i ≡ Some x
+pub set_here : {A : Type 0} (xs : List A) (i : ℕ) (x : A) → i < length xs → slice_get (set xs i x) i ≡ Some x
 set_here [] i x h = absurd (omega (arith, h))
 set_here (y ∷ xs) zero x h = refl
 set_here (y ∷ xs) (suc i) x h = set_here xs i x (omega (arith, h))

@@ -1,14 +1,15 @@
 -- Events one after the other: what is seen of them, and what is asked of them.
 use Rattle.std.proofs.Common.{◌≡◌, ◌≤◌, ◌+◌, ◌++◌, ◌∷◌, [], ℕ, zero, suc, List, Some, refl, sym, ap, ◌∙◌, subst, take, length, inl, inr, arith}
 use Rattle.dn_link_game.proofs.Going.{length_set}
-use Rattle.std.specs.Prelude.{slice_get, Result, Ok, Err, OnErr, ◌⊎◌}
+use Rattle.std.specs.Prelude.{All, slice_get, Result, Ok, Err, OnErr, ◌⊎◌}
+use Rattle.std.proofs.lemmas.List.Elements.{All-push}
 use Rattle.std.proofs.lemmas.{List.{take_all, take-append-le}, Option.{none-some, same_Some, slice_get_within}}
 use Rattle.arrayvec.specs.ArrayVec.{ArrayVec}
 use Rattle.dn_setup.specs.Settings.{Settings}
 use Rattle.dn_world.specs.Physics.{Physics}
 use Rattle.dn_machine.specs.Limits.{Limits}
 use Rattle.dn_seal.specs.declared.seal.Seal.{Seal}
-use Rattle.dn_link_game.specs.{Applied.{AddsToGiven, AreAnswered, IsAnswered}, Does.DoesEvent, Games.{GoesOn, IsLinkGame}, Genuine.{AreGenuine, IsGenuineEvent, given_by}, Playing.{Seen, nothing_seen}, Promised.{all_seen, seen_after, seen_by}}
+use Rattle.dn_link_game.specs.{Applied.{AddsToGiven, AreAnswered, IsAnswered, IsSteady}, Does.DoesEvent, Games.{GoesOn, IsLinkGame}, Genuine.{AreGenuine, IsGenuineEvent, given_by}, Playing.{Seen, nothing_seen}, Promised.{all_seen, seen_after, seen_by}}
 use Rattle.dn_link_game.specs.declared.{calls.{LinkDone.LinkDone, LinkEvent.{LinkEvent, TheVariants.{Call, Deliver}}, LinkRefusal.LinkRefusal}, game.LinkGame.LinkGame}
 
 abbrev Answer : Type 0
@@ -121,21 +122,28 @@ module _ (seal : Seal) (given more : List (ArrayVec ℕ)) (events : List LinkEve
       ∙ take_all (length given) given (omega arith)) (ask (length events) event (at_end events event))
 
 module _ {W S : Type 0} (state : W → S) (physics : Physics S) (limits : Limits) (settings : Settings) (seal : Seal) where
-  -- if these events are genuine, the game is one of links, in which all was seen that the answers tell
+  -- if these events are genuine, the game is one of links, in which all was seen that the answers tell, and no answer
+  -- tells of a failed check
   abbrev pub Reaches : List LinkEvent → List Answer → LinkGame W → Type 0
   Reaches events answers g = AreGenuine seal g.given.items events answers
-      → IsLinkGame state physics limits settings seal (all_seen events answers) g
+      → IsLinkGame state physics limits settings seal (all_seen events answers) g × All IsSteady answers
 
   pub reaches_more : (old new : LinkGame W) (events : List LinkEvent) (event : LinkEvent) (answers : List Answer)
       (answer : Answer) → GoesOn state physics old new event (seen_by event answer) → AddsToGiven old new answer
       → length answers ≡ length events → length old.given.items ≡ given_by answers → Reaches events answers old
+      → ((seen later : ℕ → Seen) → IsLinkGame state physics limits settings seal seen old
+      → IsLinkGame state physics limits settings seal later new → IsSteady answer)
       → Reaches (events ++ event ∷ []) (answers ++ answer ∷ []) new
-  reaches_more old new events event answers answer on adds many count reaches ask =
-      subst (λ (seen : ℕ → Seen). IsLinkGame state physics limits settings seal seen new)
-      (sym (seen_more events answers event answer (λ player. nothing_seen) many))
-      (on limits settings seal (all_seen events answers)
-      (reaches (asked_before seal old.given.items new.given.items events event answers answer adds.stays many count ask))
-      (asked_now seal old.given.items new.given.items events event answers answer adds.stays many count ask))
+  reaches_more old new events event answers answer on adds many count reaches steady ask =
+      let before = reaches (asked_before seal old.given.items new.given.items events event answers answer adds.stays many
+      count ask) in
+      let seen = all_seen events answers in
+      let after = on limits settings seal seen before.0
+      (asked_now seal old.given.items new.given.items events event answers answer adds.stays many count ask) in (
+        subst (λ (seen : ℕ → Seen). IsLinkGame state physics limits settings seal seen new)
+            (sym (seen_more events answers event answer (λ player. nothing_seen) many)) after,
+        All-push IsSteady answers answer before.1 (steady seen (seen_by event answer seen) before.0 after),
+      )
 
 pub counts_more : {W : Type 0} (old new : LinkGame W) (answers : List Answer) (answer : Answer) → AddsToGiven old new answer
     → length old.given.items ≡ given_by answers → length new.given.items ≡ given_by (answers ++ answer ∷ [])

@@ -1,5 +1,5 @@
 -- What is seen of a player's calls, in whatever session its link is.
-use Rattle.std.proofs.Common.{◌≡◌, ◌<◌, ℕ, List, Option, Some, None, refl, sym, ap, ◌∙◌, subst}
+use Rattle.std.proofs.Common.{◌≡◌, ◌<◌, ℕ, List, length, Option, Some, None, refl, sym, ap, ◌∙◌, subst}
 use Rattle.std.specs.Option.{option_map}
 use Rattle.std.proofs.lemmas.Option.{none-some, same_Some}
 use Rattle.std.specs.Prelude.{IfSome, Bool, true, false, if◌then◌else◌, Result, Ok, Err}
@@ -10,11 +10,13 @@ use Rattle.dn_setup.specs.Settings.{Settings, start_of}
 use Rattle.dn_world.specs.Physics.{Physics}
 use Rattle.dn_machine.specs.{declared.answers.Made.Made, Limits.Limits, Node.put, Worlds.Inputs}
 use Rattle.dn_machine.proofs.Put.{view_kept, view_put}
-use Rattle.dn_lockstep.specs.{Marking.Marking, OneGame.{taken_on, told_on, world_told}, Rows.seats_of, Told.Builds}
+use Rattle.dn_lockstep.specs.{Marking.Marking, OneGame.{taken_on, told_on, world_told}, Represents.Represents, Rows.seats_of, Told.Builds}
 use Rattle.dn_seal.specs.declared.seal.Seal.{Seal}
-use Rattle.dn_survivor.specs.OneGame.{Session, after_build, after_run, with_survivor}
-use Rattle.dn_link.specs.{declared.bundle.{Bundle.Bundle, BundleFault.BundleFault}, Hearing.ByTest, Linked.{Linked, surviving_of}, Linking.{linked, seal_of}, Pace.{Paces, PacesAs, after_datagram, given_to, still_owed}, Pacing.{PaceState, pace_of}, RemainingLinks.{AreRemainingLinks, StayRemaining, WasSealedIn}}
-use Rattle.dn_link_game.specs.{Playing.{GoesTo, IsAsSeen, IsPlayer, Seen, marking_of, taking, taking_owed, telling, world_by}, declared.player.Player.Player}
+use Rattle.dn_remain.specs.Remaining.{wary_of}
+use Rattle.dn_survivor.specs.{OneGame.{Session, after_build, after_run, with_survivor}, OfOthers.has, Surviving.Surviving, declared.{answers.GivenUp.GivenUp, others.Others.Others}}
+use Rattle.dn_link.specs.{declared.bundle.{Bundle.Bundle, BundleFault.BundleFault}, Hearing.ByTest, Linked.{Linked, surviving_of}, Linking.{linked, seal_of}, Pace.{Paces, PacesAs, after_datagram, given_to, still_owed}, Pacing.{PaceState, pace_of}, RemainingLinks.{AreRemainingLinks, StayRemaining, WasSealedIn}, Surviving.GivesUpPeer}
+use Rattle.dn_link_game.proofs.Gone.{given_up}
+use Rattle.dn_link_game.specs.{Playing.{GoesTo, IsAsSeen, IsPlayer, Seen, giving_up, marking_of, taking, taking_owed, telling, world_by}, declared.player.Player.Player}
 
 -- what is owed
 
@@ -83,11 +85,12 @@ module _ {W S : Type 0} (state : W → S) (physics : Physics S) (limits : Limits
     (is : IsPlayer state physics limits settings (seen me) (links me) old) where
   -- a call of which nothing is seen
   pub unseen : (given : Option (ArrayVec ℕ)) (later : Session) → later.inputs ≡ session.inputs
-      → later.told ≡ session.told → (pace_of new.link).owed ≡ (pace_of old.link).owed → new.world ≡ old.world
+      → later.told ≡ session.told → (linked new.link).others.gone ≡ (linked old.link).others.gone
+      → (pace_of new.link).owed ≡ (pace_of old.link).owed → new.world ≡ old.world
       → IfSome given (λ bytes. WasSealedIn (seal_of new.link) later bytes.items)
       → StayRemaining (marking_of physics) limits settings session links me (linked new.link) later
       → GoesTo state physics limits settings session links me seen new given (seen me)
-  unseen given later inputs told owed world sealed stays = record {
+  unseen given later inputs told gone owed world sealed stays = record {
     later = later;
     as_seen = record {
       inputs = inputs ∙ seen_is.inputs ∙ sym (view_kept (λ (s : Seen). s.inputs) seen me (seen me) refl);
@@ -95,8 +98,45 @@ module _ {W S : Type 0} (state : W → S) (physics : Physics S) (limits : Limits
     };
     sealed = sealed;
     stays = stays;
-    player = record { link = refl; owed = owed ∙ is.owed; world = ap state world ∙ is.world };
+    player = record {
+      link = refl;
+      owed = owed ∙ is.owed;
+      gone = λ other. ap (λ (set : List Bool). has set other) gone ∙ is.gone other;
+      world = ap state world ∙ is.world;
+    };
   }
+
+  -- a player was given up, or not
+  pub gave_up : (player : ℕ) (answer : GivenUp) → AreRemainingLinks (marking_of physics) limits settings session links
+      → me < limits.players → GivesUpPeer player (linked old.link) (linked new.link) answer
+      → (pace_of new.link).owed ≡ (pace_of old.link).owed → new.world ≡ old.world
+      → StayRemaining (marking_of physics) limits settings session links me (linked new.link)
+      (with_survivor session me (surviving_of (linked new.link)))
+      → GoesTo state physics limits settings session links me seen new None (giving_up player answer (seen me))
+  gave_up player answer mine below gives owed world stays =
+      let after : Seen = giving_up player answer (seen me) in
+      let node = mine.game.nodes me below in
+      let its : session.survivors me ≡ surviving_of (linked old.link) =
+      sym (mine.survivors me below) ∙ ap surviving_of is.link in
+      record {
+        later = with_survivor session me (surviving_of (linked new.link));
+        as_seen = record {
+          inputs = seen_is.inputs ∙ sym (view_kept (λ (s : Seen). s.inputs) seen me after refl);
+          rows = seen_is.rows ∙ sym (view_kept (λ (s : Seen). s.rows) seen me after refl);
+        };
+        sealed = tt;
+        stays = stays;
+        player = record {
+          link = refl;
+          owed = owed ∙ is.owed;
+          gone = λ other. ap (λ (l : Linked). has l.others.gone other) gives.2
+              ∙ given_up (surviving_of (linked old.link)) gives.0 player answer (seen me) limits me
+              (wary_of mine.game.last me).node
+              (subst (λ (s : Surviving). Represents limits me s.lockstep (wary_of mine.game.last me).node) its node.node)
+              node.few (sym (ap (λ (s : Surviving). length s.others.gone) its) ∙ node.others.four.0) is.gone gives.1 other;
+          world = ap state world ∙ is.world;
+        };
+      }
 
   -- an input came
   pub took : (input : Input) (made : Made) → BuildsGoOn (marking_of physics)
@@ -119,7 +159,12 @@ module _ {W S : Type 0} (state : W → S) (physics : Physics S) (limits : Limits
         stays = law limits settings session links me now input made mine below
             (subst (λ (l : Linked). Builds l.node now.node input made) (sym is.link) step)
             (others ∙ sym (ap (λ (l : Linked). l.others) is.link)) (peers ∙ sym (ap (λ (l : Linked). l.peers) is.link));
-        player = record { link = refl; owed = owed; world = ap state world ∙ is.world };
+        player = record {
+          link = refl;
+          owed = owed;
+          gone = λ other. ap (λ (o : Others). has o.gone other) others ∙ is.gone other;
+          world = ap state world ∙ is.world;
+        };
       }
 
   abbrev To : Seen → Type 0
@@ -141,7 +186,7 @@ module _ {W S : Type 0} (state : W → S) (physics : Physics S) (limits : Limits
       go : (o : Option Input) → (pace_of old.link).owed ≡ o → To (taking_owed (seen me).owed result (seen me))
       go None e = subst (λ (o : Option Input). To (taking_owed o result (seen me))) (sym e ∙ is.owed)
           (unseen None (with_survivor session me (surviving_of (linked new.link))) refl refl
-          (ap (λ (p : PaceState). p.owed) (none e).2) world tt
+          (ap (λ (o : Others). o.gone) others) (ap (λ (p : PaceState). p.owed) (none e).2) world tt
           (keeps limits settings session links me (linked new.link) mine below ((none e).1 ∙ sym is.link)))
       go (Some input) e =
           let made = owed input e in
@@ -154,11 +199,11 @@ module _ {W S : Type 0} (state : W → S) (physics : Physics S) (limits : Limits
   pub ran : (row : Option (List (Option Move)))
       → StayRemaining (marking_of physics) limits settings session links me (linked new.link)
       (after_run session me row (surviving_of (linked new.link)))
-      → (pace_of new.link).owed ≡ (pace_of old.link).owed
+      → (linked new.link).others ≡ (linked old.link).others → (pace_of new.link).owed ≡ (pace_of old.link).owed
       → (row ≡ None → new.world ≡ old.world)
       → ((told : List (Option Move)) → row ≡ Some told → state new.world ≡ physics.step (state old.world) told)
       → GoesTo state physics limits settings session links me seen new None (telling row (seen me))
-  ran row stays owed none some =
+  ran row stays others owed none some =
       let after : Seen = telling row (seen me) in
       record {
         later = after_run session me row (surviving_of (linked new.link));
@@ -172,6 +217,7 @@ module _ {W S : Type 0} (state : W → S) (physics : Physics S) (limits : Limits
         player = record {
           link = refl;
           owed = owed ∙ is.owed;
+          gone = λ other. ap (λ (o : Others). has o.gone other) others ∙ is.gone other;
           world = stepped state physics limits settings (seen me).rows row old.world new.world is.world none some;
         };
       }

@@ -1,5 +1,7 @@
--- Which events of a game of links are refused, and what is given.
+-- Which events of a game of links are refused, what is given, and which answers tell of a failed check.
 use Rattle.std.specs.Prelude.{◌≡◌, ◌<◌, ◌≤◌, ℕ, ◌+◌, ◌∷◌, [], List, Some, length, slice_get, take, Result, Ok, Err}
+use Rattle.dn_machine.specs.declared.answers.Ran.{Ran}
+use Rattle.dn_survivor.specs.declared.answers.GivenUp.{GivenUp}
 use Rattle.dn_link_game.specs.{Genuine.given_by, declared.game.LinkGame.LinkGame}
 use Rattle.dn_link_game.specs.declared.calls.{LinkCall.TheVariants.Send, LinkDone.LinkDone, LinkEvent.{LinkEvent, TheVariants.{Call, Deliver}}, LinkRefusal.{LinkRefusal, TheVariants.{NoPlayer, NoDatagram, Memory}}}
 
@@ -29,3 +31,9 @@ AreAnswered players events answers =
 pub record AddsToGiven {W : Type 0} (old new : LinkGame W) (answer : Result LinkDone LinkRefusal) : Type 0 where
   pub stays : take (length old.given.items) new.given.items ≡ old.given.items
   pub more : length new.given.items ≡ length old.given.items + given_by (answer ∷ [])
+
+-- an answer that tells of no failed check: no mark was off in a run, and no end was refused that was decided at a give-up
+abbrev pub IsSteady : Result LinkDone LinkRefusal → Type 0
+IsSteady (Ok (LinkDone.Ran (Ran.Inconsistent player was should) row)) = ⊥
+IsSteady (Ok (LinkDone.GivenUp (GivenUp.Untaken player reason))) = ⊥
+IsSteady answer = Unit {0}

@@ -1,6 +1,6 @@
 -- The headline of a game of links, by what the readers of its links return, the inputs that its players' builds
--- took, and the rows that their runs told. It speaks of no packet and no datagram.
-use Rattle.std.specs.Prelude.{◌≡◌, ◌<◌, ◌≤◌, ◌||◌, ℕ, ◌+◌, false, List, Option, Some, length, nat_lt, slice_get, None}
+-- took, the rows that their runs told, and the give-ups that were taken. It speaks of no packet and no datagram.
+use Rattle.std.specs.Prelude.{◌≡◌, ◌<◌, ◌≤◌, ◌||◌, ℕ, ◌+◌, Bool, false, List, Option, Some, length, nat_lt, slice_get, None}
 use Rattle.dn_tic.specs.declared.command.Move.{Move}
 use Rattle.dn_setup.specs.Settings.{Settings}
 use Rattle.dn_setup.specs.Settings.{start_of}
@@ -48,32 +48,33 @@ pub record Shows {W S : Type 0} (state : W → S) (physics : Physics S) (limits 
       (is_ended (linked player.link).node.phase
       || nat_lt (length (whole_rows limits.players shown.rows)) (linked player.link).node.ran)
 
--- two players of whom neither has given up the other
-pub record Together {W : Type 0} (g : LinkGame W) (q r : ℕ) : Type 0 where
-  pub one : Player W
-  pub other : Player W
-  pub one_is : HasPlayer g q one
-  pub other_is : HasPlayer g r other
-  pub here : has_given_up (linked one.link) r ≡ false
-  pub there : has_given_up (linked other.link) q ≡ false
+-- two players of so many, of whom neither gave up the other
+pub record Together (players : ℕ) (gone : ℕ → ℕ → Bool) (q r : ℕ) : Type 0 where
+  pub one : q < players
+  pub other : r < players
+  pub here : gone q r ≡ false
+  pub there : gone r q ≡ false
 
 -- nobody gave up anybody
-abbrev pub NobodyGone : {W : Type 0} → LinkGame W → Type 0
-NobodyGone {W} g = (i other : ℕ) (player : Player W) → HasPlayer g i player
-    → has_given_up (linked player.link) other ≡ false
+abbrev pub NobodyGone : ℕ → (ℕ → ℕ → Bool) → Type 0
+NobodyGone players gone = (q r : ℕ) → q < players → r < players → gone q r ≡ false
 
--- The players agree, in a window of these limits, where their builds took these inputs and their runs told
--- these rows.
+-- The players agree, in a window of these limits, where their builds took these inputs, their runs told these rows,
+-- and each gave up these others.
 pub record HaveAgreed {W S : Type 0} (state : W → S) (physics : Physics S) (limits : Limits) (settings : Settings)
-    (inputs : Inputs) (told : ℕ → List (List (Option Move))) (g : LinkGame W) : Type 0 where
+    (inputs : Inputs) (told : ℕ → List (List (Option Move))) (gone : ℕ → ℕ → Bool) (g : LinkGame W) : Type 0 where
   pub places : length g.players.items ≡ limits.players
   pub shown : ℕ → Shown ℕ
   pub shows : (i : ℕ) (player : Player W) → HasPlayer g i player → Shows state physics limits settings i player (shown i)
   pub told_is : (i : ℕ) → (shown i).rows ≡ told i
-  -- the headline; its parts `same` and `lacked` are of any two of whom neither has given up the other
-  pub headline : AgreeWithin limits.ahead (limits.ahead + limits.ahead) limits.places limits.players (Together g) shown
+  -- a link has given up whom its player gave up, and no other
+  pub gone_is : (i other : ℕ) (player : Player W) → HasPlayer g i player
+      → has_given_up (linked player.link) other ≡ gone i other
+  -- the headline; its parts `same` and `lacked` are of any two of whom neither gave up the other
+  pub headline : AgreeWithin limits.ahead (limits.ahead + limits.ahead) limits.places limits.players
+      (Together limits.players gone) shown
   -- and all of it of any two players, where nobody gave up anybody
-  pub quiet : NobodyGone g
+  pub quiet : NobodyGone limits.players gone
       → AgreeWithin limits.ahead (limits.ahead + limits.ahead) limits.places limits.players (AnyTwo limits.players) shown
   -- the row of a tic has the moves that the players' inputs make, of each player whose end its runner's link does not
   -- know to be over by then, and none of any other
@@ -85,12 +86,16 @@ pub record HaveAgreed {W S : Type 0} (state : W → S) (physics : Physics S) (li
   pub held : (q p : ℕ) → q < limits.players → p < limits.players → (shown q).got p ≤ (shown p).got p
   pub run : (q p : ℕ) (player : Player W) → HasPlayer g q player → p < limits.players
       → end_settled (surviving_of (linked player.link)) p ≡ None → ran_by (shown q) ≤ (shown q).got p
-  -- an end is at most what the player made; and it is the same for any two of whom neither has given up the other, once
-  -- each has the commands before the one that it knows
+  -- an end is at most what the player made; and of any two of whom neither gave up the other it is at least what the
+  -- other has, and the same, once each has the commands before the one that it knows
   pub at_most : (q p a : ℕ) (player : Player W) → HasPlayer g q player → p < limits.players
       → end_settled (surviving_of (linked player.link)) p ≡ Some a → a ≤ (shown p).got p
-  pub ends : (q r p a b : ℕ) → (two : Together g q r) → p < limits.players
-      → end_settled (surviving_of (linked two.one.link)) p ≡ Some a
-      → end_settled (surviving_of (linked two.other.link)) p ≡ Some b → a ≡ b
+  pub at_least : (q r p a : ℕ) (one : Player W) → HasPlayer g q one → Together limits.players gone q r → p < limits.players
+      → end_settled (surviving_of (linked one.link)) p ≡ Some a → (shown r).got p ≤ a
+  pub ends : (q r p a b : ℕ) (one other : Player W) → HasPlayer g q one → HasPlayer g r other
+      → Together limits.players gone q r → p < limits.players
+      → end_settled (surviving_of (linked one.link)) p ≡ Some a → end_settled (surviving_of (linked other.link)) p ≡ Some b
+      → a ≡ b
   -- and the worlds of two such players are the same as long as both ran as many tics
-  pub worlds : (q r : ℕ) → (two : Together g q r) → ran_by (shown q) ≡ ran_by (shown r) → state two.one.world ≡ state two.other.world
+  pub worlds : (q r : ℕ) (one other : Player W) → HasPlayer g q one → HasPlayer g r other
+      → Together limits.players gone q r → ran_by (shown q) ≡ ran_by (shown r) → state one.world ≡ state other.world

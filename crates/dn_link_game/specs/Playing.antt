@@ -1,14 +1,14 @@
 -- A player of a game of links, in whatever session of the game its link is, and what its caller has seen of it.
-use Rattle.std.specs.Prelude.{◌≡◌, ◌<◌, ℕ, List, [], Option, Some, None, IfSome, fold, Bool, false, true}
+use Rattle.std.specs.Prelude.{◌≡◌, ◌<◌, ℕ, List, [], Option, Some, None, IfSome, fold, Bool, false, true, if◌then◌else◌}
 use Rattle.arrayvec.specs.ArrayVec.{ArrayVec}
 use Rattle.dn_tic.specs.declared.{command.Move.Move, input.Input.Input}
 use Rattle.dn_setup.specs.Settings.{Settings}
 use Rattle.dn_world.specs.Physics.{Physics}
 use Rattle.dn_machine.specs.{declared.answers.Made.Made, Limits.Limits, Node.put}
 use Rattle.dn_lockstep.specs.{Marking.{History, Marking}, OneGame.{world_told, taken_on, told_on}}
-use Rattle.dn_survivor.specs.OneGame.{Session}
-use Rattle.dn_link.specs.{Linked.Linked, Linking.{linked, seal_of}, Pace.still_owed, Pacing.pace_of, RemainingLinks.{AreRemainingLinks, IsGenuineIn, StayRemaining, WasSealedIn}}
-use Rattle.dn_link_game.specs.declared.{calls.{LinkCall.{LinkCall, TheVariants.{Build, CatchUp, Receive, Run, Send}}, LinkDone.LinkDone}, player.Player.Player}
+use Rattle.dn_survivor.specs.{OneGame.Session, declared.answers.GivenUp.GivenUp}
+use Rattle.dn_link.specs.{Linked.{Linked, has_given_up}, Linking.{linked, seal_of}, Pace.still_owed, Pacing.pace_of, RemainingLinks.{AreRemainingLinks, IsGenuineIn, StayRemaining, WasSealedIn}}
+use Rattle.dn_link_game.specs.declared.{calls.{LinkCall.{LinkCall, TheVariants.{Build, CatchUp, GiveUp, Receive, Run, Send}}, LinkDone.LinkDone}, player.Player.Player}
 
 -- the world that began so, with these seats taken, and was stepped by these rows
 abbrev pub world_by : {S : Type 0} → Physics S → History → S
@@ -19,14 +19,15 @@ abbrev pub marking_of : {S : Type 0} → Physics S → Marking
 marking_of physics history player = physics.mark (world_by physics history) player
 
 -- What a player's caller has seen: the inputs of which commands were made, in order, the one of which a command is
--- owed, and the rows that were told.
+-- owed, the rows that were told, and which players were given up.
 pub record Seen : Type 0 where
   pub inputs : List Input
   pub owed : Option Input
   pub rows : List (List (Option Move))
+  pub gone : ℕ → Bool
 
 abbrev pub nothing_seen : Seen
-nothing_seen = record { inputs = []; owed = None; rows = [] }
+nothing_seen = record { inputs = []; owed = None; rows = []; gone = λ player. false }
 
 -- an input came: a command was made of it, or is owed, for want of room; an earlier one that was owed is dropped
 abbrev pub taking : Input → Made → Seen → Seen
@@ -42,11 +43,24 @@ taking_owed _ _ seen = seen
 abbrev pub telling : Option (List (Option Move)) → Seen → Seen
 telling row seen = record seen { rows = told_on seen.rows row }
 
+-- a give-up with this answer was taken; one that is refused changes nothing
+abbrev pub is_taken : GivenUp → Bool
+is_taken GivenUp.Waiting = true
+is_taken GivenUp.Decided = true
+is_taken (GivenUp.Untaken player reason) = true
+is_taken refused = false
+
+-- whom its player gave up is given up for good. That another reports to have given up somebody does not count here
+abbrev pub giving_up : ℕ → GivenUp → Seen → Seen
+giving_up player answer seen =
+    record seen { gone = if is_taken answer then put seen.gone player true else seen.gone }
+
 -- what is seen after a call with this answer
 abbrev pub sees : LinkCall → LinkDone → Seen → Seen
 sees (Build input) (LinkDone.Built made) seen = taking input made seen
 sees CatchUp (LinkDone.CaughtUp made) seen = taking_owed seen.owed made seen
 sees Run (LinkDone.Ran ran row) seen = telling row seen
+sees (GiveUp player) (LinkDone.GivenUp answer) seen = giving_up player answer seen
 sees _ _ seen = seen
 
 -- a call asks for a datagram
@@ -64,12 +78,13 @@ pub record IsAsSeen (session : Session) (seen : ℕ → Seen) : Type 0 where
   pub inputs : session.inputs ≡ (λ player. (seen player).inputs)
   pub rows : session.told ≡ (λ player. (seen player).rows)
 
--- a player has this link, which owes what was seen, and its world began with the settings' start and was stepped by
--- the rows that were seen
+-- a player has this link, which owes what was seen and has given up whom it was seen to, and its world began with the
+-- settings' start and was stepped by the rows that were seen
 pub record IsPlayer {W S : Type 0} (state : W → S) (physics : Physics S) (limits : Limits) (settings : Settings)
     (seen : Seen) (its : Linked) (p : Player W) : Type 0 where
   pub link : its ≡ linked p.link
   pub owed : (pace_of p.link).owed ≡ seen.owed
+  pub gone : (other : ℕ) → has_given_up (linked p.link) other ≡ seen.gone other
   pub world : state p.world ≡ world_by physics (world_told limits settings seen.rows)
 
 -- what is asked where bytes come in: if the player opens them, they were sealed in this session before

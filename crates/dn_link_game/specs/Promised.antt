@@ -1,10 +1,10 @@
 -- What is promised of a game of links after a list of events.
-use Rattle.std.specs.Prelude.{◌≡◌, ℕ, List, ◌∷◌, length, Result, Ok}
+use Rattle.std.specs.Prelude.{◌≡◌, ℕ, All, List, ◌∷◌, length, Result, Ok}
 use Rattle.dn_setup.specs.Settings.{Settings}
 use Rattle.dn_world.specs.Physics.{Physics}
 use Rattle.dn_machine.specs.{Limits.Limits, Node.put}
 use Rattle.dn_seal.specs.declared.seal.Seal.{Seal}
-use Rattle.dn_link_game.specs.{Applied.AreAnswered, Genuine.{AreGenuine, given_by}, Headline.HaveAgreed, Playing.{Seen, nothing_seen, sees}}
+use Rattle.dn_link_game.specs.{Applied.{AreAnswered, IsSteady}, Genuine.{AreGenuine, given_by}, Headline.HaveAgreed, Playing.{Seen, nothing_seen, sees}}
 use Rattle.dn_link_game.specs.declared.{calls.{LinkDone.LinkDone, LinkEvent.{LinkEvent, TheVariants.Call}, LinkRefusal.LinkRefusal}, game.LinkGame.LinkGame}
 
 -- what the players' callers have seen after an event with this answer
@@ -22,7 +22,8 @@ abbrev pub all_seen : List LinkEvent → List (Result LinkDone LinkRefusal) → 
 all_seen events answers = seen_after events answers (λ player. nothing_seen)
 
 -- each event was done, or refused for what is wrong with it; and if the bytes that came in were genuine, the players
--- agree, on the inputs of which commands were made and the rows that were told
+-- agree, on the inputs of which commands were made and the rows that were told, as far as they did not give each other up; and
+-- no answer told of a failed check
 pub record HavePlayed {W S : Type 0} (state : W → S) (physics : Physics S) (limits : Limits) (settings : Settings)
     (seal : Seal) (events : List LinkEvent) (answers : List (Result LinkDone LinkRefusal)) (g : LinkGame W) : Type 0
   where
@@ -31,4 +32,5 @@ pub record HavePlayed {W S : Type 0} (state : W → S) (physics : Physics S) (li
     pub given : length g.given.items ≡ given_by answers
     pub agreed : AreGenuine seal g.given.items events answers
         → HaveAgreed state physics limits settings (λ player. (all_seen events answers player).inputs)
-        (λ player. (all_seen events answers player).rows) g
+        (λ player. (all_seen events answers player).rows) (λ player. (all_seen events answers player).gone) g
+    pub steady : AreGenuine seal g.given.items events answers → All IsSteady answers

@@ -13,6 +13,6 @@ mod playing;
 pub use calls::{LinkCall, LinkDone, LinkEvent, LinkRefusal, Sending};
 pub use config::LinkGameConfig;
 pub use game::LinkGame;
-pub use laws::{linked_game_starts, linked_games_agree};
+pub use laws::{linked_answers_are_steady, linked_game_starts, linked_games_agree};
 pub use player::Player;
 pub use playing::{PlayedLinks, play_links};

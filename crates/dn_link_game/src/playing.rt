@@ -6,7 +6,7 @@ ghost use Rattle.dn_link_game.specs.{Opening.{IsAdmitted, limits_of}, Promised.H
 use crate::calls::{LinkDone, LinkEvent, LinkRefusal};
 use crate::config::LinkGameConfig;
 use crate::game::LinkGame;
-use crate::laws::{linked_game_starts, linked_games_agree};
+use crate::laws::{linked_answers_are_steady, linked_game_starts, linked_games_agree};
 use dn_lockstep::{NodeFault, windows_hold};
 use dn_world::World;
 use std::alloc::Global;
@@ -36,6 +36,7 @@ pub fn play_links<W: World>(
     windows_hold();
     linked_game_starts::<W>();
     linked_games_agree::<W>();
+    linked_answers_are_steady::<W>();
     let mut game = LinkGame::new(alloc, config, worlds)?;
     let Ok(mut answers) = Vec::with_capacity(alloc, events.len()) else {
         return Err(NodeFault::Memory);

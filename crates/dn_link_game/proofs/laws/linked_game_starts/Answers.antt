@@ -4,6 +4,7 @@ use Rattle.std.proofs.lemmas.List.Elements.{All-nil}
 use Rattle.std.proofs.lemmas.Option.{get_or_from_slice_get, slice_get_cases, slice_get-get_or}
 use Rattle.arrayvec.specs.ArrayVec.{ArrayVec}
 use Rattle.dn_survivor.specs.OneGame.{started_session}
+use Rattle.dn_link.proofs.Relinking.{new_whole}
 use Rattle.dn_link.specs.Linked.{Linked, surviving_of}
 use Rattle.dn_link.specs.{Linking.linked, Pacing.PaceState}
 use Rattle.dn_link.specs.RemainingLinks.{WasSealedIn}
@@ -44,6 +45,7 @@ returns g c limits settings seal game window is_game places count none new =
             players = λ i player at. record {
               link = its game one i player at;
               owed = ap (λ (p : PaceState). p.owed) (new i player at).pace;
+              gone = new_whole (linked player.link) (new i player at).others;
               world = (new i player at).world;
             };
             seals = λ i player at. (new i player at).sealed;

@@ -1,5 +1,5 @@
 -- What a game of links shows is the headline.
-use Rattle.std.proofs.Common.{◌≡◌, ◌<◌, ◌≤◌, ◌+◌, ℕ, false, List, length, Option, Some, refl, sym, ap, ◌∙◌, inl, inr, arith, ◌≢◌, subst}
+use Rattle.std.proofs.Common.{◌≡◌, ◌<◌, ◌≤◌, ◌+◌, ℕ, Bool, false, List, length, Option, Some, refl, sym, ap, ◌∙◌, inl, inr, arith, ◌≢◌, subst}
 use Rattle.std.specs.Prelude.{slice_get}
 use Rattle.std.proofs.lemmas.Bool.{cases_eq}
 use Rattle.std.proofs.lemmas.Option.{same_Some, slice_get_cases, slice_get_within}
@@ -67,20 +67,24 @@ module _ {W S : Type 0} (state : W → S) (physics : Physics S) (limits : Limits
           (demos.texts i below);
     }
 
-  module _ (q r : ℕ) (two : Together g q r) where
-    one_below : q < limits.players
-    one_below = below q two.one two.one_is
+  abbrev gone : ℕ → ℕ → Bool
+  gone i = (seen i).gone
 
-    other_below : r < limits.players
-    other_below = below r two.other two.other_is
+  -- whom its survivor has given up
+  gone_there : (i other : ℕ) → i < limits.players → has_given_up (session.survivors i) other ≡ gone i other
+  gone_there i other k = elim (slice_get_cases g.players.items i).1 [
+    | inr past ↦ absurd (omega (arith, past.0, k, is.places))
+    | inl one ↦ ap (λ (s : Surviving). has_given_up s other) (its i one.0 one.2) ∙ (is.players i one.0 one.2).gone other
+  ]
 
+  module _ (q r : ℕ) (two : Together limits.players gone q r) where
     pair : q ≢ r → IsPair limits session.survivors q r
     pair apart = record {
-      one = one_below;
-      other = other_below;
+      one = two.one;
+      other = two.other;
       apart = apart;
-      here = ap (λ (s : Surviving). has_given_up s r) (its q two.one two.one_is) ∙ two.here;
-      there = ap (λ (s : Surviving). has_given_up s q) (its r two.other two.other_is) ∙ two.there;
+      here = gone_there q r two.one ∙ two.here;
+      there = gone_there r q two.other ∙ two.there;
     }
 
     same : (tic : ℕ) → tic < length (session.told q) → tic < length (session.told r)
@@ -88,7 +92,7 @@ module _ {W S : Type 0} (state : W → S) (physics : Physics S) (limits : Limits
     same tic k l = elim (cases_eq q r) [
       | inl e ↦ ap (λ (p : ℕ). slice_get (session.told p) tic) e
       | inr apart ↦ agreed.same q r tic (pair apart)
-          (let a = agreed.ran q one_below in omega (arith, a, k)) (let b = agreed.ran r other_below in omega (arith, b, l))
+          (let a = agreed.ran q two.one in omega (arith, a, k)) (let b = agreed.ran r two.other in omega (arith, b, l))
     ]
 
     lacked : is_ended (session.survivors q).lockstep.phase ≡ false
@@ -98,18 +102,24 @@ module _ {W S : Type 0} (state : W → S) (physics : Physics S) (limits : Limits
           let same_node : got (session.survivors q).lockstep r ≡ got (session.survivors r).lockstep r =
           ap (λ (p : ℕ). got (session.survivors p).lockstep r) e in
           omega (arith, same_node)
-      | inr apart ↦ fit.unheard q r r (pair apart) other_below goes_on
+      | inr apart ↦ fit.unheard q r r (pair apart) two.other goes_on
     ]
 
-    ends : (p a b : ℕ) → p < limits.players → end_settled (surviving_of (linked two.one.link)) p ≡ Some a
-        → end_settled (surviving_of (linked two.other.link)) p ≡ Some b → a ≡ b
+    ends : (p a b : ℕ) → p < limits.players → end_settled (session.survivors q) p ≡ Some a
+        → end_settled (session.survivors r) p ≡ Some b → a ≡ b
     ends p a b l here there = elim (cases_eq q r) [
-      | inl e ↦ same_Some a b (sym (ap (λ (s : Surviving). end_settled s p) (its q two.one two.one_is) ∙ here)
-          ∙ ap (λ (x : ℕ). end_settled (session.survivors x) p) e
-          ∙ ap (λ (s : Surviving). end_settled s p) (its r two.other two.other_is) ∙ there)
-      | inr apart ↦ agreed.ends_same q r p a b (pair apart) l
-          (ap (λ (s : Surviving). end_settled s p) (its q two.one two.one_is) ∙ here)
-          (ap (λ (s : Surviving). end_settled s p) (its r two.other two.other_is) ∙ there)
+      | inl e ↦ same_Some a b (sym here ∙ ap (λ (x : ℕ). end_settled (session.survivors x) p) e ∙ there)
+      | inr apart ↦ agreed.ends_same q r p a b (pair apart) l here there
+    ]
+
+    at_least : (p a : ℕ) → p < limits.players → end_settled (session.survivors q) p ≡ Some a
+        → got (session.survivors r).lockstep p ≤ a
+    at_least p a l e = elim (cases_eq q r) [
+      | inl same_one ↦
+          let all = agreed.has_all q p a two.one l e in
+          let its = ap (λ (x : ℕ). got (session.survivors x).lockstep p) same_one in
+          omega (arith, all, its)
+      | inr apart ↦ agreed.at_least q r p a (pair apart) l e
     ]
 
     rows_same : length (session.told q) ≡ length (session.told r) → session.told q ≡ session.told r
@@ -117,15 +127,15 @@ module _ {W S : Type 0} (state : W → S) (physics : Physics S) (limits : Limits
       | inl e ↦ ap session.told e
       | inr apart ↦ sym (take_all (length (session.told q)) (session.told q) (omega arith))
           ∙ agreed.worlds q r (length (session.told q)) (pair apart)
-          (let a = agreed.ran q one_below in omega (arith, a)) (let b = agreed.ran r other_below in omega (arith, b, long))
+          (let a = agreed.ran q two.one in omega (arith, a)) (let b = agreed.ran r two.other in omega (arith, b, long))
           ∙ take_all (length (session.told q)) (session.told r) (omega (arith, long))
     ]
 
-    worlds : length (session.told q) ≡ length (session.told r)
-        → state two.one.world ≡ state two.other.world
-    worlds long = world_of q two.one two.one_is
+    worlds : (one other : Player W) → HasPlayer g q one → HasPlayer g r other
+        → length (session.told q) ≡ length (session.told r) → state one.world ≡ state other.world
+    worlds one other here there long = world_of q one here
         ∙ ap (λ (rows : List (List (Option Move))). world_by physics (world_told limits settings rows)) (rows_same long)
-        ∙ sym (world_of r two.other two.other_is)
+        ∙ sym (world_of r other there)
 
   -- how many commands a player made
   made_is : (p : ℕ) → p < limits.players
@@ -144,31 +154,21 @@ module _ {W S : Type 0} (state : W → S) (physics : Physics S) (limits : Limits
       omega (arith, a, b, c)
 
   -- who are together where nobody is gone
-  all_together : NobodyGone g → (q r : ℕ) → AnyTwo limits.players q r → Together g q r
-  all_together nobody q r two =
-      let here = slice_get_cases g.players.items q in
-      let there = slice_get_cases g.players.items r in
-      elim here.1 [
-        | inr past ↦ absurd (omega (arith, past.0, two.0, is.places))
-        | inl one ↦ elim there.1 [
-          | inr past ↦ absurd (omega (arith, past.0, two.1, is.places))
-          | inl other ↦ record {
-            one = one.0;
-            other = other.0;
-            one_is = one.2;
-            other_is = other.2;
-            here = nobody q r one.0 one.2;
-            there = nobody r q other.0 other.2;
-          }
-        ]
-      ]
+  all_together : NobodyGone limits.players gone → (q r : ℕ) → AnyTwo limits.players q r → Together limits.players gone q r
+  all_together nobody q r two = record {
+    one = two.0;
+    other = two.1;
+    here = nobody q r two.0 two.1;
+    there = nobody r q two.1 two.0;
+  }
 
-  have_agreed : HaveAgreed state physics limits settings session.inputs session.told g
+  have_agreed : HaveAgreed state physics limits settings session.inputs session.told gone g
   have_agreed = record {
     places = is.places;
     shown = shown_at;
     shows = shows;
     told_is = λ i. refl;
+    gone_is = λ i other player at. (is.players i player at).gone other;
     headline = record {
       same = λ q r tic two. same q r two tic;
       ring = is.game.game.window.twice;
@@ -201,8 +201,12 @@ module _ {W S : Type 0} (state : W → S) (physics : Physics S) (limits : Limits
         let fewer = agreed.at_most q p a (below q player at) l (ap (λ (s : Surviving). end_settled s p) (its q player at) ∙ e) in
         let made = made_is p l in
         omega (arith, fewer, made);
-    ends = λ q r p a b two. ends q r two p a b;
-    worlds = λ q r two. worlds q r two;
+    at_least = λ q r p a one at two l e. at_least q r two p a l
+        (ap (λ (s : Surviving). end_settled s p) (its q one at) ∙ e);
+    ends = λ q r p a b one other at there two l here there_is. ends q r two p a b l
+        (ap (λ (s : Surviving). end_settled s p) (its q one at) ∙ here)
+        (ap (λ (s : Surviving). end_settled s p) (its r other there) ∙ there_is);
+    worlds = λ q r one other at there two. worlds q r two one other at there;
   }
 
 pub returns : goal.returns
@@ -211,9 +215,10 @@ returns g c limits settings seal seen game is =
     let state = g.W.World.state in
     let physics = g.W.World.physics in
     let marking = marking_of physics in
-    subst (λ (inputs : Inputs). HaveAgreed state physics limits settings inputs (λ player. (seen player).rows) game)
+    let gone = λ (player : ℕ). (seen player).gone in
+    subst (λ (inputs : Inputs). HaveAgreed state physics limits settings inputs (λ player. (seen player).rows) gone game)
     is.as_seen.inputs (subst (λ (told : ℕ → List (List (Option Move))). HaveAgreed state physics limits settings
-    is.session.inputs told game) is.as_seen.rows (have_agreed state physics limits settings seal seen game is
+    is.session.inputs told gone game) is.as_seen.rows (have_agreed state physics limits settings seal seen game is
     (all.agreed marking limits settings is.session is.links is.game)
     (all.fit marking limits settings is.session is.links is.game)
     (all.demos marking limits settings is.session is.links is.game)))

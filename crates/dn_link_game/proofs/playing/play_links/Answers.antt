@@ -33,7 +33,9 @@ loop-event-preserved g c =
           answer many before.5 answered),
       rw (longer, pushed) (reaches_more g.W.World.state g.W.World.physics (limits_of config (length c.args.worlds.items))
           config.settings config.seal old new (take at c.args.events.now) c.event-item.result answers answer
-          c.apply.ensures.goes_on c.apply.ensures.given many before.3 before.6),
+          c.apply.ensures.goes_on c.apply.ensures.given many before.3 before.6
+          (λ seen later is will. c.linked_answers_are_steady.ensures (limits_of config (length c.args.worlds.items))
+          config.settings config.seal seen later old new c.event-item.result answer is will c.apply.ensures.does)),
     )
 
 pub returns-clause-played : goal.returns-clause-played
@@ -47,5 +49,6 @@ returns-clause-played g c =
       answered = rw whole at all.5;
       given = all.3;
       agreed = λ ask. c.linked_games_agree.ensures (limits_of config (length c.args.worlds.items)) config.settings config.seal
-          (all_seen c.args.events.now c.loop-event.answers.items) c.loop-event.game ((rw whole at all.6) ask);
+          (all_seen c.args.events.now c.loop-event.answers.items) c.loop-event.game ((rw whole at all.6) ask).0;
+      steady = λ ask. ((rw whole at all.6) ask).1;
     }

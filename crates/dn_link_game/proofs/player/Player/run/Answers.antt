@@ -35,7 +35,7 @@ returns-in-Some-clause-goes_on g c limits settings session links me seen mine be
     (Some c.in-Some.row)
     (subst (λ (row : Option (List (Option Move))). StayRemaining (marking_of g.W.World.physics) limits settings session links
     me new (after_run session me row (surviving_of new))) c.in-Some.is on)
-    (ap (λ (p : PaceState). p.owed) c.run-ran.ensures.pace) (λ none. absurd (none-some c.in-Some.row (sym none)))
+    c.run-ran.ensures.others (ap (λ (p : PaceState). p.owed) c.run-ran.ensures.pace) (λ none. absurd (none-some c.in-Some.row (sym none)))
     (λ told is_told. c.step.ensures
     ∙ ap (g.W.World.physics.step (g.W.World.state c.args.self.now.world)) (same_Some c.in-Some.row told is_told))
 
@@ -54,7 +54,7 @@ returns-in_default-clause-goes_on g c limits settings session links me seen mine
     (c.run-ran.ensures.peers ∙ sym (ap (λ (l : Linked). l.peers) is.link)) in
     ran g.W.World.state g.W.World.physics limits settings session links me seen c.args.self.now
     (record { link = c.run-ran.new.self; world = c.args.self.now.world }) seen_is is
-    c.run-ran.result.1 on (ap (λ (p : PaceState). p.owed) c.run-ran.ensures.pace) (λ none. refl)
+    c.run-ran.result.1 on c.run-ran.ensures.others (ap (λ (p : PaceState). p.owed) c.run-ran.ensures.pace) (λ none. refl)
     (λ told is_told. absurd (none-some told (sym c.in_default.is ∙ is_told)))
 
 pub returns-in-Some-clause-does : goal.returns-in-Some-clause-does

@@ -19,7 +19,9 @@ returns-in-Probe-clause-goes_on g c limits settings session links me seen mine b
     (λ same. c.remaining_links_go_on.ensures.kept (marking_of g.W.World.physics) limits settings session links me new
     mine below (same ∙ sym is.link)) in
     unseen g.W.World.state g.W.World.physics limits settings session links me seen c.args.self.now _ seen_is is c.probe.result
-    later refl refl (ap (λ (p : PaceState). p.owed) c.probe.ensures.pace) refl
+    later refl refl (by_test (remains (linked old) c.args.to) new (probed (linked old) c.args.to) (linked old)
+    c.probe.ensures.link (ap (λ (l : Linked). l.others.gone)) (ap (λ (l : Linked). l.others.gone)))
+    (ap (λ (p : PaceState). p.owed) c.probe.ensures.pace) refl
     (of_text c.probe.result (remains (linked old) c.args.to) (sealed_bytes (seal_of old) bundle) (IsBundle bundle)
     (λ (bytes : List ℕ). WasSealedIn (seal_of c.probe.new.self) later bytes) c.probe.ensures.sealed c.probe.ensures.fits
     (λ fits. subst (λ (s : Seal). WasSealedIn s later (sealed_bytes (seal_of old) bundle)) (sym c.probe.ensures.seal)
@@ -37,7 +39,7 @@ returns-in-Exclusion-clause-goes_on g c limits settings session links me seen mi
     let on = c.remaining_links_go_on.ensures.kept (marking_of g.W.World.physics) limits settings session links me
     (linked old) mine below (sym is.link) in
     unseen g.W.World.state g.W.World.physics limits settings session links me seen c.args.self.now _ seen_is is
-    c.exclusion_datagram.result later refl refl refl refl
+    c.exclusion_datagram.result later refl refl refl refl refl
     (of_text c.exclusion_datagram.result (is_peer (linked old).node c.args.to && has_given_up (linked old) c.args.to)
     (sealed_bytes (seal_of old) bundle) (IsBundle bundle) (λ (bytes : List ℕ). WasSealedIn (seal_of old) later bytes)
     c.exclusion_datagram.ensures.sealed c.exclusion_datagram.ensures.fits
