@@ -1,5 +1,5 @@
 -- The commands of third players that a player hands on, and which these are.
-use Rattle.std.specs.{Prelude.{◌≡◌, ◌≢◌, ◌<◌, ◌≤◌, ℕ, ◌+◌, ◌⊎◌, ◌^◌, negsuc, List, [], ◌∷◌, length, slice_index, Some, ◌-◌, ◌/◌, ◌&&◌, ◌||◌, if◌then◌else◌, nat_lt, nat_le, min, max, Bool, slice_get, get_or, Option, None}, List.{flat_map}}
+use Rattle.std.specs.{Prelude.{◌≡◌, ◌≢◌, ◌<◌, ◌≤◌, ℕ, ◌+◌, ◌⊎◌, ◌^◌, negsuc, List, [], ◌∷◌, length, slice_index, Some, ◌-◌, ◌/◌, ◌&&◌, ◌||◌, ◌==◌, not, if◌then◌else◌, nat_lt, nat_le, min, max, Bool, slice_get, get_or, Option, None}, List.{flat_map}}
 use Rattle.dn_tic.specs.{Command.IsCommand, Command.command_bytes, declared.command.TicCmd.TicCmd}
 use Rattle.dn_machine.specs.{Flight.Flight, Relaying.packet_of_one}
 use Rattle.dn_lockstep.specs.{Contents.Contents, Told.command_told, Told.made}
@@ -133,3 +133,21 @@ is_on history me reported lags player =
 
 abbrev pub four_of : (ℕ → Lag) → List Lag
 four_of lag = lag 0 ∷ lag 1 ∷ lag 2 ∷ lag 3 ∷ []
+
+-- how late a peer is taken to report the commands of each player at first, in eighths of a tick: of the player itself
+-- that is the round trip
+abbrev pub new_lag : (me player : ℕ) → Lag
+new_lag me player = record { usual = if player == me then 224 else 64; told = 0; left = 0; end = 0 }
+
+-- what a peer's reports make of its lags at a tick, by what the player had before it, and with it
+abbrev pub learned_from : List Had → Had → List Lag → List Lag
+learned_from before reported lags =
+    four_of (λ player. learned before player (slice_index reported.counts player) (lag_of lags player))
+
+abbrev pub counted_by : List Had → ℕ → Had → List Lag → List Lag
+counted_by with_it me reported lags =
+    four_of (λ player. counted_down (is_on with_it me reported lags player) (lag_of lags player))
+
+-- commands of a player are handed on to a peer though not overdue: on a tight line only if they come earlier so
+abbrev pub hands_more : ℕ → (player : ℕ) → (is_tight : Bool) → List Lag → Bool
+hands_more me player is_tight lags = not is_tight || is_slow (lag_of lags me) (lag_of lags player)

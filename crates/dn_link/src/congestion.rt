@@ -10,9 +10,10 @@ use arrayvec::ArrayVec;
 /// How many ticks before the newest are known.
 const BEFORE: usize = 31;
 
-/// The line is full where round trips are so many ticks longer than on an empty one, and nearly full.
+/// The line is full where round trips are so many ticks longer than on an empty one.
 const FULL: u8 = 3;
 
+/// And so many longer where it is nearly full.
 const NEARLY: u8 = 2;
 
 /// How many datagrams go to the peers.

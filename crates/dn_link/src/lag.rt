@@ -1,6 +1,6 @@
 //! How many commands of each player this one had at its last ticks, and how far a peer lags behind.
 
-ghost use Rattle.std.specs.Prelude.{◌≡◌, ◌<◌, ◌≤◌, [], ◌∷◌, slice_index, take};
+ghost use Rattle.std.specs.Prelude.{◌≡◌, ◌<◌, ◌≤◌, ◌*◌, [], ◌∷◌, slice_index, take};
 ghost use Rattle.dn_link.specs.Relays.{counted_down, handed, handed_from, is_overdue, is_slow, learned, moved, had};
 
 use crate::bundle::Run;
@@ -110,7 +110,7 @@ impl Lag {
     /// Before the first report, this many ticks long.
     pub(crate) fn new(ticks: u8) -> Lag
         requires { ticks ≤ 28 }
-        ensures { (result.told ≡ 0) × (result.left ≡ 0) }
+        ensures { result ≡ record { usual = ticks * 8; told = 0; left = 0; end = 0 } }
     {
         Lag {
             usual: ticks * PARTS,

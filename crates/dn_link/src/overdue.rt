@@ -1,7 +1,7 @@
 //! What a link keeps to decide which commands of third players it hands on.
 
-ghost use Rattle.std.specs.Prelude.{◌≡◌, ◌<◌, ◌≤◌, IfSome, slice_index, ◌∷◌, take};
-ghost use Rattle.dn_link.specs.Relays.{counted_down, four_of, lag_of, is_on, learned};
+ghost use Rattle.std.specs.Prelude.{◌≡◌, ◌<◌, ◌≤◌, IfSome, slice_index, ◌∷◌, [], get_or, take};
+ghost use Rattle.dn_link.specs.Relays.{counted_by, four_of, handed_from, hands_more, is_on, lag_of, learned_from, new_lag};
 
 use crate::bundle::Part;
 use crate::lag::{Had, History, Lag};
@@ -19,7 +19,9 @@ struct Towards {
 }
 
 /// How long the lag of a player's commands is taken to be at first.
-fn first_lag(me: u8, player: u8) -> Lag {
+fn first_lag(me: u8, player: u8) -> Lag
+    ensures { result ≡ new_lag me player }
+{
     if player == me {
         Lag::new(ROUND_TRIP_AT_FIRST)
     } else {
@@ -29,7 +31,9 @@ fn first_lag(me: u8, player: u8) -> Lag {
 
 impl Towards {
     /// Of which nothing is known, by this player.
-    fn new(me: u8) -> Towards {
+    fn new(me: u8) -> Towards
+        ensures { result.lags ≡ four_of (new_lag me) }
+    {
         Towards {
             lags: [
                 first_lag(me, 0),
@@ -51,8 +55,7 @@ impl Towards {
 
     /// It has reported to have so many commands of each player.
     fn learn(&self, history: &History, reported: &Had) -> Towards
-        ensures { result.lags ≡ four_of (λ player. learned history.now.ticks.items player
-            (slice_index reported.now.counts player) (lag_of self.now.lags player)) }
+        ensures { result.lags ≡ learned_from history.now.ticks.items reported.now self.now.lags }
     {
         Towards {
             lags: [
@@ -78,8 +81,7 @@ impl Towards {
     /// A tick, before which it had reported so many.
     fn tick(&self, history: &History, me: u8, reported: &Had) -> Towards
         requires { me < 4 }
-        ensures { result.lags ≡ four_of (λ player.
-            counted_down (is_on history.now.ticks.items me reported.now self.now.lags player) (lag_of self.now.lags player)) }
+        ensures { result.lags ≡ counted_by history.now.ticks.items me reported.now self.now.lags }
     {
         Towards {
             lags: [
@@ -150,10 +152,12 @@ impl Overdue {
 
     /// Whether commands of a third player are handed on to a peer though not overdue: where this player's line is
     /// tight, only if they come earlier from this player.
+    #[tactic(auto, using(std::proofs::lemmas::List::get_or_default))]
     pub(crate) fn hands_more(&self, me: u8, to: u8, player: u8, is_tight: bool) -> bool
         requires few { me < 4 }
         requires peer { to < 4 }
         requires third { player < 4 }
+        ensures { result ≡ hands_more me player is_tight (get_or self.now.peers to (record { lags = [] })).lags }
     {
         let towards = &self.peers[to as usize];
         !is_tight || towards.lag(player).is_slow(&towards.lag(me))
@@ -171,7 +175,9 @@ impl Overdue {
     ) -> Option<u32>
         requires peer { to < 4 }
         requires third { player < 4 }
-        ensures { IfSome result (λ start. reported ≤ start) }
+        ensures value { result ≡ handed_from self.now.history.ticks.items player reported got more
+            (lag_of (get_or self.now.peers to (record { lags = [] })).lags player) }
+        ensures lacked { IfSome result (λ start. reported ≤ start) }
     {
         self.peers[to as usize]
             .lag(player)
