@@ -69,22 +69,18 @@ fn play_links_goes_on_without_a_packet(rt: HostRuntime) -> Result<(), Fail> {
     let Ok(played) = play_links(rt.alloc(), &config(5, 1024)?, worlds, &list) else {
         return Ok(());
     };
-    let given = played.game.given.len();
+    let mut is_one_left_out = false;
     for answer in &played.answers {
         if *answer == Err(LinkRefusal::Memory) {
+            is_one_left_out = true;
             let _ = println!(&rt; "no memory: a send of play_links");
         } else {
             assert_eq!(&rt; *answer, Ok(LinkDone::Sent(true)));
         }
     }
-    assert!(&rt; given == 4 || given == 3);
     assert_eq!(&rt;
-        played
-            .answers
-            .iter()
-            .filter(|answer| answer.is_ok())
-            .count(),
-        given
+        played.game.given.len(),
+        if is_one_left_out { 3 } else { 4 }
     );
     Ok(())
 }
