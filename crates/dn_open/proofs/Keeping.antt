@@ -1,9 +1,9 @@
 -- A packet that was given is heard within one game, and its answer is that of its delivery.
 use Rattle.std.proofs.Common.{◌≡◌, ◌<◌, ℕ, List, refl, ap, sym, ◌∙◌, subst, Option, Some, None, Bool, true, false, arith}
-use Rattle.std.specs.Prelude.{Ok, slice_get}
+use Rattle.std.specs.Prelude.{Ok, Result, slice_get}
 use Rattle.dn_setup.specs.Settings.{Settings}
-use Rattle.dn_machine.specs.{declared.answers.Heard.Heard, declared.events.Done.Done, declared.events.Event.TheVariants.Deliver, Flight.Flight, Flight.packet_of, Flight.is_near}
-use Rattle.dn_machine.specs.{Game.applied, Game.delivered, Game.refused, Game.with_node, Hearing.on_packet, Limits.Limits}
+use Rattle.dn_machine.specs.{declared.answers.Heard.Heard, declared.events.Done.Done, declared.events.Event.TheVariants.Deliver, declared.events.Refusal.Refusal, Flight.Flight, Flight.packet_of, Flight.is_near}
+use Rattle.dn_machine.specs.{Game.Game, Game.applied, Game.delivered, Game.refused, Game.with_node, Hearing.on_packet, Limits.Limits, Worlds.Rules}
 use Rattle.dn_machine.specs.Node as machine
 use Rattle.dn_lockstep.specs.Contents.{Contents}
 use Rattle.dn_lockstep.specs.Marking.{Marking}
@@ -16,6 +16,18 @@ use Rattle.dn_lockstep.proofs.OneGame.{moves, stays, hear_quiet, kept}
 use Rattle.dn_lockstep.proofs.Shown.{made_is}
 use Rattle.dn_open.specs.{Arrivals.HearsOpened, Arrivals.IsDeliveredAs, Arrivals.heard, Arrivals.is_timely, Arrivals.on_opened, declared.hearing.Arrived.Arrived, Sealed.opened_of}
 use Rattle.dn_open.proofs.Letters.{alike, near_if}
+
+-- a packet has one answer
+module _ {S : Type 0} (rules : Rules S) (game : Game) (count which : ℕ) (flight : Flight) where
+  heard_once : (a b : Heard) → ◌≡◌ {A = Result Done Refusal} (Ok (Done.Heard a)) (Ok (Done.Heard b)) → a ≡ b
+  heard_once a b e = grind arith
+
+  once : (timely : Bool) → timely ≡ true → timely ≡ false → ⊥
+  once timely on off = let clash = sym on ∙ off in absurd (cc)
+
+  delivered_once : (a b : Arrived) → IsDeliveredAs rules game count which flight a
+      → IsDeliveredAs rules game count which flight b → a ≡ b
+  delivered_once a b x y = grind (arith, heard_once, once, count)
 
 module _ (marking : Marking) (limits : Limits) (settings : Settings) {session : Session}
     (game : AreOneGame marking limits settings session) (which : ℕ) (flight : Flight)
@@ -117,3 +129,13 @@ pub letters_answered : (marking : Marking) (limits : Limits) (settings : Setting
     → IsDeliveredAs (beside marking limits) game.last (made (session.locksteps flight.to)) which flight answer
 letters_answered marking limits settings session which flight new answer game at hears =
     answered marking limits settings game which flight at new answer hears
+
+pub letters_answered_once : (marking : Marking) (limits : Limits) (settings : Settings) (session : Session)
+    (which : ℕ) (flight : Flight) (new : Contents) (answer other : Arrived)
+    (game : AreOneGame marking limits settings session) → slice_get session.given which ≡ Some flight
+    → HearsOpened (opened_of flight) (session.locksteps flight.to) new answer
+    → IsDeliveredAs (beside marking limits) game.last (made (session.locksteps flight.to)) which flight other
+    → answer ≡ other
+letters_answered_once marking limits settings session which flight new answer other game at hears is =
+    delivered_once (beside marking limits) game.last (made (session.locksteps flight.to)) which flight answer other
+    (answered marking limits settings game which flight at new answer hears) is

@@ -21,13 +21,20 @@ pub fn letters_keep_one_game()
 {}
 
 /// And what `hear` answers to it is the answer of the packet's delivery in the game, if its tics lie within 64
-/// of the number of commands that the lockstep has made, and else `Late`.
+/// of the number of commands that the lockstep has made, and else `Late`. There is one such answer.
 pub fn letters_are_answered()
-    ensures { (marking : Marking) (limits : Limits) (settings : Settings) (session : Session) (which : ℕ)
+    ensures answered { (marking : Marking) (limits : Limits) (settings : Settings) (session : Session) (which : ℕ)
         (flight : Flight) (new : Contents) (answer : Arrived)
         → (game : AreOneGame marking limits settings session)
         → slice_get session.given which ≡ Some flight
         → HearsOpened (opened_of flight) (session.locksteps flight.to) new answer
         → IsDeliveredAs (beside marking limits) game.last (made (session.locksteps flight.to)) which flight
         answer }
+    ensures only { (marking : Marking) (limits : Limits) (settings : Settings) (session : Session) (which : ℕ)
+        (flight : Flight) (new : Contents) (answer other : Arrived)
+        → (game : AreOneGame marking limits settings session)
+        → slice_get session.given which ≡ Some flight
+        → HearsOpened (opened_of flight) (session.locksteps flight.to) new answer
+        → IsDeliveredAs (beside marking limits) game.last (made (session.locksteps flight.to)) which flight other
+        → answer ≡ other }
 {}

@@ -19,5 +19,5 @@ returns-clause-one_game c marking limits settings session which flight game at h
 pub returns-clause-answered : goal.returns-clause-answered
 returns-clause-answered c marking limits settings session which flight game at here same =
     subst (λ (n : Contents). IsDeliveredAs (beside marking limits) game.last (made n) which flight c.hear.result) here
-    (c.letters_are_answered.ensures marking limits settings session which flight (contents c.hear.new.lockstep)
+    (c.letters_are_answered.ensures.answered marking limits settings session which flight (contents c.hear.new.lockstep)
     c.hear.result game at (heard_as _ _ _ _ _ _ same here c.hear.ensures.step))
