@@ -5,7 +5,7 @@ use Rattle.std.proofs.Common.{ℤ, ℕ, List, [], ◌∷◌, sym, subst, ◌≡�
 use Rattle.std.proofs.lemmas.{Bool.{cases_eq, and_from}, List.Folds.list_all-append}
 use Rattle.dn_machine.specs.Making.{Making}
 use Rattle.dn_machine.specs.{declared.events.Event.Event, declared.events.Event.TheVariants.{Build, Give, Send, Deliver, Run, Quit, Stop}, Worlds.{Rules, RulesBy}, Flight.Flight, Node.{Node, put}, Sending.{on_build_by, on_send}, Hearing.on_packet}
-use Rattle.dn_machine.specs.{Running.{on_run, on_quit}, Game.{Game, refused, on_event, applied}, Runs.{Next, Leads}, Progress.{build_of, in_order, after, exchange, turn, good_round, good_rounds}}
+use Rattle.dn_machine.specs.{Running.{on_run, on_quit}, Game.{Game, on_event, applied}, Runs.{Next, Leads}, Progress.{build_of, in_order, after, exchange, turn, good_round, good_rounds}}
 use Rattle.dn_tic.specs.declared.input.Input.{Input}
 
 -- an event that rounds are made of: a build, a send, a delivery or a run

@@ -1,7 +1,7 @@
 -- A game that goes on, where those that stay play and the others have left: what each event leaves of it,
 -- and an exchange.
 use Rattle.std.specs.Prelude.{slice_get, ◌⊎◌}
-use Rattle.std.proofs.{Common.{◌≡◌, ℕ, ◌+◌, ◌<◌, ◌≤◌, Bool, true, false, ◌∙◌, ap, arith, suc, true≢false, refl, sym, inl, inr, ◌-◌, ◌≢◌, not, min, cond, List, [], ◌∷◌, ◌++◌, length, Option, Some, None, rules}, lemmas.Bool.{and_right, cond_both}}
+use Rattle.std.proofs.{Common.{◌≡◌, ℕ, ◌+◌, ◌<◌, ◌≤◌, Bool, true, false, ◌∙◌, ap, arith, suc, true≢false, refl, sym, inl, inr, ◌-◌, ◌≢◌, min, cond, List, [], ◌∷◌, ◌++◌, length, Option, Some, None, rules}, lemmas.Bool.{and_right, cond_both}}
 use Rattle.std.proofs.lemmas.List.{length-drop, length-take}
 use Rattle.std.proofs.lemmas.Option.{slice_get_past}
 use Rattle.dn_tic.specs.declared.input.Input.{Input}

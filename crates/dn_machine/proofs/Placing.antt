@@ -5,7 +5,7 @@ use Rattle.dn_tic.specs.{declared.command.TicCmd.TicCmd, declared.command.Move.M
 use Rattle.dn_setup.specs.Settings.{Settings}
 use Rattle.dn_machine.specs.Making.{Making}
 use Rattle.dn_machine.specs.{declared.answers.Cause.Cause, declared.answers.Phase.Phase, declared.answers.Phase.TheVariants.{Gathering, Playing, Ended}, declared.peer.Peer.Peer, Worlds.{Inputs, RulesBy, mark_in, worlds_to}, Flight.Flight}
-use Rattle.dn_machine.specs.{Node.{Node, put, with_peer, ends_of, made, ran, own_mark, has_left}, Game.{Game, with_node}, Running.is_over}
+use Rattle.dn_machine.specs.{Node.{Node, put, with_peer, ends_of, made, own_mark, has_left}, Game.{Game, with_node}, Running.is_over}
 use Rattle.dn_machine.proofs.{Invariant.{History, ComesFromInputs, IsSound, HasTrueMarks, IsKept, history_of}, Put.view_kept, Truth.own_mark_true, Demos.whole_held}
 use Rattle.dn_machine.proofs.Invariant
 

@@ -1,5 +1,5 @@
 -- What a turn, and a round of turns, leaves of how far a player is from giving another the command of a tic.
-use Rattle.std.proofs.{Common.{◌≡◌, ℕ, ◌<◌, ◌≤◌, ◌≢◌, Bool, true, refl, arith, inl, inr, rules}, lemmas.List.length_push}
+use Rattle.std.proofs.{Common.{◌≡◌, ℕ, ◌<◌, ◌≤◌, ◌≢◌, Bool, true, refl, arith, inl, inr}, lemmas.List.length_push}
 use Rattle.std.specs.Prelude.{◌⊎◌}
 use Rattle.dn_tic.specs.declared.input.Input.{Input}
 use Rattle.dn_setup.specs.Settings.{Settings}
