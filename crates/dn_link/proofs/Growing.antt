@@ -6,7 +6,7 @@ use Rattle.std.specs.Prelude.{Ok, nat_lt}
 use Rattle.dn_tic.specs.declared.{command.TicCmd.TicCmd, input.Input.Input}
 use Rattle.dn_machine.specs.{Flight.{Flight, packet_of, is_close, is_request_close, is_exit, end_of}, Node.{has_left, is_ended, Node, put, with_peer, made, ends_of}, Limits.Limits}
 use Rattle.dn_machine.specs.{Hearing.{on_packet, is_within, after_request, after_exit}, declared.{answers.Heard.Heard, peer.Peer.Peer}, Sending.{on_build, after_sent, on_send}}
-use Rattle.dn_machine.specs.{Running.{on_run_but, on_quit}, Settling.settled_one}
+use Rattle.dn_machine.specs.{Running.on_quit, Sparing.on_run_but, Settling.settled_one}
 use Rattle.dn_machine.specs.declared.answers.Phase.{Phase, TheVariants.{Listening, Gathering, Playing, Ended}}
 use Rattle.dn_setup.specs.Gathered.{all_noted}
 use Rattle.dn_remain.proofs.Each.{run_but_cases}
