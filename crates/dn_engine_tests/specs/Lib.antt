@@ -1,4 +1,4 @@
 pub mod Calls
+pub mod Letters
 pub mod Pairs
-pub mod Sealed
 pub mod Sessions

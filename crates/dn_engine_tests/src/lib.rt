@@ -3,15 +3,15 @@
 #![tactic(auto)]
 
 mod calls;
+mod letters;
 #[cfg(test)]
 mod links;
 mod pairs;
-mod sealed;
 mod sessions;
 #[cfg(test)]
 mod tests;
 
 pub use calls::{Parcel, give, hand, quit, run, take};
+pub use letters::hear_letter;
 pub use pairs::{Pair, open, pass, play};
-pub use sealed::{open_bytes, seal_packet};
 pub use sessions::{begin_game, pass_on, run_tic};

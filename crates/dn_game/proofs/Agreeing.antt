@@ -6,7 +6,7 @@ use Rattle.std.proofs.lemmas.List.{append_assoc}
 use Rattle.std.proofs.lemmas.{List.Elements.{All-cons, All-nil}, Bool.{ltb-true, cases_lt}}
 use Rattle.std.proofs.lemmas.Option.{same_Some, slice_get_within}
 use Rattle.dn_setup.specs.Settings.{Settings}
-use Rattle.dn_machine.specs.{declared.events.Done.Done, declared.events.Event.Event, declared.events.Refusal.Refusal, Worlds.{Rules, opening, world, world_after}, Flight.Flight, Node.{Node, ran, demo_rows}, Sending.{on_build, on_send}, Hearing.on_packet, Running.{on_run, on_quit, tic_limit}}
+use Rattle.dn_machine.specs.{declared.events.Done.Done, declared.events.Event.Event, declared.events.Refusal.Refusal, Worlds.{Rules, opening, world, world_after}, Flight.Flight, Node.{Node, ran, demo_rows}, Sending.{on_build_by, on_send}, Hearing.on_packet, Running.{on_run, on_quit, tic_limit}}
 use Rattle.dn_machine.specs.{Game.{Game, opening_game, applied, on_own_run, posted, delivered, refused_flight, refused, on_event, applied_if}, Promise.inputs_of}
 use Rattle.dn_machine.specs.{Limits.IsWindow, declared.answers.Phase.TheVariants.Ended, declared.answers.Ran.Ran, declared.events.Event.TheVariants.{Build, Give, Send, Deliver, Run, Quit, Stop}}
 use Rattle.dn_machine.specs.declared.answers.Cause.TheVariants as Cause
@@ -54,7 +54,7 @@ answered : {S : Type 0} (rules : Rules S) (game next : Game) (player : ℕ) (eve
     (answer : Result Done Refusal)
     → Answers rules game event answer next
     → (next.nodes player).inputs ≡ (game.nodes player).inputs ++ inputs_by event answer player
-unfolding applied on_build
+unfolding applied on_build_by
 answered rules game next player event answer is =
     grind (arith, append-nil {A = Input}, sent_keeps, heard_keeps, ran_keeps, quit_keeps)
 

@@ -2,9 +2,9 @@
 
 ghost use Rattle.std.specs.Prelude.{ℕ, Bool, List, Result};
 ghost use Rattle.dn_setup.specs.Settings.{Settings};
-ghost use Rattle.dn_machine.specs.{declared.events.Done.Done, declared.events.Event.Event, declared.events.Refusal.Refusal, Game.applied, Promise.inputs_of, Worlds.rules_of};
+ghost use Rattle.dn_machine.specs.{declared.events.Done.Done, declared.events.Event.Event, declared.events.Refusal.Refusal, Game.applied, Game.opening_game, Game.Game as Whole, Promise.inputs_of, Runs.Runs, Worlds.rules_of};
 ghost use Rattle.dn_game.specs.{Agreed.AreAgreed, Contents.Contents};
-ghost use Rattle.dn_game.specs.{Headline.HaveAgreed, Played.IsReachedWith, Promised.IsReached, Promised.IsPromised, Promised.IsSteady};
+ghost use Rattle.dn_game.specs.{Headline.HaveAgreed, Played.IsReachedWith, Played.Plays, Promised.IsReached, Promised.IsPromised, Promised.IsSteady};
 
 use dn_world::World;
 
@@ -38,4 +38,18 @@ pub fn reached_games_agree<W: World>()
         → (reached : IsReached W.state (rules_of W.physics players extra capacity) settings events g)
         → (event : Event) → IsSteady (applied (rules_of W.physics players extra capacity) reached.last
         event).1 }
+{}
+
+/// Events lead to a game of the machine just where they lead there with answers: what was played is a run, and each
+/// run can be played.
+#[tactic(auto, using(crate::proofs::Answering::leads_plays, crate::proofs::Answering::plays_leads))]
+pub fn runs_have_answers<W: World>()
+    ensures answers { (players : ℕ) (extra : Bool) (capacity : ℕ) (settings : Settings) (events : List Event)
+        (last : Whole) → Runs (rules_of W.physics players extra capacity) settings events last
+        → (answers : List (Result Done Refusal))
+        × Plays (rules_of W.physics players extra capacity) (opening_game settings) events answers last }
+    ensures runs { (players : ℕ) (extra : Bool) (capacity : ℕ) (settings : Settings) (events : List Event)
+        (answers : List (Result Done Refusal)) (last : Whole)
+        → Plays (rules_of W.physics players extra capacity) (opening_game settings) events answers last
+        → Runs (rules_of W.physics players extra capacity) settings events last }
 {}

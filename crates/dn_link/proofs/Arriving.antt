@@ -17,7 +17,7 @@ use Rattle.dn_lockstep.proofs.{OneGame.hear_quiet, Receiving.{told_by, told_is, 
 use Rattle.dn_lockstep.proofs.Shown.{has as holds}
 use Rattle.dn_seal.specs.declared.opened.Opened.{Opened}
 use Rattle.dn_open.specs.{Arrivals.{HearsOpened, IsRead, SparesSealed, heard, on_opened}, declared.hearing.Arrived.Arrived, Sealed.opened_of}
-use Rattle.dn_open.proofs.{Sealables.alike, Deliveries.near_if}
+use Rattle.dn_open.proofs.Letters.{alike, near_if}
 use Rattle.dn_link.specs.{RemainingLinks.WasGiven, CaughtUp.{told_end, next_to}, Hearing.HearsAll}
 use Rattle.dn_link.proofs.{Hearer.{IsSpared, Leaves, settings_leave, word_leaves, word_reaches}, Letters.{AreWith, holding, packet_keeps}, Makers.{HaveNoGaps, ends_of, then_end}}
 use Rattle.dn_machine.specs.Node.{put}
@@ -258,10 +258,10 @@ module _ (marking : Marking) (limits : Limits) (settings : Settings) (session : 
                 omega (arith, reached, is_now);
           }
 
-      reads : IsRead (Ok (opened_of flight)) (Ok (packet_of flight)) (told_by flight.kind)
+      reads : IsRead (opened_of flight) (Ok (packet_of flight)) (told_by flight.kind)
       reads = ((fair.packet, refl), told_is flight flight.kind fair.kind)
 
-      heard_as : (r : machine.Node × Arrived) → on_opened limits player m (Ok (opened_of flight)) (Ok (packet_of flight))
+      heard_as : (r : machine.Node × Arrived) → on_opened limits player m (opened_of flight) (Ok (packet_of flight))
           (told_by flight.kind) ≡ r → Represents limits player next r.0 × (answer ≡ r.1)
       heard_as r e =
           let after = (subst (λ (p : Opened). HearsOpened p now next answer) is hears).step (Ok (packet_of flight))
@@ -304,14 +304,14 @@ module _ (marking : Marking) (limits : Limits) (settings : Settings) (session : 
           → (is_close (machine.made player m) flight.start && is_request_close (machine.made player m) flight.request) ≡ test
           → Hears now next (opened_of flight)
       go true close =
-          let step : on_opened limits player m (Ok (opened_of flight)) (Ok (packet_of flight)) (told_by flight.kind)
+          let step : on_opened limits player m (opened_of flight) (Ok (packet_of flight)) (told_by flight.kind)
           ≡ heard (on_packet limits player m flight) =
           rw (close, alike flight) (ap heard (near_received limits player m flight fair sender apart
           (near_if (machine.made player m) flight close))) in
           let result = heard_as (heard (on_packet limits player m flight)) step in
           taken (on_packet limits player m flight).0 (hear_quiet limits player m flight).0 result.0 leaves reaches
       go false far =
-          let step : on_opened limits player m (Ok (opened_of flight)) (Ok (packet_of flight)) (told_by flight.kind)
+          let step : on_opened limits player m (opened_of flight) (Ok (packet_of flight)) (told_by flight.kind)
           ≡ (m, Arrived.Late) = rw far refl in
           let result = heard_as (m, Arrived.Late) step in
           let away : is_close (machine.made player m) flight.start ≡ false =

@@ -2,7 +2,7 @@
 use Rattle.std.proofs.Common.{ℤ, ◌≡◌, ◌≢◌, ◌<◌, ◌≤◌, ◌++◌, [], ◌∷◌, ℕ, Bool, true, false, List, length, refl, ap, sym, ◌∙◌, subst, arith, inl, inr}
 use Rattle.std.proofs.lemmas.{Bool.{cases_eq, true≢false}, List.length-append}
 use Rattle.dn_tic.specs.declared.{command.TicCmd.TicCmd, input.Input.Input}
-use Rattle.dn_machine.specs.{Sending.on_build, Limits.Limits, Node.put, Running.{on_run_but, on_quit, row_held}}
+use Rattle.dn_machine.specs.{Sending.on_build, Limits.Limits, Node.put, Running.{on_quit, row_held}, Sparing.on_run_but}
 use Rattle.dn_machine.proofs.{Calls.{build_cases, quit_cases}, Put.{put_at, put_off}}
 use Rattle.dn_remain.proofs.{Each.run_but_cases, Vanished.Put.at_put}
 use Rattle.dn_lockstep.specs.{Represents.Represents, Told.got}

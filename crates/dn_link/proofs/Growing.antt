@@ -6,7 +6,7 @@ use Rattle.std.specs.Prelude.{Ok, nat_lt}
 use Rattle.dn_tic.specs.declared.{command.TicCmd.TicCmd, input.Input.Input}
 use Rattle.dn_machine.specs.{Flight.{Flight, packet_of, is_close, is_request_close, is_exit, end_of}, Node.{has_left, is_ended, Node, put, with_peer, made, ends_of}, Limits.Limits}
 use Rattle.dn_machine.specs.{Hearing.{on_packet, is_within, after_request, after_exit}, declared.{answers.Heard.Heard, peer.Peer.Peer}, Sending.{on_build, after_sent, on_send}}
-use Rattle.dn_machine.specs.{Running.{on_run_but, on_quit}, Settling.settled_one}
+use Rattle.dn_machine.specs.{Running.on_quit, Sparing.on_run_but, Settling.settled_one}
 use Rattle.dn_machine.specs.declared.answers.Phase.{Phase, TheVariants.{Listening, Gathering, Playing, Ended}}
 use Rattle.dn_setup.specs.Gathered.{all_noted}
 use Rattle.dn_remain.proofs.Each.{run_but_cases}
@@ -15,7 +15,7 @@ use Rattle.dn_machine.proofs.{Calls.{build_cases, send_cases, quit_cases, packet
 use Rattle.dn_lockstep.specs.{Contents.Contents, Sent.IsFair, Phases.is_waiting, Represents.Represents}
 use Rattle.dn_lockstep.proofs.{Shown.{got_is, end_is}, Receiving.{told_by, near_received}}
 use Rattle.dn_open.specs.{Arrivals.{heard, on_opened}, declared.hearing.Arrived.Arrived, Sealed.{opened_of}}
-use Rattle.dn_open.proofs.{Sealables.alike, Deliveries.near_if}
+use Rattle.dn_open.proofs.Letters.{alike, near_if}
 use Rattle.dn_link.specs.{Counting.{with_end, has_ended, has_of}}
 use Rattle.dn_machine.specs.Node as machine
 
@@ -207,20 +207,20 @@ grows limits me old new m next before after mine holds = (
 -- what is opened of a fair packet, by the tests that it passes or not
 pub opened_holds : (limits : Limits) (me : ℕ) (m : machine.Node) (flight : Flight) → IsFair flight
     → flight.from < limits.players → flight.from ≢ me
-    → Holds m (on_opened limits me m (Ok (opened_of flight)) (Ok (packet_of flight)) (told_by flight.kind)).0
+    → Holds m (on_opened limits me m (opened_of flight) (Ok (packet_of flight)) (told_by flight.kind)).0
 opened_holds limits me m flight fair peer other =
     go (is_close (machine.made me m) flight.start && is_request_close (machine.made me m) flight.request) refl
   where
     go : (test : Bool)
         → (is_close (machine.made me m) flight.start && is_request_close (machine.made me m) flight.request) ≡ test
-        → Holds m (on_opened limits me m (Ok (opened_of flight)) (Ok (packet_of flight)) (told_by flight.kind)).0
+        → Holds m (on_opened limits me m (opened_of flight) (Ok (packet_of flight)) (told_by flight.kind)).0
     go true close =
-        let step : on_opened limits me m (Ok (opened_of flight)) (Ok (packet_of flight)) (told_by flight.kind)
+        let step : on_opened limits me m (opened_of flight) (Ok (packet_of flight)) (told_by flight.kind)
         ≡ heard (on_packet limits me m flight) =
         rw (close, alike flight) (ap heard (near_received limits me m flight fair peer other
         (near_if (machine.made me m) flight close))) in
         subst (λ (x : machine.Node × Arrived). Holds m x.0) (sym step) (hear_holds limits me m flight)
     go false far =
-        let step : on_opened limits me m (Ok (opened_of flight)) (Ok (packet_of flight)) (told_by flight.kind)
+        let step : on_opened limits me m (opened_of flight) (Ok (packet_of flight)) (told_by flight.kind)
         ≡ (m, Arrived.Late) = rw far refl in
         subst (λ (x : machine.Node × Arrived). Holds m x.0) (sym step) (holds_same m)

@@ -11,7 +11,7 @@ use Rattle.dn_lockstep.proofs.{Shown.made_is, Receiving.{near_from_any, told_by,
 use Rattle.dn_survivor.specs.{declared.others.Others.Others, OfOthers.has, OneGame.{AreRemaining, Session, with_survivor}, Surviving.{Surviving, has_given_up}}
 use Rattle.dn_seal.specs.declared.opened.Opened.{Opened}
 use Rattle.dn_open.specs.{Arrivals.{HearsOpened, IsRead, SparesSealed, heard, on_opened}, declared.hearing.Arrived.Arrived, Sealed.opened_of}
-use Rattle.dn_open.proofs.{Sealables.alike, Deliveries.near_if}
+use Rattle.dn_open.proofs.Letters.{alike, near_if}
 use Rattle.dn_link.specs.RemainingLinks.{WasGiven}
 use Rattle.dn_link.proofs.{Growing.{HasAsMuch, grows, much_on, opened_holds}, Keeping.KeepsOne}
 use Rattle.dn_machine.specs.Node as machine
@@ -29,10 +29,10 @@ module _ (n new : Contents) (flight : Flight) (answer : Arrived)
     (hears : HearsOpened (opened_of flight) n new answer) where
   heard_in : (limits : Limits) (me : ℕ) (m : machine.Node) (read : Result Packet PacketFault)
       (told : Result Settings SetupFault) → close_to (machine.made me m) flight ≡ true
-      → IsRead (Ok (opened_of flight)) read told → Represents limits me n m
+      → IsRead (opened_of flight) read told → Represents limits me n m
       → IsAfter limits me new (received limits me m flight.from told read) (λ x. answer ≡ Arrived.Heard x)
   heard_in limits me m read told close reads r =
-      let step : on_opened limits me m (Ok (opened_of flight)) read told
+      let step : on_opened limits me m (opened_of flight) read told
       ≡ heard (received limits me m flight.from told read) = rw (close, alike flight) refl in
       let after = subst (λ (x : machine.Node × Arrived). IsAfter limits me new x (λ y. answer ≡ y)) step
       (hears.step read told reads limits me m r) in
@@ -74,7 +74,7 @@ module _ (marking : Marking) (limits : Limits) (settings : Settings) {session : 
   count : made old.lockstep ≡ machine.made flight.to m
   count = made_is limits flight.to old.lockstep m shows own
 
-  reads : IsRead (Ok (opened_of flight)) (Ok (packet_of flight)) (told_by flight.kind)
+  reads : IsRead (opened_of flight) (Ok (packet_of flight)) (told_by flight.kind)
   reads = let fair = game.fair which flight found in ((fair.packet, refl), told_is flight flight.kind fair.kind)
 
   same_as : new.lockstep ≡ old.lockstep → new ≡ old
@@ -102,7 +102,7 @@ module _ (marking : Marking) (limits : Limits) (settings : Settings) {session : 
   far_keeps far =
       let here : close_to (machine.made flight.to m) flight ≡ false =
       ap (λ (k : ℕ). close_to k flight) (sym count) ∙ far in
-      let step : on_opened limits flight.to m (Ok (opened_of flight)) (Ok (packet_of flight)) (told_by flight.kind)
+      let step : on_opened limits flight.to m (opened_of flight) (Ok (packet_of flight)) (told_by flight.kind)
       ≡ (m, Arrived.Late) = rw here refl in
       let after = subst (λ (x : machine.Node × Arrived). IsAfter limits flight.to new.lockstep x (λ y. answer ≡ y))
       step (hears.step (Ok (packet_of flight)) (told_by flight.kind) reads limits flight.to m shows) in
@@ -157,7 +157,7 @@ module _ (marking : Marking) (limits : Limits) (settings : Settings) (session : 
       (put_at session.survivors player player (holding now) refl) (game.nodes player mine).node in
       let fair = game.fair which flight found in
       let told = one_game.told_there marking limits settings game which flight found in
-      let reads : IsRead (Ok (opened_of flight)) (Ok (packet_of flight)) (told_by flight.kind) =
+      let reads : IsRead (opened_of flight) (Ok (packet_of flight)) (told_by flight.kind) =
       ((fair.packet, refl), told_is flight flight.kind fair.kind) in
       let after = (subst (λ (p : Opened). HearsOpened p now next answer) is hears).step (Ok (packet_of flight))
       (told_by flight.kind) reads limits player m r in (

@@ -3,7 +3,7 @@ use Rattle.std.proofs.{Common.{◌≡◌, ◌<◌, ℕ, ℤ, pos, Bool, false, L
 use Rattle.std.specs.Prelude.{slice_get}
 use Rattle.dn_tic.specs.declared.{command.Move.Move, input.Input.Input}
 use Rattle.dn_setup.specs.Settings.{Settings}
-use Rattle.dn_machine.specs.{declared.answers.{Made.Made, Ran.Ran}, Sending.on_build, Limits.Limits, Node.put, Running.{is_over, on_quit, on_run_but}}
+use Rattle.dn_machine.specs.{declared.answers.{Made.Made, Ran.Ran}, Sending.on_build, Limits.Limits, Node.put, Running.{is_over, on_quit}, Sparing.on_run_but}
 use Rattle.dn_machine.proofs.Put.{put_at, put_off}
 use Rattle.dn_lockstep.specs.{Contents.{Contents, end_in}, Marking.Marking, OneGame.world_told, Represents.Represents, Steps.{RunsBy, Simulates, Steps, marks_in, with_row}}
 use Rattle.dn_remain.proofs.Vanished.Put.{at_put}

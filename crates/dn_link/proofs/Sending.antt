@@ -7,14 +7,14 @@ use Rattle.dn_packet.proofs.Texts.{length-commands}
 use Rattle.dn_packet.specs.{declared.packet.{Packet.Packet, PacketFault.PacketFault}, Text.text}
 use Rattle.dn_setup.specs.{Settings.Settings, declared.setup.SetupFault.SetupFault}
 use Rattle.dn_seal.specs.declared.opened.Opened.{Opened}
-use Rattle.dn_machine.specs.{Flight.{Kind, Play, Exit, Flight, is_close, is_request_close, request_byte}, Node.{Node, put, with_peer, got, made}, Limits.Limits, Running.{on_run_but, on_quit}}
+use Rattle.dn_machine.specs.{Flight.{Kind, Play, Exit, Flight, is_close, is_request_close, request_byte}, Node.{Node, put, with_peer, got, made}, Limits.Limits, Running.on_quit, Sparing.on_run_but}
 use Rattle.dn_machine.specs.{Sending.{on_build, after_sent, commands_flight, first_sent, lag, last_sent, left_kind, on_send, request_to, set_up_flight}, Hearing.{after_request, after_exit, on_packet}}
 use Rattle.dn_machine.specs.declared.{answers.{Heard.Heard, Phase.Phase}, peer.Peer.Peer}
 use Rattle.dn_machine.proofs.{Calls.{build_cases, send_cases, quit_cases, packet_cases, sender_after}, Put.{put_at, put_off}, Stages.lag_low}
 use Rattle.dn_remain.proofs.Each.{run_but_cases}
 use Rattle.dn_lockstep.specs.{Received.{has_flag, request_in, flight_from, heard_as, read_flight, received}, Phases.hears_none}
 use Rattle.dn_open.specs.{Arrivals.{IsRead, asks_alike, flag_in, heard, is_alike, on_opened}, declared.hearing.Arrived.Arrived}
-use Rattle.dn_open.proofs.Sealables.{flags_at}
+use Rattle.dn_open.proofs.Letters.{flags_at}
 use Rattle.dn_link.specs.{declared.bundle.Carried.Carried, Hearing.carried_of}
 use Rattle.dn_packet.specs.Flags as flag
 use Rattle.dn_machine.specs.Drops as drops
@@ -299,13 +299,13 @@ module _ (limits : Limits) (me : ℕ) (m : machine.Node) (to : ℕ) (opened : Op
   faults (Err number) none = (refl, inl refl)
   faults (Ok flight) none = absurd (none flight refl)
 
-  pub opened_asked : (read : Result Packet PacketFault) (told : Result Settings SetupFault) → IsRead (Ok opened) read told
-      → Answers (on_opened limits me m (Ok opened) read told)
+  pub opened_asked : (read : Result Packet PacketFault) (told : Result Settings SetupFault) → IsRead opened read told
+      → Answers (on_opened limits me m opened read told)
   opened_asked read told is = go (is_close (made me m) opened.start) (is_request_close (made me m) opened.ask) (is_alike opened)
       refl refl read is
     where
       go : (near close alike : Bool) → is_request_close (made me m) opened.ask ≡ close → is_alike opened ≡ alike
-          → (read : Result Packet PacketFault) → IsRead (Ok opened) read told → Answers (if near && close
+          → (read : Result Packet PacketFault) → IsRead opened read told → Answers (if near && close
           then (if alike then heard (received limits me m opened.from told read) else (m, Arrived.Unlike))
           else (m, Arrived.Late))
       go false close alike c a read is = (refl, inl refl)

@@ -1,7 +1,7 @@
 -- What becomes of a link that gives up a player: of its peers, of its runs, and of what it hands on.
 use Rattle.std.specs.Prelude.{◌≡◌, ℕ, ◌&&◌, Bool, false, true, not, Option, Some, None, ℤ, List, [], ◌∷◌, ◌≤◌, ◌||◌, length, slice_index, ◌++◌}
 use Rattle.dn_tic.specs.declared.command.Move.{Move}
-use Rattle.dn_machine.specs.{declared.answers.Ran.Ran, Running.on_run_but}
+use Rattle.dn_machine.specs.{declared.answers.Ran.Ran, Sparing.on_run_but}
 use Rattle.dn_lockstep.specs.{Steps.{RunsBy}, Told.{command_told}}
 use Rattle.dn_survivor.specs.{declared.{report.Report.Report, answers.GivenUp.GivenUp}, OfOthers.{has, newest_of}, Calls.GivesUp, Surviving.Surviving, Telling.{MayRelay}}
 use Rattle.dn_link.specs.{Relays.{Handed, IsHandedOn, handed_part}, Linked.{Linked, has_given_up, surviving_of}, declared.bundle.Part.{Part, TheVariants.Relay}, Text.IsRun, Linked.{HandsNewest, HasBehind}, Relays.{IsFrom}}

@@ -11,7 +11,7 @@ use dn_packet::MAX_DATAGRAM;
 use dn_seal::append;
 
 /// The next packet to a peer, with its exact numbers; None where there is none.
-#[tactic(auto, using(dn_lockstep::proofs::Giving::some_given, dn_open::proofs::Sealables::gives_none))]
+#[tactic(auto, using(dn_lockstep::proofs::Giving::some_given, dn_open::proofs::Letters::gives_none))]
 pub(crate) fn next_packet(lockstep: &mut Lockstep, to: u8) -> Option<Carried>
     ensures step { SendsCarried to (contents lockstep.old) (contents lockstep.new) result }
     ensures idle { result ≡ None → contents lockstep.new ≡ contents lockstep.old }

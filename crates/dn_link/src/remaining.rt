@@ -1,7 +1,7 @@
 //! What holds of links of which players may be given up.
 
 ghost use Rattle.dn_setup.specs.Settings.{IsSettings, Settings};
-ghost use Rattle.dn_machine.specs.{Started.started_node, declared.answers.{Made.Made, Ran.Ran}, Flight.Flight, Limits.{Limits, IsWindow}, Running.{is_over, on_quit, on_run_but}};
+ghost use Rattle.dn_machine.specs.{Started.started_node, declared.answers.{Made.Made, Ran.Ran}, Flight.Flight, Limits.{Limits, IsWindow}, Running.{is_over, on_quit}, Sparing.on_run_but};
 ghost use Rattle.dn_lockstep.specs.{declared.config.Config.Config, Opening.{CanBeAhead, IsGame, limits_within}, Told.{Builds, got, made}, Contents.end_in, Marking.Marking, Sent.{IsFair, sent_to}, OneGame.world_told, Represents.Represents, Steps.{RunsBy, Steps, Tells}};
 ghost use Rattle.dn_survivor.specs.{OneGame.{started_session, Session, after_build, after_run, with_survivor}, OfOthers.nothing_kept, Agreed.{AreAgreedInPairs, FitInPairs, DemosAgreeInPairs}};
 ghost use Rattle.dn_survivor.specs.declared.answers.GivenUp.{GivenUp};

@@ -6,7 +6,7 @@ use Rattle.arrayvec.specs.ArrayVec.{ArrayVec}
 use Rattle.dn_tic.specs.declared.command.Move.{Move}
 use Rattle.dn_setup.specs.Settings.{Settings}
 use Rattle.dn_world.specs.Physics.{Physics}
-use Rattle.dn_machine.specs.{Limits.Limits, Node.Node, Running.on_run_but, declared.answers.Ran.Ran}
+use Rattle.dn_machine.specs.{Limits.Limits, Node.Node, Sparing.on_run_but, declared.answers.Ran.Ran}
 use Rattle.dn_machine.specs.declared.answers.Phase.TheVariants.{Ended}
 use Rattle.dn_machine.specs.declared.answers.Cause.TheVariants as Cause
 use Rattle.dn_lockstep.specs.{Represents.Represents, Steps.marks_in, declared.lockstep.settling.Settled.Settled}

@@ -10,7 +10,7 @@ use Rattle.dn_machine.specs.declared.peer.Peer.{Peer}
 use Rattle.dn_machine.specs.declared.answers.Phase.TheVariants.{Playing, Listening, Gathering, Ended}
 use Rattle.dn_machine.specs.{Hearing.{started, after_request, after_exit, is_strange_end}, declared.answers.Cause.TheVariants.Quit}
 use Rattle.dn_machine.specs.{declared.answers.Cause.Cause, Running.{on_quit, on_quit_in, is_over}}
-use Rattle.dn_machine.specs.{declared.answers.Phase.Phase, declared.answers.Made.Made, Sending.on_build}
+use Rattle.dn_machine.specs.{declared.answers.Phase.Phase, declared.answers.Made.Made, Sending.{on_build, on_build_by}}
 use Rattle.dn_machine.specs.Node as machine
 use Rattle.dn_machine.proofs.Put.{put_at, put_off}
 use Rattle.dn_machine.proofs.Truth.{lowest_none, lowest_none_each}
@@ -96,18 +96,18 @@ built me m input =
 module _ (limits : Limits) (me : ℕ) (m : machine.Node) (input : Input) where
   pub build_not : m.phase ≢ Playing → ◌≡◌ {A = machine.Node × Made} (on_build limits me m input)
       (m, Made.NotPlaying)
-  unfolding on_build
+  unfolding on_build_by
   build_not n = grind arith
 
   pub build_full : m.phase ≡ Playing → machine.ran m + limits.ahead ≤ machine.made me m
       → ◌≡◌ {A = machine.Node × Made} (on_build limits me m input) (m, Made.Full)
-  unfolding on_build
+  unfolding on_build_by
   build_full on ahead = grind arith
 
   pub build_makes : m.phase ≡ Playing → machine.made me m < machine.ran m + limits.ahead
       → ◌≡◌ {A = machine.Node × Made} (on_build limits me m input)
       (built me m input, Made.Made (machine.made me m))
-  unfolding on_build
+  unfolding on_build_by
   build_makes on near = grind arith
 
   -- whether it makes a command

@@ -17,7 +17,7 @@ use Rattle.dn_setup.specs.Settings.{Settings}
 use Rattle.dn_machine.specs.{declared.answers.Heard.Heard, declared.answers.Made.Made, declared.answers.Ran.Ran}
 use Rattle.dn_machine.specs.declared.events.Event.{Event}
 use Rattle.dn_machine.specs.declared.events.Event.TheVariants.{Send, Deliver, Run, Quit}
-use Rattle.dn_machine.specs.{declared.events.Refusal.Refusal, Sending.{on_build, set_up_flight}, Flight.{Flight, is_near}}
+use Rattle.dn_machine.specs.{declared.events.Refusal.Refusal, Sending.{on_build, on_build_by, set_up_flight}, Flight.{Flight, is_near}}
 use Rattle.dn_machine.specs.Game.{fresh, opening_game, own_marks, delivered, refused_at, refused_flight, refused, applied_if, applied, on_event}
 use Rattle.dn_machine.specs.{Hearing.on_packet, Limits.{Limits, IsWindow}, Node.{put, is_ended}}
 use Rattle.dn_machine.specs.{Running.{is_over, on_run, on_quit}, Worlds.{Inputs, Rules, world_after}}
@@ -76,7 +76,7 @@ run_inputs limits me m marks = run_cases limits me m marks (λ (x : machine.Node
 
 pub build_inputs : (limits : Limits) (me : ℕ) (m : machine.Node) (input : Input)
     → (on_build limits me m input).0.inputs ≡ taken_on m.inputs input (on_build limits me m input).1
-unfolding on_build
+unfolding on_build_by
 build_inputs limits me m input = grind arith
 
 -- a packet goes from the node that is asked to the one that it is asked for

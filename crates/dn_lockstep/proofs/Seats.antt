@@ -7,7 +7,8 @@ use Rattle.std.specs.{Option.{is_none, option_map}, Prelude.{if◌then◌else◌
 use Rattle.dn_tic.specs.{declared.command.Move.Move, declared.command.TicCmd.TicCmd, Command.used}
 use Rattle.dn_ring.specs.Ring.{Ring}
 use Rattle.dn_machine.specs.{Limits.{row_of, four, Limits}, Node.{lowest, lacks, is_whole, blank, held_at, own_mark}, declared.peer.Peer.Peer}
-use Rattle.dn_machine.specs.Running.{is_over, is_absent, is_awaited, first_off_but, row_held, tic_limit, full_at}
+use Rattle.dn_machine.specs.Running.{is_over, is_absent, is_awaited, row_held, tic_limit, full_at}
+use Rattle.dn_machine.specs.Sparing.{first_off_but}
 use Rattle.dn_machine.specs.Node as machine
 use Rattle.dn_machine.proofs.{Demos.{none_is, seat_is}, Truth.lowest_none_each}
 use Rattle.dn_lockstep.specs.{Tables.{count_of, get, ring_at}, Rows.{is_gone, is_missing, seats_of, move_held, mark_in_command, mark_at, differs_but}}

@@ -6,9 +6,10 @@ use Rattle.std.proofs.lemmas.List.FromFn.{length-range_with_len, get_or-range_wi
 use Rattle.std.specs.Prelude.{◌⊎◌}
 use Rattle.std.specs.List.{list_all, range_with_len}
 use Rattle.dn_setup.specs.{Settings.Settings, Gathered.all_noted}
-use Rattle.dn_tic.specs.{Inputs.made_by, declared.input.Input.Input}
+use Rattle.dn_tic.specs.declared.input.Input.{Input}
+use Rattle.dn_machine.specs.Making.{Making, vanilla_making}
 use Rattle.dn_machine.specs.{declared.answers.Cause.Cause, declared.answers.Phase.TheVariants.{Listening, Gathering, Playing, Ended}, declared.answers.Heard.Heard, declared.peer.Peer.Peer, Limits.Limits}
-use Rattle.dn_machine.specs.{Flight.{Kind, SetUp, Play, Flight, is_exit, end_of}, Node.{Node, put, with_peer, ends_of, got, made, ran, held_at, own_mark, lowest, is_ended, has_left}, Sending.{on_build, set_up_flight, left_kind, commands_flight, request_to, after_sent, on_send}}
+use Rattle.dn_machine.specs.{Flight.{Kind, SetUp, Play, Flight, is_exit, end_of}, Node.{Node, put, with_peer, ends_of, got, made, ran, held_at, own_mark, lowest, is_ended, has_left}, Sending.{on_build, on_build_by, set_up_flight, left_kind, commands_flight, request_to, after_sent, on_send}}
 use Rattle.dn_machine.specs.Hearing.{started, after_request, after_flight, is_strange_end, left_or, on_commands, on_packet}
 use Rattle.dn_machine.specs.Running.{marks_kept, full_at, is_awaited, first_off, row_held, on_run, on_quit}
 use Rattle.dn_machine.specs.Drops as drops
@@ -22,19 +23,29 @@ module _ (limits : Limits) (me : ℕ) (node : Node) where
   ended_by cause = record node { phase = Ended cause }
 
   -- build
-  abbrev pub built : Input → Node
-  built input = record node {
+  abbrev pub built_by : Making → Input → Node
+  built_by making input = record node {
     inputs = node.inputs ++ input ∷ [];
     held = put node.held me
-        (node.held me ++ made_by (node.inputs ++ input ∷ []) (own_mark node me (made me node)) ∷ []);
+        (node.held me ++ making.command (node.inputs ++ input ∷ []) (own_mark node me (made me node)) ∷ []);
   }
+
+  pub build_by_cases : (making : Making) (P : Node → Type 0) (input : Input)
+      → ((node.phase ≡ Playing → ran node + limits.ahead ≤ made me node) → P node)
+      → (node.phase ≡ Playing → made me node < ran node + limits.ahead → P (built_by making input))
+      → P (on_build_by making limits me node input).0
+  unfolding on_build_by
+  build_by_cases making P input same builds = grind arith
+
+  -- the same where commands are made as in 1997
+  abbrev pub built : Input → Node
+  built input = built_by vanilla_making input
 
   pub build_cases : (P : Node → Type 0) (input : Input)
       → ((node.phase ≡ Playing → ran node + limits.ahead ≤ made me node) → P node)
       → (node.phase ≡ Playing → made me node < ran node + limits.ahead → P (built input))
       → P (on_build limits me node input).0
-  unfolding on_build
-  build_cases P input same builds = grind arith
+  build_cases P input same builds = build_by_cases vanilla_making P input same builds
 
   -- send
   pub send_cases : (P : Node × Option Flight → Type 0) (to : ℕ) → P (node, None)

@@ -3,8 +3,9 @@
 use Rattle.std.specs.List.{list_all}
 use Rattle.std.proofs.Common.{ℤ, ℕ, List, [], ◌∷◌, sym, subst, ◌≡◌, Bool, true, false, arith, zero, suc, ◌<◌, ◌≤◌, ◌≢◌, inl, inr, ◌++◌, length, refl, ◌∙◌}
 use Rattle.std.proofs.lemmas.{Bool.{cases_eq, and_from}, List.Folds.list_all-append}
-use Rattle.dn_machine.specs.{declared.events.Event.Event, declared.events.Event.TheVariants.{Build, Give, Send, Deliver, Run, Quit, Stop}, Worlds.Rules, Flight.Flight, Node.{Node, put}, Sending.{on_build, on_send}, Hearing.on_packet}
-use Rattle.dn_machine.specs.{Running.{on_run, on_quit}, Game.{Game, refused, on_event, applied}, Runs.{Next, Leads}, Progress.{build_of, in_order, after, exchange, turn, good_round, good_rounds}}
+use Rattle.dn_machine.specs.Making.{Making}
+use Rattle.dn_machine.specs.{declared.events.Event.Event, declared.events.Event.TheVariants.{Build, Give, Send, Deliver, Run, Quit, Stop}, Worlds.{Rules, RulesBy}, Flight.Flight, Node.{Node, put}, Sending.{on_build_by, on_send}, Hearing.on_packet}
+use Rattle.dn_machine.specs.{Running.{on_run, on_quit}, Game.{Game, on_event, applied}, Runs.{Next, Leads}, Progress.{build_of, in_order, after, exchange, turn, good_round, good_rounds}}
 use Rattle.dn_tic.specs.declared.input.Input.{Input}
 
 -- an event that rounds are made of: a build, a send, a delivery or a run
@@ -21,7 +22,7 @@ is_of_round (Stop node) = false
 pub build_round : (i : ℕ) (input : Input) → is_of_round (build_of i input) ≡ true
 build_round i input = grind arith
 
-module _ {S : Type 0} (rules : Rules S) (R : Node → Node → Type 0) (same : (node : Node) → R node node)
+module _ {making : Making} {S : Type 0} (rules : RulesBy making S) (R : Node → Node → Type 0) (same : (node : Node) → R node node)
     (game : Game) (q : ℕ) where
   abbrev After : Event → Type 0
   After event = R (game.nodes q) ((applied rules game event).0.nodes q)
@@ -34,7 +35,7 @@ module _ {S : Type 0} (rules : Rules S) (R : Node → Node → Type 0) (same : (
   unfolding applied
   by_refusal event related = grind arith
 
-  pub after_build : (i : ℕ) (input : Input) → R (game.nodes i) (on_build rules.limits i (game.nodes i) input).0
+  pub after_build : (i : ℕ) (input : Input) → R (game.nodes i) (on_build_by making rules.limits i (game.nodes i) input).0
       → After (build_of i input)
   after_build i input related = grind (arith, by_refusal)
 
@@ -47,7 +48,7 @@ module _ {S : Type 0} (rules : Rules S) (R : Node → Node → Type 0) (same : (
       → After (Deliver which)
   after_deliver which related = grind (arith, by_refusal)
 
-  module _ (builds : (i : ℕ) (input : Input) (node : Node) → R node (on_build rules.limits i node input).0)
+  module _ (builds : (i : ℕ) (input : Input) (node : Node) → R node (on_build_by making rules.limits i node input).0)
       (sends : (i to : ℕ) (node : Node) → R node (on_send rules.limits i node to).0)
       (hears : (i : ℕ) (flight : Flight) (node : Node) → R node (on_packet rules.limits i node flight).0)
       (runs : (node : Node) (marks : ℕ → ℤ) → R node (on_run rules.limits node marks).0)
@@ -56,7 +57,7 @@ module _ {S : Type 0} (rules : Rules S) (R : Node → Node → Type 0) (same : (
     after_event event = grind (arith, by_refusal)
 
 -- lists of events
-module _ {S : Type 0} (rules : Rules S) (P : Game → Type 0)
+module _ {making : Making} {S : Type 0} (rules : RulesBy making S) (P : Game → Type 0)
     (keeps : (game : Game) (event : Event) → P game → P (applied rules game event).0) where
   pub next_keeps : (game next : Game) (event : Event) → P game → Next rules game event next → P next
   next_keeps game next event p x = grind arith

@@ -1,8 +1,8 @@
 -- What an exchange leaves in a game that goes on, where each node plays or has left.
-use Rattle.std.proofs.{Common.{◌≡◌, ℕ, ◌+◌, ◌≤◌, ◌-◌, ◌<◌, ◌≢◌, Bool, true, false, true≢false, length, refl, sym, ◌∙◌, ap, subst, arith, inl, inr, rules}, lemmas.Bool.{cases_eq, cases_lt, cases_Bool}}
+use Rattle.std.proofs.{Common.{◌≡◌, ℕ, ◌+◌, ◌≤◌, ◌<◌, ◌≢◌, Bool, true, false, true≢false, length, refl, sym, ◌∙◌, ap, subst, arith, inl, inr}, lemmas.Bool.{cases_eq, cases_lt, cases_Bool}}
 use Rattle.std.specs.Prelude.{◌⊎◌}
 use Rattle.dn_setup.specs.Settings.{Settings}
-use Rattle.dn_machine.specs.{Limits.Limits, Worlds.Rules, Flight.{Flight, is_near}, Node.{Node, put, ends_of, got, made, is_ended, has_left}, Game.{Game, with_node}, Progress.{after, exchange}}
+use Rattle.dn_machine.specs.{Limits.Limits, Worlds.Rules, Flight.{Flight, is_near}, Node.{Node, put, ends_of, got, made, is_ended, has_left}, Game.{Game, with_node}, Progress.{exchange}}
 use Rattle.dn_machine.proofs.{Invariant.{HoldsAll, history_of}, Put.{put_at, put_off}, GoingOn.{IsOn, ran_after, live_after, on_alike, roomy_after, Gives}, Stages.{side, goal_of, Holds, Taken, Moves, Asked}}
 use Rattle.dn_machine.proofs.Receivers.{in_play, request_within, hears}
 use Rattle.dn_machine.proofs.GoingOn

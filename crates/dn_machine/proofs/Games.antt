@@ -1,12 +1,13 @@
 -- The game as it opens has what every event keeps, each event keeps it, and so does every list of events.
-use Rattle.std.proofs.Common.{◌≡◌, ℕ, ◌-◌, ◌<◌, ◌≤◌, ◌≢◌, false, List, ◌++◌, length, get_or, drop, refl, sym, ◌∙◌, ap, arith, Bool, true, cond, Option, Some, rules, not, ◌&&◌, [], ◌∷◌, None, ltb}
+use Rattle.std.proofs.Common.{◌≡◌, ℕ, ◌-◌, ◌<◌, ◌≤◌, ◌≢◌, false, List, ◌++◌, length, get_or, drop, refl, sym, ◌∙◌, ap, arith, Bool, true, cond, Option, Some, not, ◌&&◌, [], ◌∷◌, None, ltb}
 use Rattle.std.proofs.lemmas.List.{length-append, length-drop, get_or_append_left, get_or-append_right, get_or-drop}
 use Rattle.std.proofs.lemmas.Bool.{ltb-true, and_parts}
 use Rattle.std.specs.Prelude.{◌⊎◌, slice_get}
 use Rattle.dn_tic.specs.declared.command.TicCmd.{TicCmd}
 use Rattle.dn_tic.specs.declared.input.Input.TheVariants.{Pressed}
 use Rattle.dn_setup.specs.Settings.{Settings}
-use Rattle.dn_machine.specs.{Worlds.{Inputs, Rules, command}, Flight.{Flight, end_of, Kind, Exit, is_exit}, Node.{put, blank, Node, with_peer, ends_of, got, made, is_ended, has_left}, declared.answers.Phase.Phase}
+use Rattle.dn_machine.specs.Making.{Making}
+use Rattle.dn_machine.specs.{Worlds.{Inputs, RulesBy, command}, Flight.{Flight, end_of, Kind, Exit, is_exit}, Node.{put, blank, Node, with_peer, ends_of, got, made, is_ended, has_left}, declared.answers.Phase.Phase}
 use Rattle.dn_machine.specs.{declared.answers.Phase.TheVariants.{Listening, Gathering, Playing}, declared.answers.Heard.Heard, declared.peer.Peer.Peer, Game.{Game, with_node, opening_game, refused_at, refused, delivered, on_event, applied_if, applied}, Runs.{Next, Leads, Runs}, Hearing.on_packet, Running.is_over}
 use Rattle.dn_machine.specs.{declared.events.Event.Event, declared.events.Event.TheVariants.{Build, Send, Deliver, Run, Quit, Stop, Give}, declared.events.Refusal.Refusal, Limits.IsWindow}
 use Rattle.dn_machine.proofs.{Invariant.{History, IsPiece, ComesFromInputs, IsKept, history_of}, Put.{put_off, view_put, view_kept}, Peers.asked_end, Calls.{packet_cases, sender_after}}
@@ -16,7 +17,7 @@ use Rattle.dn_machine.proofs.{OwnKeeps.{builds, runs, quits, sends}, EachEvent.l
 
 -- A packet that comes to a node keeps it.
 
-module _ {S : Type 0} (rules : Rules S) (settings : Settings) (history : History) (flights : List Flight)
+module _ {making : Making} {S : Type 0} (rules : RulesBy making S) (settings : Settings) (history : History) (flights : List Flight)
     (from_inputs : ComesFromInputs rules settings history flights) where
   -- commands of a peer that are taken from a packet, by a player who has not left
   module _ (me : ℕ) (mine : me < rules.players) (stays : history.left me ≡ false) (flight : Flight)
@@ -55,7 +56,7 @@ module _ {S : Type 0} (rules : Rules S) (settings : Settings) (history : History
 pub exit_is : (kind : Kind) → is_exit kind ≡ true → kind ≡ Exit
 exit_is kind e = grind arith
 
-module _ {S : Type 0} (rules : Rules S) (settings : Settings) (game : Game)
+module _ {making : Making} {S : Type 0} (rules : RulesBy making S) (settings : Settings) (game : Game)
     (kept : IsKept rules settings game) (i : ℕ) (mine : i < rules.players) where
   abbrev inputs_now : Inputs
   inputs_now q = (game.nodes q).inputs
@@ -179,7 +180,7 @@ module _ {S : Type 0} (rules : Rules S) (settings : Settings) (game : Game)
 pub passes : {A : Type 0} (b : Bool) (x : A) (rest : Option A) → cond (not b) (Some x) rest ≡ None → b ≡ true
 passes b x rest h = grind arith
 
-module _ {S : Type 0} (rules : Rules S) (settings : Settings) where
+module _ {making : Making} {S : Type 0} (rules : RulesBy making S) (settings : Settings) where
   pub opens : IsWindow rules.limits → IsKept rules settings (opening_game settings)
   unfolding opening_game
   opens window = grind arith

@@ -1,13 +1,13 @@
 -- A game that goes on, where those that stay play and the others have left: what each event leaves of it,
 -- and an exchange.
 use Rattle.std.specs.Prelude.{slice_get, ◌⊎◌}
-use Rattle.std.proofs.{Common.{◌≡◌, ℕ, ◌+◌, ◌<◌, ◌≤◌, Bool, true, false, ◌∙◌, ap, arith, suc, true≢false, refl, sym, inl, inr, ◌-◌, ◌≢◌, not, min, cond, List, [], ◌∷◌, ◌++◌, length, Option, Some, None, rules}, lemmas.Bool.{and_right, cond_both}}
+use Rattle.std.proofs.{Common.{◌≡◌, ℕ, ◌+◌, ◌<◌, ◌≤◌, Bool, true, false, ◌∙◌, ap, arith, suc, true≢false, refl, sym, inl, inr, ◌-◌, ◌≢◌, min, cond, List, [], ◌∷◌, ◌++◌, length, Option, Some, None, rules}, lemmas.Bool.{and_right, cond_both}}
 use Rattle.std.proofs.lemmas.List.{length-drop, length-take}
 use Rattle.std.proofs.lemmas.Option.{slice_get_past}
 use Rattle.dn_tic.specs.declared.input.Input.{Input}
 use Rattle.dn_setup.specs.Settings.{Settings}
 use Rattle.dn_machine.specs.{declared.answers.Phase.TheVariants.Playing, declared.events.Event.Event, Worlds.Rules, Node.{Node, ran, is_ended, has_left, made, is_whole, put, got}, Game.{Game, applied, with_node, refused_at, refused, on_event, applied_if}, Progress.{IsSwift, after, exchange, build_of}}
-use Rattle.dn_machine.specs.{Sending.{on_build, on_send, lag, left_kind, commands_flight, after_sent}, Hearing.on_packet, Running.{tic_limit, full_at, is_absent, row_held, on_run, on_quit}}
+use Rattle.dn_machine.specs.{Sending.{on_build, on_build_by, on_send, lag, left_kind, commands_flight, after_sent}, Hearing.on_packet, Running.{tic_limit, full_at, is_absent, row_held, on_run, on_quit}}
 use Rattle.dn_machine.specs.{declared.events.Event.TheVariants.Deliver, declared.events.Refusal.Refusal}
 use Rattle.dn_machine.specs.Flight.{Kind, Play, Exit, Flight, is_exit, end_of, is_near}
 use Rattle.dn_machine.specs.Promise.{Fits}
@@ -30,7 +30,7 @@ stays_same node = record { phase = refl; played = refl; held = refl }
 
 event_stays : {S : Type 0} (rules : Rules S) (game : Game) (q : ℕ) → is_ended (game.nodes q).phase ≡ true
     → (event : Event) → Stays (game.nodes q) ((applied rules game event).0.nodes q)
-unfolding on_build on_send on_packet on_run on_quit
+unfolding on_build_by on_send on_packet on_run on_quit
 event_stays rules game q ended event =
     after_event rules (λ (old new : Node). is_ended old.phase ≡ true → Stays old new)
     (λ node e. stays_same node) game q (λ i input node e. grind arith)

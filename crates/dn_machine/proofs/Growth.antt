@@ -3,7 +3,7 @@
 use Rattle.std.proofs.{Common.{◌≡◌, ℕ, ◌≤◌, true, List, length, arith, ◌++◌, false, true≢false, refl, sym, ◌∙◌}, lemmas.List.{length_push, length-append}, lemmas.Bool.and_parts}
 use Rattle.dn_tic.specs.{declared.input.Input.Input, declared.command.TicCmd.TicCmd}
 use Rattle.dn_setup.specs.Settings.{Settings}
-use Rattle.dn_machine.specs.{declared.answers.Heard.Heard, declared.events.Event.Event, Worlds.Rules, Node.{Node, ran, put, got, is_ended, has_left}, Sending.{on_build, on_send}, Hearing.on_packet, Running.{on_run, on_quit}}
+use Rattle.dn_machine.specs.{declared.answers.Heard.Heard, declared.events.Event.Event, Worlds.Rules, Node.{Node, ran, put, got, is_ended, has_left}, Sending.{on_build_by, on_send}, Hearing.on_packet, Running.{on_run, on_quit}}
 use Rattle.dn_machine.specs.{Game.{Game, opening_game, applied}, Runs.{Runs, Leads}, Progress.{after, in_order, exchange, turn, good_round, good_rounds, build_of}}
 use Rattle.dn_machine.proofs.{Calls.packet_cases, EachEvent.{each_of, after_event, leads_keep}}
 
@@ -17,7 +17,7 @@ grows_same node = record { rows = omega arith; pause = λ peer h. h; played = λ
 
 module _ {S : Type 0} (rules : Rules S) (game : Game) (q : ℕ) where
   pub applied_grows : (event : Event) → Grows (game.nodes q) ((applied rules game event).0.nodes q)
-  unfolding on_build on_send on_packet on_run on_quit
+  unfolding on_build_by on_send on_packet on_run on_quit
   applied_grows event = after_event rules Grows grows_same game q (λ i input node. grind arith)
       (λ i to node. grind arith)
       (λ i flight node. packet_cases rules.limits i node flight (λ (r : Node × Heard). Grows node r.0)
@@ -88,7 +88,7 @@ goes_on node on left = absurd (true≢false (sym (and_parts node.played (is_ende
 module _ {S : Type 0} (rules : Rules S) where
   applied_later : (game : Game) (event : Event) (q : ℕ)
       → IsLater (game.nodes q) ((applied rules game event).0.nodes q)
-  unfolding on_build on_send on_packet on_run on_quit
+  unfolding on_build_by on_send on_packet on_run on_quit
   applied_later game event q = after_event rules IsLater later_same game q
       (λ i input node. grind (arith, longer_at)) (λ i to node. grind arith)
       (λ i flight node. grind (arith, longer_at))

@@ -3,13 +3,14 @@ use Rattle.std.specs.Prelude.{ℕ, ◌+◌, ◌<◌, ◌≤◌, Bool, true, List
 use Rattle.std.proofs.Common.{false, ◌∷◌, ◌++◌, sym, subst, arith, inl, inr}
 use Rattle.dn_tic.specs.{declared.command.TicCmd.TicCmd, declared.command.Move.Move}
 use Rattle.dn_setup.specs.Settings.{Settings}
-use Rattle.dn_machine.specs.{declared.answers.Phase.TheVariants.{Playing, Gathering, Ended}, Limits.IsWindow, Worlds.{Inputs, Rules, command, row, world}, Flight.{SetUp, Exit, Flight, end_of}}
+use Rattle.dn_machine.specs.Making.{Making}
+use Rattle.dn_machine.specs.{declared.answers.Phase.TheVariants.{Playing, Gathering, Ended}, Limits.IsWindow, Worlds.{Inputs, RulesBy, command, row, world}, Flight.{SetUp, Exit, Flight, end_of}}
 use Rattle.dn_machine.specs.{Node.{Node, ends_of, blank, has_left, is_whole, demo_rows, put}, Running.{tic_limit, row_held}, Game.Game}
 use Rattle.dn_machine.specs.declared.answers.Cause.TheVariants as Cause
 use Rattle.dn_machine.proofs.Put.{put_two_off, slice_get_push, longer, pushed}
 
 -- A packet that was sent is a piece of what its sender has.
-pub record IsPiece {S : Type 0} (rules : Rules S) (settings : Settings) (inputs : Inputs) (left : ℕ → Bool)
+pub record IsPiece {making : Making} {S : Type 0} (rules : RulesBy making S) (settings : Settings) (inputs : Inputs) (left : ℕ → Bool)
     (flight : Flight) : Type 0 where
   pub sender : flight.from < rules.players
   pub receiver : flight.to < rules.players
@@ -40,7 +41,7 @@ HoldsAll history q p = (end : ℕ) × (history.ends q p ≡ Some end) × (end �
 
 -- All that was held, run and sent is what the players' inputs make, and no node is ahead of what it has been
 -- sent.
-pub record ComesFromInputs {S : Type 0} (rules : Rules S) (settings : Settings) (history : History)
+pub record ComesFromInputs {making : Making} {S : Type 0} (rules : RulesBy making S) (settings : Settings) (history : History)
     (flights : List Flight) : Type 0 where
   -- a node has as many own commands as inputs
   pub counted : (p : ℕ) → p < rules.players → length (history.held p p) ≡ length (history.inputs p)
@@ -66,7 +67,7 @@ pub record ComesFromInputs {S : Type 0} (rules : Rules S) (settings : Settings) 
       → IsPiece rules settings history.inputs history.left flight
 
 -- One node by itself.
-pub record IsSound {S : Type 0} (rules : Rules S) (settings : Settings) (me : ℕ) (node : Node) : Type 0 where
+pub record IsSound {making : Making} {S : Type 0} (rules : RulesBy making S) (settings : Settings) (me : ℕ) (node : Node) : Type 0 where
   -- who plays or has played, and who gathers, has the key player's settings
   pub played : node.played ≡ true → node.settings ≡ Some settings
   pub playing : node.phase ≡ Playing → node.played ≡ true
@@ -92,13 +93,13 @@ history_of game =
 
 -- the marks that a node kept are those of the worlds of the players' inputs, for each player who has made a
 -- command for the tic
-abbrev pub HasTrueMarks : {S : Type 0} → Rules S → Settings → Inputs → Node → Type 0
+abbrev pub HasTrueMarks : {making : Making} {S : Type 0} → RulesBy making S → Settings → Inputs → Node → Type 0
 HasTrueMarks rules settings inputs node =
     (p tic : ℕ) → p < rules.players → tic < length node.rows → tic < length (inputs p)
     → node.marks tic p ≡ rules.physics.mark (world rules settings inputs tic) p
 
 -- The whole game.
-pub record IsKept {S : Type 0} (rules : Rules S) (settings : Settings) (game : Game) : Type 0 where
+pub record IsKept {making : Making} {S : Type 0} (rules : RulesBy making S) (settings : Settings) (game : Game) : Type 0 where
   pub window : IsWindow rules.limits
   pub from_inputs : ComesFromInputs rules settings (history_of game) game.flights
   pub sound : (q : ℕ) → q < rules.players → IsSound rules settings q (game.nodes q)
@@ -108,7 +109,7 @@ pub record IsKept {S : Type 0} (rules : Rules S) (settings : Settings) (game : G
 -- The commands held, the rows run, the known ends and the packets sent stay pieces of what the players' inputs make:
 -- when a node learns an end, leaves, runs a tic or sends.
 
-module _ {S : Type 0} (rules : Rules S) (settings : Settings) (history : History) (flights : List Flight)
+module _ {making : Making} {S : Type 0} (rules : RulesBy making S) (settings : Settings) (history : History) (flights : List Flight)
     (from_inputs : ComesFromInputs rules settings history flights) where
   -- a player who has not left holds back all others
   pub ran_below : (q p : ℕ) → q < rules.players → p < rules.players → history.left p ≡ false

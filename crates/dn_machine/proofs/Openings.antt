@@ -1,6 +1,6 @@
 -- How a game opens: the key player gathers and the others listen, and the key player starts once all others
 -- have played.
-use Rattle.std.proofs.{Common.{◌≡◌, ℕ, ◌<◌, ◌≤◌, ◌≢◌, true, false, List, length, refl, sym, ◌∙◌, arith, Option, Some, None, rules}, lemmas.Bool.ltb-true}
+use Rattle.std.proofs.{Common.{◌≡◌, ℕ, ◌<◌, ◌≤◌, ◌≢◌, true, false, List, length, refl, sym, ◌∙◌, arith, Option, Some, None}, lemmas.Bool.ltb-true}
 use Rattle.std.specs.Prelude.{slice_get}
 use Rattle.dn_setup.specs.{Settings.Settings, Gathered.all_noted}
 use Rattle.dn_machine.specs.{declared.answers.Phase.TheVariants.{Listening, Gathering, Playing}, declared.events.Event.Event, declared.events.Event.TheVariants.{Build, Send, Deliver, Run, Quit, Stop, Give}, Limits.IsWindow, Worlds.Rules}

@@ -2,13 +2,14 @@
 use Rattle.std.proofs.{Common.{◌≡◌, ℕ, ◌+◌, ◌<◌, ◌≤◌, true, false, List, [], ◌∷◌, ◌++◌, length, take, ◌∙◌, arith, inl, inr, refl, ◌≢◌, not, cond, sym, ap, Option, Some, None, ltb, leb, ℤ, subst}, lemmas.Bool.{cases_eq, cases_Bool, cond-true, leb-false, lt-ltb, and_from, and_cases}, lemmas.List.{length_push, take-append-le, take_all, length-drop, length-take, get_or-drop, get_or-take}}
 use Rattle.std.proofs.lemmas.Option.{none-some, same_Some, cond_some}
 use Rattle.std.specs.Prelude.{◌⊎◌, ◌&&◌}
-use Rattle.dn_tic.specs.{declared.command.TicCmd.TicCmd, Inputs.made_by, declared.input.Input.Input}
+use Rattle.dn_tic.specs.{declared.command.TicCmd.TicCmd, declared.input.Input.Input}
 use Rattle.dn_tic.specs.declared.command.Move.{Move}
 use Rattle.dn_setup.specs.Settings.{Settings}
-use Rattle.dn_machine.specs.{Worlds.{Inputs, Rules, command, row, if_made, world}, Flight.{Flight, Kind, SetUp, Play, Exit}, Node.{put, Node, ends_of, made, own_mark, has_left, lowest, got, ran, held_at, is_whole}, declared.answers.Phase.TheVariants.{Playing, Ended}, Game.{Game, with_node, own_marks, on_own_run, posted}, Sending.{on_build, first_sent, last_sent, left_kind, set_up_flight, commands_flight, request_to, after_sent, on_send}}
+use Rattle.dn_machine.specs.Making.{Making}
+use Rattle.dn_machine.specs.{Worlds.{Inputs, RulesBy, command, row, if_made, world}, Flight.{Flight, Kind, SetUp, Play, Exit}, Node.{put, Node, ends_of, made, own_mark, has_left, lowest, got, ran, held_at, is_whole}, declared.answers.Phase.TheVariants.{Playing, Ended}, Game.{Game, with_node, own_marks, on_own_run, posted}, Sending.{on_build_by, first_sent, last_sent, left_kind, set_up_flight, commands_flight, request_to, after_sent, on_send}}
 use Rattle.dn_machine.specs.declared.answers.Cause.{Cause}
 use Rattle.dn_machine.specs.Running.{is_over, is_absent, is_awaited, first_off, row_held, marks_kept, full_at, on_quit}
-use Rattle.dn_machine.proofs.{Invariant.{History, IsPiece, ComesFromInputs, HasTrueMarks, IsKept, history_of, IsSound}, Truth.{command_same, row_same, back_same, world_same, row_of_same, world_after_true, lowest_none, lowest_none_each, command_mark, same_passes}, Put.{longer, pushed, view_put, view_kept, put_at, put_off}, Calls.{build_cases, built, run_cases, quit_cases, send_cases}}
+use Rattle.dn_machine.proofs.{Invariant.{History, IsPiece, ComesFromInputs, HasTrueMarks, IsKept, history_of, IsSound}, Truth.{command_same, row_same, back_same, world_same, row_of_same, world_after_true, lowest_none, lowest_none_each, command_mark, same_passes}, Put.{longer, pushed, view_put, view_kept, put_at, put_off}, Calls.{build_by_cases, built_by, run_cases, quit_cases, send_cases}}
 use Rattle.dn_machine.proofs.Demos.{whole_held, front_stops, front_goes_on}
 use Rattle.dn_machine.proofs.Invariant
 use Rattle.dn_machine.proofs.Placing
@@ -17,7 +18,7 @@ use Rattle.dn_machine.proofs.Peers.{same_ends}
 
 -- A build: the commands held, the rows run and the packets sent stay pieces of what the players' inputs make.
 
-module _ {S : Type 0} (rules : Rules S) (settings : Settings) (history : History) (flights : List Flight)
+module _ {making : Making} {S : Type 0} (rules : RulesBy making S) (settings : Settings) (history : History) (flights : List Flight)
     (from_inputs : ComesFromInputs rules settings history flights) where
   -- a build, by a player who has not left
   module _ (me : ℕ) (mine : me < rules.players) (stays : history.left me ≡ false) (input : Input)
@@ -87,7 +88,7 @@ module _ {S : Type 0} (rules : Rules S) (settings : Settings) (history : History
         pieces = λ which flight h. piece_kept flight (from_inputs.pieces which flight h);
       }
 
-module _ {S : Type 0} (rules : Rules S) (settings : Settings) (game : Game)
+module _ {making : Making} {S : Type 0} (rules : RulesBy making S) (settings : Settings) (game : Game)
     (kept : IsKept rules settings game) (i : ℕ) (mine : i < rules.players) where
   abbrev inputs_before : Inputs
   inputs_before q = (game.nodes q).inputs
@@ -95,7 +96,7 @@ module _ {S : Type 0} (rules : Rules S) (settings : Settings) (game : Game)
   -- the command that a build makes is the true one
   built_true : (input : Input) → (game.nodes i).phase ≡ Playing
       → length (inputs_before i) < length (game.nodes i).rows + rules.ahead →
-      made_by ((game.nodes i).inputs ++ input ∷ []) (own_mark (game.nodes i) i (made i (game.nodes i)))
+      making.command ((game.nodes i).inputs ++ input ∷ []) (own_mark (game.nodes i) i (made i (game.nodes i)))
       ≡ command rules settings (put inputs_before i ((game.nodes i).inputs ++ input ∷ [])) i
       (length (inputs_before i))
   unfolding command
@@ -118,14 +119,14 @@ module _ {S : Type 0} (rules : Rules S) (settings : Settings) (game : Game)
       stays in grind (arith, world_same, take-append-le)
 
   pub builds : (input : Input)
-      → IsKept rules settings (with_node game i (on_build rules.limits i (game.nodes i) input).0)
-  builds input = build_cases rules.limits i (game.nodes i)
+      → IsKept rules settings (with_node game i (on_build_by making rules.limits i (game.nodes i) input).0)
+  builds input = build_by_cases rules.limits i (game.nodes i) making
       (λ (new : Node). IsKept rules settings (with_node game i new)) input
       (λ full. Placing.same_node rules settings game kept i mine)
       (λ plays free.
       let room : length (inputs_before i) < length (game.nodes i).rows + rules.ahead = omega arith in
-      let node : Node = built rules.limits i (game.nodes i) input in
-      let new : TicCmd = made_by node.inputs (own_mark (game.nodes i) i (made i (game.nodes i))) in
+      let node : Node = built_by rules.limits i (game.nodes i) making input in
+      let new : TicCmd = making.command node.inputs (own_mark (game.nodes i) i (made i (game.nodes i))) in
       let sound = kept.sound i mine in
       Placing.placed rules settings game kept i mine node game.stopped game.flights _
       (view_put (λ (n : Node). n.inputs) game.nodes i node)
@@ -145,7 +146,7 @@ module _ {S : Type 0} (rules : Rules S) (settings : Settings) (game : Game)
 pub over : (o : Option ℕ) (tic : ℕ) → is_over o tic ≡ true → (end : ℕ) × (o ≡ Some end) × (end ≤ tic)
 over o tic h = grind arith
 
-module _ {S : Type 0} (rules : Rules S) (settings : Settings) (game : Game)
+module _ {making : Making} {S : Type 0} (rules : RulesBy making S) (settings : Settings) (game : Game)
     (kept : IsKept rules settings game) (i : ℕ) (mine : i < rules.players) where
   abbrev inputs_now : Inputs
   inputs_now q = (game.nodes q).inputs
@@ -274,7 +275,7 @@ module _ {S : Type 0} (rules : Rules S) (settings : Settings) (game : Game)
 
 -- A send.
 
-module _ {S : Type 0} (rules : Rules S) (settings : Settings) (game : Game)
+module _ {making : Making} {S : Type 0} (rules : RulesBy making S) (settings : Settings) (game : Game)
     (kept : IsKept rules settings game) (i : ℕ) (mine : i < rules.players) where
   abbrev inputs_sent : Inputs
   inputs_sent q = (game.nodes q).inputs

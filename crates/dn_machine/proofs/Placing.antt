@@ -3,19 +3,20 @@ use Rattle.std.proofs.Common.{◌≡◌, ℕ, ◌+◌, ◌<◌, ◌≤◌, ◌�
 use Rattle.std.specs.Prelude.{slice_get}
 use Rattle.dn_tic.specs.{declared.command.TicCmd.TicCmd, declared.command.Move.Move}
 use Rattle.dn_setup.specs.Settings.{Settings}
-use Rattle.dn_machine.specs.{declared.answers.Cause.Cause, declared.answers.Phase.Phase, declared.answers.Phase.TheVariants.{Gathering, Playing, Ended}, declared.peer.Peer.Peer, Worlds.{Inputs, Rules, mark_in, worlds_to}, Flight.Flight}
-use Rattle.dn_machine.specs.{Node.{Node, put, with_peer, ends_of, made, ran, own_mark, has_left}, Game.{Game, with_node}, Running.is_over}
+use Rattle.dn_machine.specs.Making.{Making}
+use Rattle.dn_machine.specs.{declared.answers.Cause.Cause, declared.answers.Phase.Phase, declared.answers.Phase.TheVariants.{Gathering, Playing, Ended}, declared.peer.Peer.Peer, Worlds.{Inputs, RulesBy, mark_in, worlds_to}, Flight.Flight}
+use Rattle.dn_machine.specs.{Node.{Node, put, with_peer, ends_of, made, own_mark, has_left}, Game.{Game, with_node}, Running.is_over}
 use Rattle.dn_machine.proofs.{Invariant.{History, ComesFromInputs, IsSound, HasTrueMarks, IsKept, history_of}, Put.view_kept, Truth.own_mark_true, Demos.whole_held}
 use Rattle.dn_machine.proofs.Invariant
 
 -- equal lists tell the same
-along : {S : Type 0} (rules : Rules S) (settings : Settings) (a b : History) (flights : List Flight)
+along : {making : Making} {S : Type 0} (rules : RulesBy making S) (settings : Settings) (a b : History) (flights : List Flight)
     → b.inputs ≡ a.inputs → b.held ≡ a.held → b.rows ≡ a.rows → b.ends ≡ a.ends → b.left ≡ a.left
     → ComesFromInputs rules settings a flights → ComesFromInputs rules settings b flights
 along rules settings a b flights k h r e l from_inputs =
     grind arith
 
-module _ {S : Type 0} (rules : Rules S) (settings : Settings) (game : Game)
+module _ {making : Making} {S : Type 0} (rules : RulesBy making S) (settings : Settings) (game : Game)
     (kept : IsKept rules settings game) (i : ℕ) (mine : i < rules.players) where
   abbrev pub inputs_now : Inputs
   inputs_now q = (game.nodes q).inputs

@@ -1,6 +1,6 @@
 -- A game goes on as soon as the network delivers: one good round for the start, and for each tic thirteen and
 -- one for each packet that may be in vain.
-use Rattle.std.proofs.{Common.{◌≡◌, ℕ, zero, suc, ◌+◌, ◌-◌, ◌*◌, ◌<◌, ◌≤◌, ◌≢◌, Bool, true, not, List, refl, sym, ◌∙◌, ap, subst, arith, inl, inr, rules}, lemmas.Bool.not-true}
+use Rattle.std.proofs.{Common.{◌≡◌, ℕ, zero, suc, ◌+◌, ◌-◌, ◌*◌, ◌<◌, ◌≤◌, ◌≢◌, Bool, true, not, List, refl, sym, ◌∙◌, ap, subst, arith, inl, inr}, lemmas.Bool.not-true}
 use Rattle.std.specs.Prelude.{◌⊎◌}
 use Rattle.dn_setup.specs.Settings.{Settings}
 use Rattle.dn_machine.specs.{declared.answers.Phase.Phase, declared.events.Event.Event, Limits.IsWindow, Worlds.Rules, Node.{ran, is_ended}, Running.tic_limit, Game.Game, Runs.Runs}

@@ -4,7 +4,8 @@ use Rattle.std.proofs.{lemmas.Option.slice_get-get_or, lemmas.List.Prefix.front_
 use Rattle.std.specs.Prelude.{slice_get, ◌⊎◌, nat_le}
 use Rattle.dn_tic.specs.declared.command.Move.{Move}
 use Rattle.dn_setup.specs.Settings.{Settings}
-use Rattle.dn_machine.specs.{declared.answers.Phase.TheVariants.Playing, declared.answers.Heard.Heard, Worlds.{Rules, row, if_made, command}, Flight.{Flight, is_exit, end_of}}
+use Rattle.dn_machine.specs.Making.{Making}
+use Rattle.dn_machine.specs.{declared.answers.Phase.TheVariants.Playing, declared.answers.Heard.Heard, Worlds.{RulesBy, row, if_made, command}, Flight.{Flight, is_exit, end_of}}
 use Rattle.dn_machine.specs.{Node.{Node, ends_of, blank, got, made, ran, is_ended, has_left, known_end, lacks, is_whole, demo_rows}, Game.Game, Promise.{IsPrefixOf, inputs_of, Agree, Fits, Steady}, Hearing.{is_strange_end, on_packet}}
 use Rattle.dn_machine.specs.Headline.{AgreeWithin, AnyTwo, shown_by}
 use Rattle.dn_machine.proofs.{Invariant.{IsKept, history_of}, Truth.{world_after_true, length-commands_to, get_or-commands_to, lowest_none_each}, Demos.{front_prefix, front_passes, front_each, front_short, none_is, seat_is, whole_has}}
@@ -16,7 +17,7 @@ prefix_from_reads : {A : Type 0} (d : A) (xs ys : List A) → length xs ≤ leng
     → ((k : ℕ) → k < length xs → get_or ys k d ≡ get_or xs k d) → IsPrefixOf xs ys
 prefix_from_reads d xs ys l h = (drop (length xs) ys, sym (front_from_reads d ys xs l h))
 
-module _ {S : Type 0} (rules : Rules S) (settings : Settings) (game : Game)
+module _ {making : Making} {S : Type 0} (rules : RulesBy making S) (settings : Settings) (game : Game)
     (kept : IsKept rules settings game) where
   row_at : (q tic : ℕ) → q < rules.players → tic < ran (game.nodes q)
       → slice_get (game.nodes q).rows tic ≡ Some (row rules settings (inputs_of game) tic)

@@ -4,7 +4,7 @@
 use Rattle.std.specs.Prelude.{ℕ, ◌+◌, ◌==◌, true, false, List, [], ◌∷◌, ◌≡◌, refl, pos, map, take, fold, Some, None, if◌then◌else◌, Bool, length, replicate, Option}
 use Rattle.dn_setup.specs.Settings.{Settings}
 use Rattle.dn_machine.specs.{declared.events.Event.Event, declared.events.Event.TheVariants.{Send, Deliver}, Flight.{Exit, Flight, is_near, Kind, Play}, Limits.{vanilla_limits, row_of, Limits, IsWindow}, Worlds.{Rules, world_after}}
-use Rattle.dn_machine.specs.{Node.{ran, lowest, blank, Node, with_peer, no_peer}, Game.{Game, opening_game, applied, fresh}, Sending.{on_build, on_send}, Hearing.{on_packet, is_within}, Running.{on_run, full_at}}
+use Rattle.dn_machine.specs.{Node.{ran, lowest, blank, Node, with_peer, no_peer}, Game.{Game, opening_game, applied, fresh}, Sending.{on_build, on_build_by, on_send}, Hearing.{on_packet, is_within}, Running.{on_run, full_at}}
 use Rattle.dn_machine.specs.{Progress.{after, in_order, exchange, turn, good_round, good_rounds, IsSwift, GoesInto}, declared.answers.Made.Made, declared.answers.Phase.TheVariants.{Playing, Ended}}
 use Rattle.dn_tic.specs.{Pressed.pressed, Inputs.made_by, Command.used, declared.input.Input.TheVariants.Pressed}
 use Rattle.std.proofs.Common.{arith}
@@ -56,19 +56,19 @@ start = Send 0 1 ∷ Deliver 0 ∷ Send 1 0 ∷ Deliver 1 ∷ []
 stages_so : map (λ (count : ℕ). first_rounds 2 (0 ∷ 1 ∷ []) (take count start)) (0 ∷ 1 ∷ 2 ∷ 3 ∷ [])
     ≡ map (λ (count : ℕ). (0 ∷ 0 ∷ []) ∷ (0 ∷ 1 ∷ []) ∷ (0 ∷ 2 ∷ []) ∷ (1 ∷ 3 ∷ []) ∷ []) (0 ∷ 1 ∷ 2 ∷ 3 ∷ [])
 unfolding counting first_rounds start good_rounds good_round turn exchange in_order opening_game applied
-    on_build on_send on_packet on_run made_by pressed row_of lowest world_after used
+    on_build_by on_send on_packet on_run made_by pressed row_of lowest world_after used
 stages_so = refl
 
 -- both play; and of three players node 1 plays and was noted, and node 2 still listens
 both_so : first_rounds 2 (0 ∷ 1 ∷ []) start ≡ (0 ∷ 1 ∷ []) ∷ (1 ∷ 2 ∷ []) ∷ (2 ∷ 3 ∷ []) ∷ (3 ∷ 4 ∷ []) ∷ []
 unfolding counting first_rounds start good_rounds good_round turn exchange in_order opening_game applied
-    on_build on_send on_packet on_run made_by pressed row_of lowest world_after used
+    on_build_by on_send on_packet on_run made_by pressed row_of lowest world_after used
 both_so = refl
 
 three_so : first_rounds 3 (0 ∷ 1 ∷ 2 ∷ []) start
     ≡ (0 ∷ 0 ∷ 0 ∷ []) ∷ (0 ∷ 1 ∷ 1 ∷ []) ∷ (0 ∷ 2 ∷ 2 ∷ []) ∷ (1 ∷ 3 ∷ 3 ∷ []) ∷ []
 unfolding counting first_rounds start good_rounds good_round turn exchange in_order opening_game applied
-    on_build on_send on_packet on_run made_by pressed row_of lowest world_after used
+    on_build_by on_send on_packet on_run made_by pressed row_of lowest world_after used
 three_so = refl
 
 -- Windows worked out: six ahead over twelve places, nine over eighteen, twelve over twenty-four; how packets
@@ -136,7 +136,7 @@ next_start node = (node.peers 1).resend
 -- nine builds of a node that ran nothing, and no tenth
 ten_builds : map (λ (n : ℕ). (on_build (wide false 9 18) 0 (playing n 0) (Pressed 0)).1) (0 ∷ 8 ∷ 9 ∷ [])
     ≡ Made.Made 0 ∷ Made.Made 8 ∷ Made.Full ∷ []
-unfolding playing on_build made_by pressed
+unfolding playing on_build_by made_by pressed
 ten_builds = refl
 
 -- eighteen commands are due from tic 12 on: a packet carries twelve, and the next one goes on behind them, or

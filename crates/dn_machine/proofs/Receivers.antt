@@ -1,5 +1,5 @@
 -- What a packet leaves its receiver as, in a game that goes on, where each node plays or has left.
-use Rattle.std.proofs.{Common.{◌≡◌, ℕ, suc, min, ◌+◌, ◌-◌, ◌<◌, ◌≤◌, ◌≢◌, Bool, true, false, List, length, cond, refl, ap, arith, Some, inl, inr}, lemmas.List.{length-append, length-drop}}
+use Rattle.std.proofs.{Common.{◌≡◌, ℕ, suc, min, ◌+◌, ◌<◌, ◌≤◌, ◌≢◌, Bool, true, false, List, length, cond, refl, ap, arith, Some, inl, inr}, lemmas.List.{length-append, length-drop}}
 use Rattle.std.specs.Prelude.{◌⊎◌}
 use Rattle.dn_tic.specs.declared.command.TicCmd.{TicCmd}
 use Rattle.dn_setup.specs.Settings.{Settings}

@@ -1,7 +1,7 @@
 -- In twelve good rounds, and one for each packet that may be in vain, each player gives each other the
 -- command of a tic that all have reached; in the round after those each player runs the tic.
 use Rattle.std.specs.Prelude.{◌⊎◌}
-use Rattle.std.proofs.{Common.{◌≡◌, ℕ, zero, suc, ◌+◌, ◌<◌, ◌≤◌, ◌≢◌, Bool, true, refl, sym, subst, arith, inl, inr, rules, ap}, lemmas.Bool.{cases_eq, cases_lt}}
+use Rattle.std.proofs.{Common.{◌≡◌, ℕ, zero, suc, ◌+◌, ◌<◌, ◌≤◌, ◌≢◌, Bool, true, refl, sym, subst, arith, inl, inr, ap}, lemmas.Bool.{cases_eq, cases_lt}}
 use Rattle.dn_setup.specs.Settings.{Settings}
 use Rattle.dn_machine.specs.{declared.events.Event.Event, declared.events.Event.TheVariants.Run, Worlds.Rules, Node.{made, got, ran}, Game.Game, Progress.{after, in_order, exchange, turn, good_round, good_rounds, build_of}}
 use Rattle.dn_machine.specs.Running.{is_absent}

@@ -7,7 +7,7 @@ use Rattle.dn_tic.specs.{Pressed.pressed, Inputs.{last_input, made_of, made_by, 
 use Rattle.dn_tic.proofs.Making.{made_by-pressed_alone}
 use Rattle.dn_setup.specs.Settings.{Settings}
 use Rattle.dn_machine.specs.{Limits.{row_of, Limits}, Worlds.{Inputs, Rules, row, row_by_inputs, command, rules_of, rules_within, opening, worlds_to, world, if_made}}
-use Rattle.dn_machine.specs.{declared.events.Event.Event, declared.events.Event.TheVariants.{Build, Send, Deliver, Run, Quit, Stop, Give}, Node.Node, Sending.{on_build, on_send}, Hearing.on_packet}
+use Rattle.dn_machine.specs.{declared.events.Event.Event, declared.events.Event.TheVariants.{Build, Send, Deliver, Run, Quit, Stop, Give}, Node.Node, Sending.{on_build_by, on_send}, Hearing.on_packet}
 use Rattle.dn_machine.specs.{Running.{on_run, on_quit}, Game.{Game, applied, opening_game}, Runs.{Next, Leads, Runs}, Promise.inputs_of, Pressing.{is_give, NoneGiven, presses, key_states, row_by_keys}}
 use Rattle.dn_world.specs.Physics.{Physics}
 use Rattle.dn_machine.proofs.EachEvent.{placed, by_refusal, after_build, after_send, after_deliver}
@@ -79,7 +79,7 @@ module _ {S : Type 0} (rules : Rules S) where
   -- an event that gives no command
   applied_stays : (game : Game) (q : ℕ) (event : Event) → is_give event ≡ false
       → Stays (game.nodes q) ((applied rules game event).0.nodes q)
-  unfolding on_build on_send on_packet on_run on_quit
+  unfolding on_build_by on_send on_packet on_run on_quit
   applied_stays game q (Build i keys) none =
       after_build rules Stays (λ node h. h) game q i (Pressed keys) (grind (arith, one_more))
   applied_stays game q (Give i command) none = absurd (cc)

@@ -1,9 +1,10 @@
 -- After one good round every node plays.
-use Rattle.std.proofs.{Common.{◌≡◌, ℕ, ◌<◌, ◌≢◌, Bool, true, false, true≢false, [], length, refl, sym, ◌∙◌, ap, arith, Some, None, inl, inr, rules, zero, suc, ◌≤◌}, lemmas.Bool.{cases_Bool, cases_eq}}
+use Rattle.std.proofs.{Common.{◌≡◌, ℕ, ◌<◌, ◌≢◌, Bool, true, false, true≢false, [], length, refl, sym, ◌∙◌, ap, arith, Some, None, inl, inr, zero, suc, ◌≤◌}, lemmas.Bool.{cases_Bool, cases_eq}}
 use Rattle.std.specs.Prelude.{◌⊎◌}
 use Rattle.dn_tic.specs.declared.input.Input.{Input}
 use Rattle.dn_setup.specs.Settings.{Settings}
-use Rattle.dn_machine.specs.{declared.answers.Phase.TheVariants.{Gathering, Playing}, Worlds.Rules, Flight.{SetUp, Flight, is_near}, Node.{Node, made, is_ended, has_left}, Sending.{on_send, on_build, on_build_in}, Hearing.on_packet, Game.{Game, with_node}}
+use Rattle.dn_machine.specs.Making.{vanilla_making}
+use Rattle.dn_machine.specs.{declared.answers.Phase.TheVariants.{Gathering, Playing}, Worlds.Rules, Flight.{SetUp, Flight, is_near}, Node.{Node, made, is_ended, has_left}, Sending.{on_send, on_build, on_build_by, on_build_in}, Hearing.on_packet, Game.{Game, with_node}}
 use Rattle.dn_machine.specs.Progress.{exchange, after, turn, good_round, build_of}
 use Rattle.dn_machine.specs.declared.answers.Phase.{Phase}
 use Rattle.dn_machine.proofs.{GoingOn.{Gives, accepted_build, IsFar, IsOn, far_after, exchange_far}, Openings.{Stands, Gathers, Listens, Plays, HasGone}, Begun.{AllGentle, exchange_gentle, IsBegun, build_gentle, with_exchange, With, WithFar, WithSo, gentle_begun, all_play, keep_build, keep_exchange, keep_run, keep_turn}}
@@ -124,8 +125,8 @@ module _ {S : Type 0} (rules : Rules S) (settings : Settings) (cap : ℕ) (stay 
   -- who gathers builds nothing
   builds_none : (g : Game) → (g.nodes 0).phase ≡ Gathering → (input : Input)
       → (on_build rules.limits 0 (g.nodes 0) input).0.phase ≡ (g.nodes 0).phase
-  unfolding on_build
-  builds_none g key state = ap (λ (ph : Phase). (on_build_in rules.limits 0 (g.nodes 0) state ph).0.phase) key
+  unfolding on_build_by
+  builds_none g key state = ap (λ (ph : Phase). (on_build_in vanilla_making rules.limits 0 (g.nodes 0) state ph).0.phase) key
 
   module _ (some : 0 < rules.players) (key_stays : stay 0 ≡ true) where
     module _ (inputs : ℕ → Input) where

@@ -1,9 +1,9 @@
 -- A game comes to where everybody plays.
-use Rattle.std.proofs.{Common.{◌≡◌, ℕ, zero, suc, ◌+◌, ◌*◌, ◌-◌, ◌<◌, ◌≤◌, ◌≢◌, Bool, true, false, List, [], ◌∷◌, ◌++◌, length, refl, sym, ap, subst, ◌∙◌, arith, inl, inr, Option, Some, None}, lemmas.List.{length-append, append_assoc}, lemmas.Bool.{cases_Bool, ltb-true, ltb-false}}
-use Rattle.std.specs.Prelude.{slice_get, nat_lt, nat_le, not, ◌&&◌, if◌then◌else◌}
+use Rattle.std.proofs.{Common.{◌≡◌, ℕ, zero, suc, ◌+◌, ◌*◌, ◌-◌, ◌<◌, ◌≤◌, ◌≢◌, Bool, true, false, List, [], ◌∷◌, ◌++◌, length, refl, sym, ap, subst, ◌∙◌, arith, inl, inr, Some}, lemmas.List.{length-append, append_assoc}, lemmas.Bool.{cases_Bool, ltb-true, ltb-false}}
+use Rattle.std.specs.Prelude.{slice_get, nat_lt, not, if◌then◌else◌}
 use Rattle.dn_setup.specs.{Settings.Settings, Gathered.{is_peer, all_noted}}
-use Rattle.dn_machine.specs.{declared.answers.Phase.TheVariants.{Listening, Gathering, Playing}, declared.answers.Heard.Heard, declared.events.Event.Event, declared.events.Event.TheVariants.{Send, Deliver}, Limits.Limits, Worlds.Rules}
-use Rattle.dn_machine.specs.{Flight.{Flight, is_near}, Node.{Node, put, made, no_peer}, Sending.on_send, Hearing.{on_packet, on_gathering, started}, Game.{Game, with_node, fresh, opening_game}, Progress.after, Runs.{Leads, Runs}}
+use Rattle.dn_machine.specs.{declared.answers.Phase.TheVariants.{Gathering, Playing}, declared.answers.Heard.Heard, declared.events.Event.TheVariants.{Send, Deliver}, Limits.Limits, Worlds.Rules}
+use Rattle.dn_machine.specs.{Flight.{Flight, is_near}, Node.{Node, put, made}, Sending.on_send, Hearing.{on_packet, on_gathering}, Game.{Game, with_node, fresh, opening_game}, Progress.after, Runs.{Leads, Runs}}
 use Rattle.dn_machine.specs.Started.{started_node, heard_by, set_up_of, answer_of, key_node, start_flights, start_events, joining, IsStarted}
 use Rattle.dn_machine.proofs.GoingOn.{accepted, last_get}
 use Rattle.dn_machine.proofs.Put.{put_at, put_off, same_functions}

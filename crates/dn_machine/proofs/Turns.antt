@@ -1,9 +1,9 @@
 -- What a turn, and a round of turns, leaves of how far a player is from giving another the command of a tic.
-use Rattle.std.proofs.{Common.{◌≡◌, ℕ, ◌<◌, ◌≤◌, ◌≢◌, Bool, true, refl, arith, inl, inr, rules}, lemmas.List.length_push}
+use Rattle.std.proofs.{Common.{◌≡◌, ℕ, ◌<◌, ◌≤◌, ◌≢◌, Bool, true, refl, arith, inl, inr}, lemmas.List.length_push}
 use Rattle.std.specs.Prelude.{◌⊎◌}
 use Rattle.dn_tic.specs.declared.input.Input.{Input}
 use Rattle.dn_setup.specs.Settings.{Settings}
-use Rattle.dn_machine.specs.{declared.events.Event.Event, declared.events.Event.TheVariants.Run, Worlds.Rules, Node.{Node, got, made, ran}, Sending.on_build, Running.{is_absent, row_held}, Game.{Game, with_node, on_own_run}}
+use Rattle.dn_machine.specs.{declared.events.Event.Event, declared.events.Event.TheVariants.Run, Worlds.Rules, Node.{Node, got, made, ran}, Sending.{on_build, on_build_by}, Running.{is_absent, row_held}, Game.{Game, with_node, on_own_run}}
 use Rattle.dn_machine.specs.Progress.{after, build_of}
 use Rattle.dn_machine.proofs.{Truth.lowest_none, Stages.side, GoingOn.{accepted, accepted_build, IsFar, IsOn, full_far, ran_after, live_after, on_alike, stays_in, roomy_after, row_fits}, Exchanges.IsQuiet, Receivers.in_play}
 use Rattle.dn_machine.proofs.EachEvent.{build_round, is_of_round}
@@ -39,7 +39,7 @@ module _ {S : Type 0} (rules : Rules S) (settings : Settings) (cap : ℕ) (stay 
         built : stay r ≡ true → tic < made r new
 
       builds : (input : Input) → IsBuilt (on_build rules.limits r (game.nodes r) input).0
-      unfolding on_build
+      unfolding on_build_by
       builds input = grind (arith, length_push)
 
       built_is : (input : Input) → after rules (build_of r input) game

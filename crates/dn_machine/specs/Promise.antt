@@ -5,7 +5,8 @@ use Rattle.dn_machine.specs.declared.answers.Phase.TheVariants.{Ended}
 use Rattle.dn_machine.specs.declared.answers.Cause.TheVariants as Cause
 use Rattle.dn_machine.specs.declared.answers.Heard.TheVariants.{Dropped}
 use Rattle.dn_machine.specs.Drops as drops
-use Rattle.dn_machine.specs.Worlds.{Inputs, Rules, command, commands_made, row, world, world_after}
+use Rattle.dn_machine.specs.Making.{Making}
+use Rattle.dn_machine.specs.Worlds.{Inputs, RulesBy, command, commands_made, row, world, world_after}
 use Rattle.dn_machine.specs.Flight.{Flight}
 use Rattle.dn_machine.specs.Node.{got, made, ran, held_at, is_ended, has_left, known_end, lacks, demo_rows}
 use Rattle.dn_machine.specs.Hearing.{on_packet}
@@ -20,7 +21,7 @@ abbrev pub inputs_of : Game → Inputs
 inputs_of game player = (game.nodes player).inputs
 
 -- Agreement: what nodes hold and run is what the players' inputs make, the same at all of them.
-pub record Agree {S : Type 0} (rules : Rules S) (settings : Settings) (game : Game) : Type 0 where
+pub record Agree {making : Making} {S : Type 0} (rules : RulesBy making S) (settings : Settings) (game : Game) : Type 0 where
   -- the row that a node ran for a tic is that of the commands which the players' inputs make
   pub rows : (q tic : ℕ) → q < rules.players → tic < ran (game.nodes q)
       → slice_get (game.nodes q).rows tic ≡ Some (row rules settings (inputs_of game) tic)
@@ -72,7 +73,7 @@ abbrev pub end_or : Game → ℕ → ℕ → ℕ
 end_or game player tic = if has_left (game.nodes player) then made player (game.nodes player) else tic
 
 -- Windows: no ring overwrites a command that a node that has not ended still needs.
-pub record Fits {S : Type 0} (rules : Rules S) (game : Game) : Type 0 where
+pub record Fits {making : Making} {S : Type 0} (rules : RulesBy making S) (game : Game) : Type 0 where
   -- of each player a node has every command of the tics that it ran, up to that player's end, and at most
   -- twice the window that it has not run yet
   pub run : (q p : ℕ) → q < rules.players → p < rules.players
@@ -96,7 +97,7 @@ pub record Fits {S : Type 0} (rules : Rules S) (game : Game) : Type 0 where
   pub most : (q : ℕ) → q < rules.players → rules.capacity ≤ tic_limit → ran (game.nodes q) ≤ tic_limit
 
 -- Steadiness: no consistency check fails, and a node that plays drops nothing that was sent but set-up.
-pub record Steady {S : Type 0} (rules : Rules S) (game : Game) : Type 0 where
+pub record Steady {making : Making} {S : Type 0} (rules : RulesBy making S) (game : Game) : Type 0 where
   -- no consistency check failed
   pub consistent : (q : ℕ) (player : ℕ) (was should : ℤ) → q < rules.players
       → (game.nodes q).phase ≢ Ended (Cause.Inconsistent player was should)

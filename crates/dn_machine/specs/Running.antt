@@ -37,23 +37,9 @@ is_off node player =
     not (is_absent node player) && not (int_eq (held_at node player (ran node)).mark
     (own_mark node player (ran node)))
 
--- a mark of the next tic of a player who is not given up, and it is off. Of players who are given up none is
--- compared: they went another way, so their marks may tell of another world, and say nothing of the node's own
-abbrev pub is_off_but : (ℕ → Bool) → Node → ℕ → Bool
-is_off_but gone node player = not (gone player) && is_off node player
-
--- the player whose mark is off in the next tic, of those who are not given up; none is looked at up to tic 12
-abbrev pub first_off_but : Limits → (ℕ → Bool) → Node → Option ℕ
-first_off_but limits gone node =
-    if nat_lt 12 (ran node) then lowest limits.players (is_off_but gone node) else None
-
--- nobody is given up
-abbrev pub nobody : ℕ → Bool
-nobody player = false
-
--- the player whose mark is off in the next tic
+-- the player whose mark is off in the next tic; none is looked at up to tic 12
 abbrev pub first_off : Limits → Node → Option ℕ
-first_off limits node = first_off_but limits nobody node
+first_off limits node = if nat_lt 12 (ran node) then lowest limits.players (is_off node) else None
 
 -- the row of the commands that a node has of the present players for the next tic
 abbrev pub row_held : Limits → Node → List (Option Move)
@@ -85,22 +71,18 @@ on_run_playing limits node marks None None =
       Ran.Ran (ran node),
     )
 
--- a node that has given up these is asked to run a tic, in this phase
-abbrev pub on_run_but_in : Limits → (ℕ → Bool) → Node → (ℕ → ℤ) → Phase → Node × Ran
-on_run_but_in limits gone node marks Playing = on_run_playing limits node marks
-    (lowest limits.players (is_awaited node)) (first_off_but limits gone node)
-on_run_but_in limits gone node marks Listening = (node, Ran.NotPlaying)
-on_run_but_in limits gone node marks Gathering = (node, Ran.NotPlaying)
-on_run_but_in limits gone node marks (Ended cause) = (node, Ran.NotPlaying)
+-- a node is asked to run a tic, in this phase, by the player whose mark is off
+abbrev pub on_run_in : Limits → Node → (ℕ → ℤ) → Option ℕ → Phase → Node × Ran
+on_run_in limits node marks off Playing =
+    on_run_playing limits node marks (lowest limits.players (is_awaited node)) off
+on_run_in limits node marks off Listening = (node, Ran.NotPlaying)
+on_run_in limits node marks off Gathering = (node, Ran.NotPlaying)
+on_run_in limits node marks off (Ended cause) = (node, Ran.NotPlaying)
 
--- a node that has given up these is asked to run a tic, and told each player's mark in the world as it stands:
--- the node after it, and the answer
-unfoldable pub on_run_but : Limits → (ℕ → Bool) → Node → (ℕ → ℤ) → Node × Ran
-on_run_but limits gone node marks = on_run_but_in limits gone node marks node.phase
-
--- the same of a node that has given up nobody
+-- a node is asked to run a tic, and told each player's mark in the world as it stands: the node after it, and the
+-- answer
 unfoldable pub on_run : Limits → Node → (ℕ → ℤ) → Node × Ran
-on_run limits node marks = on_run_but_in limits nobody node marks node.phase
+on_run limits node marks = on_run_in limits node marks (first_off limits node) node.phase
 
 -- a node quits in this phase
 abbrev pub on_quit_in : Node → Phase → Node × Bool

@@ -1,7 +1,3 @@
-pub mod Sealables
-pub mod Deliveries
-pub mod Sends
-pub mod Fairness
-pub mod InPlace
+pub mod Letters
 pub mod Keeping
 pub mod Receiving

@@ -1,4 +1,4 @@
-//! Whether a datagram agrees with its envelope.
+//! Whether a datagram agrees with the exact numbers beside it.
 
 ghost use Rattle.std.specs.Prelude.{◌≡◌, slice_index};
 ghost use Rattle.dn_machine.specs.Flight.{request_byte};
@@ -34,8 +34,7 @@ fn request_byte(ask: Option<u32>) -> u32
     }
 }
 
-/// Whether a datagram asks for commands again as its envelope does: from the same tic, by the low byte, or not
-/// at all.
+/// Whether a datagram asks for commands again from this tic, by the low byte, or not at all.
 fn asks_alike(bytes: &[u8], ask: Option<u32>) -> bool
     ensures { result ≡ asks_alike bytes.now ask }
 {
@@ -43,9 +42,8 @@ fn asks_alike(bytes: &[u8], ask: Option<u32>) -> bool
         && has_flag(bytes, RETRANSMIT) == ask.is_some()
 }
 
-/// Whether a datagram, unless it is set-up, has the sender of its envelope, the low byte of its start, and the
-/// low byte of its request, or none. That of an honest sender does; this finds one who seals what no lockstep
-/// made.
+/// Whether a datagram, unless it is set-up, has the sender beside it, the low byte of the start, and the low byte
+/// of the request, or none. That of an honest sender does; this finds one who seals what no lockstep made.
 pub fn is_alike(opened: &Opened) -> bool
     ensures { result ≡ is_alike opened.now }
 {

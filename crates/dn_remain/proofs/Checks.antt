@@ -8,7 +8,8 @@ use Rattle.dn_tic.proofs.Making.{made_by-mark}
 use Rattle.dn_setup.specs.Settings.{Settings}
 use Rattle.dn_machine.specs.{declared.answers.Phase.TheVariants.Playing, Game.Game, Game.with_node, Node.got, Node.held_at, Node.own_mark, Node.lowest, Worlds.Rules, Node.blank, Node.made, Worlds.world_after}
 use Rattle.dn_machine.specs.Node as machine
-use Rattle.dn_machine.specs.Running.{is_absent, is_awaited, is_off, first_off, first_off_but, is_over}
+use Rattle.dn_machine.specs.Running.{is_absent, is_awaited, is_off, first_off, is_over}
+use Rattle.dn_machine.specs.Sparing.{first_off_but}
 use Rattle.dn_machine.proofs.Calls.{ran_on}
 use Rattle.dn_machine.proofs.Truth.{lowest_none, lowest_none_each, same_passes}
 use Rattle.dn_machine.proofs.Put.{put_at}

@@ -8,7 +8,8 @@ use Rattle.dn_machine.specs.{declared.events.Event.Event, declared.events.Refusa
 use Rattle.dn_machine.specs.{Node.held_at, Node.own_mark, Node.lowest, Node.ran, declared.answers.Ran.Ran, Runs.Next}
 use Rattle.dn_machine.specs.declared.events.Event.TheVariants.{Run}
 use Rattle.dn_machine.specs.Game.{Game, with_node, own_marks, refused_at, refused, on_event, applied_if, applied}
-use Rattle.dn_machine.specs.Running.{is_awaited, on_run_but, is_off, first_off, row_held, full_at, on_run, is_off_but, first_off_but}
+use Rattle.dn_machine.specs.Running.{is_awaited, is_off, first_off, row_held, full_at, on_run}
+use Rattle.dn_machine.specs.Sparing.{on_run_but, is_off_but, first_off_but}
 use Rattle.dn_machine.proofs.{Calls.ended_by, Calls.ran_on, Put.same_functions}
 use Rattle.dn_remain.specs.{declared.events.RemainEvent.RemainEvent, Vanished.Calls.is_newer, Vanished.Commands.seen, Vanished.Commands.on_decision}
 use Rattle.dn_remain.specs.Remaining.{Telling, Remaining, wary_of, with_wary, unless, with_telling, after_hearing, is_barred, after_run, after_event, NextRemain, NextGame, NobodyGivenUp}

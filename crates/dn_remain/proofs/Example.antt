@@ -4,9 +4,9 @@ use Rattle.std.specs.Prelude.{Bool, true, false, slice_get, get_or}
 use Rattle.dn_setup.specs.Settings.{Settings}
 use Rattle.dn_machine.specs.declared.events.Event.{Event}
 use Rattle.dn_machine.specs.Game.{applied, opening_game}
-use Rattle.dn_machine.specs.Sending.{on_build, on_send}
+use Rattle.dn_machine.specs.Sending.{on_build_by, on_send}
 use Rattle.dn_machine.specs.Hearing.{on_packet}
-use Rattle.dn_machine.specs.Running.{on_run_but}
+use Rattle.dn_machine.specs.Sparing.{on_run_but}
 use Rattle.dn_machine.specs.Limits.{row_of}
 use Rattle.dn_machine.specs.Node.{ran, lacks, lowest}
 use Rattle.dn_machine.specs.Worlds.{Rules, rules_of}
@@ -75,6 +75,6 @@ module _ {S : Type 0} (physics : Physics S) (settings : Settings) where
   pub started : (ran ((last starts).game.nodes 0) ≡ 1) × (ran ((last starts).game.nodes 1) ≡ 1)
       × (lacks (get_or ((last starts).game.nodes 1).rows 0 []) 2 ≡ true)
       × (lacks (get_or ((last starts).game.nodes 1).rows 0 []) 0 ≡ false)
-  unfolding last goes_on starts after_all after after_own applied opening_game on_build on_send on_packet on_run_but row_of
+  unfolding last goes_on starts after_all after after_own applied opening_game on_build_by on_send on_packet on_run_but row_of
       lowest every longest rows_to on_give_up on_report opening_remaining
   started = (refl, refl, refl, refl)

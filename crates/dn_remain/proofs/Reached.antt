@@ -10,7 +10,7 @@ use Rattle.dn_machine.specs.Sending.{on_build}
 use Rattle.dn_machine.specs.Flight.{Flight}
 use Rattle.dn_machine.specs.Node.{Node, put}
 use Rattle.dn_machine.specs.Worlds.{Rules}
-use Rattle.dn_machine.specs.Running.{on_run_but}
+use Rattle.dn_machine.specs.Sparing.{on_run_but}
 use Rattle.dn_machine.specs.Game.{Game, with_node, own_marks, posted}
 use Rattle.dn_machine.specs.{Game.refused_at, Game.refused, Game.delivered, Game.on_event, Limits.Limits, Node.got, declared.answers.Phase.TheVariants.Listening, declared.answers.Phase.TheVariants.Gathering}
 use Rattle.dn_machine.specs.{declared.answers.Phase.TheVariants.Ended, declared.answers.Cause.Cause, Game.opening_game}

@@ -9,7 +9,8 @@ use Rattle.dn_setup.specs.Settings.{Settings}
 use Rattle.dn_machine.specs.{declared.answers.Cause.Cause, declared.answers.Phase.TheVariants.Playing, Game.Game, Game.own_marks, Node.blank, Node.held_at, Node.own_mark, Node.is_whole, Node.demo_rows, Worlds.Rules, Worlds.mark_in, Worlds.world_after}
 use Rattle.dn_machine.specs.declared.answers.Cause.TheVariants as failed
 use Rattle.dn_machine.specs.Node as machine
-use Rattle.dn_machine.specs.Running.{tic_limit, full_at, is_absent, row_held, marks_kept, on_run_but, is_over}
+use Rattle.dn_machine.specs.Running.{tic_limit, full_at, is_absent, row_held, marks_kept, is_over}
+use Rattle.dn_machine.specs.Sparing.{on_run_but}
 use Rattle.dn_machine.proofs.{Calls.ended_by, Calls.ran_on, Demos.front_short, Demos.front_stops, Demos.whole_more, Put.put_at, Put.put_off}
 use Rattle.dn_remain.specs.Vanished.Commands.{Holder, Had, seen, past_seen}
 use Rattle.dn_remain.proofs.{Vanished.Windows.roomy, Each.run_but_cases, Checks.none_off, Known.Follows, Marked.IsMarked, Marked.world_same, Running.absent_is, Seeing.length_rows, Seeing.none_over, Seeing.over_before}

@@ -5,7 +5,8 @@ use Rattle.std.proofs.lemmas.{Bool.cases_Bool, Bool.leb-false, Bool.lt-leb, List
 use Rattle.dn_tic.specs.{declared.command.TicCmd.TicCmd, declared.command.Move.Move}
 use Rattle.dn_machine.specs.{declared.answers.Cause.Cause, declared.answers.Phase.TheVariants.Playing, declared.answers.Phase.TheVariants.Ended, Node.ends_of, Node.got, Node.held_at, Node.is_ended, Node.lowest, Game.Game, Game.with_node, Worlds.Rules}
 use Rattle.dn_machine.specs.Node as machine
-use Rattle.dn_machine.specs.Running.{is_absent, is_awaited, row_held, on_quit, on_run_but, is_over}
+use Rattle.dn_machine.specs.Running.{is_absent, is_awaited, row_held, on_quit, is_over}
+use Rattle.dn_machine.specs.Sparing.{on_run_but}
 use Rattle.dn_machine.proofs.Calls.{ran_on, quit_cases}
 use Rattle.dn_machine.proofs.Truth.{lowest_none_each, row_of_same}
 use Rattle.dn_remain.specs.{Vanished.Steps.Run, Vanished.Steps.Leave, Vanished.Commands.Holder, Vanished.Commands.seen, Vanished.Commands.past_seen, Wary.end_seen, Wary.rows_to, Wary.holder_of, Wary.now_of, Wary.row_had}

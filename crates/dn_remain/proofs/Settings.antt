@@ -11,7 +11,7 @@ use Rattle.dn_machine.specs.Flight.{SetUp, Flight}
 use Rattle.dn_machine.specs.Limits.{Limits}
 use Rattle.dn_machine.specs.Node.{Node}
 use Rattle.dn_machine.specs.Sending.{on_build, set_up_flight, on_send}
-use Rattle.dn_machine.specs.{Hearing.on_packet, Running.on_quit, Running.on_run_but, declared.answers.Phase.TheVariants.Gathering, declared.answers.Phase.TheVariants.Playing, declared.answers.Phase.TheVariants.Listening}
+use Rattle.dn_machine.specs.{Hearing.on_packet, Running.on_quit, Sparing.on_run_but, declared.answers.Phase.TheVariants.Gathering, declared.answers.Phase.TheVariants.Playing, declared.answers.Phase.TheVariants.Listening}
 use Rattle.dn_machine.specs.{declared.events.Event.Event, Worlds.Rules, declared.events.Event.TheVariants.Build, declared.events.Event.TheVariants.Give, declared.events.Event.TheVariants.Send}
 use Rattle.dn_machine.specs.{declared.events.Event.TheVariants.Deliver, declared.events.Event.TheVariants.Run, declared.events.Event.TheVariants.Quit, declared.events.Event.TheVariants.Stop, Game.Game, Game.opening_game}
 use Rattle.dn_machine.specs.{Game.own_marks, Game.posted, Game.refused, Game.delivered, Game.on_event, Game.with_node}

@@ -6,7 +6,7 @@ use Rattle.std.proofs.lemmas.{Bool.and_parts, Bool.true≢false, Option.none-som
 use Rattle.std.proofs.lemmas.Bool.{both_ways, eq-eqb, le-ltb, or_cases}
 use Rattle.dn_tic.specs.declared.command.TicCmd.{TicCmd}
 use Rattle.dn_setup.specs.Settings.{Settings}
-use Rattle.dn_machine.specs.{declared.answers.Ran.TheVariants.Waiting, Limits.Limits, Limits.IsWindow, Node.got, Node.lowest, Running.is_awaited, Running.on_run, Running.on_run_but, Worlds.Rules}
+use Rattle.dn_machine.specs.{declared.answers.Ran.TheVariants.Waiting, Limits.Limits, Limits.IsWindow, Node.got, Node.lowest, Running.is_awaited, Running.on_run, Sparing.on_run_but, Worlds.Rules}
 use Rattle.dn_machine.specs.{declared.answers.Heard.Heard, declared.answers.Heard.TheVariants.Dropped, Flight.Flight, Flight.is_exit, Flight.end_of, Node.ends_of, Node.is_ended, Node.has_left}
 use Rattle.dn_machine.specs.{Hearing.is_past_end, Hearing.is_strange_end, Hearing.left_or, Hearing.on_packet}
 use Rattle.dn_machine.specs.Drops as drops

@@ -13,7 +13,8 @@ use Rattle.dn_machine.specs.Flight.{Flight, end_of}
 use Rattle.dn_machine.specs.Limits.{Limits}
 use Rattle.dn_machine.specs.Node.{got, made, ran, held_at, has_left, lacks, demo_rows}
 use Rattle.dn_machine.specs.Promise.{IsPrefixOf}
-use Rattle.dn_machine.specs.Running.{tic_limit, on_run, on_run_but, is_over}
+use Rattle.dn_machine.specs.Running.{tic_limit, on_run, is_over}
+use Rattle.dn_machine.specs.Sparing.{on_run_but}
 use Rattle.dn_machine.specs.Worlds.{Rules, world_after}
 use Rattle.dn_remain.specs.Vanished.Node.{Within}
 use Rattle.dn_remain.specs.declared.events.Reported.TheVariants as Reported

@@ -11,7 +11,7 @@ use Rattle.dn_machine.specs.Hearing.{on_packet}
 use Rattle.dn_machine.specs.Node.{put}
 use Rattle.dn_machine.specs.Limits.{Limits}
 use Rattle.dn_machine.specs.Worlds.{Rules}
-use Rattle.dn_machine.specs.Running.{on_run_but}
+use Rattle.dn_machine.specs.Sparing.{on_run_but}
 use Rattle.dn_machine.specs.Drops as drops
 use Rattle.dn_machine.specs.Runs.{is_send, Path}
 use Rattle.dn_remain.specs.Wary.{Report, Wary, on_give_up, on_report, report_to}

@@ -5,7 +5,7 @@ ghost use Rattle.dn_tic.specs.declared.command.TicCmd.{TicCmd};
 ghost use Rattle.dn_setup.specs.Settings.{Settings};
 ghost use Rattle.dn_machine.specs.Drops as drops;
 ghost use Rattle.dn_machine.specs.{declared.events.Event.Event, Game.Game, Limits.Limits, Limits.IsWindow, Limits.vanilla_limits, Node.Node, Node.ends_of, Node.got, Node.held_at, Node.lacks};
-ghost use Rattle.dn_machine.specs.{Node.lowest, Node.ran, Running.is_awaited, Running.is_off, Running.on_run_but, declared.answers.Phase.TheVariants.Playing};
+ghost use Rattle.dn_machine.specs.{Node.lowest, Node.ran, Running.is_awaited, Running.is_off, Sparing.on_run_but, declared.answers.Phase.TheVariants.Playing};
 ghost use Rattle.dn_machine.specs.{declared.answers.Ran.TheVariants.Inconsistent, Promise.Agree, Promise.Fits, Promise.Steady, Runs.Runs, Worlds.rules_of, Worlds.rules_within, Worlds.world_after};
 ghost use Rattle.dn_remain.specs.{Vanished.Calls.is_newer, Vanished.Commands.AreHanded, Vanished.Commands.Holder, Vanished.Commands.past_seen, Vanished.Commands.seen, Vanished.Steps.IsRun, Wary.can_settle};
 ghost use Rattle.dn_remain.specs.{Wary.end_seen, Wary.now_of, Wary.Report, Wary.Wary, Wary.is_in_game, Wary.newest_seen, Wary.on_give_up, Wary.on_report, Wary.undecided, Remaining.Remaining, Wary.with_gone};

@@ -1,6 +1,6 @@
 //! A game in which players may be given up: the game of `dn_machine`, with the rules of `dn_remain::vanish` for those
-//! who vanish. No code runs here. `dn_survivor` makes the calls of a node, and `dn_remain_game` and `dn_link`
-//! run it. The definitions stand in `specs/`, to be read in the order of `specs/Lib.antt`.
+//! who vanish. No code runs here. `dn_survivor` makes the calls of a node, and `dn_link` runs it. The definitions
+//! stand in `specs/`, to be read in the order of `specs/Lib.antt`.
 //!
 //! Nothing of `dn_machine` is changed. Beside its game stand, for each node, whom it has given up and the
 //! newest report of each player, and beside its events three more: a node gives up a player, tells another

@@ -18,7 +18,7 @@ use Rattle.dn_machine.specs.Worlds.{Rules}
 use Rattle.dn_machine.specs.Promise.{IsPrefixOf}
 use Rattle.dn_machine.specs.Sending.{on_build}
 use Rattle.dn_machine.specs.{declared.answers.Heard.Heard, declared.answers.Phase.Phase, declared.peer.Peer.Peer, Flight.Flight, Hearing.on_packet, Limits.Limits, Node.Node, Node.put, Running.on_quit}
-use Rattle.dn_machine.specs.{Running.on_run_but, Sending.on_send, declared.events.Event.Event, Game.Game, Game.own_marks, Game.posted, Game.delivered, Game.on_event, Game.opening_game}
+use Rattle.dn_machine.specs.{Sparing.on_run_but, Sending.on_send, declared.events.Event.Event, Game.Game, Game.own_marks, Game.posted, Game.delivered, Game.on_event, Game.opening_game}
 use Rattle.dn_machine.specs.{declared.events.Event.TheVariants.Build, declared.events.Event.TheVariants.Give, declared.events.Event.TheVariants.Send, declared.events.Event.TheVariants.Deliver}
 use Rattle.dn_machine.specs.{declared.events.Event.TheVariants.Run, declared.events.Event.TheVariants.Quit, declared.events.Event.TheVariants.Stop}
 use Rattle.dn_machine.proofs.Put.{put_at, put_off, view_kept}

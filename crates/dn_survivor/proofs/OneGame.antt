@@ -30,7 +30,7 @@ use Rattle.dn_machine.specs.declared.events.Event.{Event}
 use Rattle.dn_machine.specs.declared.events.Refusal.{Refusal}
 use Rattle.dn_machine.specs.declared.peer.Peer.{Peer}
 use Rattle.dn_machine.specs.Sending.{on_build}
-use Rattle.dn_machine.specs.{Flight.Flight, Flight.is_near, Hearing.on_packet, Limits.Limits, Limits.IsWindow, Node.put, Node.is_ended, Progress.build_of, Running.is_over, Running.on_quit, Running.on_run_but}
+use Rattle.dn_machine.specs.{Flight.Flight, Flight.is_near, Hearing.on_packet, Limits.Limits, Limits.IsWindow, Node.put, Node.is_ended, Progress.build_of, Running.is_over, Running.on_quit, Sparing.on_run_but}
 use Rattle.dn_machine.specs.{Worlds.Inputs, Worlds.Rules, Relaying.packet_of_one, Relaying.relayed, Relaying.with_relayed, declared.events.Event.TheVariants.Send, declared.events.Event.TheVariants.Deliver}
 use Rattle.dn_machine.specs.{declared.events.Event.TheVariants.Run, declared.events.Event.TheVariants.Quit, Game.fresh, Game.opening_game, Game.own_marks, Game.refused_at, Game.refused_flight, Game.refused, Game.applied}
 use Rattle.dn_machine.specs.{Game.applied_if, Game.delivered, Game.on_event}

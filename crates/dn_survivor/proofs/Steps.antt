@@ -3,7 +3,7 @@ use Rattle.std.proofs.Common.{◌≡◌, ◌<◌, ◌≤◌, ℕ, ℤ, Bool, Lis
 use Rattle.std.specs.Prelude.{not, ◌&&◌, nat_lt, if◌then◌else◌}
 use Rattle.std.proofs.lemmas.Bool.{cond_both}
 use Rattle.dn_tic.specs.declared.command.Move.{Move}
-use Rattle.dn_machine.specs.{Limits.Limits, Node.lowest, Node.ran, declared.answers.Ran.Ran, declared.answers.Phase.Phase, Running.is_off, Running.is_off_but, Running.on_run_but, Running.on_run_but_in}
+use Rattle.dn_machine.specs.{Limits.Limits, Node.lowest, Node.ran, declared.answers.Ran.Ran, declared.answers.Phase.Phase, Running.is_off, Sparing.is_off_but, Sparing.on_run_but, Running.on_run_in}
 use Rattle.dn_machine.specs.{Running.on_run_playing, Running.is_awaited, declared.answers.Phase.TheVariants.Listening, declared.answers.Phase.TheVariants.Gathering, declared.answers.Phase.TheVariants.Playing}
 use Rattle.dn_machine.specs.{declared.answers.Phase.TheVariants.Ended, Node.Node, Node.put}
 use Rattle.dn_machine.specs.Node as machine
@@ -66,23 +66,14 @@ pub stepped : (limits : Limits) (me : ℕ) (old new : Surviving) (wary : Wary) (
 stepped limits me old new wary node r shows same = grind arith
 
 -- a run looks at none but the players of the game
-runs_alike_in : (limits : Limits) (one other : ℕ → Bool) (m : machine.Node) (marks : ℕ → ℤ) (phase : Phase)
-    → ((p : ℕ) → p < limits.players → one p ≡ other p)
-    → on_run_but_in limits one m marks phase ≡ on_run_but_in limits other m marks phase
-runs_alike_in limits one other m marks Listening same = refl
-runs_alike_in limits one other m marks Gathering same = refl
-runs_alike_in limits one other m marks (Ended cause) same = refl
-runs_alike_in limits one other m marks Playing same =
-    ap (λ (o : Option ℕ). on_run_playing limits m marks (lowest limits.players (is_awaited m))
-    (if nat_lt 12 (ran m) then o else None))
-    (lowest_alike limits.players (is_off_but one m) (is_off_but other m)
-    (λ p h. ap (λ (b : Bool). not b && is_off m p) (same p h)))
-
 pub runs_alike : (limits : Limits) (one other : ℕ → Bool) (m : machine.Node) (marks : ℕ → ℤ)
     → ((p : ℕ) → p < limits.players → one p ≡ other p)
     → on_run_but limits one m marks ≡ on_run_but limits other m marks
 unfolding on_run_but
-runs_alike limits one other m marks same = runs_alike_in limits one other m marks m.phase same
+runs_alike limits one other m marks same =
+    ap (λ (o : Option ℕ). on_run_in limits m marks (if nat_lt 12 (ran m) then o else None) m.phase)
+    (lowest_alike limits.players (is_off_but one m) (is_off_but other m)
+    (λ p h. ap (λ (b : Bool). not b && is_off m p) (same p h)))
 
 -- whose report is missing
 pub asked : (limits : Limits) (me : ℕ) (old : Surviving) (wary : Wary) → Represents limits me old wary

@@ -17,7 +17,7 @@ ghost use Rattle.dn_machine.specs.Sending.{on_build};
 ghost use Rattle.dn_machine.specs.Flight.{Flight, is_near};
 ghost use Rattle.dn_machine.specs.Game.{fresh};
 ghost use Rattle.dn_machine.specs.Limits.{Limits};
-ghost use Rattle.dn_machine.specs.{Limits.IsWindow, Running.is_over, Running.on_quit, Running.on_run_but};
+ghost use Rattle.dn_machine.specs.{Limits.IsWindow, Running.is_over, Running.on_quit, Sparing.on_run_but};
 ghost use Rattle.dn_lockstep.specs.Contents.{end_in};
 ghost use Rattle.dn_lockstep.specs.Hearing.{HearsNear, Spares};
 ghost use Rattle.dn_lockstep.specs.Marking.{Marking};

@@ -4,7 +4,7 @@ ghost use Rattle.std.specs.Prelude.{◌≡◌, ◌≢◌, ◌<◌, ◌≤◌, �
 ghost use Rattle.dn_tic.specs.declared.command.Move.{Move};
 ghost use Rattle.dn_setup.specs.Settings.{Settings};
 ghost use Rattle.dn_survivor.specs.declared.report.Report.{Report};
-ghost use Rattle.dn_machine.specs.{declared.answers.Ran.Ran, declared.answers.Phase.TheVariants.Gathering, declared.answers.Phase.TheVariants.Playing, Limits.Limits, Running.on_run_but, Limits.IsWindow};
+ghost use Rattle.dn_machine.specs.{declared.answers.Ran.Ran, declared.answers.Phase.TheVariants.Gathering, declared.answers.Phase.TheVariants.Playing, Limits.Limits, Sparing.on_run_but, Limits.IsWindow};
 ghost use Rattle.dn_machine.specs.Node as machine;
 ghost use Rattle.dn_machine.specs.{Worlds.rules_within};
 ghost use Rattle.dn_lockstep.specs.Represents as lockstep;

@@ -10,7 +10,7 @@ use dn_tic::Move;
 
 impl Survivor {
     ghost use Rattle.std.specs.{Prelude.◌≡◌, Prelude.◌≢◌, Prelude.◌≤◌, Prelude.ℕ, Prelude.◌+◌, Prelude.ℤ, Prelude.true, Prelude.false, Prelude.None, Prelude.IfSome, Prelude.length, Option.option_map};
-    ghost use Rattle.dn_machine.specs.Running.{on_run_but};
+    ghost use Rattle.dn_machine.specs.Sparing.{on_run_but};
     ghost use Rattle.dn_lockstep.specs.Giving.{IsSentTo, IsSilent};
     ghost use Rattle.dn_lockstep.specs.Sent.{IsFair, sent_to, bytes_of};
     ghost use Rattle.dn_lockstep.specs.Steps.{FillsIn, RunsBy, RunsOne, TellsNoRow, WaitsAsItWas, told_by, Steps, Tells};

@@ -6,7 +6,8 @@ use Rattle.dn_machine.specs.declared.answers.Heard.{Heard}
 use Rattle.dn_machine.specs.declared.answers.Ran.{Ran}
 use Rattle.dn_tic.specs.declared.input.Input.{Input}
 use Rattle.dn_machine.specs.Sending.{on_build}
-use Rattle.dn_machine.specs.Running.{on_run, on_run_but, on_quit}
+use Rattle.dn_machine.specs.Running.{on_run, on_quit}
+use Rattle.dn_machine.specs.Sparing.{on_run_but}
 use Rattle.dn_lockstep.specs.Contents.{Contents}
 use Rattle.dn_lockstep.specs.Hearing.{HearsAny, HearsNear, Spares}
 use Rattle.dn_lockstep.specs.Giving.{IsSentTo, IsSilent}

@@ -22,7 +22,8 @@ fn told_by(ran: Ran, row: [Option<Move>; 4]) -> Option<[Option<Move>; 4]>
 }
 
 impl Lockstep {
-    ghost use Rattle.dn_machine.specs.Running.{on_run, on_run_but, on_run_playing};
+    ghost use Rattle.dn_machine.specs.Running.{on_run, on_run_playing};
+    ghost use Rattle.dn_machine.specs.Sparing.{on_run_but};
     ghost use Rattle.dn_lockstep.specs.{Contents.contents, Steps.FillsIn, Steps.RunsBy, Steps.RunsOne, Steps.TellsNoRow, Steps.WaitsAsItWas};
 
     /// Runs the next tic, as `run_into` does. Returns the row of moves too, if the tic was run.

@@ -4,7 +4,7 @@ use Rattle.std.proofs.{lemmas.{Bool.{cases_lt, and_parts, and_right, cases_eq, c
 use Rattle.std.specs.{Prelude.{min, if◌then◌else◌, ◌==◌, nat_le, not}, Option.option_or}
 use Rattle.dn_tic.specs.declared.{command.TicCmd.TicCmd, input.Input.Input}
 use Rattle.dn_setup.specs.Settings.{Settings}
-use Rattle.dn_machine.specs.{Running.{first_off_but, is_absent, is_awaited, on_run_but, on_run_but_in, on_run_playing, full_at, row_held}, Sending.on_build, Limits.Limits}
+use Rattle.dn_machine.specs.{Running.{is_absent, is_awaited, on_run_in, on_run_playing, full_at, row_held}, Sparing.{first_off_but, on_run_but}, Sending.on_build, Limits.Limits}
 use Rattle.dn_machine.specs.{declared.answers.{Phase.{Phase, TheVariants.Playing}, Ran.Ran}, Node.{is_ended, lowest, put}}
 use Rattle.dn_machine.proofs.{Calls.build_cases, Put.{put_at, put_off}}
 use Rattle.dn_lockstep.specs.{Marking.Marking, Represents.Represents, Steps.marks_in, Told.{got, made}}
@@ -167,7 +167,7 @@ module _ (limits : Limits) (me : ℕ) (m : machine.Node) (plays : m.phase ≡ Pl
   unfolding on_run_but
   run_waits gone marks other e =
       go (lowest limits.players (is_awaited m)) (first_off_but limits gone m) refl
-      (e ∙ ap (λ (p : Phase). (on_run_but_in limits gone m marks p).1) plays)
+      (e ∙ ap (λ (p : Phase). (on_run_in limits m marks (first_off_but limits gone m) p).1) plays)
     where
       go : (awaited off : Option ℕ) → lowest limits.players (is_awaited m) ≡ awaited
           → Ran.Waiting other ≡ (on_run_playing limits m marks awaited off).1

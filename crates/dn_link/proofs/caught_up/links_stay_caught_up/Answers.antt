@@ -1,5 +1,5 @@
 use Rattle.std.proofs.Common.{◌≡◌, ◌∙◌, ℕ, ap, sym, arith}
-use Rattle.dn_machine.specs.{Sending.on_build, Running.{on_run_but, on_quit}}
+use Rattle.dn_machine.specs.{Sending.on_build, Running.on_quit, Sparing.on_run_but}
 use Rattle.dn_lockstep.specs.{Contents.Contents, Steps.{marks_in, with_row}, Told.got}
 use Rattle.dn_survivor.specs.{Surviving.Surviving, declared.others.Others.Others}
 use Rattle.dn_link.specs.{Counting.has_ended, Linked.{PeerState, has_given_up}, CaughtUp.next_to}

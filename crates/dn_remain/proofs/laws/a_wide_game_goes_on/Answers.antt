@@ -7,13 +7,13 @@ use Rattle.dn_tic.proofs.Making.{made_by-mark}
 use Rattle.dn_setup.specs.Settings.{Settings}
 use Rattle.dn_world.specs.Physics.{Physics}
 use Rattle.dn_machine.specs.{declared.answers.Phase.TheVariants.Playing, declared.answers.Ran.Ran, declared.events.Refusal.Refusal, Game.with_node, Game.own_marks, Game.refused_at, Game.applied, Game.opening_game}
-use Rattle.dn_machine.specs.Sending.{on_build, on_send}
+use Rattle.dn_machine.specs.Sending.{on_build_by, on_send}
 use Rattle.dn_machine.specs.Hearing.{on_packet}
 use Rattle.dn_machine.specs.Limits.{Limits, row_of}
 use Rattle.dn_machine.specs.Node.{Node, got, ran, held_at, lacks, lowest}
 use Rattle.dn_machine.specs.Worlds.{Rules, rules_within}
 use Rattle.dn_machine.specs.{Worlds.world_after, declared.events.Event.TheVariants.Build, declared.events.Event.TheVariants.Send, declared.events.Event.TheVariants.Deliver, declared.events.Event.TheVariants.Run}
-use Rattle.dn_machine.specs.{Running.tic_limit, Running.full_at, Running.is_awaited, Running.row_held, Running.first_off_but, Running.on_run_but}
+use Rattle.dn_machine.specs.{Running.tic_limit, Running.full_at, Running.is_awaited, Running.row_held, Sparing.first_off_but, Sparing.on_run_but}
 use Rattle.dn_machine.proofs.Calls.{ran_on}
 use Rattle.dn_remain.specs.{Vanished.Calls.every, Vanished.Commands.Holder, Vanished.Commands.longest, Wary.rows_to, Wary.on_give_up, Wary.on_report, Remaining.Remaining, Remaining.opening_remaining}
 use Rattle.dn_remain.specs.{Remaining.after_run, Remaining.after_event, Remaining.NextRemain, Remaining.LeadsRemain, Remaining.RunsRemain, Promise.AgreeInPairs, declared.events.RemainEvent.RemainEvent}
@@ -76,7 +76,7 @@ module _ {S : Type 0} (physics : Physics S) (settings : Settings) where
     pub full : full_at sevens (row_held sevens (there.game.nodes 1)) ≡ tic_limit
 
   is_there : IsThere
-  unfolding there before after_all after after_own applied opening_game on_build on_send on_packet on_run_but
+  unfolding there before after_all after after_own applied opening_game on_build_by on_send on_packet on_run_but
       row_of lowest every longest rows_to on_give_up on_report opening_remaining
   is_there = record {
     had = refl;

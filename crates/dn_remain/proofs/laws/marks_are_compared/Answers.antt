@@ -3,7 +3,7 @@ use Rattle.std.proofs.Common.{◌≡◌, ℕ, ℤ, ◌<◌, ◌∙◌, ap, arith
 use Rattle.std.specs.Prelude.{Bool, true, false, not, Some, None}
 use Rattle.std.proofs.lemmas.Bool.{both_ways, and_from, and_parts, cond-true, lt-ltb, not-true}
 use Rattle.dn_machine.specs.{declared.answers.Phase.TheVariants.Playing, declared.answers.Ran.TheVariants.Inconsistent, Limits.Limits, Node.Node, Node.held_at, Node.own_mark, Node.lowest, Node.ran, Running.is_awaited}
-use Rattle.dn_machine.specs.{Running.is_off, Running.is_off_but, Running.first_off_but, Running.on_run_but}
+use Rattle.dn_machine.specs.{Running.is_off, Sparing.is_off_but, Sparing.first_off_but, Sparing.on_run_but}
 use Rattle.dn_machine.proofs.Truth.{lowest_none_each}
 use Rattle.dn_remain.proofs.{Vanished.Stepping.cases_Option, Steady.lowest_passes}
 use Rattle.dn_remain.proofs.laws.marks_are_compared.Goals as goal
