@@ -11,12 +11,39 @@ use dn_setup::Settings;
 use dn_tic::TicCmd;
 use dn_world::World;
 use std::alloc::Global;
+use std::marker::Model;
 
-/// One player's node. A contract sees its contents, and the node of the machine that these represent.
+/// One player's node. A contract sees what it keeps, and the node of the machine that this represents.
 #[derive(Drop)]
 pub struct Node<W> {
     lockstep: Lockstep,
     world: W,
+}
+
+impl<W> Model for Node<W> {
+    ghost use Rattle.dn_node.specs.Kept.{Kept};
+
+    ghost Value = { Kept W };
+
+    ghost view = { λ n. record {
+      players = n.lockstep.players;
+      me = n.lockstep.me;
+      extra = n.lockstep.extra;
+      capacity = n.lockstep.capacity;
+      ahead = n.lockstep.ahead;
+      places = n.lockstep.places;
+      phase = n.lockstep.phase;
+      played = n.lockstep.played;
+      settings = n.lockstep.settings;
+      gather = n.lockstep.gather;
+      hold = n.lockstep.builder;
+      ran = n.lockstep.ran;
+      rings = n.lockstep.rings;
+      peers = n.lockstep.peers.peers;
+      marks = n.lockstep.marks;
+      demo = n.lockstep.demo;
+      world = n.world;
+    } };
 }
 
 impl<W: World> Node<W> {
@@ -44,7 +71,8 @@ impl<W: World> Node<W> {
 
     /// The number of its player.
     pub fn me(&self) -> u8
-        ensures { result ≡ (contents self.now).me }
+        ensures number { result ≡ (contents self.now).me }
+        ensures four { result < 4 }
     {
         self.lockstep.me()
     }
