@@ -1,5 +1,5 @@
 -- What was promised of a game says the headline, by what its nodes show.
-use Rattle.std.proofs.Common.{◌≡◌, ℕ, true, List, length, Some, ap, refl, sym, ◌∙◌, arith}
+use Rattle.std.proofs.Common.{◌≡◌, ◌≢◌, ℕ, true, List, [], length, Some, ap, refl, sym, ◌∙◌, arith}
 use Rattle.std.specs.Prelude.{fold, nat_lt, ◌||◌, slice_get}
 use Rattle.dn_setup.specs.Settings.{Settings, start_of}
 use Rattle.dn_demo.specs.{Layout.long_tics, Text.demo_text}
@@ -12,7 +12,7 @@ use Rattle.dn_lockstep.proofs.Shown.{has, started}
 use Rattle.dn_node.specs.{Contents.{contents, locked}, Kept.Kept}
 use Rattle.dn_node.specs.Contents as node
 use Rattle.dn_node.proofs.Running.{world_played}
-use Rattle.dn_game.specs.{Agreed.{lockstep_in, lockstep_at}, Contents.Contents, Headline.{HaveAgreed, HasDemo, Shows, recorded_in}, Promised.IsReached}
+use Rattle.dn_game.specs.{Agreed.{lockstep_in, lockstep_at}, Contents.Contents, Headline.{HaveAgreed, Shows, recorded_in}, Promised.IsReached}
 use Rattle.dn_game.proofs.Standing.{window_of}
 use Rattle.dn_game.proofs.Agreeing as agreeing
 
@@ -20,13 +20,13 @@ use Rattle.dn_game.proofs.Agreeing as agreeing
 
 module _ {W S : Type 0} (state : W → S) (rules : Rules S) (settings : Settings) (me : ℕ) (n : Kept W) (m : Node)
     (r : node.Represents state rules me (contents n) m) (chosen : m.played ≡ true → m.settings ≡ Some settings) where
-  pub plays : HasDemo n → m.played ≡ true
+  pub plays : n.demo.bytes ≢ [] → m.played ≡ true
   plays begun = started rules.limits me (locked (contents n)) m r.lockstep begun
 
-  world_is : HasDemo n → state n.world ≡ fold rules.physics.step (opening rules settings) m.rows
+  world_is : n.demo.bytes ≢ [] → state n.world ≡ fold rules.physics.step (opening rules settings) m.rows
   world_is begun = world_played state rules me (contents n) m settings r (plays begun) (chosen (plays begun))
 
-  text_is : HasDemo n
+  text_is : n.demo.bytes ≢ []
       → n.demo.bytes ≡ demo_text long_tics (start_of settings) me (seats_of rules.players) (whole_rows rules.players m.rows)
       (is_ended n.phase || nat_lt (length (whole_rows rules.players m.rows)) n.ran)
   text_is begun = let played = plays begun in let known = chosen played in grind arith

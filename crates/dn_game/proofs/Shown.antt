@@ -36,6 +36,7 @@ module _ {W S : Type 0} (state : W → S) (rules : Rules S) (settings : Settings
     gathers = r.lockstep.whose.gathers;
     noted = r.lockstep.peers.noted;
     marks = r.lockstep.table.marks;
+    own = r.marks;
     limited = limited;
     closed = r.lockstep.demo.closed;
   }

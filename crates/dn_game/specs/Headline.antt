@@ -13,10 +13,6 @@ use Rattle.dn_lockstep.specs.Rows.{seats_of}
 use Rattle.dn_node.specs.Kept.{Kept}
 use Rattle.dn_game.specs.Contents.{Contents}
 
--- a node that has started has a demo
-abbrev pub HasDemo : {W : Type 0} → Kept W → Type 0
-HasDemo n = n.demo.bytes ≢ []
-
 -- the commands of a demo: what stands behind the header in whole commands, so without the marker of a closed one
 abbrev pub recorded_in : List ℕ → List ℕ
 recorded_in demo = take (command_size long_tics * commands_in long_tics demo) (drop header_size demo)
@@ -32,12 +28,12 @@ pub record Shows {W S : Type 0} (state : W → S) (physics : Physics S) (setting
   pub places : n.places ≡ 12
   -- the bytes of the demo's commands
   pub demo : shown.demo ≡ recorded_in n.demo.bytes
-  -- once it has started, its world is the one that began with the settings' start and was stepped by the rows
-  pub world : HasDemo n
+  -- once it has started, and so has a demo, its world is the one that began with the settings' start and was stepped by the rows
+  pub world : n.demo.bytes ≢ []
       → state n.world ≡ fold physics.step (physics.begin (start_of settings) (seats_of players)) shown.rows
   -- and its demo is the text of the rows before the first that lacks a player. It is closed once the node ran a
   -- row that lacks one, or has ended
-  pub rows : HasDemo n
+  pub rows : n.demo.bytes ≢ []
       → n.demo.bytes ≡ demo_text long_tics (start_of settings) me (seats_of players) (whole_rows players shown.rows)
       (is_ended n.phase || nat_lt (length (whole_rows players shown.rows)) n.ran)
 

@@ -1,5 +1,5 @@
 -- What a game that was played shows of the game of the machine that its events lead to.
-use Rattle.std.specs.Prelude.{◌≡◌, ◌↔◌, ◌<◌, ◌≤◌, ◌+◌, ◌%◌, ◌||◌, ℕ, true, false, List, map, length, nat_lt, count_by, is_ok, is_err, Some, Result, slice_get, slice_index_or}
+use Rattle.std.specs.Prelude.{◌≡◌, ◌≢◌, ◌↔◌, ◌<◌, ◌≤◌, ◌+◌, ◌%◌, ◌||◌, ℕ, true, false, List, [], map, length, nat_lt, count_by, is_ok, is_err, Some, Result, slice_get, slice_index_or}
 use Rattle.dn_tic.specs.Inputs.{hold_of}
 use Rattle.dn_setup.specs.Settings.{Settings}
 use Rattle.dn_setup.specs.Gathered.{is_noted, is_peer}
@@ -14,10 +14,11 @@ use Rattle.dn_machine.specs.Node.{Node, got, own_mark, ends_of, is_ended, ran}
 use Rattle.dn_machine.specs.Worlds.{Rules}
 use Rattle.dn_lockstep.specs.Represents.{marked_to}
 use Rattle.dn_lockstep.specs.Tables.{ring_at, ring_of, slot}
+use Rattle.dn_node.specs.Contents.{HasOwnMarks}
 use Rattle.dn_node.specs.Kept.{Kept, peer_of}
 use Rattle.dn_game.specs.Contents.{Contents, flight_of}
 use Rattle.dn_game.specs.Frame.{KeepsGiven}
-use Rattle.dn_game.specs.Headline.{Shows, HasDemo, recorded_in}
+use Rattle.dn_game.specs.Headline.{Shows, recorded_in}
 use Rattle.dn_game.specs.Played.{Plays}
 
 -- what a node shows of itself that shows this one of the machine
@@ -34,7 +35,7 @@ pub record ShowsNode {W S : Type 0} (state : W → S) (rules : Rules S) (setting
   pub ahead : n.ahead ≡ rules.ahead
   -- its phase, the tics that it ran, and its world and its demo once it has started
   pub shown : Shows state rules.physics settings rules.players me n (shown_of n m)
-  pub started : HasDemo n ↔ (m.played ≡ true)
+  pub started : (n.demo.bytes ≢ []) ↔ (m.played ≡ true)
   pub played : n.played ≡ m.played
   pub chosen : n.settings ≡ m.settings
   pub hold : n.hold ≡ hold_of m.inputs
@@ -47,6 +48,8 @@ pub record ShowsNode {W S : Type 0} (state : W → S) (rules : Rules S) (setting
   -- before the player's known end, and 0 where there is none
   pub marks : (p tic : ℕ) → p < rules.players → marked_to (ran m) (ends_of m p) ≤ tic
       → tic < marked_to (ran m) (ends_of m p) + 12 → slot n.marks p (tic % 12) ≡ own_mark m p tic
+  -- and the machine's node keeps the marks of its own world
+  pub own : HasOwnMarks rules m
   -- its demo may have so many bytes, and the marker is written once it is closed
   pub limited : n.demo.limit ≡ limit
   pub closed : m.played ≡ true
