@@ -67,8 +67,8 @@ pub fn reached_games_go_on<W: World>()
 /// and `refused` do not count the rounds.
 ///
 /// How far the rounds bring the nodes depends on the game before them, which is not returned. Whoever has to
-/// look at that one, for nodes that are lost, tics and room, calls `play`, and then `Game::good_rounds_with`
-/// on the game that it left: `reached_games_go_on` promises the same of that (`gone_on`).
+/// look at that one, for nodes that are lost, tics and room, calls `play_observed` with `Nobody`, and then
+/// `Game::good_rounds_with` on the game that it left: `reached_games_go_on` promises the same of that (`gone_on`).
 pub fn play_on_with<W: World>(
     alloc: Global,
     config: GameConfig,

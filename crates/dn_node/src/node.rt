@@ -1,6 +1,6 @@
 //! One player's node, and what it tells of itself.
 
-ghost use Rattle.std.specs.Prelude.{◌≡◌, ◌<◌, true, is_some, nat_lt, if◌then◌else◌, Some, None, IfOk};
+ghost use Rattle.std.specs.Prelude.{◌≡◌, ◌<◌, true, is_some, nat_lt, if◌then◌else◌, Some, None, IfOk, IfSome};
 ghost use Rattle.dn_lockstep.specs.{Opening.IsAdmitted, Opening.whose_in, Tables.count_of};
 
 mod stepping;
@@ -107,8 +107,9 @@ impl<W: World> Node<W> {
 
     /// How many commands it has of a player, and None for a number that is no player's.
     pub fn got(&self, player: u8) -> Option<u32>
-        ensures { result ≡ (if nat_lt player (contents self.now).players
+        ensures value { result ≡ (if nat_lt player (contents self.now).players
             then Some (count_of (contents self.now).rings player) else None) }
+        ensures four { IfSome result (λ count. player < 4) }
     {
         self.lockstep.got(player)
     }
