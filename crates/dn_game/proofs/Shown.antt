@@ -1,6 +1,6 @@
 -- A game that was played shows the game of the machine that it represents.
 use Rattle.std.proofs.Common.{◌≡◌, ℕ, true, List, Some, Result, Ok, Err, ap, refl}
-use Rattle.std.specs.Prelude.{IfOk}
+use Rattle.std.specs.Prelude.{IfOk, slice_get}
 use Rattle.dn_setup.specs.Settings.{Settings}
 use Rattle.dn_machine.specs.{declared.events.Event.Event, Game.opening_game, Limits.Limits, Worlds.Rules}
 use Rattle.dn_machine.specs.Node.{Node}
@@ -8,7 +8,7 @@ use Rattle.dn_machine.proofs.{Games.always, Invariant.IsKept}
 use Rattle.dn_lockstep.proofs.Shown.{starts}
 use Rattle.dn_node.specs.{Contents.{contents, locked}, Kept.Kept}
 use Rattle.dn_node.specs.Contents as node
-use Rattle.dn_game.specs.{declared.played.Played.Played, Headline.recorded_in, Opening.AreLimited, Played.IsPlayedFrom, Shown.{ShowsNode, ShowsRun}}
+use Rattle.dn_game.specs.{declared.played.Played.Played, Headline.recorded_in, Opening.AreLimited, Played.IsPlayedFrom, Promised.IsReached, Shown.{ShowsNode, ShowsRun}}
 use Rattle.dn_game.specs.Contents as game
 use Rattle.dn_game.proofs.{Answering.plays_leads, Headlines.{plays, shows}, Standing.{all_at, window_of}}
 use Rattle.dn_game.proofs.Agreeing as agreeing
@@ -41,21 +41,30 @@ module _ {W S : Type 0} (state : W → S) (rules : Rules S) (settings : Settings
     closed = r.lockstep.demo.closed;
   }
 
+  -- whatever events led to the game
+  pub shows_reached : (events : List Event) (g : game.Contents W) (reached : IsReached state rules settings events g) (i : ℕ)
+      (n : Kept W) → slice_get g.nodes i ≡ Some n → n.demo.limit ≡ limit
+      → ShowsNode state rules settings limit i n (reached.last.nodes i)
+  shows_reached events g reached i n at limited =
+      let kept : IsKept rules settings reached.last = always rules settings (window_of rules.limits reached.game.vanilla)
+      events reached.last reached.run in
+      shows_node i n (reached.last.nodes i) (reached.game.nodes i n at)
+      (kept.sound i (agreeing.inside state rules g reached.last reached.game i (contents n) (n, at, refl))).played
+      (ap (λ (l : Limits). l.places) reached.game.vanilla) limited
+
   pub shows_run : (worlds : List W) (events : List Event) (played : Played W)
       → IsPlayedFrom state rules settings worlds events played → AreLimited limit (game.contents played.game).nodes
       → ShowsRun state rules settings limit worlds events (game.contents played.game) played.done played.refused
   shows_run worlds events played (run, given) limited =
       let g = game.contents played.game in
-      let kept : IsKept rules settings run.last = always rules settings (window_of rules.limits run.game.vanilla)
-      events run.last (plays_leads rules events run.answers (opening_game settings) run.last run.plays) in
+      let leads = plays_leads rules events run.answers (opening_game settings) run.last run.plays in
+      let reached : IsReached state rules settings events g = record { last = run.last; run = leads; game = run.game } in
       record {
         last = run.last;
         answers = run.answers;
         plays = run.plays;
         players = run.game.players;
-        nodes = λ i n at. shows_node i n (run.last.nodes i) (run.game.nodes i n at)
-            (kept.sound i (agreeing.inside state rules g run.last run.game i (contents n) (n, at, refl))).played
-            (ap (λ (l : Limits). l.places) run.game.vanilla)
+        nodes = λ i n at. shows_reached events g reached i n at
             (all_at (λ (k : Kept W). k.demo.limit ≡ limit) g.nodes i n limited at);
         stopped = run.game.stopped;
         flights = run.game.flights;
