@@ -27,7 +27,8 @@ module _ {W S : Type 0} (state : W → S) (rules : Rules S) (settings : Settings
   world_is begun = world_played state rules me (contents n) m settings r (plays begun) (chosen (plays begun))
 
   text_is : n.demo.bytes ≢ []
-      → n.demo.bytes ≡ demo_text long_tics (start_of settings) me (seats_of rules.players) (whole_rows rules.players m.rows)
+      → n.demo.bytes ≡ demo_text long_tics (start_of settings) me (seats_of rules.players)
+      (whole_rows rules.players m.rows)
       (is_ended n.phase || nat_lt (length (whole_rows rules.players m.rows)) n.ran)
   text_is begun = let played = plays begun in let known = chosen played in grind arith
 
@@ -65,7 +66,8 @@ module _ {W S : Type 0} (state : W → S) (rules : Rules S) (settings : Settings
   kept : IsKept rules settings r.last
   kept = always rules settings (window_of rules.limits r.game.vanilla) events r.last r.run
 
-  recorded_there : (i : ℕ) (n : Kept W) → slice_get g.nodes i ≡ Some n → recorded (lockstep_at g i) ≡ recorded_in n.demo.bytes
+  recorded_there : (i : ℕ) (n : Kept W) → slice_get g.nodes i ≡ Some n
+      → recorded (lockstep_at g i) ≡ recorded_in n.demo.bytes
   recorded_there i n at = ap recorded (ap lockstep_in at)
 
   pub have_agreed : HaveAgreed state rules.physics settings rules.players g

@@ -96,7 +96,8 @@ module _ {W S : Type 0} (state : W → S) (rules : Rules S) (settings : Settings
   pub stormed_agrees : (seed count : ℕ) → IsStormed state rules settings seed count played
       → HaveAgreed state rules.physics settings rules.players (contents played.game)
   stormed_agrees seed count run =
-      let plays = follows_plays rules (generator_of seed) run.events run.answers run.rest (opening_game settings) run.last
+      let plays = follows_plays rules (generator_of seed) run.events run.answers run.rest (opening_game settings)
+      run.last
       run.follows in
       have_agreed state rules settings run.events (contents played.game) (record {
         last = run.last;

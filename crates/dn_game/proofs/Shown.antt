@@ -42,11 +42,13 @@ module _ {W S : Type 0} (state : W → S) (rules : Rules S) (settings : Settings
   }
 
   -- whatever events led to the game
-  pub shows_reached : (events : List Event) (g : game.Contents W) (reached : IsReached state rules settings events g) (i : ℕ)
+  pub shows_reached : (events : List Event) (g : game.Contents W)
+      (reached : IsReached state rules settings events g) (i : ℕ)
       (n : Kept W) → slice_get g.nodes i ≡ Some n → n.demo.limit ≡ limit
       → ShowsNode state rules settings limit i n (reached.last.nodes i)
   shows_reached events g reached i n at limited =
-      let kept : IsKept rules settings reached.last = always rules settings (window_of rules.limits reached.game.vanilla)
+      let kept : IsKept rules settings reached.last = always rules settings (window_of rules.limits
+      reached.game.vanilla)
       events reached.last reached.run in
       shows_node i n (reached.last.nodes i) (reached.game.nodes i n at)
       (kept.sound i (agreeing.inside state rules g reached.last reached.game i (contents n) (n, at, refl))).played
@@ -58,7 +60,11 @@ module _ {W S : Type 0} (state : W → S) (rules : Rules S) (settings : Settings
   shows_run worlds events played (run, given) limited =
       let g = game.contents played.game in
       let leads = plays_leads rules events run.answers (opening_game settings) run.last run.plays in
-      let reached : IsReached state rules settings events g = record { last = run.last; run = leads; game = run.game } in
+      let reached : IsReached state rules settings events g = record {
+        last = run.last;
+        run = leads;
+        game = run.game;
+      } in
       record {
         last = run.last;
         answers = run.answers;

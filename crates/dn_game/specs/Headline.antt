@@ -28,7 +28,7 @@ pub record Shows {W S : Type 0} (state : W → S) (physics : Physics S) (setting
   pub places : n.places ≡ 12
   -- the bytes of the demo's commands
   pub demo : shown.demo ≡ recorded_in n.demo.bytes
-  -- once it has started, and so has a demo, its world is the one that began with the settings' start and was stepped by the rows
+  -- once it has started, and has a demo, its world began with the settings' start and was stepped by the rows
   pub world : n.demo.bytes ≢ []
       → state n.world ≡ fold physics.step (physics.begin (start_of settings) (seats_of players)) shown.rows
   -- and its demo is the text of the rows before the first that lacks a player. It is closed once the node ran a

@@ -78,8 +78,8 @@ pub fn play_on_with<W: World>(
     rounds: u32,
 ) -> Result<Played<W>, PlayOnFault>
     ensures admitted { IsAdmittedOn config (length worlds.items) result }
-    // The game before the rounds is a run, as `play_observed` says; no losses among the events can make the nodes wait for
-    // good; and what is promised of a run is so after the rounds, since they are events like any other.
+    // The game before the rounds is a run, as `play_observed` says; no losses among the events can make the nodes
+    // wait for good; and what is promised of a run is so after the rounds, since they are events like any other.
     ensures promised { IfOk result (λ played. HasPlayedOn W.state
         (rules_in W.physics config (length worlds.items)) config.settings worlds.items events.now
         (input_of inputs.now) rounds played) }

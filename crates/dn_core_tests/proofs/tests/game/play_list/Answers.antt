@@ -12,5 +12,6 @@ returns g c =
     IfOk-weaker c.play.result _ _ (λ played run. (
       run,
       c.every_list_keeps.ensures.agree players config.extra room config.settings events run.last
-          (c.runs_have_answers.ensures.runs players config.extra room config.settings events run.answers run.last run.plays),
+          (c.runs_have_answers.ensures.runs players config.extra room config.settings events run.answers run.last
+          run.plays),
     )) c.play.ensures.run

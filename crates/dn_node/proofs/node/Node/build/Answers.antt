@@ -7,7 +7,8 @@ use Rattle.dn_node.proofs.node.Node.build.Goals as goal
 
 pub returns-clause-step : goal.returns-clause-step
 returns-clause-step g c =
-    rw (← c.self.view_is) (builds g.W.World.state g.W.World.physics (with_world (lockstep.contents c.self.inside.lockstep) c.self.inside.world)
+    rw (← c.self.view_is) (builds g.W.World.state g.W.World.physics
+    (with_world (lockstep.contents c.self.inside.lockstep) c.self.inside.world)
     (with_world (lockstep.contents c.build.new.self) c.self.inside.world) (Pressed c.args.keys)
     c.build.result c.build.ensures.step refl)
 

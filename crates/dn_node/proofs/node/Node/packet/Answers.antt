@@ -8,7 +8,8 @@ use Rattle.dn_node.proofs.node.Node.packet.Goals as goal
 
 pub returns-clause-step : goal.returns-clause-step
 returns-clause-step g c =
-    rw (← c.self.view_is) (steps_beside g.W.World.state g.W.World.physics (with_world (lockstep.contents c.self.inside.lockstep) c.self.inside.world)
+    rw (← c.self.view_is) (steps_beside g.W.World.state g.W.World.physics
+    (with_world (lockstep.contents c.self.inside.lockstep) c.self.inside.world)
     (with_world (lockstep.contents c.packet.new.self) c.self.inside.world)
     (λ limits me m. sent_to c.args.to limits me m)
     (λ flight. option_map (λ bytes. bytes.items) c.packet.result ≡ option_map bytes_of flight)

@@ -11,7 +11,8 @@ returns-clause-sent g c =
     let sent = c.packet_with_aim.ensures.sent in rw (← c.self.view_is) (
       sent.0,
       sent.1,
-      steps_beside g.W.World.state g.W.World.physics (with_world (lockstep.contents c.self.inside.lockstep) c.self.inside.world)
+      steps_beside g.W.World.state g.W.World.physics (with_world (lockstep.contents c.self.inside.lockstep)
+          c.self.inside.world)
           (with_world (lockstep.contents c.packet_with_aim.new.self) c.self.inside.world)
           (λ limits me m. sent_to c.args.to limits me m)
           (λ flight. sent.0 ≡ option_map bytes_of flight)

@@ -7,7 +7,8 @@ use Rattle.dn_node.proofs.node.Node.quit.Goals as goal
 
 pub returns-clause-step : goal.returns-clause-step
 returns-clause-step g c =
-    rw (← c.self.view_is) (steps_beside g.W.World.state g.W.World.physics (with_world (lockstep.contents c.self.inside.lockstep) c.self.inside.world)
+    rw (← c.self.view_is) (steps_beside g.W.World.state g.W.World.physics
+    (with_world (lockstep.contents c.self.inside.lockstep) c.self.inside.world)
     (with_world (lockstep.contents c.quit.new.self) c.self.inside.world) (λ limits me m. on_quit m)
     (λ quit. c.quit.result ≡ quit) c.quit.ensures.step refl (λ limits me m. quit_beside limits me m))
 

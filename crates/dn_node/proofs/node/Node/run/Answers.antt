@@ -37,7 +37,8 @@ returns-in_default-clause-step g c =
     rw (← c.self.view_is) (runs g.W.World.state g.W.World.physics (with_world (lockstep.contents n.lockstep) n.world)
     (with_world (lockstep.contents c.run-ran.new.self) n.world) c.marks-marks.result c.run-ran.result.0
     c.run-ran.result.1
-    (own_marks g c.marks-marks.result c.self.view_is c.marks-marks.ensures) n.lockstep.few n.lockstep.plays (λ told is. absurd (c.in_default.not-Some told is))
+    (own_marks g c.marks-marks.result c.self.view_is c.marks-marks.ensures) n.lockstep.few n.lockstep.plays (λ told
+    is. absurd (c.in_default.not-Some told is))
     (λ none. refl) c.run-ran.ensures.step)
 
 pub returns-in_default-clause-waits : goal.returns-in_default-clause-waits
