@@ -16,7 +16,7 @@ use Rattle.dn_seal.specs.declared.seal.Seal.{Seal}
 use Rattle.dn_link.specs.{Kept.{IsKeptRising, Unacknowledged, going, is_news, kept_after, taken_by}, declared.bundle.Carried.Carried, Counting.has_ended, Hearing.carried_of, RemainingLinks.AreRemainingLinks}
 use Rattle.dn_link.specs.{CaughtUp.{GoesOn, IsInTime, StillGoesOn, next_to, AreCaughtUp, HasNoGap, IsCaughtUp, IsClose, IsInStep, IsKeptChain, StayCaughtUp, WasInStep}, Linked.{Gives, IsWhole, Linked, PeerState}}
 use Rattle.dn_link.specs.{Pacing.PaceState, Packets.{opened_from, own_in}}
-use Rattle.dn_link.proofs.{Makers.{IsQuiet, first_goes, going_asks, going_goes, keeps_chain, keeps_close, later_goes}, Catching.relinked, Bringing.gives_own, Following.{covers, kept_rises}, Leaving.unended}
+use Rattle.dn_link.proofs.{Makers.{IsQuiet, first_goes, going_asks, going_goes, keeps_chain, keeps_close, later_goes}, Catching.relinked, Fitting.gives_own, Following.{covers, kept_rises}, Leaving.unended}
 use Rattle.dn_link.proofs.{Linking.taken_given, Sending.{IsSized, Sends, sends}, Reporting.told_plain, Growing.sends_holds, Relinking.still_whole, Together.together}
 use Rattle.dn_machine.specs.Node as machine
 use Rattle.dn_link.specs.Kept as keep
@@ -64,7 +64,7 @@ module _ (limits : Limits) (me : ℕ) (m : machine.Node) (to : ℕ) where
       (λ past. same None (λ one e. absurd (none-some one e)))
 
 -- what is kept is for the same commands
-done_same : (kept : Unacknowledged) (packet : Option Carried) → (kept_after kept packet).done ≡ kept.done
+pub done_same : (kept : Unacknowledged) (packet : Option Carried) → (kept_after kept packet).done ≡ kept.done
 done_same kept None = refl
 done_same kept (Some packet) = go (is_news kept packet)
   where
@@ -143,7 +143,7 @@ module _ (marking : Marking) (limits : Limits) (settings : Settings) (session : 
   }
   peer_is = ap (λ (f : ℕ → PeerState). f to) gives.peers ∙ put_at old.peers to to _ refl
 
-  kept_is : (new.peers to).kept ≡ kept_after (old.peers to).kept taken
+  pub kept_is : (new.peers to).kept ≡ kept_after (old.peers to).kept taken
   kept_is = ap (λ (t : PeerState). t.kept) peer_is
 
   -- what the node is then
@@ -189,6 +189,9 @@ module _ (marking : Marking) (limits : Limits) (settings : Settings) (session : 
 
     mades : made old.node ≡ got old.node player
     mades = ap (λ (k : ℕ). got old.node k) own
+
+    pub same_made : got new.node player ≡ made old.node
+    same_made = gave_it.gots player mine ∙ sym mades
 
     time : IsInTime to old
     time = record {

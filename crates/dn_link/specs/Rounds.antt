@@ -6,7 +6,7 @@ use Rattle.dn_machine.specs.{declared.answers.Made.Made, declared.answers.Phase.
 use Rattle.dn_lockstep.specs.{Told.Builds, Told.made, Marking.Marking}
 use Rattle.dn_survivor.specs.OneGame.{Session}
 use Rattle.dn_seal.specs.declared.seal.Seal.{Seal}
-use Rattle.dn_link.specs.{declared.received.Received.Received, RemainingLinks.AreRemainingLinks, RemainingLinks.IsGenuineIn, Surviving.RunsBut, CaughtUp.AreCaughtUp, CaughtUp.HasGrown, CaughtUp.IsInStepTo, CaughtUp.next_to, Linked.Gives, Linked.Linked, Linked.Receives, Pacing.PaceState, Packing.parts_room, Pacing.{is_brief}}
+use Rattle.dn_link.specs.{declared.received.Received.Received, RemainingLinks.AreRemainingLinks, RemainingLinks.IsGenuineIn, Surviving.RunsBut, CaughtUp.AreCaughtUp, CaughtUp.HasGrown, CaughtUp.IsInStepTo, CaughtUp.next_to, Linked.Gives, Linked.Linked, Linked.Receives, Pacing.PaceState, Pacing.{is_brief}}
 
 -- the links of a game from one moment to another, in which all players play. From each moment to the next they
 -- grow, as they do by any calls on them (`links_stay_caught_up`)
@@ -47,8 +47,8 @@ pub record AreRounds {marking : Marking} {limits : Limits} {settings : Settings}
       → waited round player < built (suc round) player
 
 -- of the datagrams that a player gives a peer in its rounds from this one on, one of k rounds is taken in by
--- the peer before it waits in its round d later. It is no brief one and no late one, and has room for all
--- that its sender has to give; and what comes was sealed in this game in step
+-- the peer before it waits in its round d later. It is no brief one and no late one; and what comes was sealed in
+-- this game in step
 pub record Arrives {marking : Marking} {limits : Limits} {settings : Settings} {last : ℕ}
     {stretch : Stretch marking limits settings last} {count : ℕ} (rounds : AreRounds stretch count) (seal : Seal)
     (k d first player peer : ℕ) : Type 0 where
@@ -65,8 +65,6 @@ pub record Arrives {marking : Marking} {limits : Limits} {settings : Settings} {
   pub gives : Gives seal pace peer (stretch.links given player) (stretch.links (suc given) player) bytes
   pub full : is_brief pace peer ≡ false
   pub soon : made (stretch.links given player).node ≤ next_to (stretch.links given player).node peer + 12
-  pub few : length gives.own < 22
-  pub short : parts_room gives.own ≤ 998
   pub size : length bytes ≤ 1200
   pub answer : Received
   pub genuine : IsGenuineIn seal (stretch.sessions taken) peer bytes

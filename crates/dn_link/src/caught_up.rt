@@ -11,7 +11,6 @@ ghost use Rattle.dn_seal.specs.declared.seal.Seal.{Seal};
 ghost use Rattle.dn_link.specs.{CaughtUp.{Brings, HasGrown, IsInStep, AreCaughtUp, IsInStepTo, StayCaughtUp, WasInStep, next_to}, Kept.{end_of, taken_by}, Reading.IsDatagramOf};
 ghost use Rattle.dn_link.specs.{declared.{bundle.{Bundle.Bundle, Carried.Carried}, received.Received.Received}, RemainingLinks.{AreRemainingLinks, IsGenuineIn}, Counting.has_ended, Linking.new_peer};
 ghost use Rattle.dn_link.specs.{Rounds.{AreRounds, AreFairLines, Stretch}, Linked.{Gives, Linked, Receives}, Pacing.PaceState, Surviving.RunsBut};
-ghost use Rattle.dn_link.specs.Packing.{parts_room};
 ghost use Rattle.dn_link.specs.Pacing.{is_brief};
 
 use crate::laws::bundles_are_read_back;
@@ -101,9 +100,8 @@ pub fn caught_up_links_cover()
 
 /// What arrives brings all. Whatever datagram of one that plays comes to a player that plays, whenever it
 /// comes, and however many others did not, if it is no brief one: the player has then each command that its sender
-/// had made when it gave the datagram. It has room for all, if it has fewer than twenty-two parts of its sender's
-/// own, of 998 bytes at most, counted as if their commands stood whole; and its sender had made at most twelve from
-/// the tic on from which the peer is to be sent them.
+/// had made when it gave the datagram. It has room for all; its sender had made at most twelve from the tic on from
+/// which the peer is to be sent them.
 pub fn links_bring_all()
     ensures given { (marking : Marking) (limits : Limits) (settings : Settings) (session : Session) (links : ℕ → Linked)
         (player to : ℕ) (seal : Seal) (pace : PaceState) (new : Linked) (bytes : List ℕ)
@@ -114,7 +112,6 @@ pub fn links_bring_all()
         → made (links player).node ≤ next_to (links player).node to + 12
         → (links player).node.phase ≡ Playing
         → is_brief pace to ≡ false → (gives : Gives seal pace to (links player) new bytes)
-        → length gives.own < 22 → parts_room gives.own ≤ 998
         → Brings (made (links player).node) (put links player new) gives.bundle }
     ensures stay { (limits : Limits) (links later : ℕ → Linked) (bundle : Bundle) (count : ℕ)
         → HasGrown limits links later → IsInStep limits links bundle → Brings count links bundle

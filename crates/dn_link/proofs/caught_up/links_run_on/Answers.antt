@@ -353,7 +353,7 @@ module _ {marking : Marking} {limits : Limits} {settings : Settings} {last : ℕ
         (stretch.caught_up it.given (omega (arith, before))) peer below apart seal it.pace
         (at (suc it.given) player) it.bytes it.full it.gives
         (λ goes_on. let soon = it.soon in omega (arith, soon, room)) it.soon
-        (stretch.plays it.given player (omega (arith, before)) mine) it.few it.short in
+        (stretch.plays it.given player (omega (arith, before)) mine) in
         subst (λ (l : Linked). has_ended l.node ≡ false → made (at it.given player).node ≤ last_end
         (got l.node bundle.from) (own_in bundle)) (ap (put (at it.given) player (at (suc it.given) player))
         it.gives.goes ∙ put_off (at it.given) player peer (at (suc it.given) player) apart ∙ ap
