@@ -10,7 +10,7 @@ ghost use Rattle.dn_open.specs.Sealed.{sealing_of};
 ghost use Rattle.dn_seal.specs.declared.seal.Seal.{Seal};
 ghost use Rattle.dn_link.specs.{CaughtUp.{Brings, HasGrown, IsInStep, AreCaughtUp, IsInStepTo, StayCaughtUp, WasInStep, next_to}, Kept.{end_of, taken_by}, Reading.IsDatagramOf};
 ghost use Rattle.dn_link.specs.{declared.{bundle.{Bundle.Bundle, Carried.Carried}, received.Received.Received}, RemainingLinks.{AreRemainingLinks, IsGenuineIn}, Counting.has_ended, Linking.new_peer};
-ghost use Rattle.dn_link.specs.{Rounds.{AreRounds, AreFairLines, Stretch}, Linked.{Gives, Linked, Receives}, Pacing.PaceState, Surviving.RunsBut};
+ghost use Rattle.dn_link.specs.{Rounds.{AreRounds, AreFairLines, Plays, Stretch}, Linked.{Gives, Linked, Receives}, Pacing.PaceState, Surviving.RunsBut};
 ghost use Rattle.dn_link.specs.Pacing.{is_brief};
 
 use crate::laws::bundles_are_read_back;
@@ -132,23 +132,22 @@ pub fn links_bring_all()
 /// of any k rounds, at most d rounds late; it does not matter which, nor what else comes, or comes again. Then
 /// each player runs a tic more in each k + d rounds than all had run. And where k + d is at most the window,
 /// after r rounds each has run at least r + 1 - (k + d) tics more than all had run at first. A round is a
-/// player's own: one command is asked for, and later tics are run until one is waited for.
+/// player's own: one command is asked for, and later tics are run until one is waited for. Others may have left
+/// before, if all who play know their ends.
 pub fn links_run_on()
     ensures goes_on { (marking : Marking) (limits : Limits) (settings : Settings) (last : ℕ)
         (stretch : Stretch marking limits settings last) (count : ℕ) (rounds : AreRounds stretch count) (seal : Seal)
         (k d first tics round least : ℕ) → 8 ≤ length seal.game → 12 ≤ limits.places → 1 ≤ limits.ahead → 1 ≤ k
         → AreFairLines rounds seal k d → 1 ≤ tics → first + (k + d) * tics ≡ round + 1 → round < count
-        → ((player : ℕ) → player < limits.players
-        → least ≤ (stretch.links (rounds.built first player) player).node.ran)
-        → (player : ℕ) → player < limits.players
+        → ((player : ℕ) → Plays stretch player → least ≤ (stretch.links (rounds.built first player) player).node.ran)
+        → (player : ℕ) → Plays stretch player
         → least + tics ≤ (stretch.links (rounds.waited round player) player).node.ran }
     ensures full_speed { (marking : Marking) (limits : Limits) (settings : Settings) (last : ℕ)
         (stretch : Stretch marking limits settings last) (count : ℕ) (rounds : AreRounds stretch count) (seal : Seal)
         (k d round least : ℕ) → 8 ≤ length seal.game → 12 ≤ limits.places → 1 ≤ limits.ahead → 1 ≤ k
         → AreFairLines rounds seal k d → k + d ≤ limits.ahead → round < count
-        → ((player : ℕ) → player < limits.players
-        → least ≤ (stretch.links (rounds.built 0 player) player).node.ran)
-        → (player : ℕ) → player < limits.players
+        → ((player : ℕ) → Plays stretch player → least ≤ (stretch.links (rounds.built 0 player) player).node.ran)
+        → (player : ℕ) → Plays stretch player
         → least + (round + 2) ≤ (stretch.links (rounds.waited round player) player).node.ran + (k + d) }
 {
     links_bring_all();
