@@ -12,7 +12,7 @@ use Rattle.dn_survivor.specs.{OneGame.Session, Surviving.Surviving}
 use Rattle.dn_link.specs.{CaughtUp.{next_to, AreCaughtUp, Brings, HasGrown, IsCaughtUp, IsClose, IsInStep, IsKeptChain, StillGoesOn, last_end}, Counting.has_ended, Hearing.carried_of}
 use Rattle.dn_link.specs.{Kept.{IsKeptRising, Unacknowledged, end_of, kept_after, taken_by, takes_packet}, Linked.{Gives, Linked}, Packets.{opened_from, own_in}, Packing.ArePacked, Pacing.{PaceState, is_brief}}
 use Rattle.dn_link.specs.{Relays.handed_part, RemainingLinks.AreRemainingLinks, Text.IsPart, declared.bundle.{Bundle.Bundle, Carried.Carried}}
-use Rattle.dn_link.proofs.{Catching.not_yet, CatchingOut.{covered, done_same, kept_is, pair, same_made, two_windows}, Fitting.{after_all, all_go, all_sized, ends_past, fits, gives_own, goes_first}}
+use Rattle.dn_link.proofs.{Catching.not_yet, CatchingOut.{covered, done_same, kept_is, pair, same_made, sends_then, two_windows}, Fitting.{after_all, all_go, all_sized, ends_past, fits, gives_own, goes_first}}
 use Rattle.dn_link.proofs.{Following.gone_or_idle, Leaving.All-front, Linking.taken_given, Makers.{chain_goes, later_goes}, Relinking.AreGiven, Sending.{Follows, IsSized, follows}}
 use Rattle.dn_machine.specs.Node as machine
 use Rattle.dn_link.proofs.RemainingCalls as base
@@ -42,10 +42,8 @@ plays_sent limits me m to below apart plays = rw (lt-ltb to limits.players below
 module _ (marking : Marking) (limits : Limits) (settings : Settings) (session : Session) (links : ℕ → Linked)
     (linked : AreRemainingLinks marking limits settings session links) (player : ℕ) (mine : player < limits.players)
     (were : AreCaughtUp limits links) (to : ℕ) (below : to < limits.players) (apart : to ≢ player) (seal : Seal)
-    (pace : PaceState) (new : Linked) (bytes : List ℕ) (full : is_brief pace to ≡ false)
-    (gives : Gives seal pace to (links player) new bytes) (in_time : has_ended (links to).node ≡ false
-    → made (links player).node ≤ next_to (links player).node to + (links player).node.places)
-    (near : made (links player).node ≤ next_to (links player).node to + 12)
+    (pace : PaceState) (new : Linked) (bytes : List ℕ) (gives : Gives seal pace to (links player) new bytes)
+    (twelve : 12 ≤ limits.places) (near : made (links player).node ≤ next_to (links player).node to + 12)
     (plays : (links player).node.phase ≡ Playing) where
   abbrev old : Linked
   old = links player
@@ -75,6 +73,9 @@ module _ (marking : Marking) (limits : Limits) (settings : Settings) (session : 
   next : next_to old.node to ≡ (m.peers to).resend
   next = ap (λ (x : Peer). x.resend) (shows.peers.known to below)
 
+  in_time : has_ended (links to).node ≡ false → made old.node ≤ next_to old.node to + old.node.places
+  in_time goes_on = omega (arith, near, twelve, shows.whose.places)
+
   theirs : put links player new gives.bundle.to ≡ links to
   theirs = ap (put links player new) gives.goes ∙ put_off links player to new apart
 
@@ -85,7 +86,7 @@ module _ (marking : Marking) (limits : Limits) (settings : Settings) (session : 
   module _ (goes_on : has_ended (links to).node ≡ false) where
     follows_on : Follows limits player m to (after_sent limits player m to) packet
     follows_on = follows limits player m to (sym shows.whose.most)
-        (let time = in_time goes_on in omega (arith, time, next, count, shows.whose.places)) Play (request_to m to) false refl
+        (omega (arith, near, twelve, next, count)) Play (request_to m to) false refl
 
     -- it ends with the last command that was made
     all : made old.node ≤ end_of packet
@@ -96,6 +97,14 @@ module _ (marking : Marking) (limits : Limits) (settings : Settings) (session : 
 
     now : IsCaughtUp limits player to new (links to)
     now = pair marking limits settings session links linked player mine were to below apart seal pace new bytes gives in_time
+
+    -- and the next one goes on behind it, or repeats it
+    pub sent : made old.node ≤ next_to new.node to + lag limits
+    sent = elim ((sends_then marking limits settings session links linked player mine were to below apart seal pace new bytes
+    gives in_time goes_on).moment packet (sym given)) [
+      | inl none ↦ omega (arith, all, none)
+      | inr goes ↦ let low = goes.1.0 in omega (arith, all, low)
+    ]
 
     -- so all that it made is covered
     covered_all : made old.node ≤ (new.peers to).kept.covered
@@ -130,8 +139,8 @@ module _ (marking : Marking) (limits : Limits) (settings : Settings) (session : 
         (subst (λ (k : ℕ). AreGiven session.packets k to kept.packets) (sym own) (linked.kept player to mine)))
         (λ one e. subst IsSized (moment one e) follows_on.sized)
 
-    there : made old.node ≤ last_end (got (links to).node player) (own_in gives.bundle)
-    there =
+    there : is_brief pace to ≡ false → made old.node ≤ last_end (got (links to).node player) (own_in gives.bundle)
+    there full =
         let is = kept_is marking limits settings session links linked player mine were to below apart seal pace new bytes
         gives in_time in
         let after = kept_after kept taken in
@@ -161,9 +170,9 @@ module _ (marking : Marking) (limits : Limits) (settings : Settings) (session : 
         subst (λ (os : List Opened). made old.node ≤ last_end (got (links to).node player) os)
         (sym (gives_own seal pace to old new bytes gives ∙ packed.front)) past
 
-  pub brings : Brings (made old.node) (put links player new) gives.bundle
-  brings e =
+  pub brings : is_brief pace to ≡ false → Brings (made old.node) (put links player new) gives.bundle
+  brings full e =
       let goes_on : has_ended (links to).node ≡ false = ap (λ (l : Linked). has_ended l.node) (sym theirs) ∙ e in
       let same : got (links to).node player ≡ got (put links player new gives.bundle.to).node gives.bundle.from =
       (λ i. got (sym theirs i).node (sym (gives.from ∙ own) i)) in
-      subst (λ (n : ℕ). made old.node ≤ last_end n (own_in gives.bundle)) same (there goes_on)
+      subst (λ (n : ℕ). made old.node ≤ last_end n (own_in gives.bundle)) same (there goes_on full)

@@ -74,7 +74,9 @@ pub fn links_stay_caught_up()
 /// So nothing of a peer that has not ended is lost or left out. A player has made at most two windows of
 /// commands that the peer needs still; if the peer has no more of the player's commands than it was given, and
 /// packets repeat none or no window fills what a node keeps, no datagram is a late one, however long none was
-/// given; and of what is given to the peer, all is covered by what is kept for it then.
+/// given; and of what is given to the peer, all is covered by what is kept for it then. After a datagram of a
+/// player that has made at most twelve commands from where its next packet begins, the next one begins behind all of
+/// these, or repeats the last; so it is with each further one, where few commands are made between any two.
 pub fn caught_up_links_cover()
     ensures few { (marking : Marking) (limits : Limits) (settings : Settings) (session : Session) (links : ℕ → Linked)
         (player to : ℕ)
@@ -96,6 +98,13 @@ pub fn caught_up_links_cover()
         → (gives : Gives seal pace to (links player) new bytes) (packet : Carried)
         → taken_by ((links player).peers to).left gives.given ≡ Some packet
         → end_of packet ≤ (new.peers to).kept.covered }
+    ensures sent { (marking : Marking) (limits : Limits) (settings : Settings) (session : Session) (links : ℕ → Linked)
+        (player to : ℕ) (seal : Seal) (pace : PaceState) (new : Linked) (bytes : List ℕ)
+        → AreRemainingLinks marking limits settings session links → AreCaughtUp limits links
+        → player < limits.players → to < limits.players → to ≢ player → 12 ≤ limits.places
+        → made (links player).node ≤ next_to (links player).node to + 12
+        → (links player).node.phase ≡ Playing → Gives seal pace to (links player) new bytes
+        → has_ended (links to).node ≡ false → made (links player).node ≤ next_to new.node to + lag limits }
 {}
 
 /// What arrives brings all. Whatever datagram of one that plays comes to a player that plays, whenever it
@@ -106,9 +115,7 @@ pub fn links_bring_all()
     ensures given { (marking : Marking) (limits : Limits) (settings : Settings) (session : Session) (links : ℕ → Linked)
         (player to : ℕ) (seal : Seal) (pace : PaceState) (new : Linked) (bytes : List ℕ)
         → AreRemainingLinks marking limits settings session links → AreCaughtUp limits links
-        → player < limits.players → to < limits.players → to ≢ player
-        → (has_ended (links to).node ≡ false
-        → made (links player).node ≤ next_to (links player).node to + (links player).node.places)
+        → player < limits.players → to < limits.players → to ≢ player → 12 ≤ limits.places
         → made (links player).node ≤ next_to (links player).node to + 12
         → (links player).node.phase ≡ Playing
         → is_brief pace to ≡ false → (gives : Gives seal pace to (links player) new bytes)

@@ -365,20 +365,12 @@ module _ {marking : Marking} {limits : Limits} {settings : Settings} {last : ℕ
     own : (at it.given player).node.me ≡ player
     own = base.own marking limits settings (stretch.sessions it.given) (at it.given) was player mine.0
 
-    room : 12 ≤ (at it.given player).node.places
-    room = omega (
-      arith,
-      places,
-      (base.shows marking limits settings (stretch.sessions it.given) (at it.given) was player mine.0).whose.places,
-    )
-
     brings_then : Brings (made (at it.given player).node) (at it.given) bundle
     brings_then =
         let there = brings marking limits settings (stretch.sessions it.given) (at it.given) was player mine.0
         (stretch.caught_up it.given (omega (arith, before))) peer below.0 apart seal it.pace
-        (at (suc it.given) player) it.bytes it.full it.gives
-        (λ goes_on. let soon = it.soon in omega (arith, soon, room)) it.soon
-        (stretch.plays it.given player (omega (arith, before)) mine.0 mine.1) in
+        (at (suc it.given) player) it.bytes it.gives places it.soon
+        (stretch.plays it.given player (omega (arith, before)) mine.0 mine.1) it.full in
         subst (λ (l : Linked). has_ended l.node ≡ false → made (at it.given player).node ≤ last_end
         (got l.node bundle.from) (own_in bundle)) (ap (put (at it.given) player (at (suc it.given) player))
         it.gives.goes ∙ put_off (at it.given) player peer (at (suc it.given) player) apart ∙ ap
