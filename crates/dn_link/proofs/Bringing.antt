@@ -100,11 +100,11 @@ module _ (marking : Marking) (limits : Limits) (settings : Settings) (session : 
 
     -- and the next one goes on behind it, or repeats it
     pub sent : made old.node ≤ next_to new.node to + lag limits
-    sent = elim ((sends_then marking limits settings session links linked player mine were to below apart seal pace new bytes
-    gives in_time goes_on).moment packet (sym given)) [
-      | inl none ↦ omega (arith, all, none)
-      | inr goes ↦ let low = goes.1.0 in omega (arith, all, low)
-    ]
+    sent = elim ((sends_then marking limits settings session links linked player mine were to below apart seal pace new
+        bytes gives in_time goes_on).moment packet (sym given)) [
+          | inl none ↦ omega (arith, all, none)
+          | inr goes ↦ let low = goes.1 in omega (arith, all, low)
+        ]
 
     -- so all that it made is covered
     covered_all : made old.node ≤ (new.peers to).kept.covered
@@ -146,7 +146,7 @@ module _ (marking : Marking) (limits : Limits) (settings : Settings) (session : 
         let after = kept_after kept taken in
         let P : Carried → Type 0 = λ one. made old.node ≤ end_of one in
         let first = goes_first P kept taken (λ one e. subst P (moment one e) all) in
-        let packed = subst (λ (ps : List Carried). ArePacked old.node.me ps gives.own) first.1.0 (gives.packed full) in
+        let packed = subst (λ (ps : List Carried). ArePacked old.node.me ps gives.own) first.1 (gives.packed full) in
         let few = two_windows marking limits settings session links linked player mine were to below apart goes_on in
         let back = linked.game.window.back in
         let done = ap (λ (k : Unacknowledged). k.done) is in
@@ -166,7 +166,7 @@ module _ (marking : Marking) (limits : Limits) (settings : Settings) (session : 
         let up = last_up after.done (got (links to).node player) (map (opened_from old.node.me) after.packets)
         (omega (arith, before, done)) in
         let past = ends_past old.node.me (got (links to).node player) (made old.node) packed.count after.packets first.0 go
-        first.1.1 (omega (arith, up, ends.1, covered_all, ap (λ (k : Unacknowledged). k.covered) is)) in
+        first.2 (omega (arith, up, ends.1, covered_all, ap (λ (k : Unacknowledged). k.covered) is)) in
         subst (λ (os : List Opened). made old.node ≤ last_end (got (links to).node player) os)
         (sym (gives_own seal pace to old new bytes gives ∙ packed.front)) past
 

@@ -297,7 +297,7 @@ module _ (marking : Marking) (limits : Limits) (settings : Settings) (session : 
         (keeps_close (lag limits) (old.peers to).kept taken (next_to old.node to) (next_to new.node to) sends_then.up
         (λ one e past. elim (sends_then.moment one (taken_given (old.peers to).left gives.given one e)) [
           | inl none ↦ absurd (omega (arith, none, past))
-          | inr moment ↦ (moment.0, moment.1.0)
+          | inr moment ↦ (moment.0, moment.1)
         ]) (was.close goes_on))
 
   pub pair : IsCaughtUp limits player to new (links to)

@@ -52,7 +52,7 @@ weight [] = 0
 weight (packet ∷ packets) = 11 + length packet.datagram.items + weight packets
 
 weight_on : (one other : List Opened) → weight (one ++ other) ≡ weight one + weight other
-weight_on [] other = refl
+weight_on [] other = omega arith
 weight_on (packet ∷ one) other = omega (arith, weight_on one other)
 
 first_light : (count : ℕ) (one other : List Opened) → count ≤ length one → weight (take count (one ++ other)) ≤ weight one

@@ -81,7 +81,7 @@ close_up lag (packet ∷ other ∷ packets) next later less (end, rest) =
 close_on : (lag : ℕ) (packets : List Carried) (packet : Carried) (next : ℕ) → IsClose lag packets packet.start
     → end_of packet ≤ next + lag → IsClose lag (packets ++ packet ∷ []) next
 close_on lag [] packet next close end = (end, tt)
-close_on lag (one ∷ []) packet next (first, rest) end = (first, end, tt)
+close_on lag (one ∷ []) packet next (first, rest) end = (first, (end, tt))
 close_on lag (one ∷ other ∷ packets) packet next (first, rest) end =
     (first, close_on lag (other ∷ packets) packet next rest end)
 

@@ -5,15 +5,15 @@ use Rattle.std.specs.{Prelude.{min, if◌then◌else◌, ◌==◌, nat_le, not},
 use Rattle.dn_tic.specs.declared.{command.TicCmd.TicCmd, input.Input.Input}
 use Rattle.dn_setup.specs.Settings.{Settings}
 use Rattle.dn_machine.specs.{Running.{is_absent, is_awaited, is_over, on_run_in, on_run_playing, full_at, row_held}, Sparing.{first_off_but, on_run_but}, Sending.on_build, Limits.Limits}
-use Rattle.dn_machine.specs.{declared.answers.{Phase.{Phase, TheVariants.Playing}, Ran.Ran}, Node.{ends_of, is_ended, lowest, put}}
+use Rattle.dn_machine.specs.{declared.answers.{Phase.{Phase, TheVariants.Playing}, Ran.Ran}, Node.{ends_of, is_ended, known_end, lowest, put}}
 use Rattle.dn_machine.proofs.{Calls.build_cases, Put.{put_at, put_off}}
-use Rattle.dn_lockstep.specs.{Marking.Marking, Represents.Represents, Steps.marks_in, Told.{got, made}}
+use Rattle.dn_lockstep.specs.{Contents.end_in, Marking.Marking, Represents.Represents, Steps.marks_in, Told.{got, made}}
 use Rattle.dn_survivor.specs.{OneGame.Session, Surviving.Surviving}
 use Rattle.dn_lockstep.proofs.Shown.{end_is, has}
 use Rattle.dn_seal.specs.declared.seal.Seal.{Seal}
 use Rattle.dn_open.specs.Sealed.{sealing_of}
 use Rattle.dn_link.specs.{CaughtUp.{AreCaughtUp, Brings, HasGrown, IsInStepTo, last_end}, Rounds.{AreRounds, Arrives, AreFairLines, MakesAt, Plays, Stretch, WaitsAt}, Counting.has_ended, Packets.own_in}
-use Rattle.dn_link.specs.{declared.{bundle.Bundle.Bundle, received.Received.Received}, RemainingLinks.{AreRemainingLinks, IsGenuineIn}, Linked.{Linked, Receives, has_given_up}, Reading.IsDatagramOf}
+use Rattle.dn_link.specs.{declared.{bundle.Bundle.Bundle, received.Received.Received}, RemainingLinks.{AreRemainingLinks, IsGenuineIn}, Linked.{Linked, Receives, end_known, has_given_up}, Reading.IsDatagramOf}
 use Rattle.dn_link.proofs.{Bringing.{brings, brings_on}, Leaving.unended, Together.together}
 use Rattle.dn_machine.specs.Node as machine
 use Rattle.dn_link.proofs.RemainingCalls as base
@@ -260,15 +260,18 @@ module _ {marking : Marking} {limits : Limits} {settings : Settings} {last : ℕ
     -- of a player who has left it lacks nothing
     lacks_none : (other : ℕ) → other < limits.players → got (links moment player).node other ≤ (links moment player).node.ran
         → stretch.left other ≡ true → is_absent m other ≡ true
-    lacks_none other below low left =
+    lacks_none other below few left =
         let n = (links moment player).node in
         let known = stretch.known moment player other (omega (arith, inside)) mine stays below left in
         let apart : other ≢ player = λ e. true≢false (sym left ∙ ap stretch.left e ∙ stays) in
         let in_game = lt-ltb other n.players (omega (arith, below, shows.whose.players)) in
-        let end : ends_of m other ≡ Some known.0 = sym (end_is limits player n m shows mine other below
-        ∙ rw (ne_eqb other player apart) refl) ∙ rw in_game known.1.0 in
+        let shown : end_known n other ≡ end_in n other = rw in_game refl in
+        let here : known_end player m other ≡ ends_of m other = let off = ne_eqb other player apart in rw off refl in
+        let end : ends_of m other ≡ Some known.0 =
+        sym here ∙ sym (end_is limits player n m shows mine other below) ∙ sym shown ∙ known.1 in
+        let all = known.2 in
         ap (λ (end : Option ℕ). is_over end (machine.ran m)) end
-        ∙ le-leb known.0 (machine.ran m) (omega (arith, known.1.1, low, shows.table.ran))
+        ∙ le-leb known.0 (machine.ran m) (omega (arith, all, few, shows.table.ran))
 
     waits : WaitsAt links moment player → (other : ℕ) × Plays stretch other
         × (got (links moment player).node other ≤ (links moment player).node.ran)
@@ -277,9 +280,15 @@ module _ {marking : Marking} {limits : Limits} {settings : Settings} {last : ℕ
         let lacks = run_waits limits player m plays (has_given_up (links moment player)) (marks_in marks) other answer in
         let before = has limits player (links moment player).node m shows other lacks.0 in
         let low : got (links moment player).node other ≤ (links moment player).node.ran =
-        omega (arith, lacks.1.0, before, shows.table.ran) in
-        (other, (lacks.0, not_true (stretch.left other) (λ left.
-            true≢false (sym (lacks_none other lacks.0 low left) ∙ lacks.1.1))), low)
+        (let few = lacks.1 in omega (arith, few, before, shows.table.ran)) in (
+          other,
+          (
+            lacks.0,
+            not_true (stretch.left other) (λ left.
+                true≢false (sym (lacks_none other lacks.0 low left) ∙ lacks.2)),
+          ),
+          low,
+        )
       where
         not_true : (test : Bool) → (test ≡ true → ⊥) → test ≡ false
         not_true true none = absurd (none refl)
