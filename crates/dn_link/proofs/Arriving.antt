@@ -73,7 +73,7 @@ pub no_later : (flight : Flight) → told_end (opened_of flight) ≤ end_of flig
 no_later flight = by_kind flight (λ settings is. omega (arith, settings_end flight settings is)) (λ is same. omega (arith, same))
 
 -- nor more than twelve past its start
-short_of : (flight : Flight) → IsFair flight → told_end (opened_of flight) ≤ flight.start + 12
+pub short_of : (flight : Flight) → IsFair flight → told_end (opened_of flight) ≤ flight.start + 12
 short_of flight fair = by_kind flight (λ settings is. omega (arith, settings_end flight settings is))
     (λ is same. let few = words is in omega (arith, same, few))
   where

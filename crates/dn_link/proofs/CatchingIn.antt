@@ -3,7 +3,7 @@ use Rattle.std.proofs.Common.{◌≡◌, ◌≢◌, ◌<◌, ◌≤◌, ◌+◌,
 use Rattle.std.proofs.lemmas.Bool.{and_from, and_parts, and_right, cases_eq, eq-eqb, ne_eqb, leb-true, lt-ltb, ltb-true, true≢false}
 use Rattle.std.specs.Prelude.{◌==◌, if◌then◌else◌, is_some, nat_le, nat_lt, not, slice_index, Result, Ok, Err}
 use Rattle.dn_setup.specs.Settings.{Settings}
-use Rattle.dn_machine.specs.{Limits.Limits, Node.{is_ended, put}}
+use Rattle.dn_machine.specs.{Limits.Limits, Node.{is_ended, put}, Sending.lag}
 use Rattle.dn_machine.proofs.Put.{put_at, put_off}
 use Rattle.dn_lockstep.specs.{Contents.{Contents, end_in}, Marking.Marking, Tables.count_of, Told.{got, made}}
 use Rattle.dn_survivor.specs.{OneGame.{Session, with_survivor}, Surviving.Surviving}
@@ -12,10 +12,10 @@ use Rattle.dn_seal.specs.{declared.seal.Seal.Seal, Opening.Sealing}
 use Rattle.dn_open.specs.Sealed.{sealing_of}
 use Rattle.dn_link.specs.{Linked.{HearsPeer, Linked, PeerState, Receives, ReceivesAs, TakesIn, after_report, certain, done_with, has_given_up, is_peer, met, surviving_of, takes}, Ends.{excludes, left_by}}
 use Rattle.dn_link.specs.{RemainingLinks.{AreRemainingLinks, HasReached, IsGenuineIn, WasGiven, IsLater}, Counting.{has_ended, has_of, held_of, reached, with_end}, Hearing.{ByTest, HearsAll}}
-use Rattle.dn_link.specs.{CaughtUp.{next_to, AreCaughtUp, Brings, HasNoGap, IsCaughtUp, IsInStep, IsInStepTo, IsKeptChain, StayCaughtUp, last_end}, Kept.{IsKeptRising, Unacknowledged, acknowledged}}
+use Rattle.dn_link.specs.{CaughtUp.{next_to, AreCaughtUp, Brings, HasNoGap, IsCaughtUp, IsClose, IsInStep, IsInStepTo, IsKeptChain, StayCaughtUp, last_end}, Kept.{IsKeptRising, Unacknowledged, acknowledged}}
 use Rattle.dn_link.specs.{declared.{bundle.{Bundle.Bundle, BundleFault.BundleFault}, received.Received.{Received, TheVariants.{Excluded, GivenUp, Heard, Stranger}}}, Text.{IsBundle, sealed_bytes}}
 use Rattle.dn_link.specs.{Packets.{heard_in, own_in, packets_in}, Reading.{IsBundledAs, IsDatagramOf}}
-use Rattle.dn_link.proofs.{Makers.{chain_past, HaveNoGaps, ends_of, parts_ask, parts_go}, Reporting.{AreTakenIn, taken_whole}, Arriving.{AreHere, all_hears}, Catching.{ends_on, not_yet, relinked, still}}
+use Rattle.dn_link.proofs.{Makers.{chain_past, close_past, HaveNoGaps, ends_of, parts_ask, parts_go}, Reporting.{AreTakenIn, taken_whole}, Arriving.{AreHere, all_hears}, Catching.{ends_on, not_yet, relinked, still}}
 use Rattle.dn_link.proofs.{Linking.same_bundle, Relinking.still_whole, Together.{AreTogether, together}, Leaving.{at_most_there, unended, parts_heard}, Covered.rises_past}
 use Rattle.dn_machine.specs.declared.answers.Phase.TheVariants as phase
 use Rattle.dn_link.specs.declared.bundle.Relay as relay
@@ -239,6 +239,7 @@ module _ (marking : Marking) (limits : Limits) (settings : Settings) (session : 
         chain : IsKeptChain mid.kept
         there : has_ended (links peer).node ≡ false → mid.kept.done ≤ got (links peer).node player
         more : (old.peers peer).kept.covered ≤ mid.kept.covered
+        close : has_ended (links peer).node ≡ false → IsClose (lag limits) mid.kept.packets (next_to old.node peer)
 
       mid_same : (peer : ℕ) → peer < limits.players → peer ≢ player → (mid : PeerState)
           → mid.kept ≡ (old.peers peer).kept → IsMid peer mid
@@ -250,6 +251,8 @@ module _ (marking : Marking) (limits : Limits) (settings : Settings) (session : 
             there = λ goes_on. let before = was.there goes_on in
                 omega (arith, before, ap (λ (k : Unacknowledged). k.done) same);
             more = omega (arith, ap (λ (k : Unacknowledged). k.covered) same);
+            close = λ goes_on. subst (λ (k : Unacknowledged). IsClose (lag limits) k.packets (next_to old.node peer)) (sym same)
+                (was.close goes_on);
           }
 
       abbrev mid_from : PeerState
@@ -268,6 +271,8 @@ module _ (marking : Marking) (limits : Limits) (settings : Settings) (session : 
                 (let sure = certain_there in omega (arith, sure, ap (λ (n : Contents). got n player) theirs)) in
                 omega (arith, before, less);
             more = omega arith;
+            close = λ goes_on. close_past (lag limits) (old.peers from).kept.packets (next_to old.node from)
+                (done_with left old.node count) (was.close goes_on);
           }
         where
           not_left : has_ended (links from).node ≡ false → (cause : ℕ) → left_by bundle (old.peers from).left ≢ Some cause
@@ -311,6 +316,9 @@ module _ (marking : Marking) (limits : Limits) (settings : Settings) (session : 
                 omega (arith, done, before, has_it, is);
             next = λ goes_on. let before = was.next goes_on in omega (arith, before, mid.more, covered, next);
             least = λ goes_on. let before = was.least goes_on in omega (arith, before, next, came.own);
+            close = λ goes_on. subst (λ (k : Unacknowledged). IsClose (lag limits) k.packets (next_to new.node peer)) (sym kept)
+                (close_past (lag limits) state.kept.packets (next_to new.node peer) (reached new.node peer)
+                (subst (IsClose (lag limits) state.kept.packets) (sym next) (mid.close goes_on)));
           }
         where
           reached_is : (peer : ℕ) → peer < limits.players → reached new.node peer ≡ got new.node peer - limits.ahead

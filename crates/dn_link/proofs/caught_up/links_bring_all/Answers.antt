@@ -3,8 +3,8 @@ use Rattle.dn_link.proofs.caught_up.links_bring_all.Goals as goal
 
 pub returns-clause-given : goal.returns-clause-given
 returns-clause-given c = λ marking limits settings session links player to seal pace new bytes linked
-    were mine below apart in_time near plays full gives few short. brings marking limits settings session links
-    linked player mine were to below apart seal pace new bytes full gives in_time near plays few short
+    were mine below apart twelve near plays full gives. brings marking limits settings session links
+    linked player mine were to below apart seal pace new bytes gives twelve near plays full
 
 pub returns-clause-stay : goal.returns-clause-stay
 returns-clause-stay c = λ limits links later bundle count grown step brings_it. (
