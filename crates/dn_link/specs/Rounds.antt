@@ -58,34 +58,48 @@ pub record AreRounds {marking : Marking} {limits : Limits} {settings : Settings}
   pub later : (round player : ℕ) → suc round < rounds → Plays stretch player
       → waited round player < built (suc round) player
 
--- of the datagrams that a player gives a peer in its rounds from this one on, one of k rounds is taken in by
--- the peer before it waits in its round d later. It is no brief one and no late one; and what comes was sealed in
--- this game in step
+-- datagrams that a player gives a peer, one after the other. From one to the next it makes eleven commands at most, and
+-- at the first one it has made twelve at most from the tic on from which the peer is to be sent them
+pub record Datagrams {marking : Marking} {limits : Limits} {settings : Settings} {last : ℕ}
+    (stretch : Stretch marking limits settings last) (seal : Seal) (player peer : ℕ) : Type 0 where
+  pub count : ℕ
+  pub given : ℕ → ℕ
+  pub pace : ℕ → PaceState
+  pub bytes : ℕ → List ℕ
+  pub inside : (which : ℕ) → which < count → given which < last
+  pub later : (which : ℕ) → suc which < count → given which < given (suc which)
+  pub gives : (which : ℕ) → which < count → Gives seal (pace which) peer (stretch.links (given which) player)
+      (stretch.links (suc (given which)) player) (bytes which)
+  pub first : 0 < count
+      → made (stretch.links (given 0) player).node ≤ next_to (stretch.links (given 0) player).node peer + 12
+  pub few : (which : ℕ) → suc which < count
+      → made (stretch.links (given (suc which)) player).node ≤ made (stretch.links (given which) player).node + 11
+
+-- of these one of k rounds, from this one on, is taken in by the peer before it waits in its round d later. It is no
+-- brief one; and what comes was sealed in this game in step
 pub record Arrives {marking : Marking} {limits : Limits} {settings : Settings} {last : ℕ}
-    {stretch : Stretch marking limits settings last} {count : ℕ} (rounds : AreRounds stretch count) (seal : Seal)
-    (k d first player peer : ℕ) : Type 0 where
+    {stretch : Stretch marking limits settings last} {count : ℕ} (rounds : AreRounds stretch count) {seal : Seal}
+    {player peer : ℕ} (datagrams : Datagrams stretch seal player peer) (k d first : ℕ) : Type 0 where
   pub round : ℕ
-  pub given : ℕ
+  pub which : ℕ
   pub taken : ℕ
-  pub bytes : List ℕ
   pub from : first ≤ round
   pub below : round < first + k
-  pub built : rounds.built round player < given
-  pub comes : given < taken
+  pub one : which < datagrams.count
+  pub built : rounds.built round player < datagrams.given which
+  pub comes : datagrams.given which < taken
   pub waited : taken < rounds.waited (round + d) peer
-  pub pace : PaceState
-  pub gives : Gives seal pace peer (stretch.links given player) (stretch.links (suc given) player) bytes
-  pub full : is_brief pace peer ≡ false
-  pub soon : made (stretch.links given player).node ≤ next_to (stretch.links given player).node peer + 12
-  pub size : length bytes ≤ 1200
+  pub full : is_brief (datagrams.pace which) peer ≡ false
+  pub size : length (datagrams.bytes which) ≤ 1200
   pub answer : Received
-  pub genuine : IsGenuineIn seal (stretch.sessions taken) peer bytes
-  pub in_step : IsInStepTo seal limits (stretch.links taken) peer bytes
-  pub takes : Receives seal bytes (stretch.links taken peer) (stretch.links (suc taken) peer) answer
+  pub genuine : IsGenuineIn seal (stretch.sessions taken) peer (datagrams.bytes which)
+  pub in_step : IsInStepTo seal limits (stretch.links taken) peer (datagrams.bytes which)
+  pub takes : Receives seal (datagrams.bytes which) (stretch.links taken peer) (stretch.links (suc taken) peer) answer
 
 -- the lines between those who play let one datagram of any k rounds through, at most d rounds late
 abbrev pub AreFairLines : {marking : Marking} {limits : Limits} {settings : Settings} {last : ℕ}
     {stretch : Stretch marking limits settings last} {count : ℕ} → AreRounds stretch count → Seal → ℕ → ℕ → Type 0
 AreFairLines {marking} {limits} {settings} {last} {stretch} {count} rounds seal k d =
-    (first player peer : ℕ) → first + k + d ≤ count → Plays stretch player → Plays stretch peer
-    → peer ≢ player → Arrives rounds seal k d first player peer
+    (player peer : ℕ) → Plays stretch player → Plays stretch peer → peer ≢ player
+    → (datagrams : Datagrams stretch seal player peer)
+    × ((first : ℕ) → first + k + d ≤ count → Arrives rounds datagrams k d first)

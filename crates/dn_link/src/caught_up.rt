@@ -139,8 +139,9 @@ pub fn links_bring_all()
 /// of any k rounds, at most d rounds late; it does not matter which, nor what else comes, or comes again. Then
 /// each player runs a tic more in each k + d rounds than all had run. And where k + d is at most the window,
 /// after r rounds each has run at least r + 1 - (k + d) tics more than all had run at first. A round is a
-/// player's own: one command is asked for, and later tics are run until one is waited for. Others may have left
-/// before, if all who play know their ends.
+/// player's own: one command is asked for, and later tics are run until one is waited for. From one datagram that a
+/// player gives another to the next it makes eleven commands at most; so a round may go by without one. Others may have
+/// left before, if all who play know their ends.
 pub fn links_run_on()
     ensures goes_on { (marking : Marking) (limits : Limits) (settings : Settings) (last : ℕ)
         (stretch : Stretch marking limits settings last) (count : ℕ) (rounds : AreRounds stretch count) (seal : Seal)

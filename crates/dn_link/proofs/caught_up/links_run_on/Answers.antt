@@ -6,15 +6,15 @@ use Rattle.dn_tic.specs.declared.{command.TicCmd.TicCmd, input.Input.Input}
 use Rattle.dn_setup.specs.Settings.{Settings}
 use Rattle.dn_machine.specs.{Running.{is_absent, is_awaited, is_over, on_run_in, on_run_playing, full_at, row_held}, Sparing.{first_off_but, on_run_but}, Sending.on_build, Limits.Limits}
 use Rattle.dn_machine.specs.{declared.answers.{Phase.{Phase, TheVariants.Playing}, Ran.Ran}, Node.{ends_of, is_ended, known_end, lowest, put}}
-use Rattle.dn_machine.proofs.{Calls.build_cases, Put.{put_at, put_off}}
+use Rattle.dn_machine.proofs.{Calls.build_cases, Put.{put_at, put_off}, Stages.lag_low}
 use Rattle.dn_lockstep.specs.{Contents.end_in, Marking.Marking, Represents.Represents, Steps.marks_in, Told.{got, made}}
 use Rattle.dn_survivor.specs.{OneGame.Session, Surviving.Surviving}
 use Rattle.dn_lockstep.proofs.Shown.{end_is, has}
 use Rattle.dn_seal.specs.declared.seal.Seal.{Seal}
 use Rattle.dn_open.specs.Sealed.{sealing_of}
-use Rattle.dn_link.specs.{CaughtUp.{AreCaughtUp, Brings, HasGrown, IsInStepTo, last_end}, Rounds.{AreRounds, Arrives, AreFairLines, MakesAt, Plays, Stretch, WaitsAt}, Counting.has_ended, Packets.own_in}
-use Rattle.dn_link.specs.{declared.{bundle.Bundle.Bundle, received.Received.Received}, RemainingLinks.{AreRemainingLinks, IsGenuineIn}, Linked.{Linked, Receives, end_known, has_given_up}, Reading.IsDatagramOf}
-use Rattle.dn_link.proofs.{Bringing.{brings, brings_on}, Leaving.unended, Together.together}
+use Rattle.dn_link.specs.{CaughtUp.{AreCaughtUp, Brings, HasGrown, IsInStepTo, last_end, next_to}, Rounds.{AreRounds, Arrives, AreFairLines, Datagrams, MakesAt, Plays, Stretch, WaitsAt}, Counting.has_ended, Packets.own_in}
+use Rattle.dn_link.specs.{declared.{bundle.Bundle.Bundle, received.Received.Received}, RemainingLinks.{AreRemainingLinks, IsGenuineIn}, Linked.{Gives, Linked, Receives, end_known, has_given_up}, Reading.IsDatagramOf}
+use Rattle.dn_link.proofs.{Bringing.{brings, brings_on, sent}, Leaving.unended, Together.together}
 use Rattle.dn_machine.specs.Node as machine
 use Rattle.dn_link.proofs.RemainingCalls as base
 use Rattle.dn_link.proofs.caught_up.links_run_on.Goals as goal
@@ -360,73 +360,100 @@ module _ {marking : Marking} {limits : Limits} {settings : Settings} {last : ℕ
       omega (arith, next, more.0)) r s less below
 
   -- what a datagram brings that arrives
-  module _ (first player peer : ℕ) (mine : Plays stretch player) (below : Plays stretch peer)
-      (apart : peer ≢ player) (it : Arrives rounds seal k d first player peer) (in_time : it.taken < last) where
-    before : it.given < last
-    before = omega (arith, it.comes, in_time)
+  module _ (player peer : ℕ) (mine : Plays stretch player) (below : Plays stretch peer) (apart : peer ≢ player) where
+    abbrev sent_by : Datagrams stretch seal player peer
+    sent_by = (fair player peer mine below apart).0
 
-    abbrev bundle : Bundle
-    bundle = it.gives.bundle
+    abbrev then_at : ℕ → ℕ
+    then_at = sent_by.given
 
-    was : AreRemainingLinks marking limits settings (stretch.sessions it.given) (at it.given)
-    was = stretch.are it.given (omega (arith, before))
+    was : (which : ℕ) → which < sent_by.count
+        → AreRemainingLinks marking limits settings (stretch.sessions (then_at which)) (at (then_at which))
+    was which inside = stretch.are (then_at which) (let early = sent_by.inside which inside in omega (arith, early))
 
-    own : (at it.given player).node.me ≡ player
-    own = base.own marking limits settings (stretch.sessions it.given) (at it.given) was player mine.0
+    -- none is a late one
+    soon : (which : ℕ) → which < sent_by.count
+        → made (at (then_at which) player).node ≤ next_to (at (then_at which) player).node peer + 12
+    soon zero inside = sent_by.first inside
+    soon (suc which) inside =
+        let before : which < sent_by.count = omega (arith, inside) in
+        let early = sent_by.inside which before in
+        let late = sent_by.inside (suc which) inside in
+        let later = sent_by.later which inside in
+        let goes_on = unfinished stretch (then_at which) peer early below.0 below.1 in
+        let left = sent marking limits settings (stretch.sessions (then_at which)) (at (then_at which)) (was which before)
+        player mine.0 (stretch.caught_up (then_at which) (omega (arith, early))) peer below.0 apart seal
+        (sent_by.pace which) (at (suc (then_at which)) player) (sent_by.bytes which) (sent_by.gives which before) places
+        (soon which before) (stretch.plays (then_at which) player (omega (arith, early)) mine.0 mine.1) goes_on in
+        let up = (grown stretch (then_at (suc which)) (suc (then_at which)) (omega (arith, later))
+        (omega (arith, late))).sends player peer mine.0 below.0 apart
+        (unfinished stretch (suc (then_at which)) peer (omega (arith, later, late)) below.0 below.1) in
+        let few = sent_by.few which inside in
+        omega (arith, left, up, few, lag_low limits)
 
-    brings_then : Brings (made (at it.given player).node) (at it.given) bundle
-    brings_then =
-        let there = brings marking limits settings (stretch.sessions it.given) (at it.given) was player mine.0
-        (stretch.caught_up it.given (omega (arith, before))) peer below.0 apart seal it.pace
-        (at (suc it.given) player) it.bytes it.gives places it.soon
-        (stretch.plays it.given player (omega (arith, before)) mine.0 mine.1) it.full in
-        subst (λ (l : Linked). has_ended l.node ≡ false → made (at it.given player).node ≤ last_end
-        (got l.node bundle.from) (own_in bundle)) (ap (put (at it.given) player (at (suc it.given) player))
-        it.gives.goes ∙ put_off (at it.given) player peer (at (suc it.given) player) apart ∙ ap
-        (at it.given) (sym it.gives.goes)) there
+    module _ (first : ℕ) (it : Arrives rounds sent_by k d first) (in_time : it.taken < last) where
+      abbrev given : ℕ
+      given = then_at it.which
 
-    brings_later : Brings (made (at it.given player).node) (at it.taken) bundle
-    brings_later = brings_on limits (at it.given) (at it.taken) bundle (made (at it.given player).node)
-        (grown stretch it.taken it.given (omega (arith, it.comes)) (omega (arith, in_time)))
-        (omega (arith, it.gives.from, own, mine.0)) (omega (arith, it.gives.goes, below.0)) brings_then
+      abbrev gives : Gives seal (sent_by.pace it.which) peer (at given player) (at (suc given) player) (sent_by.bytes it.which)
+      gives = sent_by.gives it.which it.one
 
-    is_datagram : IsDatagramOf (sealing_of seal peer) it.bytes bundle
-    is_datagram = record {
-      game = game;
-      fits = it.gives.fits;
-      short = it.size;
-      to = it.gives.goes;
-      is = it.gives.is;
-    }
+      before : given < last
+      before = omega (arith, it.comes, in_time)
 
-    all_there : got (at it.given player).node player ≤ got (at (suc it.taken) peer).node player
-    all_there =
-        let has_it = brought (stretch.sessions it.taken) (at it.taken) peer seal it.bytes
-        (at (suc it.taken) peer) it.answer bundle (made (at it.given player).node)
-        (stretch.are it.taken (omega (arith, in_time))) (stretch.caught_up it.taken (omega (arith, in_time))) below.0
-        it.genuine it.in_step it.takes is_datagram
-        (stretch.plays (suc it.taken) peer (omega (arith, in_time)) below.0 below.1) brings_later in
-        let from : bundle.from ≡ player = it.gives.from ∙ own in
-        omega (
-          arith,
-          has_it,
-          ap (λ (n : ℕ). got (at (suc it.taken) peer).node n) from,
-          ap (λ (n : ℕ). got (at it.given player).node n) own,
-        )
+      abbrev bundle : Bundle
+      bundle = gives.bundle
+
+      own : (at given player).node.me ≡ player
+      own = base.own marking limits settings (stretch.sessions given) (at given) (was it.which it.one) player mine.0
+
+      brings_then : Brings (made (at given player).node) (at given) bundle
+      brings_then =
+          let there = brings marking limits settings (stretch.sessions given) (at given) (was it.which it.one) player mine.0
+          (stretch.caught_up given (omega (arith, before))) peer below.0 apart seal (sent_by.pace it.which)
+          (at (suc given) player) (sent_by.bytes it.which) gives places (soon it.which it.one)
+          (stretch.plays given player (omega (arith, before)) mine.0 mine.1) it.full in
+          subst (λ (l : Linked). has_ended l.node ≡ false → made (at given player).node ≤ last_end
+          (got l.node bundle.from) (own_in bundle)) (ap (put (at given) player (at (suc given) player))
+          gives.goes ∙ put_off (at given) player peer (at (suc given) player) apart ∙ ap (at given) (sym gives.goes)) there
+
+      brings_later : Brings (made (at given player).node) (at it.taken) bundle
+      brings_later = brings_on limits (at given) (at it.taken) bundle (made (at given player).node)
+          (grown stretch it.taken given (omega (arith, it.comes)) (omega (arith, in_time)))
+          (omega (arith, gives.from, own, mine.0)) (omega (arith, gives.goes, below.0)) brings_then
+
+      is_datagram : IsDatagramOf (sealing_of seal peer) (sent_by.bytes it.which) bundle
+      is_datagram = record { game = game; fits = gives.fits; short = it.size; to = gives.goes; is = gives.is }
+
+      all_there : got (at given player).node player ≤ got (at (suc it.taken) peer).node player
+      all_there =
+          let has_it = brought (stretch.sessions it.taken) (at it.taken) peer seal (sent_by.bytes it.which)
+          (at (suc it.taken) peer) it.answer bundle (made (at given player).node)
+          (stretch.are it.taken (omega (arith, in_time))) (stretch.caught_up it.taken (omega (arith, in_time))) below.0
+          it.genuine it.in_step it.takes is_datagram
+          (stretch.plays (suc it.taken) peer (omega (arith, in_time)) below.0 below.1) brings_later in
+          let from : bundle.from ≡ player = gives.from ∙ own in
+          omega (
+            arith,
+            has_it,
+            ap (λ (n : ℕ). got (at (suc it.taken) peer).node n) from,
+            ap (λ (n : ℕ). got (at given player).node n) own,
+          )
 
   -- of each other player a player has at its wait what that had made k + d rounds before
   arrives : (s r player peer : ℕ) → r < count → s + (k + d) ≡ suc r → Plays stretch player → Plays stretch peer
       → peer ≢ player
       → got (at (suc (built s player)) player).node player ≤ got (at (waited r peer) peer).node player
   arrives s r player peer below same mine theirs apart =
-      let it = fair s player peer (omega (arith, same, below)) mine theirs apart in
+      let all_sent = fair player peer mine theirs apart in
+      let it = all_sent.1 s (omega (arith, same, below)) in
       let wait_up = waited_up r (it.round + d) peer (omega (arith, it.below, same)) below theirs in
       let ends = (rounds.within r peer below theirs).1 in
       let in_time : it.taken < last = omega (arith, it.waited, wait_up, ends) in
-      let all = all_there s player peer mine theirs apart it in_time in
+      let all = all_there player peer mine theirs apart s it in_time in
       let round_in : it.round < count = omega (arith, it.below, same, below) in
       let from = built_up it.round s player it.from round_in mine in
-      let one = (grown stretch it.given (suc (built s player)) (omega (arith, from, it.built))
+      let one = (grown stretch (all_sent.0.given it.which) (suc (built s player)) (omega (arith, from, it.built))
       (omega (arith, it.comes, in_time))).got player player mine.0 mine.0 in
       let two = (grown stretch (waited r peer) (suc it.taken) (omega (arith, it.waited, wait_up))
       (omega (arith, ends))).got peer player theirs.0 mine.0 in
