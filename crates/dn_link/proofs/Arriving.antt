@@ -140,17 +140,21 @@ module _ (marking : Marking) (limits : Limits) (settings : Settings) (session : 
       let made = made_it follows told free in
       elim (reached_cases (machine.got n flight.from) (machine.ends_of n flight.from)) [
         | inl unknown ↦
-            let run = fits.run q flight.from told.sender unknown.0 in
-            (omega (arith, few, within, sent, own, ahead, back, past, run), (λ exit.
-                let end = (end_is follows told free (ap is_exit exit)).3 in
-                let most = below_made follows told free in
-                let same = exit_end flight exit in
-                absurd (omega (arith, few, same, sent, own, ahead, back, past, run, end, most))))
+            let run = fits.run q flight.from told.sender unknown.0 in (
+              omega (arith, few, within, sent, own, ahead, back, past, run),
+              (λ exit.
+                  let end = (end_is follows told free (ap is_exit exit)).3 in
+                  let most = below_made follows told free in
+                  let same = exit_end flight exit in
+                  absurd (omega (arith, few, same, sent, own, ahead, back, past, run, end, most))),
+            )
         | inr is ↦
-            let count = (follows.ends q flight.from is.0 is.1 free).3 in
-            (omega (arith, within, made, count, is.3), (λ exit.
-                let known_end = ap (with_end (length (n.held flight.from))) is.1 in
-                omega (arith, known_end, made, count, is.3)))
+            let count = (follows.ends q flight.from is.0 is.1 free).3 in (
+              omega (arith, within, made, count, is.3),
+              (λ exit.
+                  let known_end = ap (with_end (length (n.held flight.from))) is.1 in
+                  omega (arith, known_end, made, count, is.3)),
+            )
       ]
 
 module _ (marking : Marking) (limits : Limits) (settings : Settings) (session : Session) (player : ℕ)
