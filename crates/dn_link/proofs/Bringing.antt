@@ -154,13 +154,13 @@ module _ (marking : Marking) (limits : Limits) (settings : Settings) (session : 
         bytes gives in_time goes_on in
         let least = now.least goes_on in
         let chain = subst IsKeptChain is now.chain in
-        let light = fits old.node.me (lag limits) (made old.node) after.done after.packets after.covered (next_to new.node to)
+        let light = fits old.node.me (lag limits) (made old.node) after.done 24 after.packets after.covered (next_to new.node to)
         (lag_low limits) (subst IsKeptRising is now.rising) chain
         (subst (λ (k : Unacknowledged). IsClose (lag limits) k.packets (next_to new.node to)) is (now.close goes_on))
-        sized (omega (arith, least, made_then)) (omega (arith, few, back, done_same kept taken)) in
+        sized (omega (arith, least, made_then)) (omega (arith, few, back, done_same kept taken)) (omega arith) in
         let parts = All-front IsPart gives.own (map handed_part gives.behind.handed)
         (subst (All IsPart) gives.behind.parts gives.fits.parts) in
-        let go = all_go old.node.me after.packets first.0 gives.own packed parts light.0 light.1 in
+        let go = all_go old.node.me after.packets first.0 gives.own packed parts light.0 (omega (arith, light.1)) in
         let ends = chain_goes old.node.me after.done after.packets after.covered chain in
         let before = now.there goes_on in
         let up = last_up after.done (got (links to).node player) (map (opened_from old.node.me) after.packets)

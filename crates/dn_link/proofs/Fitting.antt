@@ -47,11 +47,11 @@ gives_own seal pace to old new bytes gives =
 -- The room for packets.
 
 -- what they take at most, each written as it is
-abbrev weight : List Opened → ℕ
+abbrev pub weight : List Opened → ℕ
 weight [] = 0
 weight (packet ∷ packets) = 11 + length packet.datagram.items + weight packets
 
-weight_on : (one other : List Opened) → weight (one ++ other) ≡ weight one + weight other
+pub weight_on : (one other : List Opened) → weight (one ++ other) ≡ weight one + weight other
 weight_on [] other = omega arith
 weight_on (packet ∷ one) other = omega (arith, weight_on one other)
 
@@ -118,24 +118,24 @@ all_sized given fair from to (packet ∷ packets) all =
         subst (λ (o : Opened). IsSized (record { start = o.start; ask = o.ask; datagram = o.datagram })) (sym is)
         (whole_of flight, omega (arith, short))
 
--- so there is room for what is kept
-pub fits : (from lag made done : ℕ) (packets : List Carried) (covered next : ℕ) → lag ≤ 1
+-- so there is room for what is kept of so many commands
+pub fits : (from lag made done wide : ℕ) (packets : List Carried) (covered next : ℕ) → lag ≤ 1
     → IsRising done packets covered → IsChain done packets covered → IsClose lag packets next → All IsSized packets
-    → next ≤ made - lag → made ≤ done + 24
-    → (length packets ≤ 24) × (weight (map (opened_from from) packets) ≤ 928)
-fits from lag made done [] covered next small rising chain close sized least more = (omega arith, omega arith)
-fits from lag made done (packet ∷ packets) covered next small rising chain close sized least more =
+    → next ≤ made - lag → made ≤ done + wide → 2 ≤ wide
+    → (length packets ≤ wide) × (weight (map (opened_from from) packets) ≤ 35 * wide + 88)
+fits from lag made done wide [] covered next small rising chain close sized least more some = (omega arith, omega arith)
+fits from lag made done wide (packet ∷ packets) covered next small rising chain close sized least more some =
     let most = few done (packet ∷ packets) covered rising in
     let ends = close_end lag done (packet ∷ packets) covered next chain close (omega arith) in
     let light = close_light from lag (packet ∷ packets) next small close sized in
     let one = All-head IsSized packet packets sized in
-    let count : length (packet ∷ packets) ≤ 24 = omega (arith, most, ends, least, more, small) in
-    (count, omega (arith, light, count, one.1, rising.0, least, more))
+    let count : length (packet ∷ packets) ≤ wide = omega (arith, most, ends, least, more, small, some) in
+    (count, omega (arith, light, count, one.1, rising.0, least, more, some))
 
 -- and all of it goes
 pub all_go : (from : ℕ) (packets rest : List Carried) (parts : List Part)
     → (packed : ArePacked from (packets ++ rest) parts) → All IsPart parts → length packets ≤ 24
-    → weight (map (opened_from from) packets) ≤ 928 → length packets ≤ packed.count
+    → weight (map (opened_from from) packets) ≤ 997 → length packets ≤ packed.count
 all_go from packets rest parts packed fit few light = elim (cases_lt packed.count (length packets)) [
   | inl fewer ↦
       let told : List Opened = map (opened_from from) packets in

@@ -32,5 +32,6 @@ pub mod CatchingIn
 pub mod CatchingOut
 pub mod Bringing
 pub mod Fitting
+pub mod Exiting
 pub mod Makers
 pub mod Briefly

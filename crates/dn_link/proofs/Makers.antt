@@ -1,12 +1,12 @@
 -- Packets without a gap, that are kept and that go to a peer; and of several makers, of none of whom there
 -- is a gap.
-use Rattle.std.proofs.Common.{◌≡◌, ◌≤◌, ◌<◌, ◌+◌, ◌*◌, ◌/◌, ◌%◌, ◌^◌, ℕ, zero, suc, Bool, true, false, List, [], ◌∷◌, ◌++◌, length, take, drop, refl, ap, sym, arith, All, inl, inr, ◌&&◌, map, subst, Option, Some, None}
+use Rattle.std.proofs.Common.{◌≡◌, ◌≤◌, ◌<◌, ◌⊎◌, ◌+◌, ◌*◌, ◌/◌, ◌%◌, ◌^◌, ℕ, zero, suc, Bool, true, false, List, [], ◌∷◌, ◌++◌, length, take, drop, refl, ap, sym, arith, All, inl, inr, ◌&&◌, map, subst, Option, Some, None}
 use Rattle.std.proofs.lemmas.{List.{Elements.{All-append, All-cons, All-head, All-nil, All-tail}, length-drop, length-take-le}, Bool.{cases_eq, and_parts, leb-true, leb-false, ltb-true}}
 use Rattle.std.specs.{Prelude.{if◌then◌else◌, max, nat_le, nat_lt}, List.flat_map}
 use Rattle.dn_seal.specs.declared.opened.Opened.{Opened}
 use Rattle.dn_machine.specs.Node.{put}
 use Rattle.dn_machine.proofs.Put.{put_at, put_off}
-use Rattle.dn_link.specs.{Packets.{heard_of, opened_from, packets_of, short_packet, short_packets}, CaughtUp.{IsChain, IsClose, HasNoGap, last_end, told_end, IsKeptChain}}
+use Rattle.dn_link.specs.{Packets.{heard_of, opened_from, packets_of, short_packet, short_packets}, CaughtUp.{HasExit, IsChain, IsClose, HasNoGap, last_end, told_end, IsKeptChain}}
 use Rattle.dn_link.specs.{Kept.{IsRising, Unacknowledged, end_of, going, is_news, kept_after, without}, declared.bundle.{Part.{Part, TheVariants.{Whole, Run, Relay}}, Carried.Carried}}
 use Rattle.dn_link.proofs.{Leaving.{All-back, All-front}, Covered.few}
 use Rattle.dn_link.specs.declared.bundle.Relay as relay
@@ -263,6 +263,24 @@ run_goes player (suc n) start commands long =
     behind tic later [] less goes = tt
     behind tic later (packet ∷ packets) less (low, goes) = (omega (arith, low, less), goes)
 
+-- an EXIT packet of two lists
+exit_front : (from end : ℕ) (one other : List Opened) → HasExit from end one → HasExit from end (one ++ other)
+exit_front from end [] other has = absurd has
+exit_front from end (packet ∷ one) other has =
+    elim has [ inl here ↦ inl here | inr behind ↦ inr (exit_front from end one other behind) ]
+
+pub exit_back : (from end : ℕ) (one other : List Opened) → HasExit from end other → HasExit from end (one ++ other)
+exit_back from end [] other has = has
+exit_back from end (packet ∷ one) other has = inr (exit_back from end one other has)
+
+exit_split : (from end : ℕ) (one other : List Opened) → HasExit from end (one ++ other)
+    → HasExit from end one ⊎ HasExit from end other
+exit_split from end [] other has = inr has
+exit_split from end (packet ∷ one) other has = elim has [
+  | inl here ↦ inl (inl here)
+  | inr behind ↦ elim (exit_split from end one other behind) [ inl first ↦ inl (inr first) | inr last ↦ inr last ]
+]
+
 -- what a part has of its sender's own packets
 abbrev pub own_of : ℕ → Part → List Opened
 own_of = heard_of (λ relay. false)
@@ -329,3 +347,18 @@ module _ (takes : relay.Relay → Bool) (from : ℕ) (first : ℕ → ℕ)
       All-append IsQuiet (heard_of takes from part) (flat_map (heard_of takes from) parts)
       (part_asks part (All-front IsQuiet (own_of from part) (flat_map (own_of from) parts) all))
       (parts_ask parts (All-back IsQuiet (own_of from part) (flat_map (own_of from) parts) all))
+
+  -- and an EXIT packet of the sender is heard
+  pub parts_exit : (end : ℕ) (parts : List Part) → HasExit from end (flat_map (own_of from) parts)
+      → HasExit from end (flat_map (heard_of takes from) parts)
+  parts_exit end [] has = has
+  parts_exit end (part ∷ parts) has = elim (exit_split from end (own_of from part) (flat_map (own_of from) parts) has) [
+    | inl here ↦ exit_front from end (heard_of takes from part) (flat_map (heard_of takes from) parts) (of_part part here)
+    | inr behind ↦ exit_back from end (heard_of takes from part) (flat_map (heard_of takes from) parts)
+        (parts_exit end parts behind)
+  ]
+    where
+      of_part : (part : Part) → HasExit from end (own_of from part) → HasExit from end (heard_of takes from part)
+      of_part (Whole packet) has = has
+      of_part (Run run) has = has
+      of_part (Relay relay) has = absurd has

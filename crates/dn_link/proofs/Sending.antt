@@ -135,7 +135,7 @@ module _ (limits : Limits) (me : ℕ) (node : Node) (to : ℕ) where
   set_up_silent (Some settings) = grind (arith, same_Some)
 
   module _ (most : limits.most ≡ 12) (there : made me node ≤ resend_of node to + limits.places) where
-    first_is : first_sent limits me node to ≡ resend_of node to
+    pub first_is : first_sent limits me node to ≡ resend_of node to
     first_is =
         let test = le-ltb (resend_of node to) (made me node - limits.places) (omega (arith, there)) in rw test refl
 

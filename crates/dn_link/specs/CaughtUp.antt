@@ -4,7 +4,8 @@ use Rattle.dn_seal.specs.{declared.opened.Opened.Opened, declared.seal.Seal.Seal
 use Rattle.dn_machine.specs.{Limits.Limits, Node.put, Sending.lag}
 use Rattle.dn_machine.specs.Node as machine
 use Rattle.dn_lockstep.specs.{Told.got, Told.made, Contents.Contents, Represents.Represents}
-use Rattle.dn_open.specs.Sealed.{sealing_of}
+use Rattle.dn_open.specs.{Arrivals.flag_in, Sealed.sealing_of}
+use Rattle.dn_packet.specs.Flags as flag
 use Rattle.dn_link.specs.{declared.bundle.Bundle.Bundle, declared.bundle.Carried.Carried, Counting.has_ended, Ends.excludes, Kept.IsKeptRising, Kept.Unacknowledged, Kept.end_of, Linked.IsWhole, Linked.Linked, Packets.own_in, Packets.packets_in, Reading.IsDatagramOf, Text.IsBundle, Text.sealed_bytes}
 
 -- from which tic on a peer is to be sent commands: the next packet begins there, unless more were made from
@@ -129,6 +130,13 @@ abbrev pub Brings : ℕ → (ℕ → Linked) → Bundle → Type 0
 Brings count links bundle =
     has_ended (links bundle.to).node ≡ false
     → count ≤ last_end (got (links bundle.to).node bundle.from) (own_in bundle)
+
+-- one of these packets of a player tells that it has left: it is an EXIT packet, and ends at this tic
+abbrev pub HasExit : (from end : ℕ) → List Opened → Type 0
+HasExit from end [] = ⊥
+HasExit from end (packet ∷ packets) =
+    ((packet.from ≡ from) × (told_end packet ≡ end) × (flag_in packet.datagram.items flag.exit ≡ true))
+    ⊎ HasExit from end packets
 
 -- each player has as many commands of each as before, or more; it has run as many tics, or more; its next
 -- packet to a peer that has not ended begins no earlier; and a player who had ended has ended

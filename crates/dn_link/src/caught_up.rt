@@ -1,6 +1,6 @@
 //! That the links of a game are caught up, of which nobody is given up.
 
-ghost use Rattle.std.specs.Prelude.{◌≡◌, ◌≢◌, ◌<◌, ◌≤◌, ◌+◌, ◌*◌, ℕ, ℤ, Bool, false, List, Option, Some, IfSome, length};
+ghost use Rattle.std.specs.Prelude.{◌≡◌, ◌≢◌, ◌<◌, ◌≤◌, ◌+◌, ◌*◌, ℕ, ℤ, Bool, false, true, List, Option, Some, IfSome, length};
 ghost use Rattle.dn_tic.specs.declared.{command.Move.Move, input.Input.Input};
 ghost use Rattle.dn_setup.specs.Settings.{Settings};
 ghost use Rattle.dn_machine.specs.{declared.answers.{Made.Made, Ran.Ran, Phase.TheVariants.Playing}, Limits.Limits, Node.put, Running.on_quit, Sending.lag, Started.started_node};
@@ -8,8 +8,8 @@ ghost use Rattle.dn_lockstep.specs.{Told.{Builds, got, made}, Marking.Marking, S
 ghost use Rattle.dn_survivor.specs.{OfOthers.nothing_kept, OneGame.Session};
 ghost use Rattle.dn_open.specs.Sealed.{sealing_of};
 ghost use Rattle.dn_seal.specs.declared.seal.Seal.{Seal};
-ghost use Rattle.dn_link.specs.{CaughtUp.{Brings, HasGrown, IsInStep, AreCaughtUp, IsInStepTo, StayCaughtUp, WasInStep, next_to}, Kept.{end_of, taken_by}, Reading.IsDatagramOf};
-ghost use Rattle.dn_link.specs.{declared.{bundle.{Bundle.Bundle, Carried.Carried}, received.Received.Received}, RemainingLinks.{AreRemainingLinks, IsGenuineIn}, Counting.has_ended, Linking.new_peer};
+ghost use Rattle.dn_link.specs.{CaughtUp.{Brings, HasExit, HasGrown, IsInStep, AreCaughtUp, IsInStepTo, StayCaughtUp, WasInStep, next_to}, Kept.{end_of, taken_by}, Reading.IsDatagramOf};
+ghost use Rattle.dn_link.specs.{declared.{bundle.{Bundle.Bundle, Carried.Carried}, received.Received.Received}, RemainingLinks.{AreRemainingLinks, IsGenuineIn}, Counting.{has_ended, has_of}, Linking.new_peer, Packets.own_in};
 ghost use Rattle.dn_link.specs.{Rounds.{AreRounds, AreFairLines, Plays, Stretch}, Linked.{Gives, Linked, Receives}, Pacing.PaceState, Surviving.RunsBut};
 ghost use Rattle.dn_link.specs.Pacing.{is_brief};
 
@@ -110,7 +110,8 @@ pub fn caught_up_links_cover()
 /// What arrives brings all. Whatever datagram of one that plays comes to a player that plays, whenever it
 /// comes, and however many others did not, if it is no brief one: the player has then each command that its sender
 /// had made when it gave the datagram. It has room for all; its sender had made at most twelve from the tic on from
-/// which the peer is to be sent them.
+/// which the peer is to be sent them. And where its sender has ended, whose window is eleven at most, the player
+/// knows its end then.
 pub fn links_bring_all()
     ensures given { (marking : Marking) (limits : Limits) (settings : Settings) (session : Session) (links : ℕ → Linked)
         (player to : ℕ) (seal : Seal) (pace : PaceState) (new : Linked) (bytes : List ℕ)
@@ -130,6 +131,21 @@ pub fn links_bring_all()
         → Receives seal bytes (links player) new answer
         → IsDatagramOf (sealing_of seal player) bytes bundle → new.node.phase ≡ Playing
         → Brings count links bundle → count ≤ got new.node bundle.from }
+    ensures exits { (marking : Marking) (limits : Limits) (settings : Settings) (session : Session) (links : ℕ → Linked)
+        (player to : ℕ) (seal : Seal) (pace : PaceState) (new : Linked) (bytes : List ℕ)
+        → AreRemainingLinks marking limits settings session links → AreCaughtUp limits links
+        → player < limits.players → to < limits.players → to ≢ player → 12 ≤ limits.places → limits.ahead ≤ 11
+        → made (links player).node ≤ next_to (links player).node to + 12
+        → has_ended (links player).node ≡ true → has_ended (links to).node ≡ false
+        → is_brief pace to ≡ false → (gives : Gives seal pace to (links player) new bytes)
+        → HasExit player (made (links player).node) (own_in gives.bundle) }
+    ensures learnt { (marking : Marking) (limits : Limits) (settings : Settings) (session : Session) (links : ℕ → Linked)
+        (player : ℕ) (seal : Seal) (bytes : List ℕ) (new : Linked) (answer : Received) (bundle : Bundle) (end : ℕ)
+        → AreRemainingLinks marking limits settings session links → AreCaughtUp limits links → player < limits.players
+        → IsGenuineIn seal session player bytes → IsInStepTo seal limits links player bytes
+        → Receives seal bytes (links player) new answer
+        → IsDatagramOf (sealing_of seal player) bytes bundle → new.node.phase ≡ Playing
+        → HasExit bundle.from end (own_in bundle) → end + 1 ≤ has_of new.node bundle.from }
 {
     remaining_links_go_on();
     bundles_are_read_back();
