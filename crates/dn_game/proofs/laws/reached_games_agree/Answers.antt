@@ -1,4 +1,3 @@
-use Rattle.std.proofs.Common.{refl}
 use Rattle.dn_game.proofs.{Headlines.have_agreed, Standing.window_of, Agreeing.{promised, reached_promised, agreed, applied_steady}}
 use Rattle.dn_machine.specs.Worlds.{rules_of}
 use Rattle.dn_machine.proofs.Games.{always}
@@ -6,9 +5,7 @@ use Rattle.dn_game.proofs.laws.reached_games_agree.Goals as goal
 
 pub returns-clause-headline : goal.returns-clause-headline
 returns-clause-headline g c players extra capacity settings events contents reached =
-    let rules = rules_of g.W.World.physics players extra capacity in
-    let all = (reached_promised _ rules settings events contents reached).1 in
-    have_agreed _ rules settings contents reached.last reached.game all.agree _ all.agreed refl refl
+    have_agreed _ (rules_of g.W.World.physics players extra capacity) settings events contents reached
 
 pub returns-clause-promised : goal.returns-clause-promised
 returns-clause-promised g c players extra capacity settings events =
