@@ -4,7 +4,7 @@ use Rattle.clap.specs.Matches.{found_of}
 use Rattle.clap.specs.Simple.{App, Shape, matches_of, new_shape, subcommand_of, subcommand_rows_of}
 use Rattle.clap.specs.Walk.{Rule, Text, rows_of}
 use Rattle.clap.specs.declared.parser.matches.ArgMatches.{ArgMatches}
-use Rattle.dn_program.specs.Arguments.{file_rule, flag_rule, number_rule, with_default, word_rule}
+use Rattle.dn_program.specs.Arguments.{file_rule, files_rule, flag_rule, number_rule, path_rule, with_default, word_rule}
 
 -- a number with a default
 abbrev pub number : Text → (least greatest : ℤ) → Text → Rule
@@ -48,10 +48,10 @@ abbrev pub script_rule : Rule
 script_rule = record (flag_rule (codes "script")) { is_free = false }
 
 abbrev pub upgrade_rules : List Rule
-upgrade_rules = limit_rule long_limit ∷ []
+upgrade_rules = limit_rule long_limit ∷ path_rule (codes "in") ∷ path_rule (codes "out") ∷ []
 
 abbrev pub sim_rules : List Rule
-sim_rules = game_rules short_limit ++ trace_rule ∷ []
+sim_rules = game_rules short_limit ++ (trace_rule ∷ files_rule ∷ [])
 
 abbrev pub storm_rules : List Rule
 storm_rules =
@@ -117,9 +117,9 @@ bare =
 -- what reads a datagram or a demo
 abbrev pub readers : List Shape
 readers =
-    subcommand (codes "show") []
-    ∷ subcommand (codes "demo") []
-    ∷ subcommand (codes "rows") []
+    subcommand (codes "show") (files_rule ∷ [])
+    ∷ subcommand (codes "demo") (files_rule ∷ [])
+    ∷ subcommand (codes "rows") (files_rule ∷ [])
     ∷ subcommand (codes "upgrade") upgrade_rules ∷ []
 
 -- what plays games in this process and on this machine

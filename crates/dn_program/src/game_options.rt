@@ -4,7 +4,7 @@ ghost use Rattle.std.specs.Prelude.{IfOk, [], ◌∷◌};
 ghost use Rattle.dn_program.specs.{Arguments.HasMore, Commands.choice_rules, Commands.flag_rules, Commands.game_rules, Commands.limit_rule, Commands.script_rule, Commands.seed_rule};
 ghost use Rattle.dn_program.specs.{Commands.short_limit, Commands.sim_rules, Commands.storm_rules, Commands.trace_rule, Commands.upgrade_rules};
 
-use crate::arguments::{Added, switch, with, with_flag, with_number};
+use crate::arguments::{Added, switch, with, with_files, with_flag, with_number, with_path};
 use clap::Command;
 use std::alloc::Global;
 
@@ -27,7 +27,11 @@ fn with_limit<'a>(alloc: Global, command: Command<'a>, default: &'a str) -> Adde
 pub(crate) fn with_upgrade<'a>(alloc: Global, command: Command<'a>) -> Added<'a>
     ensures { IfOk result (HasMore command.entry upgrade_rules) }
 {
-    with_limit(alloc, command, "16777216")
+    let limit = with_limit(alloc, command, "16777216")?;
+    let about = "The demo; standard input, if not given";
+    let input = with_path(alloc, limit, "in", "IN", about)?;
+    let about = "The file that is made for the new demo; standard output, if not given";
+    with_path(alloc, input, "out", "OUT", about)
 }
 
 /// Adds the options of a game that are numbers, but for the limit.
@@ -98,7 +102,8 @@ pub(crate) fn with_sim<'a>(alloc: Global, command: Command<'a>) -> Added<'a>
     ensures { IfOk result (HasMore command.entry sim_rules) }
 {
     let game = with_game(alloc, command)?;
-    with_trace(alloc, game)
+    let trace = with_trace(alloc, game)?;
+    with_files(alloc, trace, "SCRIPT")
 }
 
 /// Adds the options of a storm, a game's among them.

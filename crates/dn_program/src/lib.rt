@@ -5,7 +5,9 @@ mod arguments;
 mod command_line;
 mod ends;
 mod game_options;
+mod inputs;
 pub mod key;
+mod lines;
 mod net_options;
 mod network;
 pub mod options;
@@ -14,5 +16,5 @@ mod say;
 mod screen;
 mod words;
 
-pub use command_line::finish;
+pub use command_line::{Terminals, finish};
 pub use words::matches_of;

@@ -1,10 +1,10 @@
 //! The words of the command line: the subcommands, and how a line of words is read by them.
 
-ghost use Rattle.std.specs.Prelude.{◌≡◌, [], true, false, map, IfOk, IfErr, string_bytes};
-ghost use Rattle.clap.specs.{Simple.app_of, Simple.new_app, Simple.with_subcommand, Takes.takes, Values.kind_of, declared.builder.command.Command.TheViews.out-Command as fields_of, declared.error.kind.ErrorKind.TheVariants.OutOfMemory};
-ghost use Rattle.dn_program.specs.Commands.{IsReadAs, bare, games, netgame, readers, sessions, subcommand, with_subcommands};
+ghost use Rattle.std.specs.Prelude.{◌≡◌, true, false, map, IfOk, IfErr, string_bytes};
+ghost use Rattle.clap.specs.{Simple.app_of, Simple.new_app, Takes.takes, Values.kind_of, declared.builder.command.Command.TheViews.out-Command as fields_of, declared.error.kind.ErrorKind.TheVariants.OutOfMemory};
+ghost use Rattle.dn_program.specs.Commands.{IsReadAs, bare, games, netgame, readers, sessions, with_subcommands};
 
-use crate::arguments::Added;
+use crate::arguments::{Added, with_files};
 use crate::{game_options, net_options};
 use clap::{ArgMatches, Command, Error};
 use std::alloc::Global;
@@ -40,13 +40,6 @@ fn sub<'a>(alloc: Global, name: &'a str, about: &'a str) -> Command<'a>
     Command::new(alloc, name).about(about)
 }
 
-/// Adds a subcommand without options.
-fn add_plain<'a>(alloc: Global, command: Command<'a>, name: &'a str, about: &'a str) -> Added<'a>
-    ensures { IfOk result (λ c. app_of c ≡ with_subcommand (app_of command.entry) (subcommand name.entry.now [])) }
-{
-    command.subcommand(sub(alloc, name, about))
-}
-
 /// What `--version` prints behind the program's name.
 const PROGRAM_VERSION: &str = "1.0.0";
 
@@ -64,9 +57,9 @@ fn program<'a>(alloc: Global) -> Command<'a>
 fn with_readers<'a>(alloc: Global, command: Command<'a>) -> Added<'a>
     ensures { IfOk result (λ c. app_of c ≡ with_subcommands (app_of command.entry) readers) }
 {
-    let show = add_plain(alloc, command, "show", SHOW)?;
-    let demo = add_plain(alloc, show, "demo", DEMO)?;
-    let rows = add_plain(alloc, demo, "rows", ROWS)?;
+    let show = command.subcommand(with_files(alloc, sub(alloc, "show", SHOW), "DATAGRAM")?)?;
+    let demo = show.subcommand(with_files(alloc, sub(alloc, "demo", DEMO), "DEMO")?)?;
+    let rows = demo.subcommand(with_files(alloc, sub(alloc, "rows", ROWS), "DEMO")?)?;
     rows.subcommand(game_options::with_upgrade(alloc, sub(alloc, "upgrade", UPGRADE))?)
 }
 
