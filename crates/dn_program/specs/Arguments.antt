@@ -47,6 +47,10 @@ files_rule =
       range = Some (record { start_inclusive = 1; end_inclusive = usize_max });
     }
 
+-- one file or more, which have to be there
+abbrev pub wads_rule : Rule
+wads_rule = record files_rule { required = true }
+
 -- a command with more arguments
 abbrev pub with_rules : App → List Rule → App
 with_rules app rules = on_top (λ shape. record shape { rules = shape.rules ++ rules }) app

@@ -4,7 +4,7 @@ use Rattle.clap.specs.Matches.{found_of}
 use Rattle.clap.specs.Simple.{App, Shape, matches_of, new_shape, subcommand_of, subcommand_rows_of}
 use Rattle.clap.specs.Walk.{Rule, Text, rows_of}
 use Rattle.clap.specs.declared.parser.matches.ArgMatches.{ArgMatches}
-use Rattle.dn_program.specs.Arguments.{file_rule, files_rule, flag_rule, number_rule, path_rule, with_default, word_rule}
+use Rattle.dn_program.specs.Arguments.{file_rule, files_rule, flag_rule, number_rule, path_rule, wads_rule, with_default, word_rule}
 
 -- a number with a default
 abbrev pub number : Text → (least greatest : ℤ) → Text → Rule
@@ -120,6 +120,7 @@ readers =
     subcommand (codes "show") (files_rule ∷ [])
     ∷ subcommand (codes "demo") (files_rule ∷ [])
     ∷ subcommand (codes "rows") (files_rule ∷ [])
+    ∷ subcommand (codes "lumps") (wads_rule ∷ [])
     ∷ subcommand (codes "upgrade") upgrade_rules ∷ []
 
 -- what plays games in this process and on this machine

@@ -2,7 +2,7 @@
 
 ghost use Rattle.std.specs.Prelude.{◌≡◌, [], ◌∷◌, IfOk, false};
 ghost use Rattle.clap.specs.Walk.{rule_of};
-ghost use Rattle.dn_program.specs.Arguments.{HasMore, files_rule, flag_rule, number_rule, path_rule, with_default, word_rule};
+ghost use Rattle.dn_program.specs.Arguments.{HasMore, files_rule, flag_rule, number_rule, path_rule, wads_rule, with_default, word_rule};
 
 use clap::{Arg, ArgAction, Command, value_parser};
 use std::alloc::{AllocError, Global};
@@ -110,6 +110,17 @@ pub(crate) fn with_files<'a>(alloc: Global, command: Command<'a>, value: &'a str
         .num_args(1..)
         .help("What is read; standard input, if no file is given");
     with(command, files)
+}
+
+/// Adds the WADs that a command reads, of which there has to be one.
+pub(crate) fn with_wads<'a>(alloc: Global, command: Command<'a>) -> Added<'a>
+    ensures { IfOk result (HasMore command.entry (wads_rule ∷ [])) }
+{
+    let files = Arg::new(alloc, "files")
+        .value_name("WAD")
+        .num_args(1..)
+        .required(true);
+    with(command, files.help("What is read"))
 }
 
 /// Adds a flag.

@@ -14,6 +14,9 @@ pub mod options;
 mod runs;
 mod say;
 mod screen;
+mod source;
+mod upgrades;
+mod wads;
 mod words;
 
 pub use command_line::{Terminals, finish};

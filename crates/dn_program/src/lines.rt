@@ -2,7 +2,6 @@
 
 ghost use Rattle.std.specs.Prelude.{◌≤◌, length};
 
-use crate::ends::REFUSED;
 use dn_netgame::RunFault;
 use std::alloc::{AllocError, Global};
 use std::io;
@@ -40,7 +39,7 @@ fn labelled(alloc: Global, label: &str, lines: &[u8]) -> Result<Vec<u8>, AllocEr
     Ok(text)
 }
 
-impl<'a, R: Print + Eprint + AllocGlobal> Lines<'a, R> {
+impl<'a, R: Print + AllocGlobal> Lines<'a, R> {
     /// No lines yet.
     pub(crate) fn new(rt: &'a R, label: Option<&'a str>) -> Self {
         let kept = Vec::new(rt.alloc());
@@ -69,22 +68,19 @@ impl<'a, R: Print + Eprint + AllocGlobal> Lines<'a, R> {
         self.is_closed
     }
 
-    /// Prints the line that was kept back, of a run with this exit status, and answers the status.
-    pub(crate) fn finish(&mut self, path: &str, status: u8) -> Result<u8, RunFault> {
+    /// The line that was kept back.
+    pub(crate) fn last(&self) -> &str {
+        str::from_utf8(&self.kept).unwrap_or("").trim_end()
+    }
+
+    /// Prints the line that was kept back.
+    pub(crate) fn finish(&mut self) -> Result<(), RunFault> {
         let kept = std::mem::replace(&mut self.kept, Vec::new(self.rt.alloc()));
-        if status == REFUSED {
-            let why = str::from_utf8(&kept).unwrap_or("");
-            let _ = eprint!(self.rt; "{path}: {why}");
-            return Ok(status);
-        }
-        match self.print(&kept) {
-            Ok(()) => Ok(status),
-            Err(_) => Err(RunFault::Write),
-        }
+        self.print(&kept).map_err(|_| RunFault::Write)
     }
 }
 
-impl<R: Print + Eprint + AllocGlobal> Write for Lines<'_, R> {
+impl<R: Print + AllocGlobal> Write for Lines<'_, R> {
     fn write(&mut self, text: &[u8]) -> io::Result<usize> {
         self.kept.extend_from_slice(text)?;
         let last = last_line(&self.kept);

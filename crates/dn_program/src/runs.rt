@@ -2,8 +2,10 @@
 
 use crate::command_line::Terminals;
 use crate::ends::MISUSED;
-use crate::inputs::{Reader, Status, run_reader, run_upgrading};
+use crate::inputs::{Reader, Status, run_reader};
 use crate::network::{run_host, run_join, run_key};
+use crate::upgrades::run_upgrading;
+use crate::wads::run_lumps;
 use clap::ArgMatches;
 use dn_game::Nobody;
 use dn_netgame::{RunFault, Script, Storm, Trace, run_loop, run_play, tell_storm};
@@ -92,6 +94,7 @@ pub(crate) fn run<
         Some(("show", given)) => run_reader(rt, input, Reader::Show, given),
         Some(("demo", given)) => run_reader(rt, input, Reader::Demo, given),
         Some(("rows", given)) => run_reader(rt, input, Reader::Rows, given),
+        Some(("lumps", given)) => run_lumps(rt, given),
         Some(("upgrade", given)) => run_upgrading(rt, input, given),
         Some(("sim", given)) => run_reader(rt, input, Reader::Sim, given),
         Some(("storm", given)) => run_schedule(rt, given),

@@ -4,7 +4,7 @@ ghost use Rattle.std.specs.Prelude.{◌≡◌, true, false, map, IfOk, IfErr, st
 ghost use Rattle.clap.specs.{Simple.app_of, Simple.new_app, Takes.takes, Values.kind_of, declared.builder.command.Command.TheViews.out-Command as fields_of, declared.error.kind.ErrorKind.TheVariants.OutOfMemory};
 ghost use Rattle.dn_program.specs.Commands.{IsReadAs, bare, games, netgame, readers, sessions, with_subcommands};
 
-use crate::arguments::{Added, with_files};
+use crate::arguments::{Added, with_files, with_wads};
 use crate::{game_options, net_options};
 use clap::{ArgMatches, Command, Error};
 use std::alloc::Global;
@@ -15,6 +15,8 @@ const SHOW: &str = "Prints the fields of a datagram";
 const DEMO: &str = "Plays a demo and prints where its players end";
 
 const ROWS: &str = "Prints each player's move in each tic of a demo, and where its players end";
+
+const LUMPS: &str = "Lists the demos of WADs";
 
 const UPGRADE: &str = "Writes a demo anew, in version 111";
 
@@ -60,7 +62,8 @@ fn with_readers<'a>(alloc: Global, command: Command<'a>) -> Added<'a>
     let show = command.subcommand(with_files(alloc, sub(alloc, "show", SHOW), "DATAGRAM")?)?;
     let demo = show.subcommand(with_files(alloc, sub(alloc, "demo", DEMO), "DEMO")?)?;
     let rows = demo.subcommand(with_files(alloc, sub(alloc, "rows", ROWS), "DEMO")?)?;
-    rows.subcommand(game_options::with_upgrade(alloc, sub(alloc, "upgrade", UPGRADE))?)
+    let lumps = rows.subcommand(with_wads(alloc, sub(alloc, "lumps", LUMPS))?)?;
+    lumps.subcommand(game_options::with_upgrade(alloc, sub(alloc, "upgrade", UPGRADE))?)
 }
 
 /// Adds what plays games.
