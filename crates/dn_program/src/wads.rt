@@ -4,7 +4,7 @@ use crate::ends::{BROKEN_OFF, MISUSED, REFUSED};
 use crate::inputs::{Status, label_of, worst};
 use crate::source::{complain, complain_of_wad, format_in, read_ahead};
 use clap::ArgMatches;
-use dn_formats::{Lump, lumps, open};
+use dn_watch::{Lump, lumps, open};
 use dn_netgame::RunFault;
 use std::alloc::{AllocError, Global};
 use std::fs;

@@ -1,7 +1,7 @@
 //! WADs: where the lumps of one stand.
 
 ghost use Rattle.std.specs.Prelude.{◌≡◌, ◌≤◌, ◌<◌, ◌+◌, ◌==◌, length, position, IfSome};
-ghost use Rattle.dn_formats.specs.Wads as spec;
+ghost use Rattle.dn_watch.specs.Wads as spec;
 
 /// How many bytes a header has.
 pub const HEADER: usize = 12;

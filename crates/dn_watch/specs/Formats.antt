@@ -2,7 +2,7 @@
 use Rattle.std.specs.Prelude.{ℕ, ◌==◌, ◌&&◌, nat_le, nat_lt, Bool, List, [], ◌∷◌, codes, length, map, slice_index, Option, Some, None, if◌then◌else◌}
 use Rattle.std.specs.List.{starts_with}
 use Rattle.std.specs.Option.{option_or}
-use Rattle.dn_formats.specs.declared.formats.TheConstants.{SIGNATURES, VERSIONS, UNVERSIONED}
+use Rattle.dn_watch.specs.declared.formats.TheConstants.{SIGNATURES, VERSIONS, UNVERSIONED}
 
 abbrev pub Text : Type 0
 Text = List ℕ

@@ -3,8 +3,8 @@ use Rattle.std.specs.Prelude.{ℕ, ◌==◌, ◌||◌, ◌&&◌, nat_le, Bool, L
 use Rattle.byteorder.specs.Endian.{little_number}
 use Rattle.std.specs.List.{starts_with}
 use Rattle.std.specs.Str.{str_eq_ignore_ascii_case}
-use Rattle.dn_formats.specs.declared.wad.Directory.{Directory}
-use Rattle.dn_formats.specs.declared.wad.Lump.{Lump}
+use Rattle.dn_watch.specs.declared.wad.Directory.{Directory}
+use Rattle.dn_watch.specs.declared.wad.Lump.{Lump}
 
 -- the number of four bytes at a place, the low byte first
 abbrev pub number_at : ℕ → List ℕ → ℕ

@@ -1,6 +1,6 @@
 use Rattle.std.proofs.Common.{◌≡◌, length, map}
-use Rattle.dn_formats.specs.Formats.{begun}
-use Rattle.dn_formats.proofs.formats.begun.Given as goal
+use Rattle.dn_watch.specs.Formats.{begun}
+use Rattle.dn_watch.proofs.formats.begun.Given as goal
 
 abbrev pub invariant-loop-table : goal.invariant-loop-table
 invariant-loop-table l =

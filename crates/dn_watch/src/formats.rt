@@ -2,7 +2,7 @@
 
 ghost use Rattle.std.specs.Prelude.{◌≡◌, map};
 ghost use Rattle.std.specs.Option.{option_map};
-ghost use Rattle.dn_formats.specs.Formats as spec;
+ghost use Rattle.dn_watch.specs.Formats as spec;
 
 /// What a format's files begin with, and what they are.
 type Row = (&'static [u8], &'static str);

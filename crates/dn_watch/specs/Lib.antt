@@ -1,0 +1,5 @@
+pub mod Formats
+pub mod Wads
+pub mod Counting
+pub mod Telling
+pub mod Differing

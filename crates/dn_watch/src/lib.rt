@@ -1,0 +1,19 @@
+//! What people ask of demos and of files: what a file is, which lumps a WAD has, and what players did in a demo.
+#![tactic(auto)]
+
+mod difference;
+mod formats;
+mod reading;
+mod tally;
+mod telling;
+mod wad;
+
+pub use difference::{Difference, first_difference};
+pub use formats::format_of;
+pub use reading::{WadFault, lumps, open};
+pub use tally::{Counts, Tally};
+pub use telling::text_of_stats;
+pub use wad::{Directory, ENTRY, HEADER, Lump};
+
+#[cfg(test)]
+mod tests;
