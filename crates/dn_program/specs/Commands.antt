@@ -47,8 +47,16 @@ trace_rule = flag_rule (codes "trace")
 abbrev pub script_rule : Rule
 script_rule = record (flag_rule (codes "script")) { is_free = false }
 
+-- the file that is read, and the file that is made
+abbrev pub path_rules : List Rule
+path_rules = path_rule (codes "in") ∷ path_rule (codes "out") ∷ []
+
 abbrev pub upgrade_rules : List Rule
-upgrade_rules = limit_rule long_limit ∷ path_rule (codes "in") ∷ path_rule (codes "out") ∷ []
+upgrade_rules = limit_rule long_limit ∷ path_rules
+
+-- two demos
+abbrev pub diff_rules : List Rule
+diff_rules = word_rule (codes "one") ∷ word_rule (codes "other") ∷ []
 
 abbrev pub sim_rules : List Rule
 sim_rules = game_rules short_limit ++ (trace_rule ∷ files_rule ∷ [])
@@ -120,8 +128,15 @@ readers =
     subcommand (codes "show") (files_rule ∷ [])
     ∷ subcommand (codes "demo") (files_rule ∷ [])
     ∷ subcommand (codes "rows") (files_rule ∷ [])
-    ∷ subcommand (codes "lumps") (wads_rule ∷ [])
     ∷ subcommand (codes "upgrade") upgrade_rules ∷ []
+
+-- what is asked of demos
+abbrev pub demos : List Shape
+demos =
+    subcommand (codes "stats") (files_rule ∷ [])
+    ∷ subcommand (codes "lumps") (wads_rule ∷ [])
+    ∷ subcommand (codes "diff") diff_rules
+    ∷ subcommand (codes "record") path_rules ∷ []
 
 -- what plays games in this process and on this machine
 abbrev pub games : List Shape
@@ -139,7 +154,7 @@ sessions =
     ∷ subcommand (codes "key") key_rules ∷ []
 
 unfoldable pub netgame : App
-netgame = with_subcommands bare ((readers ++ games) ++ sessions)
+netgame = with_subcommands bare (((readers ++ demos) ++ games) ++ sessions)
 
 -- what is read of a command line is what these words say by the rules of clap: each option's value, of the program
 -- and of the subcommand

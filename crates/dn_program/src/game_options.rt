@@ -1,10 +1,12 @@
 //! The options of a game, and of what is played from a script or a seed.
 
 ghost use Rattle.std.specs.Prelude.{IfOk, [], ◌∷◌};
-ghost use Rattle.dn_program.specs.{Arguments.HasMore, Commands.choice_rules, Commands.flag_rules, Commands.game_rules, Commands.limit_rule, Commands.script_rule, Commands.seed_rule};
+ghost use Rattle.dn_program.specs.{Arguments.HasMore, Commands.choice_rules, Commands.diff_rules, Commands.flag_rules, Commands.game_rules, Commands.limit_rule, Commands.path_rules, Commands.script_rule, Commands.seed_rule};
 ghost use Rattle.dn_program.specs.{Commands.short_limit, Commands.sim_rules, Commands.storm_rules, Commands.trace_rule, Commands.upgrade_rules};
 
-use crate::arguments::{Added, switch, with, with_files, with_flag, with_number, with_path};
+use crate::arguments::{
+    Added, switch, with, with_files, with_flag, with_number, with_path, with_word,
+};
 use clap::Command;
 use std::alloc::Global;
 
@@ -23,15 +25,45 @@ fn with_limit<'a>(alloc: Global, command: Command<'a>, default: &'a str) -> Adde
     with_number(alloc, command, "limit", 1024, 16_777_216, default, about)
 }
 
+/// Adds the file that is read and the file that is made, by what help says of them.
+fn with_paths<'a>(alloc: Global, command: Command<'a>, input: &'a str, output: &'a str) -> Added<'a>
+    ensures { IfOk result (HasMore command.entry path_rules) }
+{
+    let from = with_path(alloc, command, "in", "IN", input)?;
+    with_path(alloc, from, "out", "OUT", output)
+}
+
+/// Adds the files of a recording.
+pub(crate) fn with_record<'a>(alloc: Global, command: Command<'a>) -> Added<'a>
+    ensures { IfOk result (HasMore command.entry path_rules) }
+{
+    let input = "The rows; standard input, if not given";
+    let output = "The file that is made for the demo; standard output, if not given";
+    with_paths(alloc, command, input, output)
+}
+
+/// Adds the two demos of a comparison.
+pub(crate) fn with_diff<'a>(alloc: Global, command: Command<'a>) -> Added<'a>
+    ensures { IfOk result (HasMore command.entry diff_rules) }
+{
+    let one = with_word(alloc, command, "one", "ONE", "A demo")?;
+    with_word(
+        alloc,
+        one,
+        "other",
+        "OTHER",
+        "The demo that it is compared with",
+    )
+}
+
 /// Adds the options of an upgrade.
 pub(crate) fn with_upgrade<'a>(alloc: Global, command: Command<'a>) -> Added<'a>
     ensures { IfOk result (HasMore command.entry upgrade_rules) }
 {
     let limit = with_limit(alloc, command, "16777216")?;
-    let about = "The demo; standard input, if not given";
-    let input = with_path(alloc, limit, "in", "IN", about)?;
-    let about = "The file that is made for the new demo; standard output, if not given";
-    with_path(alloc, input, "out", "OUT", about)
+    let input = "The demo; standard input, if not given";
+    let output = "The file that is made for the new demo; standard output, if not given";
+    with_paths(alloc, limit, input, output)
 }
 
 /// Adds the options of a game that are numbers, but for the limit.

@@ -3,6 +3,7 @@
 
 mod arguments;
 mod command_line;
+mod demos;
 mod ends;
 mod game_options;
 mod inputs;

@@ -28,12 +28,17 @@ fn last_line(text: &[u8]) -> usize
     }
 }
 
-/// The lines, each behind a label.
-fn labelled(alloc: Global, label: &str, lines: &[u8]) -> Result<Vec<u8>, AllocError> {
+/// The lines, each behind a label and what stands between them.
+pub(crate) fn labelled(
+    alloc: Global,
+    label: &str,
+    between: &str,
+    lines: &[u8],
+) -> Result<Vec<u8>, AllocError> {
     let mut text = Vec::new(alloc);
     for line in lines.split_inclusive(|byte| *byte == b'\n') {
         text.extend_from_slice(label.as_bytes())?;
-        text.extend_from_slice(b": ")?;
+        text.extend_from_slice(between.as_bytes())?;
         text.extend_from_slice(line)?;
     }
     Ok(text)
@@ -54,7 +59,9 @@ impl<'a, R: Print + AllocGlobal> Lines<'a, R> {
     /// Prints lines on standard output.
     fn print(&mut self, lines: &[u8]) -> io::Result<()> {
         let printed = match self.label {
-            Some(label) => self.rt.write_all(&labelled(self.rt.alloc(), label, lines)?),
+            Some(label) => self
+                .rt
+                .write_all(&labelled(self.rt.alloc(), label, ": ", lines)?),
             None => self.rt.write_all(lines),
         };
         if let Err(error) = &printed {

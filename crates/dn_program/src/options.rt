@@ -211,3 +211,17 @@ pub fn to<'a>(matches: &ArgMatches<'a>) -> Option<&'a str>
 {
     matches.get_str("out")
 }
+
+/// The first of two demos.
+pub fn one<'a>(matches: &ArgMatches<'a>) -> Option<&'a str>
+    ensures { option_map (λ file. file.now) result ≡ first_value (found_of matches.now) (codes "one") }
+{
+    matches.get_str("one")
+}
+
+/// The second of two demos.
+pub fn other<'a>(matches: &ArgMatches<'a>) -> Option<&'a str>
+    ensures { option_map (λ file. file.now) result ≡ first_value (found_of matches.now) (codes "other") }
+{
+    matches.get_str("other")
+}

@@ -1,6 +1,7 @@
 //! What each subcommand runs, and the exit status.
 
 use crate::command_line::Terminals;
+use crate::demos::{run_diff, run_record, run_stats};
 use crate::ends::MISUSED;
 use crate::inputs::{Reader, Status, run_reader};
 use crate::network::{run_host, run_join, run_key};
@@ -94,6 +95,9 @@ pub(crate) fn run<
         Some(("show", given)) => run_reader(rt, input, Reader::Show, given),
         Some(("demo", given)) => run_reader(rt, input, Reader::Demo, given),
         Some(("rows", given)) => run_reader(rt, input, Reader::Rows, given),
+        Some(("stats", given)) => run_stats(rt, input, given),
+        Some(("diff", given)) => run_diff(rt, given),
+        Some(("record", given)) => run_record(rt, input, given),
         Some(("lumps", given)) => run_lumps(rt, given),
         Some(("upgrade", given)) => run_upgrading(rt, input, given),
         Some(("sim", given)) => run_reader(rt, input, Reader::Sim, given),

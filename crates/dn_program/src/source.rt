@@ -98,7 +98,12 @@ pub(crate) fn format_in(input: &mut impl BufRead) -> Option<&'static str> {
 }
 
 /// Says on standard error why a file was refused and what it is, and answers the exit status.
-pub(crate) fn refuse(rt: &impl Eprint, path: &str, why: &str, format: Option<&'static str>) -> u8 {
+pub(crate) fn refuse<D: Display + Drop>(
+    rt: &impl Eprint,
+    path: &str,
+    why: D,
+    format: Option<&'static str>,
+) -> u8 {
     match format {
         Some(format) => complain(rt, path, format_args!("{why}; it is {format}"), REFUSED),
         None => complain(rt, path, why, REFUSED),

@@ -2,7 +2,7 @@
 
 ghost use Rattle.std.specs.Prelude.{◌≡◌, true, false, map, IfOk, IfErr, string_bytes};
 ghost use Rattle.clap.specs.{Simple.app_of, Simple.new_app, Takes.takes, Values.kind_of, declared.builder.command.Command.TheViews.out-Command as fields_of, declared.error.kind.ErrorKind.TheVariants.OutOfMemory};
-ghost use Rattle.dn_program.specs.Commands.{IsReadAs, bare, games, netgame, readers, sessions, with_subcommands};
+ghost use Rattle.dn_program.specs.Commands.{IsReadAs, bare, demos, games, netgame, readers, sessions, with_subcommands};
 
 use crate::arguments::{Added, with_files, with_wads};
 use crate::{game_options, net_options};
@@ -15,6 +15,12 @@ const SHOW: &str = "Prints the fields of a datagram";
 const DEMO: &str = "Plays a demo and prints where its players end";
 
 const ROWS: &str = "Prints each player's move in each tic of a demo, and where its players end";
+
+const STATS: &str = "Tells how long a demo is, and in how many tics each player did what";
+
+const DIFF: &str = "Tells the first tic in which two demos differ";
+
+const RECORD: &str = "Writes the demo of the lines that rows prints";
 
 const LUMPS: &str = "Lists the demos of WADs";
 
@@ -62,8 +68,17 @@ fn with_readers<'a>(alloc: Global, command: Command<'a>) -> Added<'a>
     let show = command.subcommand(with_files(alloc, sub(alloc, "show", SHOW), "DATAGRAM")?)?;
     let demo = show.subcommand(with_files(alloc, sub(alloc, "demo", DEMO), "DEMO")?)?;
     let rows = demo.subcommand(with_files(alloc, sub(alloc, "rows", ROWS), "DEMO")?)?;
-    let lumps = rows.subcommand(with_wads(alloc, sub(alloc, "lumps", LUMPS))?)?;
-    lumps.subcommand(game_options::with_upgrade(alloc, sub(alloc, "upgrade", UPGRADE))?)
+    rows.subcommand(game_options::with_upgrade(alloc, sub(alloc, "upgrade", UPGRADE))?)
+}
+
+/// Adds what is asked of demos.
+fn with_demos<'a>(alloc: Global, command: Command<'a>) -> Added<'a>
+    ensures { IfOk result (λ c. app_of c ≡ with_subcommands (app_of command.entry) demos) }
+{
+    let stats = command.subcommand(with_files(alloc, sub(alloc, "stats", STATS), "DEMO")?)?;
+    let lumps = stats.subcommand(with_wads(alloc, sub(alloc, "lumps", LUMPS))?)?;
+    let diff = lumps.subcommand(game_options::with_diff(alloc, sub(alloc, "diff", DIFF))?)?;
+    diff.subcommand(game_options::with_record(alloc, sub(alloc, "record", RECORD))?)
 }
 
 /// Adds what plays games.
@@ -90,7 +105,8 @@ fn netgame<'a>(alloc: Global) -> Added<'a>
     ensures { IfOk result (λ c. app_of c ≡ netgame) }
 {
     let readers = with_readers(alloc, program(alloc))?;
-    let games = with_games(alloc, readers)?;
+    let demos = with_demos(alloc, readers)?;
+    let games = with_games(alloc, demos)?;
     with_sessions(alloc, games)
 }
 

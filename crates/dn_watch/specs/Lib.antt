@@ -3,3 +3,4 @@ pub mod Wads
 pub mod Counting
 pub mod Telling
 pub mod Differing
+pub mod Writing
