@@ -21,12 +21,13 @@ const INPUT: &str = "standard input";
 /// The most bytes of a demo that is read.
 const MOST: u64 = 33_554_432;
 
-/// Reads a demo, or says on standard error why there is none and answers the exit status.
-fn demo_in<I: BufRead + Drop>(
+/// Reads the bytes of a demo, which are no more than one may have, and what they are by their front; or says on
+/// standard error why not, and answers the exit status.
+pub(crate) fn bytes_in<I: BufRead + Drop>(
     rt: &(impl Eprint + AllocGlobal),
     path: &str,
     mut input: I,
-) -> Result<Demo, u8> {
+) -> Result<(Vec<u8>, Option<&'static str>), u8> {
     let format = format_in(&mut input);
     let mut bytes = Vec::new(rt.alloc());
     if let Err(error) = input.take(MOST + 1).read_to_end(&mut bytes) {
@@ -35,11 +36,31 @@ fn demo_in<I: BufRead + Drop>(
     if bytes.len() as u64 > MOST {
         return Err(refuse(rt, path, "longer than a demo may be", format));
     }
-    match Demo::from_vec(bytes) {
+    Ok((bytes, format))
+}
+
+/// The demo that was read, or the exit status once standard error says why there is none.
+pub(crate) fn accepted(
+    rt: &impl Eprint,
+    path: &str,
+    demo: Result<Demo, DemoFault>,
+    format: Option<&'static str>,
+) -> Result<Demo, u8> {
+    match demo {
         Ok(demo) => Ok(demo),
         Err(DemoFault::Memory) => Err(complain(rt, path, DemoFault::Memory, BROKEN_OFF)),
         Err(fault) => Err(refuse(rt, path, fault, format)),
     }
+}
+
+/// Reads a demo, or says on standard error why there is none and answers the exit status.
+fn demo_in<I: BufRead + Drop>(
+    rt: &(impl Eprint + AllocGlobal),
+    path: &str,
+    input: I,
+) -> Result<Demo, u8> {
+    let (bytes, format) = bytes_in(rt, path, input)?;
+    accepted(rt, path, Demo::from_vec(bytes), format)
 }
 
 /// Prints a text whose lines may have a label, and answers the exit status.

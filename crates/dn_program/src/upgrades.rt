@@ -1,9 +1,11 @@
 //! What `upgrade` runs: on standard input, or from one file to another.
 
+use crate::demos::{accepted, bytes_in};
 use crate::ends::{BROKEN_OFF, MISUSED, REFUSED};
 use crate::inputs::{Status, hint};
-use crate::source::{complain, format_in, open, refuse};
+use crate::source::{complain, open};
 use clap::ArgMatches;
+use dn_demo::{Demo, UpgradeFault, upgrade};
 use dn_netgame::run_upgrade;
 use std::fs::OpenOptions;
 use std::io::Write;
@@ -40,27 +42,63 @@ pub(crate) fn put(rt: &(impl Files + Print + Eprint), path: Option<&str>, bytes:
     }
 }
 
-/// Upgrades the demo of a file, and answers the exit status.
-fn upgrade_file<R: Files + Print + Eprint + AllocGlobal>(
-    rt: &R,
-    matches: &ArgMatches<'_>,
+/// Says on standard error what an upgrade does with what stands behind the last whole tic.
+fn tell_rest(rt: &impl Eprint, path: &str, demo: &Demo) {
+    let (cut, after) = (demo.cut(), demo.after());
+    if cut > 0 {
+        complain(
+            rt,
+            path,
+            format_args!("commands of a cut tic, left out: {cut}"),
+            0,
+        );
+    }
+    if after > 0 {
+        complain(
+            rt,
+            path,
+            format_args!("bytes behind the end marker, kept: {after}"),
+            0,
+        );
+    }
+}
+
+/// The bytes of an upgraded demo, with what stood behind the marker of the old one; or the exit status.
+fn upgraded(
+    rt: &(impl Eprint + AllocGlobal),
     limit: u32,
     path: &str,
-) -> u8 {
-    let mut input = match open(rt, path) {
-        Ok(input) => input,
-        Err(status) => return status,
-    };
-    let format = format_in(&mut input);
-    let mut bytes = Vec::new(rt.alloc());
-    match run_upgrade(rt.alloc(), limit, &mut input, &mut bytes) {
-        Ok(0) => put(rt, crate::options::to(matches), &bytes),
-        Ok(_) => {
-            let why = str::from_utf8(&bytes).unwrap_or("").trim_end();
-            refuse(rt, path, why, format)
+    bytes: &[u8],
+    demo: &Demo,
+) -> Result<Vec<u8>, u8> {
+    let recorder = match upgrade(rt.alloc(), demo, limit) {
+        Ok(recorder) => recorder,
+        Err(UpgradeFault::Memory) => {
+            return Err(complain(rt, path, UpgradeFault::Memory, BROKEN_OFF));
         }
-        Err(fault) => complain(rt, path, fault, BROKEN_OFF),
+        Err(fault) => return Err(complain(rt, path, fault, REFUSED)),
+    };
+    let behind = &bytes[bytes.len().saturating_sub(demo.after())..];
+    let Ok(mut text) = Vec::from_slice(rt.alloc(), recorder.bytes()) else {
+        return Err(complain(rt, path, UpgradeFault::Memory, BROKEN_OFF));
+    };
+    match text.extend_from_slice(behind) {
+        Ok(()) => Ok(text),
+        Err(fault) => Err(complain(rt, path, fault, BROKEN_OFF)),
     }
+}
+
+/// The bytes of the upgraded demo of a file, or the exit status.
+fn upgraded_file<R: Files + Eprint + AllocGlobal>(
+    rt: &R,
+    limit: u32,
+    path: &str,
+) -> Result<Vec<u8>, u8> {
+    let (bytes, format) = bytes_in(rt, path, open(rt, path)?)?;
+    let demo = accepted(rt, path, Demo::read(rt.alloc(), &bytes), format)?;
+    let text = upgraded(rt, limit, path, &bytes, &demo)?;
+    tell_rest(rt, path, &demo);
+    Ok(text)
 }
 
 /// Runs `upgrade`, and answers the exit status.
@@ -73,7 +111,10 @@ pub(crate) fn run_upgrading<R: Files + Input + Print + Eprint + AllocGlobal>(
         return Ok(MISUSED);
     };
     if let Some(path) = crate::options::from(matches) {
-        return Ok(upgrade_file(rt, matches, limit, path));
+        return match upgraded_file(rt, limit, path) {
+            Ok(bytes) => Ok(put(rt, crate::options::to(matches), &bytes)),
+            Err(status) => Ok(status),
+        };
     }
     hint(rt, from_terminal);
     run_upgrade(rt.alloc(), limit, &mut rt.reader(), &mut io::writer(rt))
