@@ -190,15 +190,14 @@ module _ {W S : Type 0} (state : W → S) (rules : Rules S) (g : Contents W) (m 
   few = elim (cases_lt 0 rules.players) [
     | inl some ↦
         let first = there_is g.nodes 0 (omega (arith, some, r.players)) in
-        let its = (r.nodes 0 first.0 first.1).lockstep.whose.players in
-        omega (arith, its, first.0.lockstep.few)
+        (r.nodes 0 first.0 first.1).seat.few
     | inr none ↦ omega arith
   ]
 
   pub short : 0 < rules.players → rules.capacity ≤ tic_limit
   short some =
       let first = there_is g.nodes 0 (omega (arith, some, r.players)) in
-      omega (arith, (r.nodes 0 first.0 first.1).lockstep.whose.capacity, first.0.lockstep.short)
+      (r.nodes 0 first.0 first.1).seat.short
 
   -- one node
   module _ (i : ℕ) (n : node.Contents W) (at : HasNode g i n) where

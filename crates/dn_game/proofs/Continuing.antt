@@ -49,7 +49,7 @@ module _ {W S : Type 0} (state : W → S) (rules : Rules S) (settings : Settings
     short : 2 ≤ rules.players → rules.capacity ≤ tic_limit
     short several =
         let at = node_of 0 (omega arith) in
-        omega (arith, at.2.lockstep.whose.capacity, at.0.lockstep.short)
+        at.2.seat.short
 
     room_of : IsKept rules settings m → (tics most : ℕ) → HasRoom rules.capacity g tics most
         → machine.HasRoom rules m tics most

@@ -1,89 +1,91 @@
 -- What was promised of a game says the headline, by what its nodes show.
-use Rattle.std.proofs.Common.{◌≡◌, ◌<◌, ◌≤◌, ◌+◌, ℕ, true, false, List, length, Some, ap, sym, ◌∙◌, arith}
-use Rattle.std.specs.{Prelude.{fold, nat_lt, ◌||◌}}
-use Rattle.std.proofs.lemmas.{List.take_all, Option.same_Some}
+use Rattle.std.proofs.Common.{◌≡◌, ◌≢◌, ℕ, true, List, [], length, Some, ap, refl, sym, ◌∙◌, arith}
+use Rattle.std.specs.Prelude.{fold, nat_lt, ◌||◌, slice_get}
 use Rattle.dn_setup.specs.Settings.{Settings, start_of}
 use Rattle.dn_demo.specs.{Layout.long_tics, Text.demo_text}
-use Rattle.dn_machine.specs.{declared.answers.Phase.Phase, Node.is_ended, Headline.{Shown, whole_rows}, Promise.Agree, Worlds.{Inputs, Rules, opening, world_after}}
-use Rattle.dn_lockstep.specs.{Agreed.recorded, Rows.seats_of, Told.{HasStarted, got, made}}
-use Rattle.dn_lockstep.proofs.Shown.{started}
-use Rattle.dn_node.specs.Contents.{locked}
-use Rattle.dn_game.specs.{Agreed.{AreAgreed, HasNode, lockstep_in, lockstep_at}, Contents.{Contents, Represents}, Headline.{HaveAgreed, Shows}}
-use Rattle.dn_machine.specs.Game as machine
+use Rattle.dn_machine.specs.{declared.events.Event.Event, Headline.{Shown, whole_rows}, Limits.Limits, Worlds.{Rules, opening}}
+use Rattle.dn_machine.specs.Node.{Node, got, is_ended}
+use Rattle.dn_machine.proofs.{Games.always, Invariant.IsKept}
+use Rattle.dn_machine.proofs.Promises
+use Rattle.dn_lockstep.specs.{Agreed.recorded, Rows.seats_of}
+use Rattle.dn_lockstep.proofs.Shown.{has, started}
+use Rattle.dn_node.specs.{Contents.{contents, locked}, Kept.Kept}
 use Rattle.dn_node.specs.Contents as node
+use Rattle.dn_node.proofs.Running.{world_played}
+use Rattle.dn_game.specs.{Agreed.{lockstep_in, lockstep_at}, Contents.Contents, Headline.{HaveAgreed, Shows, recorded_in}, Promised.IsReached}
+use Rattle.dn_game.proofs.Standing.{window_of}
 use Rattle.dn_game.proofs.Agreeing as agreeing
 
-module _ {W S : Type 0} (state : W → S) (rules : Rules S) (settings : Settings) (g : Contents W)
-    (m : machine.Game) (r : Represents state rules g m) (agree : Agree rules settings m) where
-  abbrev pub shown_at : ℕ → Shown ℕ
+-- A node shows what the machine's node has that it represents.
+
+module _ {W S : Type 0} (state : W → S) (rules : Rules S) (settings : Settings) (me : ℕ) (n : Kept W) (m : Node)
+    (r : node.Represents state rules me (contents n) m) (chosen : m.played ≡ true → m.settings ≡ Some settings) where
+  pub plays : n.demo.bytes ≢ [] → m.played ≡ true
+  plays begun = started rules.limits me (locked (contents n)) m r.lockstep begun
+
+  world_is : n.demo.bytes ≢ [] → state n.world ≡ fold rules.physics.step (opening rules settings) m.rows
+  world_is begun = world_played state rules me (contents n) m settings r (plays begun) (chosen (plays begun))
+
+  text_is : n.demo.bytes ≢ []
+      → n.demo.bytes ≡ demo_text long_tics (start_of settings) me (seats_of rules.players)
+      (whole_rows rules.players m.rows)
+      (is_ended n.phase || nat_lt (length (whole_rows rules.players m.rows)) n.ran)
+  text_is begun = let played = plays begun in let known = chosen played in grind arith
+
+  pub shows : rules.limits.places ≡ 12 → (demo : List ℕ) → demo ≡ recorded_in n.demo.bytes
+      → Shows state rules.physics settings rules.players me n
+      (record { phase = m.phase; rows = m.rows; got = got m; demo = demo })
+  shows twelve demo is = record {
+    phase = sym r.lockstep.stands.phase;
+    ran = sym r.lockstep.table.ran;
+    got = λ p below. sym (has rules.limits me (locked (contents n)) m r.lockstep p below);
+    places = r.lockstep.whose.places ∙ twelve;
+    demo = is;
+    world = world_is;
+    rows = text_is;
+  }
+
+-- Whatever events led to a game, its nodes have agreed.
+
+module _ {W S : Type 0} (state : W → S) (rules : Rules S) (settings : Settings) (events : List Event) (g : Contents W)
+    (r : IsReached state rules settings events g) where
+  abbrev shown_at : ℕ → Shown ℕ
   shown_at i = record {
-    phase = (lockstep_at g i).phase;
-    rows = (m.nodes i).rows;
-    got = got (lockstep_at g i);
+    phase = (r.last.nodes i).phase;
+    rows = (r.last.nodes i).rows;
+    got = got (r.last.nodes i);
     demo = recorded (lockstep_at g i);
   }
 
-  module _ (i : ℕ) (n : node.Contents W) (at : HasNode g i n) where
-    its : lockstep_at g i ≡ locked n
-    its = ap lockstep_in at.1 ∙ ap (λ (c : node.Contents W). locked c) (sym at.2)
+  five : rules.limits.ahead ≡ 5
+  five = ap (λ (l : Limits). l.ahead) r.game.vanilla
 
-    shown : node.Represents state rules i n (m.nodes i)
-    shown = agreeing.shown state rules g m r i n at
+  twelve : rules.limits.places ≡ 12
+  twelve = ap (λ (l : Limits). l.places) r.game.vanilla
 
-    below : i < rules.players
-    below = agreeing.inside state rules g m r i n at
+  kept : IsKept rules settings r.last
+  kept = always rules settings (window_of rules.limits r.game.vanilla) events r.last r.run
 
-    module _ (begun : HasStarted (locked n)) where
-      played : (m.nodes i).played ≡ true
-      played = started rules.limits i (locked n) (m.nodes i) shown.lockstep begun
+  recorded_there : (i : ℕ) (n : Kept W) → slice_get g.nodes i ≡ Some n
+      → recorded (lockstep_at g i) ≡ recorded_in n.demo.bytes
+  recorded_there i n at = ap recorded (ap lockstep_in at)
 
-      chosen : (m.nodes i).settings ≡ Some settings
-      chosen = agree.settings_same i below played
-
-      world_is : state n.world ≡ fold rules.physics.step (opening rules settings) (m.nodes i).rows
-      unfolding world_after
-      world_is = grind (arith, same_Some, shown, played, chosen, take_all)
-
-    -- the text of its demo, where it stands so and ran so many tics
-    abbrev closes : Phase → ℕ → List ℕ
-    closes phase tics = demo_text long_tics (start_of settings) i (seats_of rules.players)
-        (whole_rows rules.players (m.nodes i).rows)
-        (is_ended phase || nat_lt (length (whole_rows rules.players (m.nodes i).rows)) tics)
-
-    shows : rules.limits.places ≡ 12 → Shows state rules.physics settings rules.players i n (shown_at i)
-    shows twelve = grind (arith, its, shown, world_is, played, chosen)
-
-  module _ (inputs : Inputs) (agreed : AreAgreed state rules settings inputs g) (five : rules.limits.ahead ≡ 5)
-      (twelve : rules.limits.places ≡ 12) where
-    ran_is : (q : ℕ) → q < rules.players → (lockstep_at g q).ran ≡ length (m.nodes q).rows
-    ran_is q k = (agreeing.its_lockstep state rules g m r q k).table.ran
-
-    own : (p : ℕ) → p < rules.players → made (lockstep_at g p) ≡ got (lockstep_at g p) p
-    own p k = ap (got (lockstep_at g p)) (agreed.locksteps.numbers p k)
-
-    unread : (q p : ℕ) → q < rules.players → p < rules.players
-        → got (lockstep_at g q) p ≤ length (m.nodes q).rows + 10
-    unread q p k l = grind (arith, its, ran_is)
-
-    lacked : (q p : ℕ) → q < rules.players → p < rules.players → is_ended (lockstep_at g q).phase ≡ false
-        → got (lockstep_at g p) p ≤ got (lockstep_at g q) p + 10
-    lacked q p k l goes_on = grind (arith, its, own)
-
-    ahead : (p : ℕ) → p < rules.players → got (lockstep_at g p) p ≤ length (m.nodes p).rows + 5
-    ahead p k = grind (arith, its, ran_is, own)
-
-    pub have_agreed : HaveAgreed state rules.physics settings rules.players g
-    have_agreed = record {
-      places = r.players;
-      shown = shown_at;
-      nodes = λ i n at. shows i n at twelve;
-      headline = record {
-        same = λ q s tic two k l. agree.same q s tic two.0 two.1 k l;
-        ring = omega arith;
-        unread = unread;
-        lacked = λ q p two goes_on. lacked q p two.0 two.1 goes_on;
-        ahead = ahead;
-        consistent = λ q player was should k. agreed.locksteps.consistent q player was should k;
-        demos = agreed.locksteps.demos.prefixes;
-      };
-    }
+  pub have_agreed : HaveAgreed state rules.physics settings rules.players g
+  have_agreed =
+      let all = Promises.headline rules settings r.last kept in
+      record {
+        places = r.game.players;
+        shown = shown_at;
+        nodes = λ i n at. shows state rules settings i n (r.last.nodes i) (r.game.nodes i n at)
+            (kept.sound i (agreeing.inside state rules g r.last r.game i (contents n) (n, at, refl))).played twelve
+            (recorded (lockstep_at g i)) (recorded_there i n at);
+        headline = record {
+          same = all.same;
+          ring = omega arith;
+          unread = λ q p k l. omega (arith, all.unread q p k l, five);
+          lacked = λ q p two goes_on. omega (arith, all.lacked q p two goes_on, five);
+          ahead = λ p k. omega (arith, all.ahead p k, five);
+          consistent = all.consistent;
+          demos = (agreeing.agreed state rules settings events g r).locksteps.demos.prefixes;
+        };
+      }

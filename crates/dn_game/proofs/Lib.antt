@@ -14,3 +14,4 @@ pub mod Arriving
 pub mod Continuing
 pub mod Observed
 pub mod Leading
+pub mod Shown

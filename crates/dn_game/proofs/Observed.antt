@@ -3,10 +3,10 @@ use Rattle.std.proofs.Common.{◌≡◌, ◌+◌, ℕ, List, [], ◌∷◌, ◌+
 use Rattle.std.specs.Prelude.{count_by, is_ok, is_err}
 use Rattle.rand_pcg.specs.Lcg.{Lcg}
 use Rattle.dn_setup.specs.Settings.{Settings}
-use Rattle.dn_machine.specs.{declared.events.Done.Done, declared.events.Event.Event, declared.events.Refusal.Refusal, Game.{Game, opening_game, refused}, Limits.Limits, Promise.Agree, Worlds.{Inputs, Rules}}
-use Rattle.dn_game.specs.{Applied.IsApplied, Agreed.AreAgreed, Contents.{contents, Represents}, Played.{Answers, Plays, IsPlayed}, Schedule.{behind_three, generator_of, scheduled}, Stormed.{Follows, IsStormed}, declared.played.Played.Played}
+use Rattle.dn_machine.specs.{declared.events.Done.Done, declared.events.Event.Event, declared.events.Refusal.Refusal, Game.{Game, opening_game, refused}, Worlds.Rules}
+use Rattle.dn_game.specs.{Applied.IsApplied, Contents.{contents}, Played.{Answers, Plays, IsPlayed}, Schedule.{behind_three, generator_of, scheduled}, Stormed.{Follows, IsStormed}, declared.played.Played.Played}
 use Rattle.dn_game.specs.{Headline.HaveAgreed, Observed.{Observing, ObservesAll}}
-use Rattle.dn_game.proofs.{Answering.{answers_one, counts_more}, Agreeing.promised, Headlines.have_agreed}
+use Rattle.dn_game.proofs.{Answering.{answers_one, counts_more, plays_leads}, Headlines.have_agreed}
 
 -- One event more of a schedule.
 
@@ -84,24 +84,23 @@ module _ {L : Type 0} (observes : Observing L) where
 
 -- and what it was told of led to games that agree
 module _ {W S : Type 0} (state : W → S) (rules : Rules S) (settings : Settings) (played : Played W) where
-  -- in the window of 1997
-  agrees : (last : Game) (r : Represents state rules (contents played.game) last) → Agree rules settings last
-      → (inputs : Inputs) → AreAgreed state rules settings inputs (contents played.game)
-      → HaveAgreed state rules.physics settings rules.players (contents played.game)
-  agrees last r agree inputs agreed =
-      have_agreed state rules settings (contents played.game) last r agree inputs agreed
-      (ap (λ (l : Limits). l.ahead) r.vanilla) (ap (λ (l : Limits). l.places) r.vanilla)
-
   pub played_agrees : (events : List Event) → IsPlayed state rules settings events played
       → HaveAgreed state rules.physics settings rules.players (contents played.game)
   played_agrees events run =
-      let all = promised state rules settings events run.answers run.last (contents played.game) run.plays run.game in
-      agrees run.last run.game all.agree _ all.agreed
+      have_agreed state rules settings events (contents played.game) (record {
+        last = run.last;
+        run = plays_leads rules events run.answers (opening_game settings) run.last run.plays;
+        game = run.game;
+      })
 
   pub stormed_agrees : (seed count : ℕ) → IsStormed state rules settings seed count played
       → HaveAgreed state rules.physics settings rules.players (contents played.game)
   stormed_agrees seed count run =
-      let all = promised state rules settings run.events run.answers run.last (contents played.game)
-      (follows_plays rules (generator_of seed) run.events run.answers run.rest (opening_game settings) run.last
-      run.follows) run.game in
-      agrees run.last run.game all.agree _ all.agreed
+      let plays = follows_plays rules (generator_of seed) run.events run.answers run.rest (opening_game settings)
+      run.last
+      run.follows in
+      have_agreed state rules settings run.events (contents played.game) (record {
+        last = run.last;
+        run = plays_leads rules run.events run.answers (opening_game settings) run.last plays;
+        game = run.game;
+      })

@@ -54,11 +54,18 @@ module _ {W S : Type 0} (state : W → S) (rules : Rules S) (g : Contents W) (m 
       → node.Represents state rules i (node.contents n) (m.nodes i)
   node_at i n h is = r.nodes i n (slice_get_read g.nodes (length g.nodes) i n refl h is)
 
+  -- its number is one of its players
+  its_own : (i : ℕ) (n : Node W) → i < length g.nodes → n ≡ slice_index_or g.nodes i n
+      → (node.contents n).me < (node.contents n).players
+  its_own i n h is =
+      let its = node_at i n h is in
+      omega (arith, its.seat.below, its.lockstep.whose.number, its.lockstep.whose.players)
+
   -- and has made as many commands
   pub made_at : (i count : ℕ) (n : Node W) → i < length g.nodes → n ≡ slice_index_or g.nodes i n
       → count ≡ count_of (node.contents n).rings (node.contents n).me → count ≡ made i (m.nodes i)
   made_at i count n h is c = c ∙ made_is rules.limits i (node.locked (node.contents n)) (m.nodes i)
-      (node_at i n h is).lockstep n.lockstep.me_below
+      (node_at i n h is).lockstep (its_own i n h is)
 
   -- a packet that was sent is that of a flight
   pub flight_at : (which : ℕ) → which < length g.flights → (flight : exact.Flight)

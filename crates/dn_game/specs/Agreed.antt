@@ -13,7 +13,7 @@ use Rattle.dn_lockstep.specs.Tables.{slot, ring_at}
 use Rattle.dn_lockstep.specs.Agreed as agreement
 use Rattle.dn_lockstep.specs.Agreed.{rows_made, demo_made}
 use Rattle.dn_lockstep.specs.Told.{HasStarted, command_told}
-use Rattle.dn_node.specs.declared.node.Node.{Node}
+use Rattle.dn_node.specs.Kept.{Kept}
 use Rattle.dn_node.specs.Contents as node
 use Rattle.dn_node.specs.Contents.{locked}
 use Rattle.dn_game.specs.Contents.{Contents}
@@ -22,7 +22,7 @@ use Rattle.dn_game.specs.Contents.{Contents}
 
 -- a game has this node in this place
 abbrev pub HasNode : {W : Type 0} → Contents W → ℕ → node.Contents W → Type 0
-HasNode {W} g place n = (one : Node W) × (slice_get g.nodes place ≡ Some one) × (n ≡ node.contents one)
+HasNode {W} g place n = (one : Kept W) × (slice_get g.nodes place ≡ Some one) × (n ≡ node.contents one)
 
 -- a lockstep of no game: what stands where a game has no node
 abbrev pub no_lockstep : lockstep.Contents
@@ -46,7 +46,7 @@ no_lockstep =
       demo = record { limit = 0; stage = Blank; bytes = [] };
     }
 
-abbrev pub lockstep_in : {W : Type 0} → Option (Node W) → lockstep.Contents
+abbrev pub lockstep_in : {W : Type 0} → Option (Kept W) → lockstep.Contents
 lockstep_in None = no_lockstep
 lockstep_in (Some one) = locked (node.contents one)
 

@@ -5,14 +5,14 @@ use Rattle.dn_machine.specs.Game as machine
 use Rattle.dn_machine.specs.Limits.{Limits, vanilla_limits}
 use Rattle.dn_machine.specs.Worlds.{Rules}
 use Rattle.dn_lockstep.specs.Sent.{IsFair, aim_of, bytes_of}
-use Rattle.dn_node.specs.declared.node.Node.{Node}
+use Rattle.dn_node.specs.Kept.{Kept}
 use Rattle.dn_node.specs.Contents as node
 use Rattle.dn_game.specs.declared.flight.Flight.{Flight}
 use Rattle.dn_game.specs.declared.game.Game.{Game}
 
 pub record Contents (W : Type 0) : Type 0 where
   -- the nodes in the order of their numbers
-  pub nodes : List (Node W)
+  pub nodes : List (Kept W)
   -- by number, who has stopped
   pub stopped : List Bool
   -- every packet that was sent, in order
@@ -47,7 +47,7 @@ pub record Represents {W S : Type 0} (state : W → S) (rules : Rules S) (g : Co
   pub players : length g.nodes ≡ rules.players
   pub vanilla : IsVanilla rules.limits
   -- each node represents the machine's node of its number
-  pub nodes : (i : ℕ) (n : Node W) → slice_get g.nodes i ≡ Some n
+  pub nodes : (i : ℕ) (n : Kept W) → slice_get g.nodes i ≡ Some n
       → node.Represents state rules i (node.contents n) (m.nodes i)
   -- the same have stopped
   pub stopped : (i : ℕ) → slice_index_or g.stopped i false ≡ m.stopped i

@@ -1,37 +1,39 @@
 -- The headline of a game that was played, by what the readers of its nodes return. It speaks of no packet, no event
 -- and no answer: what these do is said in `Promised`.
-use Rattle.std.specs.Prelude.{◌≡◌, ◌<◌, ℕ, ◌||◌, fold, length, nat_lt}
+use Rattle.std.specs.Prelude.{◌≡◌, ◌≢◌, ◌<◌, ◌*◌, ℕ, [], List, ◌||◌, fold, length, nat_lt, take, drop, slice_get, Some}
 use Rattle.dn_setup.specs.Settings.{Settings, start_of}
 use Rattle.dn_world.specs.Physics.{Physics}
-use Rattle.dn_demo.specs.Layout.{long_tics}
-use Rattle.dn_demo.specs.Text.{demo_text}
+use Rattle.dn_demo.specs.Layout.{long_tics, command_size}
+use Rattle.dn_demo.specs.Places.{commands_in}
+use Rattle.dn_demo.specs.Text.{demo_text, header_size}
 use Rattle.dn_machine.specs.Headline.{Headline, Shown, ran_by, whole_rows}
 use Rattle.dn_machine.specs.Node.{is_ended}
-use Rattle.dn_lockstep.specs.Agreed.{recorded}
+use Rattle.dn_lockstep.specs.Tables.{ring_at}
 use Rattle.dn_lockstep.specs.Rows.{seats_of}
-use Rattle.dn_lockstep.specs.Told.{HasStarted, got}
-use Rattle.dn_node.specs.Contents as node
-use Rattle.dn_node.specs.Contents.{locked}
+use Rattle.dn_node.specs.Kept.{Kept}
 use Rattle.dn_game.specs.Contents.{Contents}
-use Rattle.dn_game.specs.Agreed.{HasNode}
+
+-- the commands of a demo: what stands behind the header in whole commands, so without the marker of a closed one
+abbrev pub recorded_in : List ℕ → List ℕ
+recorded_in demo = take (command_size long_tics * commands_in long_tics demo) (drop header_size demo)
 
 -- A node of a game of these settings shows this: its readers return it, and the rows are those by which its world
 -- was stepped and its demo was written.
 pub record Shows {W S : Type 0} (state : W → S) (physics : Physics S) (settings : Settings) (players me : ℕ)
-    (n : node.Contents W) (shown : Shown ℕ) : Type 0 where
+    (n : Kept W) (shown : Shown ℕ) : Type 0 where
   pub phase : shown.phase ≡ n.phase
   pub ran : ran_by shown ≡ n.ran
-  pub got : (player : ℕ) → player < players → shown.got player ≡ got (locked n) player
+  pub got : (player : ℕ) → player < players → shown.got player ≡ (ring_at n.rings player).count
   -- its rings keep the last twelve commands of each player
-  pub places : (locked n).places ≡ 12
+  pub places : n.places ≡ 12
   -- the bytes of the demo's commands
-  pub demo : shown.demo ≡ recorded (locked n)
-  -- once it has started, its world is the one that began with the settings' start and was stepped by the rows
-  pub world : HasStarted (locked n)
+  pub demo : shown.demo ≡ recorded_in n.demo.bytes
+  -- once it has started, and has a demo, its world began with the settings' start and was stepped by the rows
+  pub world : n.demo.bytes ≢ []
       → state n.world ≡ fold physics.step (physics.begin (start_of settings) (seats_of players)) shown.rows
   -- and its demo is the text of the rows before the first that lacks a player. It is closed once the node ran a
   -- row that lacks one, or has ended
-  pub rows : HasStarted (locked n)
+  pub rows : n.demo.bytes ≢ []
       → n.demo.bytes ≡ demo_text long_tics (start_of settings) me (seats_of players) (whole_rows players shown.rows)
       (is_ended n.phase || nat_lt (length (whole_rows players shown.rows)) n.ran)
 
@@ -41,5 +43,5 @@ pub record HaveAgreed {W S : Type 0} (state : W → S) (physics : Physics S) (se
     (g : Contents W) : Type 0 where
   pub places : length g.nodes ≡ players
   pub shown : ℕ → Shown ℕ
-  pub nodes : (i : ℕ) (n : node.Contents W) → HasNode g i n → Shows state physics settings players i n (shown i)
+  pub nodes : (i : ℕ) (n : Kept W) → slice_get g.nodes i ≡ Some n → Shows state physics settings players i n (shown i)
   pub headline : Headline players shown

@@ -7,6 +7,7 @@ pub mod Played
 pub mod Promised
 pub mod Agreed
 pub mod Headline
+pub mod Shown
 pub mod Rounds
 pub mod GoingOn
 pub mod Schedule

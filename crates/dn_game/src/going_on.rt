@@ -9,8 +9,9 @@ ghost use Rattle.dn_game.specs.{GoingOn.HasBrokenOff, Opening.IsAdmittedOn, Open
 ghost use Rattle.dn_game.specs.{Contents.Represents, Room.room_of, Rounds.pressed_by, declared.going_on.PlayOnFault.TheVariants.Round, declared.rounds.RoundFault.RoundFault};
 
 use crate::config::{GameConfig, GameFault};
+use crate::observing::Nobody;
 use crate::played::Played;
-use crate::playing::play;
+use crate::playing::play_observed;
 use crate::rounds::{RoundFault, pressed};
 use dn_machine::Event;
 use dn_tic::{Input, Keys};
@@ -66,8 +67,8 @@ pub fn reached_games_go_on<W: World>()
 /// and `refused` do not count the rounds.
 ///
 /// How far the rounds bring the nodes depends on the game before them, which is not returned. Whoever has to
-/// look at that one, for nodes that are lost, tics and room, calls `play`, and then `Game::good_rounds_with`
-/// on the game that it left: `reached_games_go_on` promises the same of that (`gone_on`).
+/// look at that one, for nodes that are lost, tics and room, calls `play_observed` with `Nobody`, and then
+/// `Game::good_rounds_with` on the game that it left: `reached_games_go_on` promises the same of that (`gone_on`).
 pub fn play_on_with<W: World>(
     alloc: Global,
     config: GameConfig,
@@ -77,8 +78,8 @@ pub fn play_on_with<W: World>(
     rounds: u32,
 ) -> Result<Played<W>, PlayOnFault>
     ensures admitted { IsAdmittedOn config (length worlds.items) result }
-    // The game before the rounds is a run, as `play` says; no losses among the events can make the nodes wait for
-    // good; and what is promised of a run is so after the rounds, since they are events like any other.
+    // The game before the rounds is a run, as `play_observed` says; no losses among the events can make the nodes
+    // wait for good; and what is promised of a run is so after the rounds, since they are events like any other.
     ensures promised { IfOk result (λ played. HasPlayedOn W.state
         (rules_in W.physics config (length worlds.items)) config.settings worlds.items events.now
         (input_of inputs.now) rounds played) }
@@ -92,7 +93,7 @@ pub fn play_on_with<W: World>(
     // There is memory for no more than twice the packets that were sent, and one.
     ensures room { IfOk result (λ played. IsWithinTwice (contents played.game).flights (room_of played.game)) }
 {
-    let mut played = match play(alloc, config, worlds, events) {
+    let mut played = match play_observed(alloc, config, worlds, events, &mut Nobody) {
         Ok(played) => played,
         Err(fault) => return Err(PlayOnFault::Game(fault)),
     };

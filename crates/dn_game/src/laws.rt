@@ -1,10 +1,11 @@
 //! What holds of every game.
 
-ghost use Rattle.std.specs.Prelude.{ℕ, Bool, List, Result};
+ghost use Rattle.std.specs.Prelude.{◌≡◌, ℕ, Bool, List, Some, Result, slice_get};
 ghost use Rattle.dn_setup.specs.Settings.{Settings};
 ghost use Rattle.dn_machine.specs.{declared.events.Done.Done, declared.events.Event.Event, declared.events.Refusal.Refusal, Game.applied, Game.opening_game, Game.Game as Whole, Promise.inputs_of, Runs.Runs, Worlds.rules_of};
 ghost use Rattle.dn_game.specs.{Agreed.AreAgreed, Contents.Contents};
-ghost use Rattle.dn_game.specs.{Headline.HaveAgreed, Played.IsReachedWith, Played.Plays, Promised.IsReached, Promised.IsPromised, Promised.IsSteady};
+ghost use Rattle.dn_node.specs.Kept.{Kept};
+ghost use Rattle.dn_game.specs.{Headline.HaveAgreed, Played.IsReachedWith, Played.Plays, Promised.IsReached, Promised.IsPromised, Promised.IsSteady, Shown.ShowsNode};
 
 use dn_world::World;
 
@@ -32,6 +33,13 @@ pub fn reached_games_agree<W: World>()
         (g : Contents W)
         → (reached : IsReached W.state (rules_of W.physics players extra capacity) settings events g)
         → AreAgreed W.state (rules_of W.physics players extra capacity) settings (inputs_of reached.last) g }
+    // Each node shows the machine's, field by field.
+    ensures shown { (players : ℕ) (extra : Bool) (capacity : ℕ) (settings : Settings) (events : List Event)
+        (g : Contents W) (i : ℕ) (n : Kept W)
+        → (reached : IsReached W.state (rules_of W.physics players extra capacity) settings events g)
+        → slice_get g.nodes i ≡ Some n
+        → ShowsNode W.state (rules_of W.physics players extra capacity) settings n.demo.limit i n
+        (reached.last.nodes i) }
     // No further event is answered by a failed check.
     ensures steady { (players : ℕ) (extra : Bool) (capacity : ℕ) (settings : Settings) (events : List Event)
         (g : Contents W)

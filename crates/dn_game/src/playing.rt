@@ -1,7 +1,7 @@
 //! Playing a list of events: what the whole project promises.
 
 ghost use Rattle.std.specs.Prelude.{◌≡◌, ◌⊎◌, length, Err, IfOk};
-ghost use Rattle.dn_game.specs.{Contents.contents, Opening.AreLimited, Opening.IsAdmitted, Opening.rules_in, Headline.HaveAgreed, Observed.IsPlayedObserved, Played.IsPlayedFrom, Pool.IsWithinTwice};
+ghost use Rattle.dn_game.specs.{Contents.contents, Opening.AreLimited, Opening.IsAdmitted, Opening.rules_in, Headline.HaveAgreed, Observed.IsPlayedObserved, Shown.ShowsRun, Pool.IsWithinTwice};
 ghost use Rattle.dn_game.specs.{Room.room_of, declared.config.GameFault.TheVariants.Players, declared.config.GameFault.TheVariants.Limit};
 
 use crate::config::{GameConfig, GameFault};
@@ -28,13 +28,10 @@ pub fn play<W: World>(
     ensures agreed { IfOk result (λ played. HaveAgreed W.state W.physics config.settings (length worlds.items)
         (contents played.game)) }
     // The game is a run of the machine: each event is applied as the machine applies it, but for sends that are
-    // left out since memory was refused, and each is counted by its answer. A node has the world that was given for
-    // it, unless an answer to an event that names it tells that it started or ran. All else that is promised of a
-    // run says `reached_games_agree`.
-    ensures run { IfOk result (λ played. IsPlayedFrom W.state
-        (rules_in W.physics config (length worlds.items)) config.settings worlds.items events.now played) }
-    // Each demo has the limit of the configuration.
-    ensures limits { IfOk result (λ played. AreLimited config.limit (contents played.game).nodes) }
+    // left out since memory was refused, and each is counted by its answer.
+    ensures run { IfOk result (λ played. ShowsRun W.state
+        (rules_in W.physics config (length worlds.items)) config.settings config.limit worlds.items events.now
+        (contents played.game) played.done played.refused) }
     // There is memory for no more than twice the packets that were sent, and one.
     ensures room { IfOk result (λ played. IsWithinTwice (contents played.game).flights (room_of played.game)) }
 {

@@ -1,25 +1,26 @@
 -- What packets leave that ask for nothing, where there is no gap behind what was there of the maker of any.
 use Rattle.std.proofs.Common.{◌≡◌, ◌≢◌, ◌<◌, ◌≤◌, ◌+◌, ◌-◌, ◌/◌, ◌⊎◌, ◌&&◌, ℕ, Bool, true, false, List, [], ◌∷◌, length, refl, ap, sym, ◌∙◌, subst, arith, Option, Some, None, All, inl, inr}
 use Rattle.std.proofs.lemmas.{Bool.{and_right, cases_eq, ltb-true, not-false, true≢false}, List.Elements.{All-head, All-tail}}
-use Rattle.std.specs.Prelude.{Ok, max, nat_lt, slice_get}
+use Rattle.std.specs.Prelude.{Ok, bit_and, max, nat_lt, not, slice_get, ◌==◌}
+use Rattle.dn_packet.specs.Flags as flag
 use Rattle.dn_packet.proofs.Texts.{length-commands}
 use Rattle.dn_packet.specs.Text.{text}
 use Rattle.dn_tic.specs.declared.command.Move.{Move}
 use Rattle.dn_setup.specs.Settings.{Settings}
-use Rattle.dn_machine.specs.{Flight.{Kind, SetUp, Play, Exit, Flight, packet_of, packet_of_kind, is_close, is_request_close, distance, end_of}, Hearing.on_packet, Limits.Limits}
+use Rattle.dn_machine.specs.{Flight.{Kind, SetUp, Play, Exit, Flight, packet_of, packet_of_kind, is_close, is_exit, is_request_close, distance, end_of, request_flag}, Hearing.on_packet, Limits.Limits}
 use Rattle.dn_machine.specs.{declared.{answers.{Heard.Heard, Phase.{Phase, TheVariants.{Listening, Gathering, Playing, Ended}}}, peer.Peer.Peer}, Node.is_ended}
 use Rattle.dn_machine.proofs.Put.{put_at, put_off}
-use Rattle.dn_lockstep.specs.{Contents.Contents, Marking.Marking, Sent.IsFair, Phases.is_waiting, Represents.Represents, Told.got}
+use Rattle.dn_lockstep.specs.{Contents.Contents, Marking.Marking, Sent.{IsFair, bytes_of}, Phases.is_waiting, Represents.Represents, Told.got}
 use Rattle.dn_remain.specs.{Remaining.heard_of, Wary.{now_of, reached}}
-use Rattle.dn_remain.proofs.{Arriving.made_it, Known.IsTold, Seeing.reached_cases}
+use Rattle.dn_remain.proofs.{Arriving.{below_made, end_is, made_it}, Known.IsTold, Seeing.reached_cases}
 use Rattle.dn_survivor.specs.{OfOthers.has, OneGame.{AreRemaining, Session, with_survivor}, Surviving.Surviving, declared.others.Others.Others}
 use Rattle.dn_lockstep.proofs.{OneGame.hear_quiet, Receiving.{told_by, told_is, near_received}}
 use Rattle.dn_lockstep.proofs.Shown.{has as holds}
 use Rattle.dn_seal.specs.declared.opened.Opened.{Opened}
-use Rattle.dn_open.specs.{Arrivals.{HearsOpened, IsRead, SparesSealed, heard, on_opened}, declared.hearing.Arrived.Arrived, Sealed.opened_of}
-use Rattle.dn_open.proofs.Letters.{alike, near_if}
-use Rattle.dn_link.specs.{RemainingLinks.WasGiven, CaughtUp.{told_end, next_to}, Hearing.HearsAll}
-use Rattle.dn_link.proofs.{Hearer.{IsSpared, Leaves, settings_leave, word_leaves, word_reaches}, Letters.{AreWith, holding, packet_keeps}, Makers.{HaveNoGaps, ends_of, then_end}}
+use Rattle.dn_open.specs.{Arrivals.{HearsOpened, IsRead, SparesSealed, flag_in, heard, on_opened}, declared.hearing.Arrived.Arrived, Sealed.opened_of}
+use Rattle.dn_open.proofs.Letters.{alike, flags_at, near_if}
+use Rattle.dn_link.specs.{RemainingLinks.WasGiven, CaughtUp.{HasExit, told_end, next_to}, Counting.{has_of, with_end}, Hearing.HearsAll}
+use Rattle.dn_link.proofs.{Growing.{HasAsMuch, as_much, has_is, much_on}, Hearer.{IsSpared, Leaves, settings_leave, word_leaves, word_reaches}, Letters.{AreWith, holding, packet_grows}, Makers.{HaveNoGaps, ends_of, then_end}}
 use Rattle.dn_machine.specs.Node.{put}
 use Rattle.dn_machine.specs.Node as machine
 use Rattle.dn_survivor.proofs.OneGame as one_game
@@ -73,7 +74,7 @@ pub no_later : (flight : Flight) → told_end (opened_of flight) ≤ end_of flig
 no_later flight = by_kind flight (λ settings is. omega (arith, settings_end flight settings is)) (λ is same. omega (arith, same))
 
 -- nor more than twelve past its start
-short_of : (flight : Flight) → IsFair flight → told_end (opened_of flight) ≤ flight.start + 12
+pub short_of : (flight : Flight) → IsFair flight → told_end (opened_of flight) ≤ flight.start + 12
 short_of flight fair = by_kind flight (λ settings is. omega (arith, settings_end flight settings is))
     (λ is same. let few = words is in omega (arith, same, few))
   where
@@ -87,6 +88,22 @@ short_of flight fair = by_kind flight (λ settings is. omega (arith, settings_en
           omega (arith, fair.packet.count, count)
     ]
 
+-- by its flag it is an EXIT packet
+exit_kind : (flight : Flight) → IsFair flight → flight.request ≡ None → flag_in (bytes_of flight) flag.exit ≡ true
+    → flight.kind ≡ Exit
+exit_kind flight fair silent is = go flight.kind refl
+  where
+    set : not (bit_and (packet_of flight).flags flag.exit == 0) ≡ true
+    set = ap (λ (n : ℕ). not (bit_and n flag.exit == 0)) (sym (flags_at (packet_of flight) fair.packet.flags)) ∙ is
+
+    go : (kind : Kind) → flight.kind ≡ kind → flight.kind ≡ Exit
+    go (SetUp settings) e =
+        absurd (true≢false (sym set ∙ ap (λ (k : Kind). not (bit_and (packet_of_kind flight k).flags flag.exit == 0)) e))
+    go Play e =
+        absurd (true≢false (sym set ∙ ap (λ (k : Kind). not (bit_and (packet_of_kind flight k).flags flag.exit == 0)) e
+        ∙ ap (λ (r : Option ℕ). not (bit_and (0 + request_flag r) flag.exit == 0)) silent))
+    go Exit e = e
+
 -- a packet of which a playing node has every command, because it tells a tic that is far from those that the
 -- node makes
 module _ (marking : Marking) (limits : Limits) (settings : Settings) (session : Session)
@@ -98,9 +115,16 @@ module _ (marking : Marking) (limits : Limits) (settings : Settings) (session : 
   abbrev n : machine.Node
   n = game.last.game.nodes q
 
-  far_has : (end : ℕ) → end ≤ end_of flight → end ≤ flight.start + 12 → game.last.gone q flight.from ≡ false
-      → n.phase ≡ Playing → is_close (machine.made q n) flight.start ≡ false → end ≤ length (n.held flight.from)
-  far_has end within few free plays far =
+  -- and it knows the end where that is an EXIT packet
+  abbrev pub IsHad : machine.Node → Type 0
+  IsHad m = (told_end (opened_of flight) ≤ length (m.held flight.from))
+      × (flight.kind ≡ Exit → end_of flight + 1 ≤ with_end (length (m.held flight.from)) (machine.ends_of m flight.from))
+
+  far_has : game.last.gone q flight.from ≡ false → n.phase ≡ Playing
+      → is_close (machine.made q n) flight.start ≡ false → IsHad n
+  far_has free plays far =
+      let within = no_later flight in
+      let few = short_of flight (game.fair which flight found) in
       let known = one_game.known marking limits settings game in
       let fits = Pairs.fits marking limits settings session game in
       let told = one_game.told_there marking limits settings game which flight found in
@@ -112,15 +136,25 @@ module _ (marking : Marking) (limits : Limits) (settings : Settings) (session : 
       let back = game.window.back in
       let past = ltb-true 64 (distance flight.start (machine.made q n))
       (not-false (nat_lt 64 (distance flight.start (machine.made q n))) far) in
+      let follows = known.1.followed.follows in
+      let made = made_it follows told free in
       elim (reached_cases (machine.got n flight.from) (machine.ends_of n flight.from)) [
         | inl unknown ↦
-            let run = fits.run q flight.from told.sender unknown.0 in
-            omega (arith, few, within, sent, own, ahead, back, past, run)
+            let run = fits.run q flight.from told.sender unknown.0 in (
+              omega (arith, few, within, sent, own, ahead, back, past, run),
+              (λ exit.
+                  let end = (end_is follows told free (ap is_exit exit)).3 in
+                  let most = below_made follows told free in
+                  let same = exit_end flight exit in
+                  absurd (omega (arith, few, same, sent, own, ahead, back, past, run, end, most))),
+            )
         | inr is ↦
-            let follows = known.1.followed.follows in
-            let count = (follows.ends q flight.from is.0 is.1 free).3 in
-            let made = made_it follows told free in
-            omega (arith, within, made, count, is.3)
+            let count = (follows.ends q flight.from is.0 is.1 free).3 in (
+              omega (arith, within, made, count, is.3),
+              (λ exit.
+                  let known_end = ap (with_end (length (n.held flight.from))) is.1 in
+                  omega (arith, known_end, made, count, is.3)),
+            )
       ]
 
 module _ (marking : Marking) (limits : Limits) (settings : Settings) (session : Session) (player : ℕ)
@@ -157,6 +191,9 @@ module _ (marking : Marking) (limits : Limits) (settings : Settings) (session : 
     pub wants : WantsNone next
     pub ran : next.ran ≡ now.ran
     pub reach : now.phase ≡ Playing → told_end packet ≤ got next packet.from
+    pub much : HasAsMuch player now next
+    pub exit : now.phase ≡ Playing → flag_in packet.datagram.items flag.exit ≡ true
+        → told_end packet + 1 ≤ has_of next packet.from
 
   one_hears : (packet : Opened) (now next : Contents) (answer : Arrived)
       → AreHere now → WasGiven session.packets player packet → packet.ask ≡ None
@@ -201,20 +238,25 @@ module _ (marking : Marking) (limits : Limits) (settings : Settings) (session : 
       apart : flight.from ≢ player
       apart e = told.apart (e ∙ sym to)
 
-      keeps : AreHere next
-      keeps = packet_keeps marking limits settings session player rest packet now next answer game
-          ((which, flight, found, to, is), whole packet.from) hears spares
+      keeps : AreHere next × HasAsMuch player now next
+      keeps = packet_grows marking limits settings session player rest mine now packet now next answer
+          (game, as_much player now) ((which, flight, found, to, is), whole packet.from) hears spares
+
+      -- what it has, with the end
+      has_it : (n : Contents) (m' : machine.Node) → Represents limits player n m'
+          → has_of n flight.from ≡ with_end (length (m'.held flight.from)) (machine.ends_of m' flight.from)
+      has_it n m' r = has_is limits player n m' r mine flight.from apart sender
 
       count : (p : ℕ) → p < limits.players → got now p ≡ length (m.held p)
       count p l = holds limits player now (game.last.game.nodes player) shows p l
 
       -- it is not heard, as it tells a tic that is far
-      late : next ≡ now → (now.phase ≡ Playing → told_end (opened_of flight) ≤ got now flight.from)
+      late : next ≡ now → (m.phase ≡ Playing → IsHad marking limits settings (at now) game which flight found m)
           → Hears now next (opened_of flight)
-      late same has_it = record {
+      late same had = record {
         sender = sender;
         apart = apart;
-        game = keeps;
+        game = keeps.0;
         ended = λ e. ap (λ (n : Contents). is_ended n.phase) (sym same) ∙ e;
         stays = λ e. ap (λ (n : Contents). n.phase) same ∙ e;
         others = λ p l n. ap (λ (n : Contents). got n p) same;
@@ -223,14 +265,23 @@ module _ (marking : Marking) (limits : Limits) (settings : Settings) (session : 
         sends = λ p l. ap (λ (n : Contents). next_to n p) same;
         wants = subst WantsNone (sym same) none;
         ran = ap (λ (n : Contents). n.ran) same;
-        reach = λ plays. omega (arith, has_it plays, ap (λ (n : Contents). got n flight.from) same);
+        reach = λ plays.
+            let all = (had (sym shows.stands.phase ∙ plays)).0 in
+            omega (arith, all, count flight.from sender, ap (λ (n : Contents). got n flight.from) same);
+        much = keeps.1;
+        exit = λ plays is.
+            let kind = exit_kind flight fair asked is in
+            let all = (had (sym shows.stands.phase ∙ plays)).1 kind in
+            let end = exit_end flight kind in
+            let here = has_it now m shows in
+            omega (arith, all, end, here, ap (λ (n : Contents). has_of n flight.from) same);
       }
 
       -- it is heard
       taken : (m' : machine.Node) → m'.rows ≡ m.rows → Represents limits player next m'
           → Leaves limits player m flight asked sender apart (told_end (opened_of flight)) m'
           → (m.phase ≡ Playing → flight.start ≤ length (m.held flight.from)
-          → told_end (opened_of flight) ≤ length (m'.held flight.from))
+          → IsHad marking limits settings (at now) game which flight found m')
           → Hears now next (opened_of flight)
       taken m' rows after leaves reaches =
           let phase_was = shows.stands.phase in
@@ -240,7 +291,7 @@ module _ (marking : Marking) (limits : Limits) (settings : Settings) (session : 
           record {
             sender = sender;
             apart = apart;
-            game = keeps;
+            game = keeps.0;
             ended = λ e. ap is_ended phase_was ∙ leaves.ended (ap is_ended (sym phase_is) ∙ e);
             stays = λ e. phase_is ∙ leaves.stays (sym phase_was ∙ e);
             others = λ p l n. holds limits player next m' after p l ∙ leaves.others p n ∙ sym (count p l);
@@ -255,7 +306,15 @@ module _ (marking : Marking) (limits : Limits) (settings : Settings) (session : 
             reach = λ plays.
                 let before = begins plays in
                 let reached = reaches (sym phase_was ∙ plays) (omega (arith, before, was)) in
-                omega (arith, reached, is_now);
+                omega (arith, reached.0, is_now);
+            much = keeps.1;
+            exit = λ plays is.
+                let before = begins plays in
+                let kind = exit_kind flight fair asked is in
+                let end = (reaches (sym phase_was ∙ plays) (omega (arith, before, was))).1 kind in
+                let same = exit_end flight kind in
+                let here = has_it next m' after in
+                omega (arith, end, same, here);
           }
 
       reads : IsRead (opened_of flight) (Ok (packet_of flight)) (told_by flight.kind)
@@ -294,11 +353,22 @@ module _ (marking : Marking) (limits : Limits) (settings : Settings) (session : 
           ]
 
       reaches : m.phase ≡ Playing → flight.start ≤ length (m.held flight.from)
-          → told_end (opened_of flight) ≤ length ((on_packet limits player m flight).0.held flight.from)
+          → IsHad marking limits settings (at now) game which flight found (on_packet limits player m flight).0
       reaches plays before = by_kind flight
-          (λ chosen kind. omega (arith, settings_end flight chosen kind, before, leaves.least))
-          (λ kind same. let reach = word_reaches limits player m flight asked sender apart plays kind before spared in
-          omega (arith, same, reach))
+          (λ chosen kind. (
+            omega (arith, settings_end flight chosen kind, before, leaves.least),
+            (λ exit. absurd (no_exit chosen (sym kind ∙ exit))),
+          ))
+          (λ kind same. let reach = word_reaches limits player m flight asked sender apart plays kind before spared in (
+            omega (arith, same, reach.0),
+            (λ exit.
+                let after = (on_packet limits player m flight).0 in
+                let end = ap (with_end (length (after.held flight.from))) (reach.1 exit) in
+                omega (arith, end, reach.0)),
+          ))
+        where
+          no_exit : (chosen : Settings) → SetUp chosen ≢ Exit
+          no_exit chosen e = cc
 
       go : (test : Bool)
           → (is_close (machine.made player m) flight.start && is_request_close (machine.made player m) flight.request) ≡ test
@@ -317,12 +387,10 @@ module _ (marking : Marking) (limits : Limits) (settings : Settings) (session : 
           let away : is_close (machine.made player m) flight.start ≡ false =
           apart_from (is_close (machine.made player m) flight.start) flight.request asked far in
           late (subst (λ (a : Arrived). SparesSealed now next a) result.1 spares) (λ plays.
-          let all = subst (λ (k : ℕ). game.last.gone k flight.from ≡ false → (game.last.game.nodes k).phase ≡ Playing
+          subst (λ (k : ℕ). game.last.gone k flight.from ≡ false → (game.last.game.nodes k).phase ≡ Playing
           → is_close (machine.made k (game.last.game.nodes k)) flight.start ≡ false
-          → told_end (opened_of flight) ≤ length ((game.last.game.nodes k).held flight.from)) to
-          (far_has marking limits settings (at now) game which flight found (told_end (opened_of flight))
-          (no_later flight) (short_of flight fair)) free (sym shows.stands.phase ∙ plays) away in
-          omega (arith, all, count flight.from sender))
+          → IsHad marking limits settings (at now) game which flight found (game.last.game.nodes k)) to
+          (far_has marking limits settings (at now) game which flight found) free plays away)
         where
           apart_from : (test : Bool) (request : Option ℕ) → request ≡ None
               → (test && is_request_close (machine.made player m) request) ≡ false → test ≡ false
@@ -339,7 +407,7 @@ module _ (marking : Marking) (limits : Limits) (settings : Settings) (session : 
   IsQuiet packet = WasGiven session.packets player packet × (packet.ask ≡ None)
 
   -- what packets leave that end there
-  pub record HearsThem (ends : ℕ → ℕ) (now new : Contents) : Type 0 where
+  pub record HearsThem (packets : List Opened) (ends : ℕ → ℕ) (now new : Contents) : Type 0 where
     pub ended : is_ended new.phase ≡ false → is_ended now.phase ≡ false
     pub least : (p : ℕ) → p < limits.players → got now p ≤ got new p
     pub own : got new player ≡ got now player
@@ -348,12 +416,14 @@ module _ (marking : Marking) (limits : Limits) (settings : Settings) (session : 
     pub wants : WantsNone new
     pub ran : new.ran ≡ now.ran
     pub reach : new.phase ≡ Playing → (p : ℕ) → p < limits.players → ends p ≤ got new p
+    pub much : HasAsMuch player now new
+    pub exit : new.phase ≡ Playing → (from end : ℕ) → HasExit from end packets → end + 1 ≤ has_of new from
 
   -- one after the other
   pub all_hears : (packets : List Opened) (now new : Contents) (tics : ℕ → ℕ)
       → AreHere now → is_waiting now.phase ≡ false → WantsNone now
       → All IsQuiet packets → IsBehind tics packets now → HearsAll packets now new
-      → HearsThem (ends_of tics packets) now new
+      → HearsThem packets (ends_of tics packets) now new
   all_hears [] now new tics game started none all behind same =
       record {
         ended = λ e. ap (λ (n : Contents). is_ended n.phase) (sym same) ∙ e;
@@ -366,6 +436,8 @@ module _ (marking : Marking) (limits : Limits) (settings : Settings) (session : 
         reach = λ plays p l.
             let has_it = (behind (ap (λ (n : Contents). is_ended n.phase) (sym same) ∙ ap is_ended plays)).0 p l in
             omega (arith, has_it, ap (λ (n : Contents). got n p) same);
+        much = subst (HasAsMuch player now) (sym same) (as_much player now);
+        exit = λ plays from end none. absurd none;
       }
   all_hears (packet ∷ packets) now new tics game started none all behind (next, answer, hears, spares, then) =
       let later = all_hears packets next new (then_end tics packet) step.game
@@ -381,6 +453,14 @@ module _ (marking : Marking) (limits : Limits) (settings : Settings) (session : 
         wants = later.wants;
         ran = later.ran ∙ step.ran;
         reach = later.reach;
+        much = much_on player now next new step.much later.much;
+        exit = λ plays from end has. elim has [
+          | inl here ↦
+              let told = step.exit (plays_of now.phase started (step.ended (later.ended (ap is_ended plays)))) here.2 in
+              let more = later.much.0 packet.from step.apart in
+              omega (arith, told, more, here.1, ap (has_of new) here.0)
+          | inr behind ↦ later.exit plays from end behind
+        ];
       }
     where
       quiet : IsQuiet packet

@@ -2,13 +2,13 @@
 use Rattle.std.proofs.Common.{ℤ, ◌≡◌, ◌≢◌, ◌<◌, ◌≤◌, ◌++◌, [], ◌∷◌, ℕ, Bool, true, false, List, length, refl, ap, sym, ◌∙◌, subst, arith, inl, inr}
 use Rattle.std.proofs.lemmas.{Bool.{cases_eq, true≢false}, List.length-append}
 use Rattle.dn_tic.specs.declared.{command.TicCmd.TicCmd, input.Input.Input}
-use Rattle.dn_machine.specs.{Sending.on_build, Limits.Limits, Node.put, Running.{on_quit, row_held}, Sparing.on_run_but}
+use Rattle.dn_machine.specs.{Sending.{lag, on_build}, Limits.Limits, Node.put, Running.{on_quit, row_held}, Sparing.on_run_but}
 use Rattle.dn_machine.proofs.{Calls.{build_cases, quit_cases}, Put.{put_at, put_off}}
 use Rattle.dn_remain.proofs.{Each.run_but_cases, Vanished.Put.at_put}
 use Rattle.dn_lockstep.specs.{Represents.Represents, Told.got}
 use Rattle.dn_survivor.specs.{OneGame.Session, Surviving.Surviving}
 use Rattle.dn_lockstep.proofs.Shown.{has}
-use Rattle.dn_link.specs.{CaughtUp.{AreCaughtUp, IsCaughtUp, IsKeptChain, StayCaughtUp, next_to}, Counting.has_ended, Kept.{IsKeptRising, Unacknowledged}, Linked.{IsWhole, Linked, surviving_of}, RemainingLinks.IsLater}
+use Rattle.dn_link.specs.{CaughtUp.{AreCaughtUp, IsCaughtUp, IsClose, IsKeptChain, StayCaughtUp, next_to}, Counting.has_ended, Kept.{IsKeptRising, Unacknowledged}, Linked.{IsWhole, Linked, surviving_of}, RemainingLinks.IsLater}
 use Rattle.dn_link.proofs.Relinking.{still_whole}
 use Rattle.dn_machine.specs.Node as machine
 
@@ -79,6 +79,7 @@ module _ (limits : Limits) (links : ℕ → Linked) (player : ℕ) (new : Linked
                 let grown = more one one_in in omega (arith, then, grown);
             next = λ goes_on. was.next (not_yet stays goes_on);
             least = λ goes_on. was.least (not_yet stays goes_on);
+            close = λ goes_on. was.close (not_yet stays goes_on);
           }
 
   -- a call that hears and sends nothing
@@ -105,6 +106,8 @@ module _ (limits : Limits) (links : ℕ → Linked) (player : ℕ) (new : Linked
         next = λ goes_on. let then = was.next goes_on in
             omega (arith, then, next, ap (λ (k : Unacknowledged). k.covered) same);
         least = λ goes_on. let then = was.least goes_on in omega (arith, then, next, is.own);
+        close = λ goes_on. subst (λ (k : Unacknowledged). IsClose (lag limits) k.packets (next_to new.node peer)) (sym same)
+            (subst (IsClose (lag limits) (old.peers peer).kept.packets) (sym next) (was.close goes_on));
       }) (λ which below. elim (cases_eq which player) [
         | inl at ↦ omega (arith, is.own, ap (got new.node) at, ap (got old.node) at)
         | inr off ↦ let same = is.others which below off in omega (arith, same)

@@ -3,7 +3,7 @@ use Rattle.std.proofs.Common.{◌≡◌, ◌≢◌, ◌<◌, ◌≤◌, ◌+◌,
 use Rattle.std.proofs.lemmas.Bool.{and_from, and_parts, and_right, cases_eq, eq-eqb, ne_eqb, leb-true, lt-ltb, ltb-true, true≢false}
 use Rattle.std.specs.Prelude.{◌==◌, if◌then◌else◌, is_some, nat_le, nat_lt, not, slice_index, Result, Ok, Err}
 use Rattle.dn_setup.specs.Settings.{Settings}
-use Rattle.dn_machine.specs.{Limits.Limits, Node.{is_ended, put}}
+use Rattle.dn_machine.specs.{Limits.Limits, Node.{is_ended, put}, Sending.lag}
 use Rattle.dn_machine.proofs.Put.{put_at, put_off}
 use Rattle.dn_lockstep.specs.{Contents.{Contents, end_in}, Marking.Marking, Tables.count_of, Told.{got, made}}
 use Rattle.dn_survivor.specs.{OneGame.{Session, with_survivor}, Surviving.Surviving}
@@ -11,11 +11,11 @@ use Rattle.dn_survivor.proofs.Pairs.{fitted}
 use Rattle.dn_seal.specs.{declared.seal.Seal.Seal, Opening.Sealing}
 use Rattle.dn_open.specs.Sealed.{sealing_of}
 use Rattle.dn_link.specs.{Linked.{HearsPeer, Linked, PeerState, Receives, ReceivesAs, TakesIn, after_report, certain, done_with, has_given_up, is_peer, met, surviving_of, takes}, Ends.{excludes, left_by}}
-use Rattle.dn_link.specs.{RemainingLinks.{AreRemainingLinks, HasReached, IsGenuineIn, WasGiven, IsLater}, Counting.{has_ended, has_of, held_of, reached, with_end}, Hearing.{ByTest, HearsAll}}
-use Rattle.dn_link.specs.{CaughtUp.{next_to, AreCaughtUp, Brings, HasNoGap, IsCaughtUp, IsInStep, IsInStepTo, IsKeptChain, StayCaughtUp, last_end}, Kept.{IsKeptRising, Unacknowledged, acknowledged}}
+use Rattle.dn_link.specs.{RemainingLinks.{AreRemainingLinks, HasReached, IsGenuineIn, WasGiven, WasSealedIn, IsLater}, Counting.{has_ended, has_of, held_of, reached, with_end}, Hearing.{ByTest, HearsAll}}
+use Rattle.dn_link.specs.{CaughtUp.{next_to, AreCaughtUp, Brings, HasExit, HasNoGap, IsCaughtUp, IsClose, IsInStep, IsInStepTo, IsKeptChain, StayCaughtUp, last_end}, Kept.{IsKeptRising, Unacknowledged, acknowledged}}
 use Rattle.dn_link.specs.{declared.{bundle.{Bundle.Bundle, BundleFault.BundleFault}, received.Received.{Received, TheVariants.{Excluded, GivenUp, Heard, Stranger}}}, Text.{IsBundle, sealed_bytes}}
 use Rattle.dn_link.specs.{Packets.{heard_in, own_in, packets_in}, Reading.{IsBundledAs, IsDatagramOf}}
-use Rattle.dn_link.proofs.{Makers.{chain_past, HaveNoGaps, ends_of, parts_ask, parts_go}, Reporting.{AreTakenIn, taken_whole}, Arriving.{AreHere, all_hears}, Catching.{ends_on, not_yet, relinked, still}}
+use Rattle.dn_link.proofs.{Makers.{chain_past, close_past, HaveNoGaps, ends_of, parts_ask, parts_exit, parts_go}, Reporting.{AreTakenIn, taken_whole}, Arriving.{AreHere, all_hears}, Catching.{ends_on, not_yet, relinked, still}}
 use Rattle.dn_link.proofs.{Linking.same_bundle, Relinking.still_whole, Together.{AreTogether, together}, Leaving.{at_most_there, unended, parts_heard}, Covered.rises_past}
 use Rattle.dn_machine.specs.declared.answers.Phase.TheVariants as phase
 use Rattle.dn_link.specs.declared.bundle.Relay as relay
@@ -153,8 +153,12 @@ module _ (marking : Marking) (limits : Limits) (settings : Settings) (session : 
         let most = held_most old.node relay.player in
         omega (arith, within, most)
 
+    -- and it knows the sender's end
+    abbrev pub Learns : Type 0
+    Learns = new.node.phase ≡ phase.Playing → (end : ℕ) → HasExit from end (own_in bundle) → end + 1 ≤ has_of new.node from
+
     came_heard : HearsAll (heard_in (takes old) bundle) old.node new.node
-        → Came × IsLast (last_end first (own_in bundle))
+        → Came × IsLast (last_end first (own_in bundle)) × Learns
     came_heard heard =
         let here : is_ended old.node.phase ≡ false → has_ended (links bundle.to).node ≡ false =
         (λ e. ap (λ (k : ℕ). has_ended (links k).node) goes ∙ going e) in
@@ -193,6 +197,8 @@ module _ (marking : Marking) (limits : Limits) (settings : Settings) (session : 
               let last = (go (ap (λ (n : Contents). is_ended n.phase) node ∙ goes_on)).1 in
               let reach = them.reach plays from below in
               omega (arith, last, reach)),
+          (λ plays end has.
+              them.exit plays from end (parts_exit (takes old) from (got old.node) taken_low end bundle.parts.items has)),
         )
 
     stays : has_ended old.node ≡ true → has_ended new.node ≡ true
@@ -239,6 +245,7 @@ module _ (marking : Marking) (limits : Limits) (settings : Settings) (session : 
         chain : IsKeptChain mid.kept
         there : has_ended (links peer).node ≡ false → mid.kept.done ≤ got (links peer).node player
         more : (old.peers peer).kept.covered ≤ mid.kept.covered
+        close : has_ended (links peer).node ≡ false → IsClose (lag limits) mid.kept.packets (next_to old.node peer)
 
       mid_same : (peer : ℕ) → peer < limits.players → peer ≢ player → (mid : PeerState)
           → mid.kept ≡ (old.peers peer).kept → IsMid peer mid
@@ -250,6 +257,8 @@ module _ (marking : Marking) (limits : Limits) (settings : Settings) (session : 
             there = λ goes_on. let before = was.there goes_on in
                 omega (arith, before, ap (λ (k : Unacknowledged). k.done) same);
             more = omega (arith, ap (λ (k : Unacknowledged). k.covered) same);
+            close = λ goes_on. subst (λ (k : Unacknowledged). IsClose (lag limits) k.packets (next_to old.node peer)) (sym same)
+                (was.close goes_on);
           }
 
       abbrev mid_from : PeerState
@@ -268,6 +277,8 @@ module _ (marking : Marking) (limits : Limits) (settings : Settings) (session : 
                 (let sure = certain_there in omega (arith, sure, ap (λ (n : Contents). got n player) theirs)) in
                 omega (arith, before, less);
             more = omega arith;
+            close = λ goes_on. close_past (lag limits) (old.peers from).kept.packets (next_to old.node from)
+                (done_with left old.node count) (was.close goes_on);
           }
         where
           not_left : has_ended (links from).node ≡ false → (cause : ℕ) → left_by bundle (old.peers from).left ≢ Some cause
@@ -311,6 +322,9 @@ module _ (marking : Marking) (limits : Limits) (settings : Settings) (session : 
                 omega (arith, done, before, has_it, is);
             next = λ goes_on. let before = was.next goes_on in omega (arith, before, mid.more, covered, next);
             least = λ goes_on. let before = was.least goes_on in omega (arith, before, next, came.own);
+            close = λ goes_on. subst (λ (k : Unacknowledged). IsClose (lag limits) k.packets (next_to new.node peer)) (sym kept)
+                (close_past (lag limits) state.kept.packets (next_to new.node peer) (reached new.node peer)
+                (subst (IsClose (lag limits) state.kept.packets) (sym next) (mid.close goes_on)));
           }
         where
           reached_is : (peer : ℕ) → peer < limits.players → reached new.node peer ≡ got new.node peer - limits.ahead
@@ -330,6 +344,9 @@ module _ (marking : Marking) (limits : Limits) (settings : Settings) (session : 
       -- a player that plays has all of them then
       pub brings : new.node.phase ≡ phase.Playing → last_end first (own_in bundle) ≤ got new.node from
       brings plays = (came_heard takes_it.heard).1 plays
+
+      pub learns : Learns
+      learns = (came_heard takes_it.heard).2
 
   -- any bytes that were sealed in step
   module _ (seal : Seal) (bytes : List ℕ) (answer : Received)
@@ -388,54 +405,72 @@ module _ (marking : Marking) (limits : Limits) (settings : Settings) (session : 
       received = by_received (StayCaughtUp limits links player new) nothing
           (λ bundle below apart goes all reached step is takes. taken_in bundle below apart goes all reached step takes)
 
-      -- a datagram brings a player that plays all of its packets
-      pub brought : ((sealing : Sealing) (bundle : Bundle) → 8 ≤ length sealing.seal.game → IsBundle bundle
+      -- a datagram that comes to a player that plays
+      module _ (read_back : (sealing : Sealing) (bundle : Bundle) → 8 ≤ length sealing.seal.game → IsBundle bundle
           → bundle.to ≡ sealing.me → length (sealed_bytes sealing.seal bundle) ≤ 1200
           → (read : Result Bundle BundleFault) → IsBundledAs sealing (sealed_bytes sealing.seal bundle) read
           → read ≡ Ok bundle)
-          → (bundle : Bundle) → IsDatagramOf (sealing_of seal player) bytes bundle
-          → new.node.phase ≡ phase.Playing → (count : ℕ) → Brings count links bundle
-          → Receives seal bytes old new answer → count ≤ got new.node bundle.from
-      brought read_back bundle is plays count brings_it receives =
-          let was = genuine bundle is in
-          let same = same_bundle seal bytes bundle was.0 player is was.1 was.2 in
-          let all = subst (λ (b : Bundle). All (WasGiven session.packets b.to) (packets_in b)) same was.3 in
-          let reached = subst (HasReached session.survivors) same was.5 in
-          let in_it = in_step bundle is in
-          let one = same_bundle seal bytes bundle in_it.0 player is in_it.1 in_it.2 in
-          let step = subst (IsInStep limits links) one in_it.3 in
-          let apart : bundle.from ≢ player = (λ e. step.apart (e ∙ sym is.to)) in
-          let peer : is_peer old.node bundle.from ≡ true =
-          and_from (nat_lt bundle.from old.node.players) (not (bundle.from == old.node.me))
-          (lt-ltb bundle.from old.node.players (omega (
-            arith,
-            step.sender,
-            (base.shows marking limits settings session links linked player mine).whose.players,
-          ))) (ap not (ne_eqb bundle.from old.node.me (λ e. apart (e ∙ own)))) in
-          let opened : receives.0 ≡ Ok bundle =
-          read_back (sealing_of seal player) bundle is.game is.fits is.to
-          (subst (λ (b : List ℕ). length b ≤ 1200) is.is is.short) receives.0
-          (subst (λ (b : List ℕ). IsBundledAs (sealing_of seal player) b receives.0) is.is
-          (subst (λ (k : ℕ). IsBundledAs (sealing_of seal k) bytes receives.0) own receives.1)) in
-          let comes = subst (λ (r : Result Bundle BundleFault). ReceivesAs r old new answer) opened receives.2 in
-          let inner = subst (λ (test : Bool). ByTest test (ByTest (has_given_up old bundle.from)
-          ((answer ≡ GivenUp bundle.from) × (new ≡ old)) (HearsPeer bundle old new answer))
-          ((answer ≡ Stranger bundle.from) × (new ≡ old))) peer comes in
-          let heard : HearsPeer bundle old new answer =
-          subst (λ (test : Bool). ByTest test ((answer ≡ GivenUp bundle.from) × (new ≡ old))
-          (HearsPeer bundle old new answer)) (were.whole player mine bundle.from) inner in
-          let taken : (answer ≡ Heard bundle.from) × TakesIn bundle old new =
-          subst (λ (test : Bool). ByTest test ((answer ≡ Excluded bundle.from) × (new ≡ old))
-          ((answer ≡ Heard bundle.from) × TakesIn bundle old new)) step.plain heard in
-          let last = brings bundle step.sender apart is.to (subst (λ (k : ℕ). All (WasGiven session.packets k)
-          (packets_in bundle)) is.to all) reached step
-          (taken_whole bundle old new (were.whole player mine) taken.1) plays in
-          let to : links bundle.to ≡ old = ap links is.to in
-          let more = brings_it (ap (λ (l : Linked). has_ended l.node) to ∙ not_ended) in
-          let same_end = ap (λ (l : Linked). last_end (got l.node bundle.from) (own_in bundle)) to in
-          omega (arith, last, more, same_end)
-        where
-          not_ended : has_ended old.node ≡ false
-          not_ended = not_yet (ends_on session (with_survivor session player (surviving_of new)) player old new
-              (linked.survivors player mine) refl later)
-              (and_right new.node.played (is_ended new.node.phase) (ap is_ended plays))
+          (bundle : Bundle) (is : IsDatagramOf (sealing_of seal player) bytes bundle)
+          (plays : new.node.phase ≡ phase.Playing) (receives : Receives seal bytes old new answer) where
+        was : WasSealedIn seal session bytes
+        was = genuine bundle is
+
+        same : was.0 ≡ bundle
+        same = same_bundle seal bytes bundle was.0 player is was.1 was.2
+
+        step : IsInStep limits links bundle
+        step =
+            let in_it = in_step bundle is in
+            subst (IsInStep limits links) (same_bundle seal bytes bundle in_it.0 player is in_it.1 in_it.2) in_it.3
+
+        apart : bundle.from ≢ player
+        apart e = step.apart (e ∙ sym is.to)
+
+        all : All (WasGiven session.packets player) (packets_in bundle)
+        all = subst (λ (k : ℕ). All (WasGiven session.packets k) (packets_in bundle)) is.to
+            (subst (λ (b : Bundle). All (WasGiven session.packets b.to) (packets_in b)) same was.3)
+
+        tells : HasReached session.survivors bundle
+        tells = subst (HasReached session.survivors) same was.5
+
+        taken : AreTakenIn bundle old new
+        taken =
+            let peer : is_peer old.node bundle.from ≡ true =
+            and_from (nat_lt bundle.from old.node.players) (not (bundle.from == old.node.me))
+            (lt-ltb bundle.from old.node.players (omega (
+              arith,
+              step.sender,
+              (base.shows marking limits settings session links linked player mine).whose.players,
+            ))) (ap not (ne_eqb bundle.from old.node.me (λ e. apart (e ∙ own)))) in
+            let opened : receives.0 ≡ Ok bundle =
+            read_back (sealing_of seal player) bundle is.game is.fits is.to
+            (subst (λ (b : List ℕ). length b ≤ 1200) is.is is.short) receives.0
+            (subst (λ (b : List ℕ). IsBundledAs (sealing_of seal player) b receives.0) is.is
+            (subst (λ (k : ℕ). IsBundledAs (sealing_of seal k) bytes receives.0) own receives.1)) in
+            let comes = subst (λ (r : Result Bundle BundleFault). ReceivesAs r old new answer) opened receives.2 in
+            let inner = subst (λ (test : Bool). ByTest test (ByTest (has_given_up old bundle.from)
+            ((answer ≡ GivenUp bundle.from) × (new ≡ old)) (HearsPeer bundle old new answer))
+            ((answer ≡ Stranger bundle.from) × (new ≡ old))) peer comes in
+            let heard : HearsPeer bundle old new answer =
+            subst (λ (test : Bool). ByTest test ((answer ≡ GivenUp bundle.from) × (new ≡ old))
+            (HearsPeer bundle old new answer)) (were.whole player mine bundle.from) inner in
+            let taken : (answer ≡ Heard bundle.from) × TakesIn bundle old new =
+            subst (λ (test : Bool). ByTest test ((answer ≡ Excluded bundle.from) × (new ≡ old))
+            ((answer ≡ Heard bundle.from) × TakesIn bundle old new)) step.plain heard in
+            taken_whole bundle old new (were.whole player mine) taken.1
+
+        -- it brings all of its packets
+        pub brought : (count : ℕ) → Brings count links bundle → count ≤ got new.node bundle.from
+        brought count brings_it =
+            let last = brings bundle step.sender apart is.to all tells step taken plays in
+            let to : links bundle.to ≡ old = ap links is.to in
+            let not_ended : has_ended old.node ≡ false = not_yet (ends_on session
+            (with_survivor session player (surviving_of new)) player old new (linked.survivors player mine) refl later)
+            (and_right new.node.played (is_ended new.node.phase) (ap is_ended plays)) in
+            let more = brings_it (ap (λ (l : Linked). has_ended l.node) to ∙ not_ended) in
+            let same_end = ap (λ (l : Linked). last_end (got l.node bundle.from) (own_in bundle)) to in
+            omega (arith, last, more, same_end)
+
+        -- and the end, by an EXIT packet
+        pub learnt : (end : ℕ) → HasExit bundle.from end (own_in bundle) → end + 1 ≤ has_of new.node bundle.from
+        learnt = learns bundle step.sender apart is.to all tells step taken plays

@@ -1,5 +1,5 @@
 -- The links of a game stay caught up where one gives a datagram, which is in step.
-use Rattle.std.proofs.Common.{◌≡◌, ◌≢◌, ◌<◌, ◌≤◌, ◌+◌, ◌-◌, ◌%◌, ◌^◌, ℕ, Bool, true, false, List, [], ◌∷◌, ◌++◌, length, map, take, refl, ap, sym, ◌∙◌, subst, arith, Option, Some, None, All, inl, inr}
+use Rattle.std.proofs.Common.{◌≡◌, ◌≢◌, ◌<◌, ◌≤◌, ◌+◌, ◌-◌, ◌⊎◌, ◌%◌, ◌^◌, ℕ, Bool, true, false, List, [], ◌∷◌, ◌++◌, length, map, take, refl, ap, sym, ◌∙◌, subst, arith, Option, Some, None, All, inl, inr}
 use Rattle.std.proofs.lemmas.{Bool.{cases_eq, cond_both, true≢false}, List.Elements.All-take, Option.{none-some, same_Some}}
 use Rattle.std.specs.{Prelude.{◌==◌, if◌then◌else◌, nat_lt}, Option.option_map}
 use Rattle.dn_tic.specs.declared.command.{TicCmd.TicCmd, Move.Move}
@@ -14,10 +14,10 @@ use Rattle.dn_survivor.specs.{OneGame.Session, Surviving.Surviving, declared.oth
 use Rattle.dn_lockstep.proofs.Shown.{made_is, has}
 use Rattle.dn_seal.specs.declared.seal.Seal.{Seal}
 use Rattle.dn_link.specs.{Kept.{IsKeptRising, Unacknowledged, going, is_news, kept_after, taken_by}, declared.bundle.Carried.Carried, Counting.has_ended, Hearing.carried_of, RemainingLinks.AreRemainingLinks}
-use Rattle.dn_link.specs.{CaughtUp.{GoesOn, IsInTime, StillGoesOn, next_to, AreCaughtUp, HasNoGap, IsCaughtUp, IsInStep, IsKeptChain, StayCaughtUp, WasInStep}, Linked.{Gives, IsWhole, Linked, PeerState}}
+use Rattle.dn_link.specs.{CaughtUp.{GoesOn, IsInTime, StillGoesOn, next_to, AreCaughtUp, HasNoGap, IsCaughtUp, IsClose, IsInStep, IsKeptChain, StayCaughtUp, WasInStep}, Linked.{Gives, IsWhole, Linked, PeerState}}
 use Rattle.dn_link.specs.{Pacing.PaceState, Packets.{opened_from, own_in}}
-use Rattle.dn_link.proofs.{Makers.{IsQuiet, first_goes, going_asks, going_goes, keeps_chain, later_goes}, Catching.relinked, Bringing.gives_own, Following.{covers, kept_rises}, Leaving.unended}
-use Rattle.dn_link.proofs.{Linking.taken_given, Sending.{Sends, sends}, Reporting.told_plain, Growing.sends_holds, Relinking.still_whole, Together.together}
+use Rattle.dn_link.proofs.{Makers.{IsQuiet, first_goes, going_asks, going_goes, keeps_chain, keeps_close, later_goes}, Catching.relinked, Fitting.gives_own, Following.{covers, kept_rises}, Leaving.unended}
+use Rattle.dn_link.proofs.{Linking.taken_given, Sending.{IsSized, Sends, sends}, Reporting.told_plain, Growing.sends_holds, Relinking.still_whole, Together.together}
 use Rattle.dn_machine.specs.Node as machine
 use Rattle.dn_link.specs.Kept as keep
 use Rattle.dn_link.proofs.RemainingCalls as base
@@ -64,7 +64,7 @@ module _ (limits : Limits) (me : ℕ) (m : machine.Node) (to : ℕ) where
       (λ past. same None (λ one e. absurd (none-some one e)))
 
 -- what is kept is for the same commands
-done_same : (kept : Unacknowledged) (packet : Option Carried) → (kept_after kept packet).done ≡ kept.done
+pub done_same : (kept : Unacknowledged) (packet : Option Carried) → (kept_after kept packet).done ≡ kept.done
 done_same kept None = refl
 done_same kept (Some packet) = go (is_news kept packet)
   where
@@ -143,7 +143,7 @@ module _ (marking : Marking) (limits : Limits) (settings : Settings) (session : 
   }
   peer_is = ap (λ (f : ℕ → PeerState). f to) gives.peers ∙ put_at old.peers to to _ refl
 
-  kept_is : (new.peers to).kept ≡ kept_after (old.peers to).kept taken
+  pub kept_is : (new.peers to).kept ≡ kept_after (old.peers to).kept taken
   kept_is = ap (λ (t : PeerState). t.kept) peer_is
 
   -- what the node is then
@@ -190,6 +190,9 @@ module _ (marking : Marking) (limits : Limits) (settings : Settings) (session : 
     mades : made old.node ≡ got old.node player
     mades = ap (λ (k : ℕ). got old.node k) own
 
+    pub same_made : got new.node player ≡ made old.node
+    same_made = gave_it.gots player mine ∙ sym mades
+
     time : IsInTime to old
     time = record {
       there = in_time goes_on;
@@ -220,75 +223,82 @@ module _ (marking : Marking) (limits : Limits) (settings : Settings) (session : 
       | inr low ↦ low
     ]
 
-    -- the packet of the moment goes on from those that are kept
-    low : (one : Carried) → taken ≡ Some one → one.start ≤ (old.peers to).kept.covered
-    low one e = of (sent_to to limits player m) sent_sends (gives.step.step limits player m shows).answer
+    next : next_to old.node to ≡ (m.peers to).resend
+    next = ap (λ (x : Peer). x.resend) (shows.peers.known to below)
+
+    count : made old.node ≡ machine.made player m
+    count = made_is limits player old.node m shows (omega (arith, mine, shows.whose.number, shows.whose.players))
+
+    -- the packet of the moment begins where it was to begin, and ends where the next one begins at most, but for what
+    -- that one repeats
+    abbrev pub IsMoment : Carried → Type 0
+    IsMoment one = (one.start ≡ next_to old.node to) × (keep.end_of one ≤ next_to new.node to + lag limits) × IsSized one
+
+    -- the next packet begins no earlier than before, and with none that was not made; and the packet of the moment has no
+    -- command, or is such a one
+    pub record Goes : Type 0 where
+      pub up : next_to old.node to ≤ next_to new.node to
+      pub least : next_to new.node to ≤ got new.node player - lag limits
+      pub moment : (one : Carried) → Some one ≡ gives.given → (keep.end_of one ≡ 0) ⊎ IsMoment one
+
+    pub sends_then : Goes
+    sends_then =
+        let after = gives.step.step limits player m shows in
+        of (sent_to to limits player m) sent_sends after.node after.answer
       where
-        given : Some one ≡ gives.given
-        given = taken_given (old.peers to).left gives.given one e
-
-        next : next_to old.node to ≡ (m.peers to).resend
-        next = ap (λ (x : Peer). x.resend) (shows.peers.known to below)
-
-        count : made old.node ≡ machine.made player m
-        count = made_is limits player old.node m shows
-            (omega (arith, mine, shows.whose.number, shows.whose.players))
-
-        of : (r : machine.Node × Option Flight) → Sends limits player m to r.0 r.1
-            → gives.given ≡ option_map carried_of r.1 → one.start ≤ (old.peers to).kept.covered
-        of (after, flight) sends answer = elim sends [
-          | inl silent ↦ by flight silent.1 (given ∙ answer)
-          | inr follows ↦
-              let same : one ≡ carried_of follows.0 = same_Some one (carried_of follows.0)
-              (given ∙ answer ∙ ap (option_map carried_of) follows.1) in
-              let start = follows.2.start in
-              omega (arith, start, ap (λ (c : Carried). c.start) same, next, was.next goes_on)
-        ]
-          where
-            by : (flight : Option Flight) → ((f : Flight) → flight ≡ Some f → keep.end_of (carried_of f) ≡ 0)
-                → Some one ≡ option_map carried_of flight → one.start ≤ (old.peers to).kept.covered
-            by None none e = absurd (none-some one (sym e))
-            by (Some f) none e =
-                let same = ap (λ (c : Carried). keep.end_of c) (same_Some one (carried_of f) e) in
-                omega (arith, same, none f refl)
-
         sent_sends : Sends limits player m to (sent_to to limits player m).0 (sent_to to limits player m).1
         sent_sends = cond_both (nat_lt to limits.players) _ _ (λ (x : machine.Node × Option Flight). Sends
             limits player m to x.0 x.1) (λ below. sends limits player m to (sym shows.whose.most)
             (let time = in_time goes_on in omega (arith, time, next, count, shows.whose.places)))
             (λ past. inl (refl, (λ one e. absurd (none-some one e))))
 
-    -- the next packet begins no earlier than before, and with none that was not made
-    sends_then : (next_to old.node to ≤ next_to new.node to) × (next_to new.node to ≤ got new.node player - lag limits)
-    sends_then = let after = gives.step.step limits player m shows in of (sent_to to limits player m) sent_sends after.node
-      where
-        next : next_to old.node to ≡ (m.peers to).resend
-        next = ap (λ (x : Peer). x.resend) (shows.peers.known to below)
-
-        count : made old.node ≡ machine.made player m
-        count = made_is limits player old.node m shows
-            (omega (arith, mine, shows.whose.number, shows.whose.players))
-
         of : (r : machine.Node × Option Flight) → Sends limits player m to r.0 r.1
-            → Represents limits player new.node r.0
-            → (next_to old.node to ≤ next_to new.node to) × (next_to new.node to ≤ got new.node player - lag limits)
-        of (after, flight) sends then_shows =
+            → Represents limits player new.node r.0 → gives.given ≡ option_map carried_of r.1 → Goes
+        of (after, flight) sends then_shows answer =
             let now = ap (λ (x : Peer). x.resend) (then_shows.peers.known to below) in
             let least = was.least goes_on in
             let same = gave_it.gots player mine in
             elim sends [
-              | inl silent ↦ (omega (arith, now, next, silent.0), omega (arith, now, next, silent.0, least, same))
-              | inr follows ↦
-                  let up = follows.2.up (omega (arith, least, next, count, mades)) in
-                  let most_sent = follows.2.most in
-                  (omega (arith, now, next, up), omega (arith, now, most_sent, count, mades, same))
+              | inl silent ↦ record {
+                up = omega (arith, now, next, silent.0);
+                least = omega (arith, now, next, silent.0, least, same);
+                moment = λ one e. inl (none flight silent.1 one (e ∙ answer));
+              }
+              | inr follows ↦ record {
+                up = let up = follows.2.up (omega (arith, least, next, count, mades)) in omega (arith, now, next, up);
+                least = let most_sent = follows.2.most in omega (arith, now, most_sent, count, mades, same);
+                moment = λ one e.
+                    let here : carried_of follows.0 ≡ one = sym (same_Some one (carried_of follows.0)
+                    (e ∙ answer ∙ ap (option_map carried_of) follows.1)) in
+                    inr (subst IsMoment here (
+                      follows.2.start ∙ sym next,
+                      (let low = follows.2.low (omega (arith, least, next, count, mades)) in omega (arith, low, now)),
+                      follows.2.sized,
+                    ));
+              }
             ]
+          where
+            none : (flight : Option Flight) → ((f : Flight) → flight ≡ Some f → keep.end_of (carried_of f) ≡ 0)
+                → (one : Carried) → Some one ≡ option_map carried_of flight → keep.end_of one ≡ 0
+            none None silent one e = absurd (none-some one (sym e))
+            none (Some f) silent one e =
+                ap (λ (c : Carried). keep.end_of c) (same_Some one (carried_of f) e) ∙ silent f refl
 
-        sent_sends : Sends limits player m to (sent_to to limits player m).0 (sent_to to limits player m).1
-        sent_sends = cond_both (nat_lt to limits.players) _ _ (λ (x : machine.Node × Option Flight). Sends
-            limits player m to x.0 x.1) (λ below. sends limits player m to (sym shows.whose.most)
-            (let time = in_time goes_on in omega (arith, time, next, count, shows.whose.places)))
-            (λ past. inl (refl, (λ one e. absurd (none-some one e))))
+    -- so it goes on from those that are kept
+    low : (one : Carried) → taken ≡ Some one → one.start ≤ (old.peers to).kept.covered
+    low one e = elim (sends_then.moment one (taken_given (old.peers to).left gives.given one e)) [
+      | inl none ↦ omega (arith, none)
+      | inr moment ↦ let before = was.next goes_on in omega (arith, moment.0, before)
+    ]
+
+    close_then : IsClose (lag limits) (new.peers to).kept.packets (next_to new.node to)
+    close_then =
+        subst (λ (k : Unacknowledged). IsClose (lag limits) k.packets (next_to new.node to)) (sym kept_is)
+        (keeps_close (lag limits) (old.peers to).kept taken (next_to old.node to) (next_to new.node to) sends_then.up
+        (λ one e past. elim (sends_then.moment one (taken_given (old.peers to).left gives.given one e)) [
+          | inl none ↦ absurd (omega (arith, none, past))
+          | inr moment ↦ (moment.0, moment.1)
+        ]) (was.close goes_on))
 
   pub pair : IsCaughtUp limits player to new (links to)
   pair =
@@ -300,7 +310,8 @@ module _ (marking : Marking) (limits : Limits) (settings : Settings) (session : 
         near = omega (arith, was.near, done, gave_it.gots to below);
         there = λ goes_on. let before = was.there goes_on in omega (arith, before, done);
         next = λ goes_on. next_on goes_on;
-        least = λ goes_on. (sends_then goes_on).1;
+        least = λ goes_on. (sends_then goes_on).least;
+        close = close_then;
       }
 
   other_pair : (peer : ℕ) → peer < limits.players → peer ≢ player → peer ≢ to
@@ -322,6 +333,8 @@ module _ (marking : Marking) (limits : Limits) (settings : Settings) (session : 
         there = λ goes_on. let before = was.there goes_on in omega (arith, before, done);
         next = λ goes_on. let before = was.next goes_on in omega (arith, before, covered, next);
         least = λ goes_on. let before = was.least goes_on in omega (arith, before, next, gave_it.gots player mine);
+        close = λ goes_on. subst (λ (k : Unacknowledged). IsClose (lag limits) k.packets (next_to new.node peer)) (sym kept)
+            (subst (IsClose (lag limits) (old.peers peer).kept.packets) (sym next) (was.close goes_on));
       }
 
   -- it has given up nobody since, nor ended before
@@ -341,7 +354,7 @@ module _ (marking : Marking) (limits : Limits) (settings : Settings) (session : 
     | inr off ↦ other_pair peer l n off
   ]) (λ which l. let same = gave_it.gots which l in omega (arith, same)) (omega (arith, gave_it.ran)) (λ which l n goes_on. elim (cases_eq which to) [
     | inl at ↦ subst (λ (k : ℕ). next_to old.node k ≤ next_to new.node k) (sym at)
-        (sends_then (ap (λ (k : ℕ). has_ended (links k).node) (sym at) ∙ goes_on)).0
+        (sends_then (ap (λ (k : ℕ). has_ended (links k).node) (sym at) ∙ goes_on)).up
     | inr off ↦ let same = gave_it.others which l off in omega (arith, same)
   ]) stays
 

@@ -146,7 +146,7 @@ reached kept packet = grind (arith, and_parts, leb-true, ltb-true, and_from, le-
 -- and a datagram has all of them, where it has room
 pub carries : (seal : Seal) (pace : PaceState) (to : ℕ) (old new : Linked) (bytes : List ℕ)
     (gives : Gives seal pace to old new bytes) → is_brief pace to ≡ false
-    → IsCovering (old.peers to).kept → length gives.own < 22 → parts_room gives.own ≤ 998
+    → IsCovering (old.peers to).kept → length gives.own < 24 → parts_room gives.own ≤ 998
     → (packets : List Carried) × (flat_map (packets_of gives.bundle.from) gives.own
     ≡ map (opened_from old.node.me) packets)
     × ((tic : ℕ) → (old.peers to).kept.done ≤ tic → tic < (new.peers to).kept.covered → has_tic tic packets ≡ true)

@@ -179,7 +179,7 @@ HasAsMuch me old new =
     × (has_ended old ≡ true → has_ended new ≡ true)
     × (is_waiting old.phase ≡ false → is_waiting new.phase ≡ false)
 
-ended_is : (limits : Limits) (me : ℕ) (n : Contents) (m : machine.Node) → Represents limits me n m
+pub ended_is : (limits : Limits) (me : ℕ) (n : Contents) (m : machine.Node) → Represents limits me n m
     → has_ended n ≡ has_left m
 ended_is limits me n m r = λ i. r.stands.played i && is_ended (r.stands.phase i)
 

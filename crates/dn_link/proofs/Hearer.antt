@@ -1,11 +1,11 @@
 -- What one packet that asks for nothing does to the node that hears it.
-use Rattle.std.proofs.Common.{◌≡◌, ◌≢◌, ◌<◌, ◌≤◌, ◌+◌, ◌-◌, ◌⊎◌, ◌++◌, ℕ, Bool, true, false, List, length, drop, refl, ap, sym, ◌∙◌, subst, arith, Option, None, inl, inr}
+use Rattle.std.proofs.Common.{◌≡◌, ◌≢◌, ◌<◌, ◌≤◌, ◌+◌, ◌-◌, ◌⊎◌, ◌++◌, ℕ, Bool, true, false, List, length, drop, refl, ap, sym, ◌∙◌, subst, arith, Option, None, Some, inl, inr}
 use Rattle.std.proofs.lemmas.{Bool.cases_eq, List.{length-append, length-drop}}
 use Rattle.std.specs.Prelude.{max}
 use Rattle.dn_tic.specs.declared.command.TicCmd.{TicCmd}
 use Rattle.dn_setup.specs.Settings.{Settings}
 use Rattle.dn_machine.specs.{declared.{answers.{Heard.Heard, Phase.{Phase, TheVariants.{Listening, Gathering, Playing, Ended}}}, peer.Peer.Peer}, Limits.Limits, Node.{Node, put, made, is_ended}}
-use Rattle.dn_machine.specs.{Flight.{SetUp, Play, Exit, Flight, is_exit, end_of}, Hearing.{after_request, after_exit, on_commands, on_ended, on_packet, on_packet_in}}
+use Rattle.dn_machine.specs.{Flight.{Kind, SetUp, Play, Exit, Flight, is_exit, end_of}, Hearing.{after_request, after_exit, on_commands, on_ended, on_packet, on_packet_in}}
 use Rattle.dn_machine.proofs.{Put.{put_at, put_off}, Calls.{Refused, commands_cases, packet_cases, sender_after}}
 use Rattle.dn_machine.specs.Drops as drops
 
@@ -93,6 +93,14 @@ module _ (limits : Limits) (me : ℕ) (node : Node) (flight : Flight) (silent : 
   same : (end : ℕ) → Leaves end node
   same end = holds_same end node refl (λ e. e) (λ e. e) (λ p. refl) (λ low all. all)
 
+  -- with the commands that are new
+  grown : length (put node.held from (node.held from ++ drop (length (node.held from) - flight.start) flight.commands) from)
+      ≡ length (node.held from) + (length flight.commands - (length (node.held from) - flight.start))
+  grown = ap (length {A = TicCmd}) (put_at node.held from from _ refl)
+      ∙ length-append (node.held from) (drop (length (node.held from) - flight.start) flight.commands)
+      ∙ ap (λ (n : ℕ). length (node.held from) + n)
+      (length-drop (length (node.held from) - flight.start) flight.commands)
+
   -- a word of its sender
   pub word_leaves : Leaves (end_of flight) (on_packet limits me node flight).0
   word_leaves = packet_cases limits me node flight (λ (r : Node × Heard). Leaves (end_of flight) r.0) (record {
@@ -120,13 +128,6 @@ module _ (limits : Limits) (me : ℕ) (node : Node) (flight : Flight) (silent : 
     requests = λ done. holds_same _ _ refl (λ x. x) (λ x. x) (next_put _ requested.0)
         (λ low none. wants_put _ (requested.1 ∙ none from below apart) none);
   })
-    where
-      grown : length (put node.held from (node.held from ++ drop (length (node.held from) - flight.start) flight.commands) from)
-          ≡ length (node.held from) + (length flight.commands - (length (node.held from) - flight.start))
-      grown = ap (length {A = TicCmd}) (put_at node.held from from _ refl)
-          ∙ length-append (node.held from) (drop (length (node.held from) - flight.start) flight.commands)
-          ∙ ap (λ (n : ℕ). length (node.held from) + n)
-          (length-drop (length (node.held from) - flight.start) flight.commands)
 
   -- settings
   pub settings_leave : (settings : Settings) → flight.kind ≡ SetUp settings
@@ -157,22 +158,29 @@ module _ (limits : Limits) (me : ℕ) (node : Node) (flight : Flight) (silent : 
   IsSpared answer = (number : ℕ) → answer ≡ Heard.Dropped number
       → (number ≡ drops.out_of_place) ⊎ (number ≡ drops.not_playing)
 
+  -- the node has all commands up to its end, and knows the end where it is an EXIT packet
+  abbrev Reached : Node × Heard → Type 0
+  Reached after = (end_of flight ≤ length (after.0.held from))
+      × (flight.kind ≡ Exit → (after.0.peers from).end ≡ Some (end_of flight))
+
+  exit_told : flight.kind ≡ Exit → (peer : Peer) → peer.end ≡ (sender_after limits me node flight).end
+      → (put node.peers from peer from).end ≡ Some (end_of flight)
+  exit_told exit peer same = ap (λ (x : Peer). x.end) (put_at node.peers from from peer refl) ∙ same
+      ∙ ap (λ (k : Kind). (after_exit (after_request limits.places (made me node) (node.peers from) flight.request)
+      (is_exit k) (end_of flight)).end) exit
+
   -- a word that a playing node hears, behind which nothing is missing
   commands_reach : flight.start ≤ length (node.held from) → IsSpared (on_commands limits me node flight).1
-      → end_of flight ≤ length ((on_commands limits me node flight).0.held from)
-  commands_reach low spared = commands_cases limits me node flight
-      (λ (r : Node × Heard). IsSpared r.1 → end_of flight ≤ length (r.0.held from)) (record {
-        dropped = λ number why fine. absurd (not_so number why (fine number refl));
-        stale = λ l fine. l;
-        gap = λ l fine. absurd (omega (arith, l, low));
-        takes = λ l m fine.
-            let at = ap (length {A = TicCmd}) (put_at node.held from from
-            (node.held from ++ drop (length (node.held from) - flight.start) flight.commands) refl)
-            ∙ length-append (node.held from) (drop (length (node.held from) - flight.start) flight.commands)
-            ∙ ap (λ (n : ℕ). length (node.held from) + n)
-            (length-drop (length (node.held from) - flight.start) flight.commands) in
-            omega (arith, at, l, m);
-      }) spared
+      → Reached (on_commands limits me node flight)
+  commands_reach low spared = commands_cases limits me node flight (λ (r : Node × Heard). IsSpared r.1 → Reached r) (record {
+    dropped = λ number why fine. absurd (not_so number why (fine number refl));
+    stale = λ l fine. (l, (λ exit. exit_told exit _ refl));
+    gap = λ l fine. absurd (omega (arith, l, low));
+    takes = λ l m fine. (
+      (let at = grown in omega (arith, at, l, m)),
+      (λ exit. exit_told exit _ refl),
+    );
+  }) spared
     where
       not_so : (number : ℕ) → Refused limits me node flight number
           → (number ≡ drops.out_of_place) ⊎ (number ≡ drops.not_playing) → ⊥
@@ -183,17 +191,11 @@ module _ (limits : Limits) (me : ℕ) (node : Node) (flight : Flight) (silent : 
 
   pub word_reaches : node.phase ≡ Playing → (flight.kind ≡ Play) ⊎ (flight.kind ≡ Exit)
       → flight.start ≤ length (node.held from) → IsSpared (on_packet limits me node flight).1
-      → end_of flight ≤ length ((on_packet limits me node flight).0.held from)
+      → Reached (on_packet limits me node flight)
   unfolding on_packet
-  word_reaches plays is low spared = elim is [
-    | inl play ↦
-        let step : on_packet_in limits me node flight node.phase flight.kind ≡ on_commands limits me node flight =
-        (λ i. on_packet_in limits me node flight (plays i) (play i)) in
-        subst (λ (r : Node × Heard). end_of flight ≤ length (r.0.held from)) (sym step)
-        (commands_reach low (subst (λ (r : Node × Heard). IsSpared r.1) step spared))
-    | inr exit ↦
-        let step : on_packet_in limits me node flight node.phase flight.kind ≡ on_commands limits me node flight =
-        (λ i. on_packet_in limits me node flight (plays i) (exit i)) in
-        subst (λ (r : Node × Heard). end_of flight ≤ length (r.0.held from)) (sym step)
-        (commands_reach low (subst (λ (r : Node × Heard). IsSpared r.1) step spared))
-  ]
+  word_reaches plays is low spared =
+      let step : on_packet_in limits me node flight node.phase flight.kind ≡ on_commands limits me node flight = elim is [
+        | inl play ↦ (λ i. on_packet_in limits me node flight (plays i) (play i))
+        | inr exit ↦ (λ i. on_packet_in limits me node flight (plays i) (exit i))
+      ] in
+      subst Reached (sym step) (commands_reach low (subst (λ (r : Node × Heard). IsSpared r.1) step spared))

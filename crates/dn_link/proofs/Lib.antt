@@ -31,5 +31,7 @@ pub mod Catching
 pub mod CatchingIn
 pub mod CatchingOut
 pub mod Bringing
+pub mod Fitting
+pub mod Exiting
 pub mod Makers
 pub mod Briefly

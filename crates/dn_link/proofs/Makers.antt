@@ -1,12 +1,12 @@
 -- Packets without a gap, that are kept and that go to a peer; and of several makers, of none of whom there
 -- is a gap.
-use Rattle.std.proofs.Common.{◌≡◌, ◌≤◌, ◌+◌, ◌*◌, ◌/◌, ◌%◌, ◌^◌, ℕ, zero, suc, Bool, true, false, List, [], ◌∷◌, ◌++◌, length, take, drop, refl, ap, sym, arith, All, inl, inr, ◌&&◌, map, subst, Option, Some, None}
-use Rattle.std.proofs.lemmas.{List.{Elements.{All-append, All-cons, All-head, All-nil, All-tail}, length-drop, length-take-le}, Bool.{cases_eq, and_parts, leb-true, leb-false}}
+use Rattle.std.proofs.Common.{◌≡◌, ◌≤◌, ◌<◌, ◌⊎◌, ◌+◌, ◌*◌, ◌/◌, ◌%◌, ◌^◌, ℕ, zero, suc, Bool, true, false, List, [], ◌∷◌, ◌++◌, length, take, drop, refl, ap, sym, arith, All, inl, inr, ◌&&◌, map, subst, Option, Some, None}
+use Rattle.std.proofs.lemmas.{List.{Elements.{All-append, All-cons, All-head, All-nil, All-tail}, length-drop, length-take-le}, Bool.{cases_eq, and_parts, leb-true, leb-false, ltb-true}}
 use Rattle.std.specs.{Prelude.{if◌then◌else◌, max, nat_le, nat_lt}, List.flat_map}
 use Rattle.dn_seal.specs.declared.opened.Opened.{Opened}
 use Rattle.dn_machine.specs.Node.{put}
 use Rattle.dn_machine.proofs.Put.{put_at, put_off}
-use Rattle.dn_link.specs.{Packets.{heard_of, opened_from, packets_of, short_packet, short_packets}, CaughtUp.{IsChain, HasNoGap, last_end, told_end, IsKeptChain}}
+use Rattle.dn_link.specs.{Packets.{heard_of, opened_from, packets_of, short_packet, short_packets}, CaughtUp.{HasExit, IsChain, IsClose, HasNoGap, last_end, told_end, IsKeptChain}}
 use Rattle.dn_link.specs.{Kept.{IsRising, Unacknowledged, end_of, going, is_news, kept_after, without}, declared.bundle.{Part.{Part, TheVariants.{Whole, Run, Relay}}, Carried.Carried}}
 use Rattle.dn_link.proofs.{Leaving.{All-back, All-front}, Covered.few}
 use Rattle.dn_link.specs.declared.bundle.Relay as relay
@@ -55,6 +55,60 @@ keeps_chain kept (Some packet) quiet chain = go (is_news kept packet) refl
         let low = leb-true packet.start kept.covered (and_parts (nat_le packet.start kept.covered) room news).0 in
         chain_on kept.done kept.packets kept.covered packet low (quiet packet refl) chain
     go false old = chain
+
+-- The packets that are kept, each of which begins where the one before it ends, less a lag.
+
+pub close_past : (lag : ℕ) (packets : List Carried) (next count : ℕ) → IsClose lag packets next
+    → IsClose lag (without count packets) next
+close_past lag [] next count close = tt
+close_past lag (packet ∷ packets) next count (end, rest) =
+    go (nat_le (end_of packet) count) (close_past lag packets next count rest)
+  where
+    go : (test : Bool) → IsClose lag (without count packets) next
+        → IsClose lag (if test then without count packets else packet ∷ packets) next
+    go true behind = behind
+    go false behind = (end, rest)
+
+-- the next one begins later
+close_up : (lag : ℕ) (packets : List Carried) (next later : ℕ) → next ≤ later → IsClose lag packets next
+    → IsClose lag packets later
+close_up lag [] next later less close = tt
+close_up lag (packet ∷ []) next later less (end, rest) = (omega (arith, end, less), tt)
+close_up lag (packet ∷ other ∷ packets) next later less (end, rest) =
+    (end, close_up lag (other ∷ packets) next later less rest)
+
+-- one more
+close_on : (lag : ℕ) (packets : List Carried) (packet : Carried) (next : ℕ) → IsClose lag packets packet.start
+    → end_of packet ≤ next + lag → IsClose lag (packets ++ packet ∷ []) next
+close_on lag [] packet next close end = (end, tt)
+close_on lag (one ∷ []) packet next (first, rest) end = (first, (end, tt))
+close_on lag (one ∷ other ∷ packets) packet next (first, rest) end =
+    (first, close_on lag (other ∷ packets) packet next rest end)
+
+pub keeps_close : (lag : ℕ) (kept : Unacknowledged) (packet : Option Carried) (next later : ℕ) → next ≤ later
+    → ((one : Carried) → packet ≡ Some one → kept.covered < end_of one
+    → (one.start ≡ next) × (end_of one ≤ later + lag)) → IsClose lag kept.packets next
+    → IsClose lag (kept_after kept packet).packets later
+keeps_close lag kept None next later less is close = close_up lag kept.packets next later less close
+keeps_close lag kept (Some packet) next later less is close = go (is_news kept packet) refl
+  where
+    go : (test : Bool) → is_news kept packet ≡ test → IsClose lag
+        (if test then record kept { packets = kept.packets ++ packet ∷ []; covered = end_of packet } else kept).packets later
+    go true news =
+        let room : Bool = nat_lt (length kept.packets) 24 in
+        let past = ltb-true kept.covered (end_of packet) (and_parts (nat_lt kept.covered (end_of packet)) room
+        (and_parts (nat_le packet.start kept.covered) (nat_lt kept.covered (end_of packet) && room) news).1).0 in
+        let moment = is packet refl past in
+        close_on lag kept.packets packet later (subst (IsClose lag kept.packets) (sym moment.0) close) moment.1
+    go false old = close_up lag kept.packets next later less close
+
+-- what they cover is no more behind the next one
+pub close_end : (lag done : ℕ) (packets : List Carried) (covered next : ℕ) → IsChain done packets covered
+    → IsClose lag packets next → 1 ≤ length packets → covered ≤ next + lag
+close_end lag done [] covered next chain close some = absurd (omega (arith, some))
+close_end lag done (packet ∷ []) covered next (start, quiet, chain) (end, close) some = omega (arith, chain, end)
+close_end lag done (packet ∷ other ∷ packets) covered next (start, quiet, chain) (end, close) some =
+    close_end lag (end_of packet) (other ∷ packets) covered next chain close (omega arith)
 
 -- they have no gap, and end where they cover
 pub chain_goes : (me done : ℕ) (packets : List Carried) (covered : ℕ) → IsChain done packets covered
@@ -209,6 +263,24 @@ run_goes player (suc n) start commands long =
     behind tic later [] less goes = tt
     behind tic later (packet ∷ packets) less (low, goes) = (omega (arith, low, less), goes)
 
+-- an EXIT packet of two lists
+exit_front : (from end : ℕ) (one other : List Opened) → HasExit from end one → HasExit from end (one ++ other)
+exit_front from end [] other has = absurd has
+exit_front from end (packet ∷ one) other has =
+    elim has [ inl here ↦ inl here | inr behind ↦ inr (exit_front from end one other behind) ]
+
+pub exit_back : (from end : ℕ) (one other : List Opened) → HasExit from end other → HasExit from end (one ++ other)
+exit_back from end [] other has = has
+exit_back from end (packet ∷ one) other has = inr (exit_back from end one other has)
+
+exit_split : (from end : ℕ) (one other : List Opened) → HasExit from end (one ++ other)
+    → HasExit from end one ⊎ HasExit from end other
+exit_split from end [] other has = inr has
+exit_split from end (packet ∷ one) other has = elim has [
+  | inl here ↦ inl (inl here)
+  | inr behind ↦ elim (exit_split from end one other behind) [ inl first ↦ inl (inr first) | inr last ↦ inr last ]
+]
+
 -- what a part has of its sender's own packets
 abbrev pub own_of : ℕ → Part → List Opened
 own_of = heard_of (λ relay. false)
@@ -275,3 +347,18 @@ module _ (takes : relay.Relay → Bool) (from : ℕ) (first : ℕ → ℕ)
       All-append IsQuiet (heard_of takes from part) (flat_map (heard_of takes from) parts)
       (part_asks part (All-front IsQuiet (own_of from part) (flat_map (own_of from) parts) all))
       (parts_ask parts (All-back IsQuiet (own_of from part) (flat_map (own_of from) parts) all))
+
+  -- and an EXIT packet of the sender is heard
+  pub parts_exit : (end : ℕ) (parts : List Part) → HasExit from end (flat_map (own_of from) parts)
+      → HasExit from end (flat_map (heard_of takes from) parts)
+  parts_exit end [] has = has
+  parts_exit end (part ∷ parts) has = elim (exit_split from end (own_of from part) (flat_map (own_of from) parts) has) [
+    | inl here ↦ exit_front from end (heard_of takes from part) (flat_map (heard_of takes from) parts) (of_part part here)
+    | inr behind ↦ exit_back from end (heard_of takes from part) (flat_map (heard_of takes from) parts)
+        (parts_exit end parts behind)
+  ]
+    where
+      of_part : (part : Part) → HasExit from end (own_of from part) → HasExit from end (heard_of takes from part)
+      of_part (Whole packet) has = has
+      of_part (Run run) has = has
+      of_part (Relay relay) has = absurd has

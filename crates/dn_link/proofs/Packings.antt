@@ -131,11 +131,11 @@ pushed_all parts part all is =
     All-append IsPart parts (part ∷ []) all (All-cons IsPart part [] is (All-nil IsPart))
 
 -- the run is ended
-pub ended : (p q : Packing) → IsPacking p → length p.parts.items ≤ 23 → 1 ≤ length p.run.commands.items
+pub ended : (p q : Packing) → IsPacking p → 1 ≤ length p.run.commands.items
     → q.parts.items ≡ p.parts.items ++ Run p.run ∷ []
     → q.bytes ≡ p.bytes + (5 + length p.run.commands.items) → q.run.start < 2 ^ 32 → q.run.commands.items ≡ []
     → IsPacking q
-ended p q is few some parts bytes start none =
+ended p q is some parts bytes start none =
     let count = ap (length {A = Part}) parts in
     let more = length-append p.parts.items (Run p.run ∷ []) in
     let empty = ap (length {A = ℕ}) none in
@@ -150,13 +150,14 @@ ended p q is few some parts bytes start none =
       }));
       run = record { start = start; few = omega (arith, empty); whole = omega (arith, empty) };
       bytes = omega (arith, bytes, is.bytes, written, pushed_room p.parts.items (Run p.run));
-      few = omega (arith, count, more, few);
+      few = omega (arith, count, more, is.run_is_one some);
+      run_is_one = λ more. absurd (omega (arith, more, empty));
       fit = omega (arith, bytes, is.run_fits some);
       run_fits = λ more. absurd (omega (arith, more, empty));
     }
 
 -- a packet stands whole
-pub whole_fits : (p q : Packing) (packet : Carried) → IsPacking p → length p.parts.items ≤ 22
+pub whole_fits : (p q : Packing) (packet : Carried) → IsPacking p → length p.parts.items ≤ 23
     → p.bytes + 115 ≤ 1118 → p.run.commands.items ≡ [] → IsCarried packet
     → q.parts.items ≡ p.parts.items ++ Whole packet ∷ []
     → q.bytes ≡ p.bytes + (11 + length packet.datagram.items) → q.run ≡ p.run → IsPacking q
@@ -171,30 +172,9 @@ whole_fits p q packet is few room none fits parts bytes same =
       run = subst IsOpenRun (sym same) is.run;
       bytes = omega (arith, bytes, is.bytes, ap parts_room parts, pushed_room p.parts.items (Whole packet));
       few = omega (arith, count, more, few);
+      run_is_one = λ some. absurd (omega (arith, some, empty));
       fit = omega (arith, bytes, room, short);
       run_fits = λ some. absurd (omega (arith, some, empty));
-    }
-
-run_fits : (p q : Packing) (command : List ℕ) → IsPacking p → length command ≡ 8
-    → length p.run.commands.items ≤ 184 → p.bytes + 5 + length p.run.commands.items + 8 ≤ 1118
-    → q.parts ≡ p.parts → q.bytes ≡ p.bytes → q.run.start ≡ p.run.start
-    → q.run.commands.items ≡ p.run.commands.items ++ command → IsPacking q
-run_fits p q command is eight few room parts bytes begin more =
-    let whole = is.run.whole in
-    let grown = ap (length {A = ℕ}) more in
-    let both = length-append p.run.commands.items command in
-    let items = ap (λ (v : ArrayVec Part). v.items) parts in
-    record {
-      parts = subst (All IsPart) (sym items) is.parts;
-      run = record {
-        start = omega (arith, begin, is.run.start);
-        few = omega (arith, grown, both, eight, few);
-        whole = omega (arith, grown, both, eight, whole);
-      };
-      bytes = bytes ∙ is.bytes ∙ ap parts_room (sym items);
-      few = subst (λ (ps : List Part). length ps ≤ 24) (sym items) is.few;
-      fit = omega (arith, bytes, is.fit);
-      run_fits = λ some. omega (arith, bytes, grown, both, eight, room);
     }
 
 pub last_of : (parts : List Part) (part : Part) → runs_last (parts ++ part ∷ []) ≡ runs part
@@ -202,11 +182,15 @@ last_of [] part = refl
 last_of (a ∷ []) part = refl
 last_of (a ∷ b ∷ parts) part = last_of (b ∷ parts) part
 
+-- of fewer than twenty-four parts with the run there are no bytes left for another packet
+abbrev pub IsFull : Packing → Type 0
+IsFull p = length p.parts.items < 24 → (1 ≤ length p.run.commands.items → length p.parts.items < 23)
+    → 1118 < p.bytes + 5 + length p.run.commands.items + 115
+
 -- where a run may have been ended, and there was no room for another packet
 ended_full : (p : Packing) (parts : List Part) → IsPacking p → IsOpen p
     → parts ≡ p.parts.items ++ part_of p.run
-    → (length p.parts.items < 22 → 1118 < p.bytes + 5 + length p.run.commands.items + 115)
-    → length parts < 22 + runs_last parts → 1118 + 5 * runs_last parts < parts_room parts + (5 + 115)
+    → IsFull p → length parts < 24 → 1118 + 5 * runs_last parts < parts_room parts + (5 + 115)
 ended_full p parts is going now full few = elim (cases_lt 0 (length p.run.commands.items)) [
   | inl some ↦
       let same : parts ≡ p.parts.items ++ Run p.run ∷ [] =
@@ -214,14 +198,15 @@ ended_full p parts is going now full few = elim (cases_lt 0 (length p.run.comman
       let last : runs_last parts ≡ 1 = ap runs_last same ∙ last_of p.parts.items (Run p.run) in
       let count = ap (length {A = Part}) same ∙ length-append p.parts.items (Run p.run ∷ []) in
       let written = ap parts_room same ∙ pushed_room p.parts.items (Run p.run) in
-      omega (arith, full (omega (arith, few, last, count)), last, written, is.bytes)
+      omega (arith, full (omega (arith, few, count)) (λ one. omega (arith, few, count)), last, written, is.bytes)
   | inr none ↦
       let same : parts ≡ p.parts.items =
       now ∙ ap (λ (last : List Part). p.parts.items ++ last) (is_none p.run none) ∙ append-nil p.parts.items in
       let last : runs_last parts ≡ 0 = ap runs_last same ∙ going (omega (arith, none)) in
       let count = ap (length {A = Part}) same in
       let written = ap parts_room same in
-      omega (arith, full (omega (arith, few, last, count)), last, written, none, is.bytes)
+      let full_now = full (omega (arith, few, count)) (λ one. absurd (omega (arith, one, none))) in
+      omega (arith, full_now, last, written, none, is.bytes)
 ]
 
 -- the tic after so many
@@ -274,7 +259,6 @@ run_goes_on p q from start command is eight few follows parts begin more =
 -- where the loop over packets is
 pub record InPacking (from : ℕ) (packets : List Carried) (p : Packing) (rest : List Carried) : Type 0 where
   pub fits : IsPacking p
-  pub parts : length p.parts.items ≤ 23
   pub done : List Carried
   pub split : packets ≡ done ++ rest
   pub told : packed from p ≡ map (opened_from from) done
@@ -284,13 +268,11 @@ pub record InPacking (from : ℕ) (packets : List Carried) (p : Packing) (rest :
 module _ (from : ℕ) (packets : List Carried) (p : Packing) (rest : List Carried)
     (at : InPacking from packets p rest) where
   pub packs_on : (q : Packing) (packet : Carried) (after : List Carried) → rest ≡ packet ∷ after
-      → IsPacking q → length q.parts.items ≤ 23
-      → packed from q ≡ packed from p ++ opened_from from packet ∷ [] → IsTight from q
+      → IsPacking q → packed from q ≡ packed from p ++ opened_from from packet ∷ [] → IsTight from q
       → IsOpen q → InPacking from packets q after
-  packs_on q packet after next fits parts more tight last =
+  packs_on q packet after next fits more tight last =
       record {
         fits = fits;
-        parts = parts;
         done = at.done ++ packet ∷ [];
         split = at.split ∙ ap (λ (ps : List Carried). at.done ++ ps) next
             ∙ sym (append_assoc at.done (packet ∷ []) after);
@@ -302,8 +284,8 @@ module _ (from : ℕ) (packets : List Carried) (p : Packing) (rest : List Carrie
 
   -- the run is ended, and no packet is left, or there is no room
   pub packs_all : (q : Packing) → q.run.commands.items ≡ [] → packed from q ≡ packed from p
-      → q.parts.items ≡ p.parts.items ++ part_of p.run → (1 ≤ length rest → length p.parts.items < 22
-      → 1118 < p.bytes + 5 + length p.run.commands.items + 115) → ArePacked from packets q.parts.items
+      → q.parts.items ≡ p.parts.items ++ part_of p.run → (1 ≤ length rest → IsFull p)
+      → ArePacked from packets q.parts.items
   packs_all q none same now full =
       let count = ap (length {A = Carried}) at.split in
       let both = length-append at.done rest in

@@ -1,5 +1,5 @@
 -- Which tic a node sends to a peer next, after each call.
-use Rattle.std.proofs.Common.{ℤ, ◌≡◌, ◌≢◌, ◌≤◌, ◌+◌, ◌-◌, ◌⊎◌, ℕ, Bool, true, false, List, ◌++◌, length, drop, refl, ap, sym, ◌∙◌, arith, Option, Some, None, inl, inr, ◌<◌, ◌/◌, ◌%◌, ◌&&◌, ◌||◌}
+use Rattle.std.proofs.Common.{ℤ, ◌≡◌, ◌≢◌, ◌≤◌, ◌+◌, ◌-◌, ◌*◌, ◌⊎◌, ℕ, Bool, true, false, List, ◌++◌, length, drop, refl, ap, sym, ◌∙◌, arith, Option, Some, None, inl, inr, ◌<◌, ◌/◌, ◌%◌, ◌&&◌, ◌||◌}
 use Rattle.std.proofs.lemmas.{Bool.{and_parts, cases_lt, cond_both, le-ltb, leb-true, eq-eqb, eqb-true, true≢false}, List.{length-take, length-drop}, Option.{none-some, same_Some}}
 use Rattle.std.specs.Prelude.{if◌then◌else◌, min, nat_lt, not, ◌==◌, bit_and, is_some, slice_index, Result, Ok, Err}
 use Rattle.dn_tic.specs.{declared.{command.TicCmd.TicCmd, input.Input.Input}, Tics.exact_tic}
@@ -7,12 +7,12 @@ use Rattle.dn_packet.proofs.Texts.{length-commands}
 use Rattle.dn_packet.specs.{declared.packet.{Packet.Packet, PacketFault.PacketFault}, Text.text}
 use Rattle.dn_setup.specs.{Settings.Settings, declared.setup.SetupFault.SetupFault}
 use Rattle.dn_seal.specs.declared.opened.Opened.{Opened}
-use Rattle.dn_machine.specs.{Flight.{Kind, Play, Exit, Flight, is_close, is_request_close, request_byte}, Node.{Node, put, with_peer, got, made}, Limits.Limits, Running.on_quit, Sparing.on_run_but}
+use Rattle.dn_machine.specs.{Flight.{Kind, Play, Exit, Flight, is_close, is_request_close, packet_of, request_byte}, Node.{Node, put, with_peer, got, made}, Limits.Limits, Running.on_quit, Sparing.on_run_but}
 use Rattle.dn_machine.specs.{Sending.{on_build, after_sent, commands_flight, first_sent, lag, last_sent, left_kind, on_send, request_to, set_up_flight}, Hearing.{after_request, after_exit, on_packet}}
 use Rattle.dn_machine.specs.declared.{answers.{Heard.Heard, Phase.Phase}, peer.Peer.Peer}
 use Rattle.dn_machine.proofs.{Calls.{build_cases, send_cases, quit_cases, packet_cases, sender_after}, Put.{put_at, put_off}, Stages.lag_low}
 use Rattle.dn_remain.proofs.Each.{run_but_cases}
-use Rattle.dn_lockstep.specs.{Received.{has_flag, request_in, flight_from, heard_as, read_flight, received}, Phases.hears_none}
+use Rattle.dn_lockstep.specs.{Sent.bytes_of, Received.{has_flag, request_in, flight_from, heard_as, read_flight, received}, Phases.hears_none}
 use Rattle.dn_open.specs.{Arrivals.{IsRead, asks_alike, flag_in, heard, is_alike, on_opened}, declared.hearing.Arrived.Arrived}
 use Rattle.dn_open.proofs.Letters.{flags_at}
 use Rattle.dn_link.specs.{declared.bundle.Carried.Carried, Hearing.carried_of}
@@ -24,6 +24,13 @@ use Rattle.dn_link.specs.Kept as kept
 -- the tic from which it sends next
 abbrev pub resend_of : Node → ℕ → ℕ
 resend_of node to = (node.peers to).resend
+
+-- a packet has twelve commands of eight bytes at most, behind eight bytes
+abbrev pub IsSized : Carried → Type 0
+IsSized packet = (length packet.datagram.items ≡ 8 + 8 * kept.commands_in packet) × (kept.commands_in packet ≤ 12)
+
+pub whole_of : (flight : Flight) → length (bytes_of flight) ≡ 8 + 8 * kept.commands_in (carried_of flight)
+whole_of flight = let size = length-commands (packet_of flight).cmds.items in omega (arith, size)
 
 module _ (limits : Limits) (me : ℕ) (node : Node) (to : ℕ) where
   abbrev Same : Node → Type 0
@@ -114,6 +121,7 @@ module _ (limits : Limits) (me : ℕ) (node : Node) (to : ℕ) where
     pub low : resend_of node to ≤ made me node → kept.end_of packet ≤ resend_of new to + lag limits
     pub most : resend_of new to ≤ made me node - lag limits
     pub up : resend_of node to ≤ made me node - lag limits → resend_of node to ≤ resend_of new to
+    pub sized : IsSized packet
 
   -- what it sends: nothing, or settings, which have no command; or such a packet
   abbrev pub Silent : Node → Option Flight → Type 0
@@ -127,7 +135,7 @@ module _ (limits : Limits) (me : ℕ) (node : Node) (to : ℕ) where
   set_up_silent (Some settings) = grind (arith, same_Some)
 
   module _ (most : limits.most ≡ 12) (there : made me node ≤ resend_of node to + limits.places) where
-    first_is : first_sent limits me node to ≡ resend_of node to
+    pub first_is : first_sent limits me node to ≡ resend_of node to
     first_is =
         let test = le-ltb (resend_of node to) (made me node - limits.places) (omega (arith, there)) in rw test refl
 
@@ -166,6 +174,7 @@ module _ (limits : Limits) (me : ℕ) (node : Node) (to : ℕ) where
           low = λ within. omega (arith, count, first, last, within);
           most = omega (arith, last);
           up = λ within. omega (arith, last, within, lag_low limits);
+          sized = (whole_of (commands_flight limits me node to kind request), omega (arith, count));
         }
 
     pub sends : Sends (on_send limits me node to).0 (on_send limits me node to).1

@@ -4,7 +4,8 @@ use Rattle.dn_seal.specs.{declared.opened.Opened.Opened, declared.seal.Seal.Seal
 use Rattle.dn_machine.specs.{Limits.Limits, Node.put, Sending.lag}
 use Rattle.dn_machine.specs.Node as machine
 use Rattle.dn_lockstep.specs.{Told.got, Told.made, Contents.Contents, Represents.Represents}
-use Rattle.dn_open.specs.Sealed.{sealing_of}
+use Rattle.dn_open.specs.{Arrivals.flag_in, Sealed.sealing_of}
+use Rattle.dn_packet.specs.Flags as flag
 use Rattle.dn_link.specs.{declared.bundle.Bundle.Bundle, declared.bundle.Carried.Carried, Counting.has_ended, Ends.excludes, Kept.IsKeptRising, Kept.Unacknowledged, Kept.end_of, Linked.IsWhole, Linked.Linked, Packets.own_in, Packets.packets_in, Reading.IsDatagramOf, Text.IsBundle, Text.sealed_bytes}
 
 -- from which tic on a peer is to be sent commands: the next packet begins there, unless more were made from
@@ -69,10 +70,21 @@ IsChain done (packet ∷ packets) covered =
 abbrev pub IsKeptChain : Unacknowledged → Type 0
 IsKeptChain kept = IsChain kept.done kept.packets kept.covered
 
+-- the tic at which the first of these packets begins, or this one where there are none
+abbrev pub begins : ℕ → List Carried → ℕ
+begins next [] = next
+begins next (packet ∷ packets) = packet.start
+
+-- each ends at most so many commands behind the tic at which the one after it begins, and the last behind this one
+abbrev pub IsClose : ℕ → List Carried → ℕ → Type 0
+IsClose lag [] next = Unit {0}
+IsClose lag (packet ∷ packets) next = (end_of packet ≤ begins next packets + lag) × IsClose lag packets next
+
 -- of a player's link and a peer's: what is kept for the peer has no gap; the player asks the peer for nothing
 -- again, and has of the peer's commands at most a window more than the peer has acknowledged of the player's.
 -- And unless the peer has ended: what it has acknowledged it has; the next packet to it goes on from those that
--- are kept, and begins with none that was not made
+-- are kept, and begins with none that was not made; and each of these repeats of the one before it one command at
+-- most, and only where packets repeat one
 pub record IsCaughtUp (limits : Limits) (player peer : ℕ) (mine theirs : Linked) : Type 0 where
   pub rising : IsKeptRising (mine.peers peer).kept
   pub chain : IsKeptChain (mine.peers peer).kept
@@ -81,6 +93,8 @@ pub record IsCaughtUp (limits : Limits) (player peer : ℕ) (mine theirs : Linke
   pub there : has_ended theirs.node ≡ false → (mine.peers peer).kept.done ≤ got theirs.node player
   pub next : has_ended theirs.node ≡ false → next_to mine.node peer ≤ (mine.peers peer).kept.covered
   pub least : has_ended theirs.node ≡ false → next_to mine.node peer ≤ got mine.node player - lag limits
+  pub close : has_ended theirs.node ≡ false
+      → IsClose (lag limits) (mine.peers peer).kept.packets (next_to mine.node peer)
 
 -- any two of them, and none has given up another
 pub record AreCaughtUp (limits : Limits) (links : ℕ → Linked) : Type 0 where
@@ -116,6 +130,13 @@ abbrev pub Brings : ℕ → (ℕ → Linked) → Bundle → Type 0
 Brings count links bundle =
     has_ended (links bundle.to).node ≡ false
     → count ≤ last_end (got (links bundle.to).node bundle.from) (own_in bundle)
+
+-- one of these packets of a player tells that it has left: it is an EXIT packet, and ends at this tic
+abbrev pub HasExit : (from end : ℕ) → List Opened → Type 0
+HasExit from end [] = ⊥
+HasExit from end (packet ∷ packets) =
+    ((packet.from ≡ from) × (told_end packet ≡ end) × (flag_in packet.datagram.items flag.exit ≡ true))
+    ⊎ HasExit from end packets
 
 -- each player has as many commands of each as before, or more; it has run as many tics, or more; its next
 -- packet to a peer that has not ended begins no earlier; and a player who had ended has ended

@@ -44,15 +44,13 @@ runs_last (one ∷ []) = runs one
 runs_last (one ∷ other ∷ parts) = runs_last (other ∷ parts)
 
 -- the parts stand for these packets, oldest first, and no fewer parts could. They stand for all of them, unless
--- there may be no room for one more: there are twenty-two parts beside a run that is the last of them; or of
--- 1,118 bytes of room fewer are left than a whole packet takes, which is 115, and a run without commands, which
--- is 5, where no run is the last
+-- there may be no room for one more: there are twenty-four parts; or of 1,118 bytes of room fewer are left than a
+-- whole packet takes, which is 115, and a run without commands, which is 5, where no run is the last
 pub record ArePacked (from : ℕ) (packets : List Carried) (parts : List Part) : Type 0 where
   pub count : ℕ
   pub some : count ≤ length packets
   pub front : flat_map (packets_of from) parts ≡ take count (map (opened_from from) packets)
-  pub all : count < length packets → length parts < 22 + runs_last parts
-      → 1118 + 5 * runs_last parts < parts_room parts + (5 + 115)
+  pub all : count < length packets → length parts < 24 → 1118 + 5 * runs_last parts < parts_room parts + (5 + 115)
   pub needed : All (IsNeeded from) parts
   pub ended : AreEnded parts
 
@@ -92,10 +90,12 @@ pub record IsPacking (p : Packing) : Type 0 where
   pub run : IsOpenRun p.run
   pub bytes : p.bytes ≡ parts_room p.parts.items
   pub few : length p.parts.items ≤ 24
+  pub run_is_one : 1 ≤ length p.run.commands.items → length p.parts.items ≤ 23
   pub fit : p.bytes ≤ 1118
   pub run_fits : 1 ≤ length p.run.commands.items → p.bytes + 5 + length p.run.commands.items ≤ 1118
 
 -- there is room for another packet, whatever it is
 pub record HasRoom (p : Packing) : Type 0 where
-  pub few : length p.parts.items ≤ 21
+  pub few : length p.parts.items ≤ 23
+  pub run_is_one : 1 ≤ length p.run.commands.items → length p.parts.items ≤ 22
   pub fit : p.bytes + 5 + length p.run.commands.items + 115 ≤ 1118

@@ -1,23 +1,37 @@
--- Rounds of the links of a game that all play.
-use Rattle.std.specs.{Prelude.{◌≡◌, ◌≢◌, ◌<◌, ◌≤◌, ℕ, suc, false, ◌+◌, ℤ, List, Option, length}, Prelude.{false}}
+-- Rounds of the links of a game, of those who play.
+use Rattle.std.specs.Prelude.{◌≡◌, ◌≢◌, ◌<◌, ◌≤◌, ◌+◌, ℕ, suc, Bool, false, true, ℤ, List, Option, Some, length}
 use Rattle.dn_tic.specs.{declared.command.Move.Move, declared.input.Input.Input}
 use Rattle.dn_setup.specs.Settings.{Settings}
 use Rattle.dn_machine.specs.{declared.answers.Made.Made, declared.answers.Phase.TheVariants.Playing, declared.answers.Ran.Ran, Limits.Limits}
-use Rattle.dn_lockstep.specs.{Told.Builds, Told.made, Marking.Marking}
+use Rattle.dn_lockstep.specs.{Contents.Contents, Told.Builds, Told.got, Told.made, Marking.Marking}
 use Rattle.dn_survivor.specs.OneGame.{Session}
 use Rattle.dn_seal.specs.declared.seal.Seal.{Seal}
-use Rattle.dn_link.specs.{declared.received.Received.Received, RemainingLinks.AreRemainingLinks, RemainingLinks.IsGenuineIn, Surviving.RunsBut, CaughtUp.AreCaughtUp, CaughtUp.HasGrown, CaughtUp.IsInStepTo, CaughtUp.next_to, Linked.Gives, Linked.Linked, Linked.Receives, Pacing.PaceState, Packing.parts_room, Pacing.{is_brief}}
+use Rattle.dn_link.specs.{declared.received.Received.Received, Counting.has_ended, RemainingLinks.AreRemainingLinks, RemainingLinks.IsGenuineIn, Surviving.RunsBut, CaughtUp.AreCaughtUp, CaughtUp.HasGrown, CaughtUp.IsInStepTo, CaughtUp.next_to, Linked.end_known, Linked.Gives, Linked.Linked, Linked.Receives, Pacing.PaceState, Pacing.{is_brief}}
 
--- the links of a game from one moment to another, in which all players play. From each moment to the next they
--- grow, as they do by any calls on them (`links_stay_caught_up`)
+-- it knows a player's end, and has all commands before it
+abbrev pub HasAllOf : Contents → ℕ → Type 0
+HasAllOf node player = (end : ℕ) × (end_known node player ≡ Some end) × (end ≤ got node player)
+
+-- the links of a game from one moment to another, in which each player plays all the time, or has left before, as all
+-- know who play. From each moment to the next they grow, as they do by any calls on them (`links_stay_caught_up`)
 pub record Stretch (marking : Marking) (limits : Limits) (settings : Settings) (last : ℕ) : Type 0 where
   pub sessions : ℕ → Session
   pub links : ℕ → ℕ → Linked
+  pub left : ℕ → Bool
   pub are : (moment : ℕ) → moment ≤ last → AreRemainingLinks marking limits settings (sessions moment) (links moment)
   pub caught_up : (moment : ℕ) → moment ≤ last → AreCaughtUp limits (links moment)
   pub grows : (moment : ℕ) → moment < last → HasGrown limits (links moment) (links (suc moment))
-  pub plays : (moment player : ℕ) → moment ≤ last → player < limits.players
+  pub plays : (moment player : ℕ) → moment ≤ last → player < limits.players → left player ≡ false
       → (links moment player).node.phase ≡ Playing
+  pub ended : (moment player : ℕ) → moment ≤ last → player < limits.players → left player ≡ true
+      → has_ended (links moment player).node ≡ true
+  pub known : (moment player peer : ℕ) → moment ≤ last → player < limits.players → left player ≡ false
+      → peer < limits.players → left peer ≡ true → HasAllOf (links moment player).node peer
+
+-- one of its players plays
+abbrev pub Plays : {marking : Marking} {limits : Limits} {settings : Settings} {last : ℕ}
+    → Stretch marking limits settings last → ℕ → Type 0
+Plays {marking} {limits} {settings} {last} stretch player = (player < limits.players) × (stretch.left player ≡ false)
 
 -- at a moment a player's link is asked for a command
 abbrev pub MakesAt : (ℕ → ℕ → Linked) → ℕ → ℕ → Type 0
@@ -32,50 +46,60 @@ WaitsAt links moment player =
     × RunsBut marks (links moment player) (links (suc moment) player)
     (λ answer told. (Ran.Waiting other ≡ answer) × (row ≡ told))
 
--- in each of its rounds a player's link is asked for a command, and later runs tics until it waits
+-- in each of its rounds the link of a player that plays is asked for a command, and later runs tics until it waits
 pub record AreRounds {marking : Marking} {limits : Limits} {settings : Settings} {last : ℕ}
     (stretch : Stretch marking limits settings last) (rounds : ℕ) : Type 0 where
   pub built : ℕ → ℕ → ℕ
   pub waited : ℕ → ℕ → ℕ
-  pub builds : (round player : ℕ) → round < rounds → player < limits.players
-      → MakesAt stretch.links (built round player) player
-  pub waits : (round player : ℕ) → round < rounds → player < limits.players
-      → WaitsAt stretch.links (waited round player) player
-  pub within : (round player : ℕ) → round < rounds → player < limits.players
+  pub builds : (round player : ℕ) → round < rounds → Plays stretch player → MakesAt stretch.links (built round player) player
+  pub waits : (round player : ℕ) → round < rounds → Plays stretch player → WaitsAt stretch.links (waited round player) player
+  pub within : (round player : ℕ) → round < rounds → Plays stretch player
       → (built round player < waited round player) × (waited round player < last)
-  pub later : (round player : ℕ) → suc round < rounds → player < limits.players
+  pub later : (round player : ℕ) → suc round < rounds → Plays stretch player
       → waited round player < built (suc round) player
 
--- of the datagrams that a player gives a peer in its rounds from this one on, one of k rounds is taken in by
--- the peer before it waits in its round d later. It is no brief one and no late one, and has room for all
--- that its sender has to give; and what comes was sealed in this game in step
+-- datagrams that a player gives a peer, one after the other. From one to the next it makes eleven commands at most, and
+-- at the first one it has made twelve at most from the tic on from which the peer is to be sent them
+pub record Datagrams {marking : Marking} {limits : Limits} {settings : Settings} {last : ℕ}
+    (stretch : Stretch marking limits settings last) (seal : Seal) (player peer : ℕ) : Type 0 where
+  pub count : ℕ
+  pub given : ℕ → ℕ
+  pub pace : ℕ → PaceState
+  pub bytes : ℕ → List ℕ
+  pub inside : (which : ℕ) → which < count → given which < last
+  pub later : (which : ℕ) → suc which < count → given which < given (suc which)
+  pub gives : (which : ℕ) → which < count → Gives seal (pace which) peer (stretch.links (given which) player)
+      (stretch.links (suc (given which)) player) (bytes which)
+  pub first : 0 < count
+      → made (stretch.links (given 0) player).node ≤ next_to (stretch.links (given 0) player).node peer + 12
+  pub few : (which : ℕ) → suc which < count
+      → made (stretch.links (given (suc which)) player).node ≤ made (stretch.links (given which) player).node + 11
+
+-- of these one of k rounds, from this one on, is taken in by the peer before it waits in its round d later. It is no
+-- brief one; and what comes was sealed in this game in step
 pub record Arrives {marking : Marking} {limits : Limits} {settings : Settings} {last : ℕ}
-    {stretch : Stretch marking limits settings last} {count : ℕ} (rounds : AreRounds stretch count) (seal : Seal)
-    (k d first player peer : ℕ) : Type 0 where
+    {stretch : Stretch marking limits settings last} {count : ℕ} (rounds : AreRounds stretch count) {seal : Seal}
+    {player peer : ℕ} (datagrams : Datagrams stretch seal player peer) (k d first : ℕ) : Type 0 where
   pub round : ℕ
-  pub given : ℕ
+  pub which : ℕ
   pub taken : ℕ
-  pub bytes : List ℕ
   pub from : first ≤ round
   pub below : round < first + k
-  pub built : rounds.built round player < given
-  pub comes : given < taken
+  pub one : which < datagrams.count
+  pub built : rounds.built round player < datagrams.given which
+  pub comes : datagrams.given which < taken
   pub waited : taken < rounds.waited (round + d) peer
-  pub pace : PaceState
-  pub gives : Gives seal pace peer (stretch.links given player) (stretch.links (suc given) player) bytes
-  pub full : is_brief pace peer ≡ false
-  pub soon : made (stretch.links given player).node ≤ next_to (stretch.links given player).node peer + 12
-  pub few : length gives.own < 22
-  pub short : parts_room gives.own ≤ 998
-  pub size : length bytes ≤ 1200
+  pub full : is_brief (datagrams.pace which) peer ≡ false
+  pub size : length (datagrams.bytes which) ≤ 1200
   pub answer : Received
-  pub genuine : IsGenuineIn seal (stretch.sessions taken) peer bytes
-  pub in_step : IsInStepTo seal limits (stretch.links taken) peer bytes
-  pub takes : Receives seal bytes (stretch.links taken peer) (stretch.links (suc taken) peer) answer
+  pub genuine : IsGenuineIn seal (stretch.sessions taken) peer (datagrams.bytes which)
+  pub in_step : IsInStepTo seal limits (stretch.links taken) peer (datagrams.bytes which)
+  pub takes : Receives seal (datagrams.bytes which) (stretch.links taken peer) (stretch.links (suc taken) peer) answer
 
--- the lines let one datagram of any k rounds through, at most d rounds late
+-- the lines between those who play let one datagram of any k rounds through, at most d rounds late
 abbrev pub AreFairLines : {marking : Marking} {limits : Limits} {settings : Settings} {last : ℕ}
     {stretch : Stretch marking limits settings last} {count : ℕ} → AreRounds stretch count → Seal → ℕ → ℕ → Type 0
 AreFairLines {marking} {limits} {settings} {last} {stretch} {count} rounds seal k d =
-    (first player peer : ℕ) → first + k + d ≤ count → player < limits.players → peer < limits.players
-    → peer ≢ player → Arrives rounds seal k d first player peer
+    (player peer : ℕ) → Plays stretch player → Plays stretch peer → peer ≢ player
+    → (datagrams : Datagrams stretch seal player peer)
+    × ((first : ℕ) → first + k + d ≤ count → Arrives rounds datagrams k d first)

@@ -1,6 +1,6 @@
 //! That the links of a game are caught up, of which nobody is given up.
 
-ghost use Rattle.std.specs.Prelude.{◌≡◌, ◌≢◌, ◌<◌, ◌≤◌, ◌+◌, ◌*◌, ℕ, ℤ, Bool, false, List, Option, Some, IfSome, length};
+ghost use Rattle.std.specs.Prelude.{◌≡◌, ◌≢◌, ◌<◌, ◌≤◌, ◌+◌, ◌*◌, ℕ, ℤ, Bool, false, true, List, Option, Some, IfSome, length};
 ghost use Rattle.dn_tic.specs.declared.{command.Move.Move, input.Input.Input};
 ghost use Rattle.dn_setup.specs.Settings.{Settings};
 ghost use Rattle.dn_machine.specs.{declared.answers.{Made.Made, Ran.Ran, Phase.TheVariants.Playing}, Limits.Limits, Node.put, Running.on_quit, Sending.lag, Started.started_node};
@@ -8,10 +8,9 @@ ghost use Rattle.dn_lockstep.specs.{Told.{Builds, got, made}, Marking.Marking, S
 ghost use Rattle.dn_survivor.specs.{OfOthers.nothing_kept, OneGame.Session};
 ghost use Rattle.dn_open.specs.Sealed.{sealing_of};
 ghost use Rattle.dn_seal.specs.declared.seal.Seal.{Seal};
-ghost use Rattle.dn_link.specs.{CaughtUp.{Brings, HasGrown, IsInStep, AreCaughtUp, IsInStepTo, StayCaughtUp, WasInStep, next_to}, Kept.{end_of, taken_by}, Reading.IsDatagramOf};
-ghost use Rattle.dn_link.specs.{declared.{bundle.{Bundle.Bundle, Carried.Carried}, received.Received.Received}, RemainingLinks.{AreRemainingLinks, IsGenuineIn}, Counting.has_ended, Linking.new_peer};
-ghost use Rattle.dn_link.specs.{Rounds.{AreRounds, AreFairLines, Stretch}, Linked.{Gives, Linked, Receives}, Pacing.PaceState, Surviving.RunsBut};
-ghost use Rattle.dn_link.specs.Packing.{parts_room};
+ghost use Rattle.dn_link.specs.{CaughtUp.{Brings, HasExit, HasGrown, IsInStep, AreCaughtUp, IsInStepTo, StayCaughtUp, WasInStep, next_to}, Kept.{end_of, taken_by}, Reading.IsDatagramOf};
+ghost use Rattle.dn_link.specs.{declared.{bundle.{Bundle.Bundle, Carried.Carried}, received.Received.Received}, RemainingLinks.{AreRemainingLinks, IsGenuineIn}, Counting.{has_ended, has_of}, Linking.new_peer, Packets.own_in};
+ghost use Rattle.dn_link.specs.{Rounds.{AreRounds, AreFairLines, Plays, Stretch}, Linked.{Gives, Linked, Receives}, Pacing.PaceState, Surviving.RunsBut};
 ghost use Rattle.dn_link.specs.Pacing.{is_brief};
 
 use crate::laws::bundles_are_read_back;
@@ -75,7 +74,9 @@ pub fn links_stay_caught_up()
 /// So nothing of a peer that has not ended is lost or left out. A player has made at most two windows of
 /// commands that the peer needs still; if the peer has no more of the player's commands than it was given, and
 /// packets repeat none or no window fills what a node keeps, no datagram is a late one, however long none was
-/// given; and of what is given to the peer, all is covered by what is kept for it then.
+/// given; and of what is given to the peer, all is covered by what is kept for it then. After a datagram of a
+/// player that has made at most twelve commands from where its next packet begins, the next one begins behind all of
+/// these, or repeats the last; so it is with each further one, where few commands are made between any two.
 pub fn caught_up_links_cover()
     ensures few { (marking : Marking) (limits : Limits) (settings : Settings) (session : Session) (links : ℕ → Linked)
         (player to : ℕ)
@@ -97,24 +98,28 @@ pub fn caught_up_links_cover()
         → (gives : Gives seal pace to (links player) new bytes) (packet : Carried)
         → taken_by ((links player).peers to).left gives.given ≡ Some packet
         → end_of packet ≤ (new.peers to).kept.covered }
+    ensures sent { (marking : Marking) (limits : Limits) (settings : Settings) (session : Session) (links : ℕ → Linked)
+        (player to : ℕ) (seal : Seal) (pace : PaceState) (new : Linked) (bytes : List ℕ)
+        → AreRemainingLinks marking limits settings session links → AreCaughtUp limits links
+        → player < limits.players → to < limits.players → to ≢ player → 12 ≤ limits.places
+        → made (links player).node ≤ next_to (links player).node to + 12
+        → (links player).node.phase ≡ Playing → Gives seal pace to (links player) new bytes
+        → has_ended (links to).node ≡ false → made (links player).node ≤ next_to new.node to + lag limits }
 {}
 
 /// What arrives brings all. Whatever datagram of one that plays comes to a player that plays, whenever it
 /// comes, and however many others did not, if it is no brief one: the player has then each command that its sender
-/// had made when it gave the datagram. It has room for all, if it has fewer than twenty-two parts of its sender's
-/// own, of 998 bytes at most, counted as if their commands stood whole; and its sender had made at most twelve from
-/// the tic on from which the peer is to be sent them.
+/// had made when it gave the datagram. It has room for all; its sender had made at most twelve from the tic on from
+/// which the peer is to be sent them. And where its sender has ended, whose window is eleven at most, the player
+/// knows its end then.
 pub fn links_bring_all()
     ensures given { (marking : Marking) (limits : Limits) (settings : Settings) (session : Session) (links : ℕ → Linked)
         (player to : ℕ) (seal : Seal) (pace : PaceState) (new : Linked) (bytes : List ℕ)
         → AreRemainingLinks marking limits settings session links → AreCaughtUp limits links
-        → player < limits.players → to < limits.players → to ≢ player
-        → (has_ended (links to).node ≡ false
-        → made (links player).node ≤ next_to (links player).node to + (links player).node.places)
+        → player < limits.players → to < limits.players → to ≢ player → 12 ≤ limits.places
         → made (links player).node ≤ next_to (links player).node to + 12
         → (links player).node.phase ≡ Playing
         → is_brief pace to ≡ false → (gives : Gives seal pace to (links player) new bytes)
-        → length gives.own < 22 → parts_room gives.own ≤ 998
         → Brings (made (links player).node) (put links player new) gives.bundle }
     ensures stay { (limits : Limits) (links later : ℕ → Linked) (bundle : Bundle) (count : ℕ)
         → HasGrown limits links later → IsInStep limits links bundle → Brings count links bundle
@@ -126,6 +131,21 @@ pub fn links_bring_all()
         → Receives seal bytes (links player) new answer
         → IsDatagramOf (sealing_of seal player) bytes bundle → new.node.phase ≡ Playing
         → Brings count links bundle → count ≤ got new.node bundle.from }
+    ensures exits { (marking : Marking) (limits : Limits) (settings : Settings) (session : Session) (links : ℕ → Linked)
+        (player to : ℕ) (seal : Seal) (pace : PaceState) (new : Linked) (bytes : List ℕ)
+        → AreRemainingLinks marking limits settings session links → AreCaughtUp limits links
+        → player < limits.players → to < limits.players → to ≢ player → 12 ≤ limits.places → limits.ahead ≤ 11
+        → made (links player).node ≤ next_to (links player).node to + 12
+        → has_ended (links player).node ≡ true → has_ended (links to).node ≡ false
+        → is_brief pace to ≡ false → (gives : Gives seal pace to (links player) new bytes)
+        → HasExit player (made (links player).node) (own_in gives.bundle) }
+    ensures learnt { (marking : Marking) (limits : Limits) (settings : Settings) (session : Session) (links : ℕ → Linked)
+        (player : ℕ) (seal : Seal) (bytes : List ℕ) (new : Linked) (answer : Received) (bundle : Bundle) (end : ℕ)
+        → AreRemainingLinks marking limits settings session links → AreCaughtUp limits links → player < limits.players
+        → IsGenuineIn seal session player bytes → IsInStepTo seal limits links player bytes
+        → Receives seal bytes (links player) new answer
+        → IsDatagramOf (sealing_of seal player) bytes bundle → new.node.phase ≡ Playing
+        → HasExit bundle.from end (own_in bundle) → end + 1 ≤ has_of new.node bundle.from }
 {
     remaining_links_go_on();
     bundles_are_read_back();
@@ -135,23 +155,23 @@ pub fn links_bring_all()
 /// of any k rounds, at most d rounds late; it does not matter which, nor what else comes, or comes again. Then
 /// each player runs a tic more in each k + d rounds than all had run. And where k + d is at most the window,
 /// after r rounds each has run at least r + 1 - (k + d) tics more than all had run at first. A round is a
-/// player's own: one command is asked for, and later tics are run until one is waited for.
+/// player's own: one command is asked for, and later tics are run until one is waited for. From one datagram that a
+/// player gives another to the next it makes eleven commands at most; so a round may go by without one. Others may have
+/// left before, if all who play know their ends.
 pub fn links_run_on()
     ensures goes_on { (marking : Marking) (limits : Limits) (settings : Settings) (last : ℕ)
         (stretch : Stretch marking limits settings last) (count : ℕ) (rounds : AreRounds stretch count) (seal : Seal)
         (k d first tics round least : ℕ) → 8 ≤ length seal.game → 12 ≤ limits.places → 1 ≤ limits.ahead → 1 ≤ k
         → AreFairLines rounds seal k d → 1 ≤ tics → first + (k + d) * tics ≡ round + 1 → round < count
-        → ((player : ℕ) → player < limits.players
-        → least ≤ (stretch.links (rounds.built first player) player).node.ran)
-        → (player : ℕ) → player < limits.players
+        → ((player : ℕ) → Plays stretch player → least ≤ (stretch.links (rounds.built first player) player).node.ran)
+        → (player : ℕ) → Plays stretch player
         → least + tics ≤ (stretch.links (rounds.waited round player) player).node.ran }
     ensures full_speed { (marking : Marking) (limits : Limits) (settings : Settings) (last : ℕ)
         (stretch : Stretch marking limits settings last) (count : ℕ) (rounds : AreRounds stretch count) (seal : Seal)
         (k d round least : ℕ) → 8 ≤ length seal.game → 12 ≤ limits.places → 1 ≤ limits.ahead → 1 ≤ k
         → AreFairLines rounds seal k d → k + d ≤ limits.ahead → round < count
-        → ((player : ℕ) → player < limits.players
-        → least ≤ (stretch.links (rounds.built 0 player) player).node.ran)
-        → (player : ℕ) → player < limits.players
+        → ((player : ℕ) → Plays stretch player → least ≤ (stretch.links (rounds.built 0 player) player).node.ran)
+        → (player : ℕ) → Plays stretch player
         → least + (round + 2) ≤ (stretch.links (rounds.waited round player) player).node.ran + (k + d) }
 {
     links_bring_all();

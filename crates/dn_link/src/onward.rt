@@ -20,7 +20,7 @@ use dn_setup::every_packet_is_told;
 
 /// The packets that any link keeps for a peer have each command from the first that the peer still needs to the
 /// last that they cover. And a datagram that is no brief one carries all of these, unless it has no room for some:
-/// then it has twenty-two parts or more, or these have more than 998 bytes, counted as if their commands stood whole.
+/// then it has twenty-four parts, or these have more than 998 bytes, counted as if their commands stood whole.
 /// What they cover reaches the end of a packet that is given exactly if it did before, or if the packet begins there
 /// or before and fewer than twenty-four are kept. Each kept packet ends past those before it, so no more are
 /// kept than commands are covered that the peer still needs.
@@ -30,7 +30,7 @@ pub fn kept_covers()
     ensures few { (kept : Unacknowledged) → IsKeptRising kept → kept.done + length kept.packets ≤ kept.covered }
     ensures carried { (seal : Seal) (pace : PaceState) (to : ℕ) (old new : Linked) (bytes : List ℕ)
         (gives : Gives seal pace to old new bytes) → is_brief pace to ≡ false
-        → IsCovering (old.peers to).kept → length gives.own < 22 → parts_room gives.own ≤ 998
+        → IsCovering (old.peers to).kept → length gives.own < 24 → parts_room gives.own ≤ 998
         → (packets : List Carried) × (flat_map (packets_of gives.bundle.from) gives.own
         ≡ map (opened_from old.node.me) packets)
         × ((tic : ℕ) → (old.peers to).kept.done ≤ tic → tic < (new.peers to).kept.covered

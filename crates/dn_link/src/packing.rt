@@ -17,6 +17,9 @@ const PARTS_BYTES: usize = 1118;
 /// How many bytes a part takes at most: a whole packet with its numbers.
 const MOST_BYTES: usize = 115;
 
+/// How many parts a datagram has at most.
+const MOST_PARTS: usize = 24;
+
 /// How many bytes a run takes beside its commands.
 const RUN_BYTES: usize = 5;
 
@@ -59,7 +62,6 @@ impl Packing {
     /// Of no packets.
     fn new() -> Packing
         ensures fits { IsPacking result }
-        ensures parts { length result.parts.items ≤ 23 }
         ensures none { (from : ℕ) → packed from result ≡ [] }
         ensures tight { (from : ℕ) → IsTight from result }
         ensures last { IsOpen result }
@@ -71,14 +73,30 @@ impl Packing {
         }
     }
 
+    /// How many parts these are with the run, if it has commands.
+    fn count(&self) -> usize
+        requires { IsPacking self.now }
+        ensures least { length self.now.parts.items ≤ result }
+        ensures most { result ≤ 24 }
+        ensures run { 1 ≤ length self.now.run.commands.items → result ≡ length self.now.parts.items + 1 }
+        ensures none { length self.now.run.commands.items ≡ 0 → result ≡ length self.now.parts.items }
+    {
+        if self.run.commands.is_empty() {
+            self.parts.len()
+        } else {
+            self.parts.len() + 1
+        }
+    }
+
     /// Whether there may be no room for another packet.
     fn is_full(&self) -> bool
         requires { IsPacking self.now }
         ensures room { result ≡ false → HasRoom self.now }
-        ensures full { result ≡ true → length self.now.parts.items < 22
+        ensures full { result ≡ true → length self.now.parts.items < 24
+            → (1 ≤ length self.now.run.commands.items → length self.now.parts.items < 23)
             → 1118 < self.now.bytes + 5 + length self.now.run.commands.items + 115 }
     {
-        self.parts.len() > 21
+        self.count() >= MOST_PARTS
             || self.bytes + RUN_BYTES + self.run.commands.len() + MOST_BYTES > PARTS_BYTES
     }
 
@@ -86,9 +104,9 @@ impl Packing {
     #[tactic(auto, using(crate::proofs::Packings::ended))]
     fn end_run(&mut self, start: u32)
         requires fits { IsPacking self.old }
-        requires few { length self.old.parts.items ≤ 23 }
         ensures fits { IsPacking self.new }
-        ensures few { length self.new.parts.items ≤ length self.old.parts.items + 1 }
+        ensures few { length self.old.run.commands.items ≡ 0 → length self.new.parts.items ≡ length self.old.parts.items }
+        ensures more { length self.new.parts.items ≤ length self.old.parts.items + 1 }
         ensures room { self.new.bytes ≤ self.old.bytes + 5 + length self.old.run.commands.items }
         ensures none { self.new.run.commands.items ≡ [] }
         ensures start { self.new.run.start ≡ start }
@@ -109,7 +127,7 @@ impl Packing {
         ensures fits { IsPacking self.new }
         ensures room { self.new.bytes + 5 + length self.new.run.commands.items + 8 ≤ 1118 }
         ensures few { length self.new.run.commands.items ≤ 184 }
-        ensures parts { length self.new.parts.items ≤ 22 }
+        ensures parts { length self.new.parts.items ≤ 23 }
         ensures follows { (self.new.run.start + length self.new.run.commands.items / 8) % 2 ^ 32 ≡ start }
         ensures tight { (from : ℕ) → IsTight from self.old → MayFollow from self.new.parts.items self.new.run.start }
         ensures same { (from : ℕ) → packed from self.new ≡ packed from self.old }
@@ -126,7 +144,6 @@ impl Packing {
         requires fits { IsPacking self.old }
         requires room { HasRoom self.old }
         ensures fits { IsPacking self.new }
-        ensures parts { length self.new.parts.items ≤ 23 }
         ensures more { (from : ℕ) → packed from self.new
             ≡ packed from self.old ++ opened_from from (short_packet from start command.now) ∷ [] }
         ensures tight { (from : ℕ) → IsTight from self.old → IsTight from self.new }
@@ -142,7 +159,6 @@ impl Packing {
         requires fits { IsPacking self.old }
         requires room { HasRoom self.old }
         ensures fits { IsPacking self.new }
-        ensures parts { length self.new.parts.items ≤ 23 }
         ensures more { (from : ℕ) → packed from self.new
             ≡ packed from self.old ++ opened_from from packet.now ∷ [] }
         ensures tight { (from : ℕ) → IsTight from self.old → IsNeeded from (Whole packet.now) → IsTight from self.new }
@@ -158,7 +174,6 @@ impl Packing {
         requires fits { IsPacking self.old }
         requires room { HasRoom self.old }
         ensures fits { IsPacking self.new }
-        ensures parts { length self.new.parts.items ≤ 23 }
         ensures more { packed from self.new ≡ packed from self.old ++ opened_from from packet.now ∷ [] }
         ensures tight { IsTight from self.old → IsTight from self.new }
         ensures last { IsOpen self.new }
@@ -171,7 +186,7 @@ impl Packing {
 }
 
 /// The parts that stand for a player's packets, oldest first, up to where there may be no room for one more:
-/// twenty-two parts are done, or fewer bytes are left than a run and a whole packet may take.
+/// there are twenty-four parts, or fewer bytes are left than a run and a whole packet may take.
 pub(crate) fn pack(from: u8, packets: &[Carried]) -> ArrayVec<Part, 24>
     ensures fit { All IsPart result.items }
     ensures short { parts_room result.items ≤ 1118 }

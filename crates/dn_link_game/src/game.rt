@@ -1,7 +1,7 @@
 //! All players of a game of links, and every datagram that they gave.
 
-ghost use Rattle.std.specs.{Prelude.{◌≡◌, ◌≢◌, ◌+◌, ◌≤◌, length, Err, OnOk, OnErr, nat_lt, true}, Vec.{vec_capacity, vec_len}};
-ghost use Rattle.dn_link_game.specs.{Applied.{IsAnswered, AddsToGiven}, Does.DoesEvent, Games.GoesOn, Playing.is_send, Promised.seen_by};
+ghost use Rattle.std.specs.{Prelude.{◌≡◌, ◌≢◌, ◌+◌, ◌*◌, ◌≤◌, length, Err, OnOk, OnErr, nat_lt, true}, Vec.{vec_capacity, vec_len}};
+ghost use Rattle.dn_link_game.specs.{Applied.{IsAnswered, AddsToGiven, IsWithinTwice}, Does.DoesEvent, Games.GoesOn, Playing.is_send, Promised.seen_by};
 ghost use Rattle.dn_link_game.specs.declared.calls.{LinkEvent.TheVariants.{Call, Deliver}, LinkRefusal.TheVariants.Memory};
 
 use crate::calls::{LinkCall, LinkDone, LinkEvent, LinkRefusal};
@@ -34,6 +34,7 @@ impl<W: World> LinkGame<W> {
         ensures given { self.new.given.items ≡ self.old.given.items }
         ensures room { OnOk result (is_send call.now ≡ true
             → vec_len self.new.given + 1 ≤ vec_capacity self.new.given) }
+        ensures twice { IsWithinTwice self.old → IsWithinTwice self.new }
         ensures asked { OnErr result (is_send call.now ≡ true) }
         ensures full { OnErr result (vec_capacity self.old.given ≤ vec_len self.old.given) }
     {
@@ -50,6 +51,7 @@ impl<W: World> LinkGame<W> {
         ensures answered { IsAnswered (length self.old.players.items) (length self.old.given.items) (Call player call.now) result }
         ensures memory { result ≡ Err Memory → vec_capacity self.old.given ≤ vec_len self.old.given }
         ensures given { AddsToGiven self.old self.new result }
+        ensures twice { IsWithinTwice self.old → IsWithinTwice self.new }
         ensures unchanged { OnErr result ((self.new.players ≡ self.old.players) × (self.new.given.items ≡ self.old.given.items)) }
     {
         remaining_bytes_are_genuine();
@@ -73,6 +75,7 @@ impl<W: World> LinkGame<W> {
         ensures room { result ≢ Err Memory }
         ensures answered { IsAnswered (length self.old.players.items) (length self.old.given.items) (Deliver player which) result }
         ensures given { AddsToGiven self.old self.new result }
+        ensures twice { IsWithinTwice self.old → IsWithinTwice self.new }
         ensures unchanged { OnErr result ((self.new.players ≡ self.old.players) × (self.new.given.items ≡ self.old.given.items)) }
     {
         remaining_bytes_are_genuine();
@@ -94,6 +97,7 @@ impl<W: World> LinkGame<W> {
         ensures answered { IsAnswered (length self.old.players.items) (length self.old.given.items) event.now result }
         ensures memory { result ≡ Err Memory → vec_capacity self.old.given ≤ vec_len self.old.given }
         ensures given { AddsToGiven self.old self.new result }
+        ensures twice { IsWithinTwice self.old → IsWithinTwice self.new }
         ensures unchanged { OnErr result ((self.new.players ≡ self.old.players) × (self.new.given.items ≡ self.old.given.items)) }
     {
         match event {
@@ -108,6 +112,7 @@ fn grow<T>(list: &mut Vec<T>) -> Result<(), AllocError>
     ensures items { list.new.items ≡ list.old.items }
     ensures len { vec_len list.new ≡ vec_len list.old }
     ensures ok { OnOk result (vec_len list.new + 1 ≤ vec_capacity list.new) }
+    ensures twice { vec_capacity list.old ≤ 2 * vec_len list.old + 1 → vec_capacity list.new ≤ 2 * vec_len list.new + 1 }
     ensures full { OnErr result (vec_capacity list.old ≤ vec_len list.old) }
 {
     let count = list.len();

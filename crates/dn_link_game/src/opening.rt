@@ -1,7 +1,7 @@
 //! How a game of links is made.
 
 ghost use Rattle.std.specs.Prelude.{◌≡◌, length, IfOk, []};
-ghost use Rattle.dn_link_game.specs.{Opening.{AreNew, IsAdmitted}};
+ghost use Rattle.dn_link_game.specs.{Applied.IsWithinTwice, Opening.{AreNew, IsAdmitted}};
 
 use crate::config::LinkGameConfig;
 use crate::game::LinkGame;
@@ -57,6 +57,7 @@ impl<W: World> LinkGame<W> {
         ensures admitted { IsAdmitted config.now (length worlds.items) result }
         ensures opened { IfOk result (λ game. AreNew W.state W.physics config.now (length worlds.items) game.players.items) }
         ensures given { IfOk result (λ game. game.given.items ≡ []) }
+        ensures twice { IfOk result IsWithinTwice }
     {
         let players = new_players(alloc, config, worlds)?;
         Ok(LinkGame {

@@ -2,7 +2,7 @@
 
 ghost use Rattle.std.specs.Prelude.{◌≡◌, ◌<◌, ℕ, None, pos, get_or, is_some, true, IfOk};
 ghost use Rattle.dn_link.specs.Linking.{seal_of};
-ghost use Rattle.dn_link_game.specs.Does.{Does, Runs};
+ghost use Rattle.dn_link_game.specs.{Applied.is_answer, Does.{Does, Runs}};
 ghost use Rattle.dn_link_game.specs.declared.calls.{LinkCall.TheVariants.{Build, Send}, LinkDone.TheVariants.{Built, Sent}, Sending.TheVariants.Datagram};
 ghost use Rattle.dn_link_game.specs.{Games.IsNew, Opening.IsAdmittedAs, Opening.limits_of, Playing.{Asked, GoesOn, GoesOnIf, gives, is_send, sees, taking, telling}};
 
@@ -121,6 +121,7 @@ impl<W: World> Player<W> {
     pub fn call(&mut self, call: &LinkCall) -> (LinkDone, Option<ArrayVec<u8, 1200>>)
         ensures goes_on { GoesOnIf W.state W.physics self.old self.new (Asked call.now self.old) result.1 (sees call.now result.0) }
         ensures does { Does W.state W.physics call.now result.0 result.1 self.old self.new }
+        ensures answers { is_answer call.now result.0 ≡ true }
         ensures gives { is_some result.1 ≡ gives result.0 }
         ensures asked { is_some result.1 ≡ true → is_send call.now ≡ true }
         ensures seal { seal_of self.new.link ≡ seal_of self.old.link }

@@ -1,7 +1,7 @@
 //! Playing a list of events over links: what is promised where links are used.
 
 ghost use Rattle.std.specs.Prelude.{length, IfOk};
-ghost use Rattle.dn_link_game.specs.{Opening.{IsAdmitted, limits_of}, Promised.HavePlayed};
+ghost use Rattle.dn_link_game.specs.{Applied.IsWithinTwice, Opening.{IsAdmitted, limits_of}, Promised.HavePlayed};
 
 use crate::calls::{LinkDone, LinkEvent, LinkRefusal};
 use crate::config::LinkGameConfig;
@@ -32,6 +32,7 @@ pub fn play_links<W: World>(
     ensures admitted { IsAdmitted config.now (length worlds.items) result }
     ensures played { IfOk result (λ played. HavePlayed W.state W.physics (limits_of config.now (length worlds.items))
         config.now.settings config.now.seal events.now played.answers.items played.game) }
+    ensures room { IfOk result (λ played. IsWithinTwice played.game) }
 {
     windows_hold();
     linked_game_starts::<W>();

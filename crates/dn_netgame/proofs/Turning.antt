@@ -190,10 +190,6 @@ seated_with {W} {S} state physics nodes seats place n seat before below is =
     set_and_put (λ (i : ℕ) (x : Node W) (s : Seat). Represents state (rules_at physics s) s.me (contents x) s.node)
     nodes seats place n seat before below is
 
--- a node's number is that of one of four players
-pub one_of_four : {W : Type 0} (n : Node W) → (contents n).me < 4
-one_of_four n = omega (arith, n.lockstep.me_below, n.lockstep.few)
-
 -- One word after another.
 
 after_one : (w m increment n state : ℕ) → next_state w m increment (state_after w m increment n state)

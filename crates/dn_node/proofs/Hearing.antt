@@ -50,6 +50,7 @@ module _ {W S : Type 0} {state : W → S} {physics : Physics S} {old new : Conte
       λ e. absurd (let not : is_start Heard.Started ≡ false = ap is_start (sym e ∙ told) ∙ quiet in cc) in
       record {
         node = record {
+          seat = r.seat;
           lockstep = shows;
           world = beside_world state rules me old m r next.0 is new.world (has.kept other);
           marks = beside_marks state rules me old m r next.0 is keeps;
@@ -62,6 +63,7 @@ module _ {W S : Type 0} {state : W → S} {physics : Physics S} {old new : Conte
       sym r.lockstep.table.ran ∙ has.unrun (ap is_waiting r.lockstep.stands.phase ∙ waits) in
       record {
         node = record {
+          seat = r.seat;
           lockstep = shows;
           world = λ played.
               let s = known_by new.settings (has.known (shows.stands.played ∙ played)) in

@@ -1,5 +1,5 @@
 -- A step of a node's lockstep, and its world beside it, make a step of the node.
-use Rattle.std.proofs.Common.{◌≡◌, ℕ, ◌+◌, Bool, true, false, Option, Some, ltb, leb, arith, refl, List, set, get_or}
+use Rattle.std.proofs.Common.{◌≡◌, ℕ, ◌+◌, Bool, true, false, Option, Some, ltb, leb, arith, ap, refl, List, set, get_or}
 use Rattle.std.proofs.lemmas.Bool.{cond_both}
 use Rattle.std.proofs.Math.Seq.{map-set_same}
 use Rattle.std.specs.Prelude.{Result, Ok, Err, nat_lt, slice_index_or}
@@ -15,10 +15,11 @@ use Rattle.dn_machine.specs.declared.answers.Made.{Made}
 use Rattle.dn_machine.proofs.{Put.{put_at, put_off}, Calls.{build_cases, send_cases, quit_cases, packet_cases}}
 use Rattle.dn_lockstep.specs.{Received.heard_as, Phases.is_waiting, Sent.sent_to}
 use Rattle.dn_lockstep.specs.Steps as lockstep
+use Rattle.dn_lockstep.specs.Contents as locksteps
 use Rattle.dn_tic.specs.declared.input.Input.{Input}
 use Rattle.dn_setup.specs.Settings.{Settings}
 use Rattle.dn_world.specs.Physics.{Physics}
-use Rattle.dn_node.specs.Contents.{Contents, locked, contents, whose, whose_of, HasOwnMarks, Represents}
+use Rattle.dn_node.specs.Contents.{Contents, locked, with_world, contents, whose, whose_of, HasOwnMarks, Represents}
 use Rattle.dn_node.specs.Steps.{Steps, Tells}
 use Rattle.dn_node.specs.declared.node.Node.{Node}
 
@@ -161,6 +162,7 @@ steps_beside state physics old new step IsAnswer locks same leaves = record {
       let is = leaves limits me m in
       record {
         node = record {
+          seat = r.seat;
           lockstep = after.node;
           world = beside_world state rules me old m r (step limits me m).0 is.0 new.world same;
           marks = beside_marks state rules me old m r (step limits me m).0 is.0 is.1;
@@ -183,6 +185,11 @@ pub builds : {W S : Type 0} (state : W → S) (physics : Physics S) (old new : C
 builds state physics old new input made locks same =
     steps_beside state physics old new (λ limits me m. on_build limits me m input) (λ answer. made ≡ answer) locks same
     (λ limits me m. build_beside limits me m input)
+
+-- a node whose lockstep is as it was, beside the same world, is as it was
+pub beside_same : {W : Type 0} (old new : locksteps.Contents) (world : W) → new ≡ old
+    → with_world new world ≡ with_world old world
+beside_same old new world same = ap (λ (l : locksteps.Contents). with_world l world) same
 
 -- No node becomes another's.
 

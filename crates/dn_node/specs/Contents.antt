@@ -1,13 +1,16 @@
 -- What a node holds: what its lockstep does, and its world; and when it represents a node of the machine.
-use Rattle.std.specs.Prelude.{ℕ, List, map, Option, ◌≡◌, ◌<◌, true, Some}
+use Rattle.std.specs.Prelude.{ℕ, List, map, Option, ◌≡◌, ◌<◌, ◌≤◌, true, Some}
 use Rattle.dn_machine.specs.Game.{own_world}
+use Rattle.dn_machine.specs.Limits.{Limits}
+use Rattle.dn_machine.specs.Running.{tic_limit}
 use Rattle.dn_machine.specs.Node as machine
 use Rattle.dn_machine.specs.Node.{ends_of}
 use Rattle.dn_machine.specs.Worlds.{Rules, mark_in}
 use Rattle.dn_lockstep.specs.Contents as lockstep_of
 use Rattle.dn_lockstep.specs.Represents as lockstep_to
 use Rattle.dn_lockstep.specs.Represents.{marked_to}
-use Rattle.dn_node.specs.declared.node.Node.{Node}
+use Rattle.dn_lockstep.specs.Tables.{ring_at, slot}
+use Rattle.dn_node.specs.Kept.{Kept, peer_of}
 
 pub record Contents (W : Type 0) : Type 0 where
   pub lockstep : lockstep_of.Contents
@@ -22,15 +25,33 @@ locked n = n.lockstep
 abbrev pub with_world : {W : Type 0} → lockstep_of.Contents → W → Contents W
 with_world n world = record { lockstep = n; world = world }
 
-abbrev pub contents : {W : Type 0} → Node W → Contents W
-contents node = with_world (lockstep_of.contents node.lockstep) node.world
+abbrev pub contents : {W : Type 0} → Kept W → Contents W
+contents n =
+    with_world (record {
+      players = n.players;
+      me = n.me;
+      extra = n.extra;
+      capacity = n.capacity;
+      ahead = n.ahead;
+      places = n.places;
+      phase = n.phase;
+      played = n.played;
+      settings = n.settings;
+      gather = n.gather;
+      hold = n.hold;
+      ran = n.ran;
+      rings = ring_at n.rings;
+      peers = peer_of n.peers;
+      marks = slot n.marks;
+      demo = n.demo;
+    }) n.world
 
 -- whose a node is
 abbrev pub whose : {W : Type 0} → Contents W → lockstep_of.Whose
 whose n = lockstep_of.whose (locked n)
 
 -- whose each of these nodes is
-abbrev pub whose_of : {W : Type 0} → List (Node W) → List lockstep_of.Whose
+abbrev pub whose_of : {W : Type 0} → List (Kept W) → List lockstep_of.Whose
 whose_of nodes = map (λ n. whose (contents n)) nodes
 
 -- a player's end as the node knows it
@@ -44,8 +65,15 @@ HasOwnMarks rules m =
     (player tic : ℕ) → player < rules.players → tic < marked_to (machine.ran m) (ends_of m player)
     → m.marks tic player ≡ mark_in rules.physics (own_world rules m tic) player
 
+-- a player's number in a game of four at most, whose demos have room for no more tics than may be run
+pub record IsSeat (limits : Limits) (me : ℕ) : Type 0 where
+  pub below : me < limits.players
+  pub few : limits.players ≤ 4
+  pub short : limits.capacity ≤ tic_limit
+
 pub record Represents {W S : Type 0} (state : W → S) (rules : Rules S) (me : ℕ) (n : Contents W)
     (m : machine.Node) : Type 0 where
+  pub seat : IsSeat rules.limits me
   -- its lockstep does
   pub lockstep : lockstep_to.Represents rules.limits me (locked n) m
   -- its world is the one that its rows lead to, once it has started

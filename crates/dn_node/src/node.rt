@@ -1,6 +1,6 @@
 //! One player's node, and what it tells of itself.
 
-ghost use Rattle.std.specs.Prelude.{◌≡◌, ◌<◌, true, is_some, nat_lt, if◌then◌else◌, Some, None, IfOk};
+ghost use Rattle.std.specs.Prelude.{◌≡◌, ◌<◌, true, is_some, nat_lt, if◌then◌else◌, Some, None, IfOk, IfSome};
 ghost use Rattle.dn_lockstep.specs.{Opening.IsAdmitted, Opening.whose_in, Tables.count_of};
 
 mod stepping;
@@ -11,12 +11,39 @@ use dn_setup::Settings;
 use dn_tic::TicCmd;
 use dn_world::World;
 use std::alloc::Global;
+use std::marker::Model;
 
-/// One player's node. A contract sees its contents, and the node of the machine that these represent.
+/// One player's node. A contract sees what it keeps, and the node of the machine that this represents.
 #[derive(Drop)]
 pub struct Node<W> {
     lockstep: Lockstep,
     world: W,
+}
+
+impl<W> Model for Node<W> {
+    ghost use Rattle.dn_node.specs.Kept.{Kept};
+
+    ghost Value = { Kept W };
+
+    ghost view = { λ n. record {
+      players = n.lockstep.players;
+      me = n.lockstep.me;
+      extra = n.lockstep.extra;
+      capacity = n.lockstep.capacity;
+      ahead = n.lockstep.ahead;
+      places = n.lockstep.places;
+      phase = n.lockstep.phase;
+      played = n.lockstep.played;
+      settings = n.lockstep.settings;
+      gather = n.lockstep.gather;
+      hold = n.lockstep.builder;
+      ran = n.lockstep.ran;
+      rings = n.lockstep.rings;
+      peers = n.lockstep.peers.peers;
+      marks = n.lockstep.marks;
+      demo = n.lockstep.demo;
+      world = n.world;
+    } };
 }
 
 impl<W: World> Node<W> {
@@ -44,7 +71,8 @@ impl<W: World> Node<W> {
 
     /// The number of its player.
     pub fn me(&self) -> u8
-        ensures { result ≡ (contents self.now).me }
+        ensures number { result ≡ (contents self.now).me }
+        ensures four { result < 4 }
     {
         self.lockstep.me()
     }
@@ -79,8 +107,9 @@ impl<W: World> Node<W> {
 
     /// How many commands it has of a player, and None for a number that is no player's.
     pub fn got(&self, player: u8) -> Option<u32>
-        ensures { result ≡ (if nat_lt player (contents self.now).players
+        ensures value { result ≡ (if nat_lt player (contents self.now).players
             then Some (count_of (contents self.now).rings player) else None) }
+        ensures four { IfSome result (λ count. player < 4) }
     {
         self.lockstep.got(player)
     }

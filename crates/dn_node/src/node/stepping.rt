@@ -17,7 +17,7 @@ use dn_tic::{Command, Keys};
 use dn_world::World;
 
 impl<W: World> Node<W> {
-    ghost use Rattle.dn_machine.specs.{Sending.on_build, Game.on_own_run, Running.on_quit};
+    ghost use Rattle.dn_machine.specs.{Sending.on_build, Game.on_own_run, Running.on_quit, Running.tic_limit};
     ghost use Rattle.dn_node.specs.{Contents.contents, Contents.locked, Steps.Reaches, Steps.Gives, Steps.IsSentTo, Steps.Steps, Steps.Tells, Steps.HearsAny, Steps.HearsNear};
     ghost use Rattle.dn_lockstep.specs.{Giving.gives, Giving.IsSilent, Giving.aim_in, Giving.size_in, Told.makes, Told.can_make, Hearing.Spares};
 
@@ -132,6 +132,7 @@ impl<W: World> Node<W> {
             (λ rules me m. on_own_run rules m) (λ ran. result ≡ ran) }
         ensures further { (tic : ℕ) → result ≡ Ran.Ran tic
             → (contents self.new).ran ≡ (contents self.old).ran + 1 }
+        ensures most { (contents self.new).ran ≤ tic_limit }
         ensures waits { (player : ℕ) → result ≡ Ran.Waiting player → contents self.new ≡ contents self.old }
         ensures idle { result ≡ Ran.NotPlaying → contents self.new ≡ contents self.old }
         ensures world { ((tic : ℕ) → result ≢ Ran.Ran tic)

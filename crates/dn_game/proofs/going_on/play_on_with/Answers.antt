@@ -9,7 +9,7 @@ pub returns-in-Ok-good_rounds_with-clause-promised : goal.returns-in-Ok-good_rou
 returns-in-Ok-good_rounds_with-clause-promised g c =
     let config = c.args.config in
     let players = length c.args.worlds.items in
-    let run = c.in-Ok.ensures.run in
+    let run = c.in-Ok.ensures.run.run in
     let good = c.in-Ok-good_rounds_with.ensures.good players config.extra (capacity config.limit players) run.0.last
     run.0.game in
     has_played_on g.W.World.state (rules_in g.W.World.physics config players) config.settings c.args.worlds.items
@@ -20,7 +20,7 @@ pub returns-in-Err-good_rounds_with-clause-stopped : goal.returns-in-Err-good_ro
 returns-in-Err-good_rounds_with-clause-stopped g c fault is =
     let config = c.args.config in
     let players = length c.args.worlds.items in
-    let first = c.in-Ok.ensures.run.0 in
+    let first = c.in-Ok.ensures.run.run.0 in
     let at = c.in-Err-good_rounds_with.ensures.good players config.extra (capacity config.limit players) first.last
     first.game in
     record {

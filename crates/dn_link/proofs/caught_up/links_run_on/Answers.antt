@@ -1,20 +1,20 @@
 -- How many tics are run in rounds, over plain numbers.
 use Rattle.std.proofs.Common.{◌≡◌, ◌<◌, ◌≤◌, ◌+◌, ◌-◌, ◌*◌, ℕ, zero, suc, subst, arith, inl, inr, ℤ, ◌≢◌, ◌++◌, [], ◌∷◌, Bool, true, false, List, length, refl, ap, sym, ◌∙◌, Option, Some, None}
-use Rattle.std.proofs.{lemmas.{Bool.{cases_lt, and_parts, and_right, cases_eq, cond_both, leb-true}, List.length-append, Option.{none-some, same_Some}}, Math.Nat.{mul-zero, mul-suc}}
+use Rattle.std.proofs.{lemmas.{Bool.{cases_lt, and_parts, and_right, cases_eq, cond_both, le-leb, leb-true, lt-ltb, ne_eqb, not-true, true≢false}, List.length-append, Option.{none-some, same_Some}}, Math.Nat.{mul-zero, mul-suc}}
 use Rattle.std.specs.{Prelude.{min, if◌then◌else◌, ◌==◌, nat_le, not}, Option.option_or}
 use Rattle.dn_tic.specs.declared.{command.TicCmd.TicCmd, input.Input.Input}
 use Rattle.dn_setup.specs.Settings.{Settings}
-use Rattle.dn_machine.specs.{Running.{is_absent, is_awaited, on_run_in, on_run_playing, full_at, row_held}, Sparing.{first_off_but, on_run_but}, Sending.on_build, Limits.Limits}
-use Rattle.dn_machine.specs.{declared.answers.{Phase.{Phase, TheVariants.Playing}, Ran.Ran}, Node.{is_ended, lowest, put}}
-use Rattle.dn_machine.proofs.{Calls.build_cases, Put.{put_at, put_off}}
-use Rattle.dn_lockstep.specs.{Marking.Marking, Represents.Represents, Steps.marks_in, Told.{got, made}}
+use Rattle.dn_machine.specs.{Running.{is_absent, is_awaited, is_over, on_run_in, on_run_playing, full_at, row_held}, Sparing.{first_off_but, on_run_but}, Sending.on_build, Limits.Limits}
+use Rattle.dn_machine.specs.{declared.answers.{Phase.{Phase, TheVariants.Playing}, Ran.Ran}, Node.{ends_of, is_ended, known_end, lowest, put}}
+use Rattle.dn_machine.proofs.{Calls.build_cases, Put.{put_at, put_off}, Stages.lag_low}
+use Rattle.dn_lockstep.specs.{Contents.end_in, Marking.Marking, Represents.Represents, Steps.marks_in, Told.{got, made}}
 use Rattle.dn_survivor.specs.{OneGame.Session, Surviving.Surviving}
-use Rattle.dn_lockstep.proofs.Shown.{has}
+use Rattle.dn_lockstep.proofs.Shown.{end_is, has}
 use Rattle.dn_seal.specs.declared.seal.Seal.{Seal}
 use Rattle.dn_open.specs.Sealed.{sealing_of}
-use Rattle.dn_link.specs.{CaughtUp.{AreCaughtUp, Brings, HasGrown, IsInStepTo, last_end}, Rounds.{AreRounds, Arrives, AreFairLines, MakesAt, Stretch, WaitsAt}, Counting.has_ended, Packets.own_in}
-use Rattle.dn_link.specs.{declared.{bundle.Bundle.Bundle, received.Received.Received}, RemainingLinks.{AreRemainingLinks, IsGenuineIn}, Linked.{Linked, Receives, has_given_up}, Reading.IsDatagramOf}
-use Rattle.dn_link.proofs.{Bringing.{brings, brings_on}, Leaving.unended, Together.together}
+use Rattle.dn_link.specs.{CaughtUp.{AreCaughtUp, Brings, HasGrown, IsInStepTo, last_end, next_to}, Rounds.{AreRounds, Arrives, AreFairLines, Datagrams, MakesAt, Plays, Stretch, WaitsAt}, Counting.has_ended, Packets.own_in}
+use Rattle.dn_link.specs.{declared.{bundle.Bundle.Bundle, received.Received.Received}, RemainingLinks.{AreRemainingLinks, IsGenuineIn}, Linked.{Gives, Linked, Receives, end_known, has_given_up}, Reading.IsDatagramOf}
+use Rattle.dn_link.proofs.{Bringing.{brings, brings_on, sent}, Leaving.unended, Together.together}
 use Rattle.dn_machine.specs.Node as machine
 use Rattle.dn_link.proofs.RemainingCalls as base
 use Rattle.dn_link.proofs.caught_up.links_run_on.Goals as goal
@@ -22,18 +22,18 @@ use Rattle.dn_link.proofs.caught_up.links_run_on.Goals as goal
 -- of each round and player: how many commands it has made before its build and after it, how many tics it has
 -- run then, and how many when it waits. In its delay-th round from a round on it has run what all had made in
 -- that
-module _ (players count delay ahead base : ℕ) (some : 1 ≤ delay) (room : 1 ≤ ahead)
+module _ (Plays : ℕ → Type 0) (count delay ahead base : ℕ) (some : 1 ≤ delay) (room : 1 ≤ ahead)
     (had made begun ran : ℕ → ℕ → ℕ)
-    (build : (r p : ℕ) → r < count → p < players → min (had r p + 1) (begun r p + ahead) ≤ made r p)
-    (own : (r p : ℕ) → r < count → p < players → begun r p ≤ had r p)
-    (on : (r p : ℕ) → r < count → p < players → begun r p ≤ ran r p)
-    (keeps : (r p : ℕ) → suc r < count → p < players → made r p ≤ had (suc r) p)
-    (waits : (r p : ℕ) → suc r < count → p < players → ran r p ≤ begun (suc r) p)
-    (runs : (s r bound : ℕ) → r < count → s + delay ≡ suc r → ((p : ℕ) → p < players → bound ≤ made s p)
-    → (q : ℕ) → q < players → bound ≤ ran r q) where
+    (build : (r p : ℕ) → r < count → Plays p → min (had r p + 1) (begun r p + ahead) ≤ made r p)
+    (own : (r p : ℕ) → r < count → Plays p → begun r p ≤ had r p)
+    (on : (r p : ℕ) → r < count → Plays p → begun r p ≤ ran r p)
+    (keeps : (r p : ℕ) → suc r < count → Plays p → made r p ≤ had (suc r) p)
+    (waits : (r p : ℕ) → suc r < count → Plays p → ran r p ≤ begun (suc r) p)
+    (runs : (s r bound : ℕ) → r < count → s + delay ≡ suc r → ((p : ℕ) → Plays p → bound ≤ made s p)
+    → (q : ℕ) → Plays q → bound ≤ ran r q) where
   -- all have run one tic more in as many rounds as the delay
-  goes_on : (s r least : ℕ) → r < count → s + delay ≡ suc r → ((p : ℕ) → p < players → least ≤ begun s p)
-      → (q : ℕ) → q < players → least + 1 ≤ ran r q
+  goes_on : (s r least : ℕ) → r < count → s + delay ≡ suc r → ((p : ℕ) → Plays p → least ≤ begun s p)
+      → (q : ℕ) → Plays q → least + 1 ≤ ran r q
   goes_on s r least below same all q l = runs s r (least + 1) below same (λ p in_game.
       let inside : s < count = omega (arith, below, same, some) in
       let one = build s p inside in_game in
@@ -43,7 +43,7 @@ module _ (players count delay ahead base : ℕ) (some : 1 ≤ delay) (room : 1 �
 
   -- and so many more in so many times as many
   goes_further : (more s r least : ℕ) → r < count → s + delay * suc more ≡ suc r
-      → ((p : ℕ) → p < players → least ≤ begun s p) → (q : ℕ) → q < players → least + suc more ≤ ran r q
+      → ((p : ℕ) → Plays p → least ≤ begun s p) → (q : ℕ) → Plays q → least + suc more ≤ ran r q
   goes_further zero s r least below same all q l =
       let times = mul-suc delay 0 in
       let none = mul-zero delay in
@@ -55,7 +55,7 @@ module _ (players count delay ahead base : ℕ) (some : 1 ≤ delay) (room : 1 �
       let mid : ℕ = s + delay * suc more - 1 in
       let is : s + delay * suc more ≡ suc (s + delay * suc more - 1) = omega (arith, again, some) in
       let inside : suc (s + delay * suc more - 1) < count = omega (arith, times, same, below, again, some) in
-      let low : (p : ℕ) → p < players → least + suc more ≤ begun (suc (s + delay * suc more - 1)) p = (λ p in_game.
+      let low : (p : ℕ) → Plays p → least + suc more ≤ begun (suc (s + delay * suc more - 1)) p = (λ p in_game.
       let before = goes_further more s (s + delay * suc more - 1) least (omega (arith, inside)) is all p in_game in
       let wait = waits (s + delay * suc more - 1) p inside in_game in omega (arith, before, wait)) in
       let one = goes_on (suc (s + delay * suc more - 1)) r (least + suc more) below
@@ -63,8 +63,8 @@ module _ (players count delay ahead base : ℕ) (some : 1 ≤ delay) (room : 1 �
       omega (arith, one)
 
   -- where the window is no smaller than the delay
-  module _ (least : (p : ℕ) → 0 < count → p < players → base ≤ begun 0 p) (fits : delay ≤ ahead) where
-    low : (r p : ℕ) → r < count → p < players → base ≤ begun r p
+  module _ (least : (p : ℕ) → 0 < count → Plays p → base ≤ begun 0 p) (fits : delay ≤ ahead) where
+    low : (r p : ℕ) → r < count → Plays p → base ≤ begun r p
     low zero p below l = least p below l
     low (suc r) p below l =
         let before = low r p (omega (arith, below)) l in
@@ -74,14 +74,14 @@ module _ (players count delay ahead base : ℕ) (some : 1 ≤ delay) (room : 1 �
 
     -- a command is made in each round up to this one
     abbrev Made : ℕ → Type 0
-    Made r = (s p : ℕ) → s ≤ r → p < players → base + suc s ≤ made s p
+    Made r = (s p : ℕ) → s ≤ r → Plays p → base + suc s ≤ made s p
 
     -- so those that were made as many rounds before as the delay are run
-    ran_so : (r : ℕ) → r < count → Made r → (s : ℕ) → s + delay ≡ suc r → (q : ℕ) → q < players
+    ran_so : (r : ℕ) → r < count → Made r → (s : ℕ) → s + delay ≡ suc r → (q : ℕ) → Plays q
         → base + suc s ≤ ran r q
     ran_so r below all s same q l = runs s r (base + suc s) below same (λ p l. all s p (omega (arith, same, some)) l) q l
 
-    next_made : (r : ℕ) → suc r < count → Made r → (p : ℕ) → p < players → base + suc (suc r) ≤ made (suc r) p
+    next_made : (r : ℕ) → suc r < count → Made r → (p : ℕ) → Plays p → base + suc (suc r) ≤ made (suc r) p
     next_made r below all p l =
         let one = build (suc r) p below l in
         let before = all r p (omega arith) l in
@@ -112,7 +112,7 @@ module _ (players count delay ahead base : ℕ) (some : 1 ≤ delay) (room : 1 �
     ]
 
     -- after r + 1 rounds all but as many tics are run as the delay, less one
-    full_speed : (r q : ℕ) → r < count → q < players → base + suc (suc r) ≤ ran r q + delay
+    full_speed : (r q : ℕ) → r < count → Plays q → base + suc (suc r) ≤ ran r q + delay
     full_speed r q below l = elim (cases_lt (suc r) delay) [
       | inl early ↦
           let less = low r q below l in
@@ -161,32 +161,31 @@ module _ (limits : Limits) (me : ℕ) (m : machine.Node) (plays : m.phase ≡ Pl
           ∙ length-append (held me) (one ∷ []) in
           omega (arith, at)
 
-  -- it waits for a player of whom it has run all commands
+  -- it waits for a player of whom it has run all commands, and not to the end
+  abbrev IsLacked : ℕ → Type 0
+  IsLacked other = (other < limits.players) × (length (m.held other) ≤ machine.ran m) × (is_absent m other ≡ false)
+
   run_waits : (gone : ℕ → Bool) (marks : ℕ → ℤ) (other : ℕ) → Ran.Waiting other ≡ (on_run_but limits gone m marks).1
-      → (other < limits.players) × (length (m.held other) ≤ machine.ran m)
+      → IsLacked other
   unfolding on_run_but
   run_waits gone marks other e =
       go (lowest limits.players (is_awaited m)) (first_off_but limits gone m) refl
       (e ∙ ap (λ (p : Phase). (on_run_in limits m marks (first_off_but limits gone m) p).1) plays)
     where
       go : (awaited off : Option ℕ) → lowest limits.players (is_awaited m) ≡ awaited
-          → Ran.Waiting other ≡ (on_run_playing limits m marks awaited off).1
-          → (other < limits.players) × (length (m.held other) ≤ machine.ran m)
+          → Ran.Waiting other ≡ (on_run_playing limits m marks awaited off).1 → IsLacked other
       go (Some one) off is e =
-          let same : one ≡ other = waiting_same one other (sym e) in
           let found = lowest_some limits.players (is_awaited m) one is in
-          let lacks = leb-true (length (m.held one)) (machine.ran m) (and_parts (not (is_absent m one))
-          (nat_le (machine.got m one) (machine.ran m)) found.1).1 in (
-            omega (arith, found.0, same),
-            omega (arith, lacks, ap (λ (k : ℕ). length (m.held k)) same),
-          )
+          let both = and_parts (not (is_absent m one)) (nat_le (machine.got m one) (machine.ran m)) found.1 in
+          subst IsLacked (waiting_same one other (sym e))
+          (found.0, leb-true (length (m.held one)) (machine.ran m) both.1, not-true (is_absent m one) both.0)
         where
           waiting_same : (one other : ℕ) → ◌≡◌ {A = Ran} (Ran.Waiting one) (Ran.Waiting other) → one ≡ other
           waiting_same one other e = cc
       go None (Some off) is e = absurd (cc)
       go None None is e = cond_both (machine.ran m == full_at limits (row_held limits m)) _ _
-          (λ (r : machine.Node × Ran). Ran.Waiting other ≡ r.1 → (other < limits.players)
-          × (length (m.held other) ≤ machine.ran m)) (λ full e. absurd (cc)) (λ free e. absurd (cc)) e
+          (λ (r : machine.Node × Ran). Ran.Waiting other ≡ r.1 → IsLacked other) (λ full e. absurd (cc))
+          (λ free e. absurd (cc)) e
 
 module _ {marking : Marking} {limits : Limits} {settings : Settings} {last : ℕ}
     (stretch : Stretch marking limits settings last) where
@@ -200,6 +199,16 @@ module _ {marking : Marking} {limits : Limits} {settings : Settings} {last : ℕ
     sends = λ p w l m n e. omega arith;
     ended = λ p l e. e;
   }
+
+  -- one that has not ended then does not before the last moment
+  still_not : (to from player : ℕ) → from ≤ to → to ≤ last → player < limits.players
+      → has_ended (links from player).node ≡ false → has_ended (links to player).node ≡ false
+  still_not to from player less inside mine e = go (stretch.left player) refl
+    where
+      go : (test : Bool) → stretch.left player ≡ test → has_ended (links to player).node ≡ false
+      go true left = absurd (true≢false (sym (stretch.ended from player (omega (arith, less, inside)) mine left) ∙ e))
+      go false stays = and_right (links to player).node.played (is_ended (links to player).node.phase)
+          (ap is_ended (stretch.plays to player inside mine stays))
 
   -- from a moment to a later one
   grown : (to from : ℕ) → from ≤ to → to ≤ last → HasGrown limits (links from) (links to)
@@ -215,8 +224,7 @@ module _ {marking : Marking} {limits : Limits} {settings : Settings} {last : ℕ
           ran = λ p l. let one = first.ran p l in let two = next.ran p l in omega (arith, one, two);
           sends = λ p w l m n e.
               let one = first.sends p w l m n e in
-              let two = next.sends p w l m n (and_right (links to w).node.played (is_ended (links to w).node.phase)
-              (ap is_ended (stretch.plays to w (omega (arith, inside)) m))) in
+              let two = next.sends p w l m n (still_not to from w (omega (arith, before)) (omega (arith, inside)) m e) in
               omega (arith, one, two);
           ended = λ p l e. next.ended p l (first.ended p l e);
         }
@@ -225,7 +233,8 @@ module _ {marking : Marking} {limits : Limits} {settings : Settings} {last : ℕ
         subst (λ (n : ℕ). HasGrown limits (links n) (links (suc to))) same (grown_none (suc to))
   ]
 
-  module _ (moment player : ℕ) (inside : moment < last) (mine : player < limits.players) where
+  module _ (moment player : ℕ) (inside : moment < last) (mine : player < limits.players)
+      (stays : stretch.left player ≡ false) where
     linked : AreRemainingLinks marking limits settings (stretch.sessions moment) (links moment)
     linked = stretch.are moment (omega (arith, inside))
 
@@ -236,7 +245,7 @@ module _ {marking : Marking} {limits : Limits} {settings : Settings} {last : ℕ
     shows = base.shows marking limits settings (stretch.sessions moment) (links moment) linked player mine
 
     plays : m.phase ≡ Playing
-    plays = sym shows.stands.phase ∙ stretch.plays moment player (omega (arith, inside)) mine
+    plays = sym shows.stands.phase ∙ stretch.plays moment player (omega (arith, inside)) mine stays
 
     makes : MakesAt links moment player
         → min (got (links moment player).node player + 1) ((links moment player).node.ran + limits.ahead)
@@ -248,18 +257,47 @@ module _ {marking : Marking} {limits : Limits} {settings : Settings} {last : ℕ
         let more = build_makes limits player m plays input in
         omega (arith, more, before, now, shows.table.ran)
 
-    waits : WaitsAt links moment player → (other : ℕ) × (other < limits.players)
+    -- of a player who has left it lacks nothing
+    lacks_none : (other : ℕ) → other < limits.players → got (links moment player).node other ≤ (links moment player).node.ran
+        → stretch.left other ≡ true → is_absent m other ≡ true
+    lacks_none other below few left =
+        let n = (links moment player).node in
+        let known = stretch.known moment player other (omega (arith, inside)) mine stays below left in
+        let apart : other ≢ player = λ e. true≢false (sym left ∙ ap stretch.left e ∙ stays) in
+        let in_game = lt-ltb other n.players (omega (arith, below, shows.whose.players)) in
+        let shown : end_known n other ≡ end_in n other = rw in_game refl in
+        let here : known_end player m other ≡ ends_of m other = let off = ne_eqb other player apart in rw off refl in
+        let end : ends_of m other ≡ Some known.0 =
+        sym here ∙ sym (end_is limits player n m shows mine other below) ∙ sym shown ∙ known.1 in
+        let all = known.2 in
+        ap (λ (end : Option ℕ). is_over end (machine.ran m)) end
+        ∙ le-leb known.0 (machine.ran m) (omega (arith, all, few, shows.table.ran))
+
+    waits : WaitsAt links moment player → (other : ℕ) × Plays stretch other
         × (got (links moment player).node other ≤ (links moment player).node.ran)
     waits (marks, other, row, step) =
         let answer = (step.step limits player m shows).answer.0 in
         let lacks = run_waits limits player m plays (has_given_up (links moment player)) (marks_in marks) other answer in
         let before = has limits player (links moment player).node m shows other lacks.0 in
-        (other, lacks.0, omega (arith, lacks.1, before, shows.table.ran))
+        let low : got (links moment player).node other ≤ (links moment player).node.ran =
+        (let few = lacks.1 in omega (arith, few, before, shows.table.ran)) in (
+          other,
+          (
+            lacks.0,
+            not_true (stretch.left other) (λ left.
+                true≢false (sym (lacks_none other lacks.0 low left) ∙ lacks.2)),
+          ),
+          low,
+        )
+      where
+        not_true : (test : Bool) → (test ≡ true → ⊥) → test ≡ false
+        not_true true none = absurd (none refl)
+        not_true false none = refl
 
     -- one that plays has not ended
     unfinished : has_ended (links moment player).node ≡ false
     unfinished = and_right (links moment player).node.played (is_ended (links moment player).node.phase)
-        (ap is_ended (stretch.plays moment player (omega (arith, inside)) mine))
+        (ap is_ended (stretch.plays moment player (omega (arith, inside)) mine stays))
 
     -- and has made what it has run
     owns : (links moment player).node.ran ≤ got (links moment player).node player
@@ -271,6 +309,20 @@ module _ {marking : Marking} {limits : Limits} {settings : Settings} {last : ℕ
         (ap (λ (s : Surviving). has_ended s.lockstep) (sym same) ∙ unfinished) in
         let run = all.run player player mine mine none in
         omega (arith, run, ap (λ (s : Surviving). got s.lockstep player) same, ap (λ (s : Surviving). s.lockstep.ran) same)
+
+-- numbers that rise
+rises : (f : ℕ → ℕ) (count : ℕ) → ((k : ℕ) → suc k < count → f k ≤ f (suc k)) → (r s : ℕ) → s ≤ r → r < count
+    → f s ≤ f r
+rises f count next zero s less below =
+    let same : 0 ≡ s = omega (arith, less) in subst (λ (n : ℕ). f n ≤ f 0) same (omega arith)
+rises f count next (suc r) s less below = elim (cases_lt s (suc r)) [
+  | inl before ↦
+      let first = rises f count next r s (omega (arith, before)) (omega (arith, below)) in
+      let last = next r below in
+      omega (arith, first, last)
+  | inr here ↦
+      let same : suc r ≡ s = omega (arith, here, less) in subst (λ (n : ℕ). f n ≤ f (suc r)) same (omega arith)
+]
 
 -- what a law says of a datagram that arrives
 abbrev Brought : Marking → Limits → Settings → Type 0
@@ -295,130 +347,131 @@ module _ {marking : Marking} {limits : Limits} {settings : Settings} {last : ℕ
   abbrev waited : ℕ → ℕ → ℕ
   waited = rounds.waited
 
-  waited_up : (r s p : ℕ) → s ≤ r → r < count → p < limits.players → waited s p ≤ waited r p
-  waited_up zero s p less below l =
-      let same : 0 ≡ s = omega (arith, less) in
-      subst (λ (n : ℕ). waited n p ≤ waited 0 p) same (omega arith)
-  waited_up (suc r) s p less below l = elim (cases_lt s (suc r)) [
-    | inl before ↦
-        let first = waited_up r s p (omega (arith, before)) (omega (arith, below)) l in
-        let next = rounds.later r p below l in
-        let inside = rounds.within (suc r) p below l in
-        omega (arith, first, next, inside.0)
-    | inr here ↦
-        let same : suc r ≡ s = omega (arith, here, less) in
-        subst (λ (n : ℕ). waited n p ≤ waited (suc r) p) same (omega arith)
-  ]
+  waited_up : (r s p : ℕ) → s ≤ r → r < count → Plays stretch p → waited s p ≤ waited r p
+  waited_up r s p less below l = rises (λ k. waited k p) count (λ k inside.
+      let next = rounds.later k p inside l in
+      let more = rounds.within (suc k) p inside l in
+      omega (arith, next, more.0)) r s less below
 
-  built_up : (r s p : ℕ) → s ≤ r → r < count → p < limits.players → built s p ≤ built r p
-  built_up zero s p less below l =
-      let same : 0 ≡ s = omega (arith, less) in
-      subst (λ (n : ℕ). built n p ≤ built 0 p) same (omega arith)
-  built_up (suc r) s p less below l = elim (cases_lt s (suc r)) [
-    | inl before ↦
-        let first = built_up r s p (omega (arith, before)) (omega (arith, below)) l in
-        let next = rounds.later r p below l in
-        let inside = rounds.within r p (omega (arith, below)) l in
-        omega (arith, first, next, inside.0)
-    | inr here ↦
-        let same : suc r ≡ s = omega (arith, here, less) in
-        subst (λ (n : ℕ). built n p ≤ built (suc r) p) same (omega arith)
-  ]
+  built_up : (r s p : ℕ) → s ≤ r → r < count → Plays stretch p → built s p ≤ built r p
+  built_up r s p less below l = rises (λ k. built k p) count (λ k inside.
+      let next = rounds.later k p inside l in
+      let more = rounds.within k p (omega (arith, inside)) l in
+      omega (arith, next, more.0)) r s less below
 
   -- what a datagram brings that arrives
-  module _ (first player peer : ℕ) (mine : player < limits.players) (below : peer < limits.players)
-      (apart : peer ≢ player) (it : Arrives rounds seal k d first player peer) (in_time : it.taken < last) where
-    before : it.given < last
-    before = omega (arith, it.comes, in_time)
+  module _ (player peer : ℕ) (mine : Plays stretch player) (below : Plays stretch peer) (apart : peer ≢ player) where
+    abbrev sent_by : Datagrams stretch seal player peer
+    sent_by = (fair player peer mine below apart).0
 
-    abbrev bundle : Bundle
-    bundle = it.gives.bundle
+    abbrev then_at : ℕ → ℕ
+    then_at = sent_by.given
 
-    was : AreRemainingLinks marking limits settings (stretch.sessions it.given) (at it.given)
-    was = stretch.are it.given (omega (arith, before))
+    was : (which : ℕ) → which < sent_by.count
+        → AreRemainingLinks marking limits settings (stretch.sessions (then_at which)) (at (then_at which))
+    was which inside = stretch.are (then_at which) (let early = sent_by.inside which inside in omega (arith, early))
 
-    own : (at it.given player).node.me ≡ player
-    own = base.own marking limits settings (stretch.sessions it.given) (at it.given) was player mine
+    -- none is a late one
+    soon : (which : ℕ) → which < sent_by.count
+        → made (at (then_at which) player).node ≤ next_to (at (then_at which) player).node peer + 12
+    soon zero inside = sent_by.first inside
+    soon (suc which) inside =
+        let before : which < sent_by.count = omega (arith, inside) in
+        let early = sent_by.inside which before in
+        let late = sent_by.inside (suc which) inside in
+        let later = sent_by.later which inside in
+        let goes_on = unfinished stretch (then_at which) peer early below.0 below.1 in
+        let left = sent marking limits settings (stretch.sessions (then_at which)) (at (then_at which)) (was which before)
+        player mine.0 (stretch.caught_up (then_at which) (omega (arith, early))) peer below.0 apart seal
+        (sent_by.pace which) (at (suc (then_at which)) player) (sent_by.bytes which) (sent_by.gives which before) places
+        (soon which before) (stretch.plays (then_at which) player (omega (arith, early)) mine.0 mine.1) goes_on in
+        let up = (grown stretch (then_at (suc which)) (suc (then_at which)) (omega (arith, later))
+        (omega (arith, late))).sends player peer mine.0 below.0 apart
+        (unfinished stretch (suc (then_at which)) peer (omega (arith, later, late)) below.0 below.1) in
+        let few = sent_by.few which inside in
+        omega (arith, left, up, few, lag_low limits)
 
-    room : 12 ≤ (at it.given player).node.places
-    room = omega (
-      arith,
-      places,
-      (base.shows marking limits settings (stretch.sessions it.given) (at it.given) was player mine).whose.places,
-    )
+    module _ (first : ℕ) (it : Arrives rounds sent_by k d first) (in_time : it.taken < last) where
+      abbrev given : ℕ
+      given = then_at it.which
 
-    brings_then : Brings (made (at it.given player).node) (at it.given) bundle
-    brings_then =
-        let there = brings marking limits settings (stretch.sessions it.given) (at it.given) was player mine
-        (stretch.caught_up it.given (omega (arith, before))) peer below apart seal it.pace
-        (at (suc it.given) player) it.bytes it.full it.gives
-        (λ goes_on. let soon = it.soon in omega (arith, soon, room)) it.soon
-        (stretch.plays it.given player (omega (arith, before)) mine) it.few it.short in
-        subst (λ (l : Linked). has_ended l.node ≡ false → made (at it.given player).node ≤ last_end
-        (got l.node bundle.from) (own_in bundle)) (ap (put (at it.given) player (at (suc it.given) player))
-        it.gives.goes ∙ put_off (at it.given) player peer (at (suc it.given) player) apart ∙ ap
-        (at it.given) (sym it.gives.goes)) there
+      abbrev gives : Gives seal (sent_by.pace it.which) peer (at given player) (at (suc given) player) (sent_by.bytes it.which)
+      gives = sent_by.gives it.which it.one
 
-    brings_later : Brings (made (at it.given player).node) (at it.taken) bundle
-    brings_later = brings_on limits (at it.given) (at it.taken) bundle (made (at it.given player).node)
-        (grown stretch it.taken it.given (omega (arith, it.comes)) (omega (arith, in_time)))
-        (omega (arith, it.gives.from, own, mine)) (omega (arith, it.gives.goes, below)) brings_then
+      before : given < last
+      before = omega (arith, it.comes, in_time)
 
-    is_datagram : IsDatagramOf (sealing_of seal peer) it.bytes bundle
-    is_datagram = record {
-      game = game;
-      fits = it.gives.fits;
-      short = it.size;
-      to = it.gives.goes;
-      is = it.gives.is;
-    }
+      abbrev bundle : Bundle
+      bundle = gives.bundle
 
-    all_there : got (at it.given player).node player ≤ got (at (suc it.taken) peer).node player
-    all_there =
-        let has_it = brought (stretch.sessions it.taken) (at it.taken) peer seal it.bytes
-        (at (suc it.taken) peer) it.answer bundle (made (at it.given player).node)
-        (stretch.are it.taken (omega (arith, in_time))) (stretch.caught_up it.taken (omega (arith, in_time))) below
-        it.genuine it.in_step it.takes is_datagram
-        (stretch.plays (suc it.taken) peer (omega (arith, in_time)) below) brings_later in
-        let from : bundle.from ≡ player = it.gives.from ∙ own in
-        omega (
-          arith,
-          has_it,
-          ap (λ (n : ℕ). got (at (suc it.taken) peer).node n) from,
-          ap (λ (n : ℕ). got (at it.given player).node n) own,
-        )
+      own : (at given player).node.me ≡ player
+      own = base.own marking limits settings (stretch.sessions given) (at given) (was it.which it.one) player mine.0
+
+      brings_then : Brings (made (at given player).node) (at given) bundle
+      brings_then =
+          let there = brings marking limits settings (stretch.sessions given) (at given) (was it.which it.one) player mine.0
+          (stretch.caught_up given (omega (arith, before))) peer below.0 apart seal (sent_by.pace it.which)
+          (at (suc given) player) (sent_by.bytes it.which) gives places (soon it.which it.one)
+          (stretch.plays given player (omega (arith, before)) mine.0 mine.1) it.full in
+          subst (λ (l : Linked). has_ended l.node ≡ false → made (at given player).node ≤ last_end
+          (got l.node bundle.from) (own_in bundle)) (ap (put (at given) player (at (suc given) player))
+          gives.goes ∙ put_off (at given) player peer (at (suc given) player) apart ∙ ap (at given) (sym gives.goes)) there
+
+      brings_later : Brings (made (at given player).node) (at it.taken) bundle
+      brings_later = brings_on limits (at given) (at it.taken) bundle (made (at given player).node)
+          (grown stretch it.taken given (omega (arith, it.comes)) (omega (arith, in_time)))
+          (omega (arith, gives.from, own, mine.0)) (omega (arith, gives.goes, below.0)) brings_then
+
+      is_datagram : IsDatagramOf (sealing_of seal peer) (sent_by.bytes it.which) bundle
+      is_datagram = record { game = game; fits = gives.fits; short = it.size; to = gives.goes; is = gives.is }
+
+      all_there : got (at given player).node player ≤ got (at (suc it.taken) peer).node player
+      all_there =
+          let has_it = brought (stretch.sessions it.taken) (at it.taken) peer seal (sent_by.bytes it.which)
+          (at (suc it.taken) peer) it.answer bundle (made (at given player).node)
+          (stretch.are it.taken (omega (arith, in_time))) (stretch.caught_up it.taken (omega (arith, in_time))) below.0
+          it.genuine it.in_step it.takes is_datagram
+          (stretch.plays (suc it.taken) peer (omega (arith, in_time)) below.0 below.1) brings_later in
+          let from : bundle.from ≡ player = gives.from ∙ own in
+          omega (
+            arith,
+            has_it,
+            ap (λ (n : ℕ). got (at (suc it.taken) peer).node n) from,
+            ap (λ (n : ℕ). got (at given player).node n) own,
+          )
 
   -- of each other player a player has at its wait what that had made k + d rounds before
-  arrives : (s r player peer : ℕ) → r < count → s + (k + d) ≡ suc r → player < limits.players → peer < limits.players
+  arrives : (s r player peer : ℕ) → r < count → s + (k + d) ≡ suc r → Plays stretch player → Plays stretch peer
       → peer ≢ player
       → got (at (suc (built s player)) player).node player ≤ got (at (waited r peer) peer).node player
   arrives s r player peer below same mine theirs apart =
-      let it = fair s player peer (omega (arith, same, below)) mine theirs apart in
+      let all_sent = fair player peer mine theirs apart in
+      let it = all_sent.1 s (omega (arith, same, below)) in
       let wait_up = waited_up r (it.round + d) peer (omega (arith, it.below, same)) below theirs in
       let ends = (rounds.within r peer below theirs).1 in
       let in_time : it.taken < last = omega (arith, it.waited, wait_up, ends) in
-      let all = all_there s player peer mine theirs apart it in_time in
+      let all = all_there player peer mine theirs apart s it in_time in
       let round_in : it.round < count = omega (arith, it.below, same, below) in
       let from = built_up it.round s player it.from round_in mine in
-      let one = (grown stretch it.given (suc (built s player)) (omega (arith, from, it.built))
-      (omega (arith, it.comes, in_time))).got player player mine mine in
+      let one = (grown stretch (all_sent.0.given it.which) (suc (built s player)) (omega (arith, from, it.built))
+      (omega (arith, it.comes, in_time))).got player player mine.0 mine.0 in
       let two = (grown stretch (waited r peer) (suc it.taken) (omega (arith, it.waited, wait_up))
-      (omega (arith, ends))).got peer player theirs mine in
+      (omega (arith, ends))).got peer player theirs.0 mine.0 in
       omega (arith, all, one, two)
 
   -- so it runs what all had made
   runs : (s r bound : ℕ) → r < count → s + (k + d) ≡ suc r
-      → ((p : ℕ) → p < limits.players → bound ≤ got (at (suc (built s p)) p).node p)
-      → (q : ℕ) → q < limits.players → bound ≤ (at (waited r q) q).node.ran
+      → ((p : ℕ) → Plays stretch p → bound ≤ got (at (suc (built s p)) p).node p)
+      → (q : ℕ) → Plays stretch q → bound ≤ (at (waited r q) q).node.ran
   runs s r bound below same all q mine =
       let ends = rounds.within r q below mine in
-      let wait = waits stretch (waited r q) q ends.1 mine (rounds.waits r q below mine) in
+      let wait = waits stretch (waited r q) q ends.1 mine.0 mine.1 (rounds.waits r q below mine) in
       let low : bound ≤ got (at (waited r q) q).node wait.0 = elim (cases_eq wait.0 q) [
         | inl own ↦
             let made_then = all q mine in
             let from = built_up r s q (omega (arith, same, some)) below mine in
             let more = (grown stretch (waited r q) (suc (built s q)) (omega (arith, from, ends.0))
-            (omega (arith, ends.1))).got q q mine mine in
+            (omega (arith, ends.1))).got q q mine.0 mine.0 in
             omega (arith, made_then, more, ap (λ (n : ℕ). got (at (waited r q) q).node n) own)
         | inr other ↦
             let made_then = all wait.0 wait.1 in
@@ -441,49 +494,49 @@ module _ {marking : Marking} {limits : Limits} {settings : Settings} {last : ℕ
     abbrev ran_by : ℕ → ℕ → ℕ
     ran_by r p = (at (waited r p) p).node.ran
 
-    build : (r p : ℕ) → r < count → p < limits.players → min (had r p + 1) (begun r p + limits.ahead) ≤ made_by r p
+    build : (r p : ℕ) → r < count → Plays stretch p → min (had r p + 1) (begun r p + limits.ahead) ≤ made_by r p
     build r p below l =
         let ends = rounds.within r p below l in
-        makes stretch (built r p) p (omega (arith, ends.0, ends.1)) l (rounds.builds r p below l)
+        makes stretch (built r p) p (omega (arith, ends.0, ends.1)) l.0 l.1 (rounds.builds r p below l)
 
-    mine_too : (r p : ℕ) → r < count → p < limits.players → begun r p ≤ had r p
+    mine_too : (r p : ℕ) → r < count → Plays stretch p → begun r p ≤ had r p
     mine_too r p below l =
         let ends = rounds.within r p below l in
-        owns stretch (built r p) p (omega (arith, ends.0, ends.1)) l
+        owns stretch (built r p) p (omega (arith, ends.0, ends.1)) l.0 l.1
 
-    on : (r p : ℕ) → r < count → p < limits.players → begun r p ≤ ran_by r p
+    on : (r p : ℕ) → r < count → Plays stretch p → begun r p ≤ ran_by r p
     on r p below l =
         let ends = rounds.within r p below l in
-        (grown stretch (waited r p) (built r p) (omega (arith, ends.0)) (omega (arith, ends.1))).ran p l
+        (grown stretch (waited r p) (built r p) (omega (arith, ends.0)) (omega (arith, ends.1))).ran p l.0
 
-    keeps : (r p : ℕ) → suc r < count → p < limits.players → made_by r p ≤ had (suc r) p
+    keeps : (r p : ℕ) → suc r < count → Plays stretch p → made_by r p ≤ had (suc r) p
     keeps r p below l =
         let ends = rounds.within r p (omega (arith, below)) l in
         let next = rounds.later r p below l in
         let more = rounds.within (suc r) p below l in
         (grown stretch (built (suc r) p) (suc (built r p)) (omega (arith, ends.0, next))
-        (omega (arith, more.0, more.1))).got p p l l
+        (omega (arith, more.0, more.1))).got p p l.0 l.0
 
-    waits_on : (r p : ℕ) → suc r < count → p < limits.players → ran_by r p ≤ begun (suc r) p
+    waits_on : (r p : ℕ) → suc r < count → Plays stretch p → ran_by r p ≤ begun (suc r) p
     waits_on r p below l =
         let next = rounds.later r p below l in
         let more = rounds.within (suc r) p below l in
         (grown stretch (built (suc r) p) (waited r p) (omega (arith, next))
-        (omega (arith, more.0, more.1))).ran p l
+        (omega (arith, more.0, more.1))).ran p l.0
 
     -- it goes on
     go_on : (first tics r least : ℕ) → r < count → first + (k + d) * suc tics ≡ suc r
-        → ((p : ℕ) → p < limits.players → least ≤ begun first p) → (q : ℕ) → q < limits.players
+        → ((p : ℕ) → Plays stretch p → least ≤ begun first p) → (q : ℕ) → Plays stretch q
         → least + suc tics ≤ ran_by r q
     go_on first tics r least =
-        goes_further limits.players count (k + d) limits.ahead least (omega (arith, some)) ahead had made_by begun ran_by
+        goes_further (Plays stretch) count (k + d) limits.ahead least (omega (arith, some)) ahead had made_by begun ran_by
         build mine_too on keeps waits_on runs tics first r least
 
     -- and at full speed
-    at_speed : (base : ℕ) → ((p : ℕ) → 0 < count → p < limits.players → base ≤ begun 0 p) → k + d ≤ limits.ahead
-        → (r q : ℕ) → r < count → q < limits.players → base + suc (suc r) ≤ ran_by r q + (k + d)
+    at_speed : (base : ℕ) → ((p : ℕ) → 0 < count → Plays stretch p → base ≤ begun 0 p) → k + d ≤ limits.ahead
+        → (r q : ℕ) → r < count → Plays stretch q → base + suc (suc r) ≤ ran_by r q + (k + d)
     at_speed base least fits =
-        full_speed limits.players count (k + d) limits.ahead base (omega (arith, some)) ahead had made_by begun ran_by
+        full_speed (Plays stretch) count (k + d) limits.ahead base (omega (arith, some)) ahead had made_by begun ran_by
         build mine_too on keeps waits_on runs least fits
 
 pub returns-clause-goes_on : goal.returns-clause-goes_on

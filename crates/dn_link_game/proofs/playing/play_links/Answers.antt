@@ -36,6 +36,7 @@ loop-event-preserved g c =
           c.apply.ensures.goes_on c.apply.ensures.given many before.3 before.6
           (λ seen later is will. c.linked_answers_are_steady.ensures (limits_of config (length c.args.worlds.items))
           config.settings config.seal seen later old new c.event-item.result answer is will c.apply.ensures.does)),
+      c.apply.ensures.twice before.7,
     )
 
 pub returns-clause-played : goal.returns-clause-played

@@ -1,6 +1,6 @@
 use Rattle.std.proofs.Common.{◌≡◌, ◌≤◌, length, take}
 use Rattle.std.specs.Vec.{vec_capacity, vec_len}
-use Rattle.dn_link_game.specs.{Applied.AreAnswered, Genuine.given_by, Opening.limits_of}
+use Rattle.dn_link_game.specs.{Applied.{AreAnswered, IsWithinTwice}, Genuine.given_by, Opening.limits_of}
 use Rattle.dn_link_game.proofs.Promising.{Reaches}
 use Rattle.dn_link_game.proofs.playing.play_links.Given as goal
 
@@ -14,3 +14,4 @@ invariant-loop-event g l =
     × AreAnswered (length l.fn.worlds.items) (take l.event-index l.events) l.answers.items
     × Reaches g.W.World.state g.W.World.physics (limits_of l.fn.config (length l.fn.worlds.items)) l.fn.config.settings
     l.fn.config.seal (take l.event-index l.events) l.answers.items l.game
+    × IsWithinTwice l.game

@@ -59,7 +59,7 @@ loop-to-preserved g c =
           c.send.new.self in
           let B : List ℕ → Type 0 = λ b. g.L.Line.sends c.loop-to.line c.me-me.result c.loop-to.to b answer
           c.send.new.self in
-          let said = subst M (c.me-me.ensures ∙ r.lockstep.whose.number)
+          let said = subst M (c.me-me.ensures.number ∙ r.lockstep.whose.number)
           (subst B c.deref.ensures.0 c.send.ensures.sent) in
           let some : Some c.in-Some.bytes.items ≡ _ =
           ap (option_map (λ bytes. bytes.items)) (sym c.in-Some.is) ∙ step.answer in

@@ -6,7 +6,7 @@ use Rattle.dn_netgame.proofs.turns.hear_all.Goals as goal
 
 pub returns-in-Ok-None-clause-heard : goal.returns-in-Ok-None-clause-heard
 returns-in-Ok-None-clause-heard g c limits me m r =
-    let said = polled_as g.L.Line.polls _ _ _ _ _ _ (c.me-me.ensures ∙ r.lockstep.whose.number)
+    let said = polled_as g.L.Line.polls _ _ _ _ _ _ (c.me-me.ensures.number ∙ r.lockstep.whose.number)
     (c.in-Ok-None.is ∙ ap Ok c.in-Ok-None.field-0-is) c.poll.ensures.polled in
     let most = c.loop-heard.invariant.1 ∙ ap most_polls r.lockstep.whose.players in
     let few : c.loop-heard.heard < most_polls limits.players = omega (arith, c.loop-heard-test.true, most) in
@@ -15,7 +15,7 @@ returns-in-Ok-None-clause-heard g c limits me m r =
 
 pub returns-in-Err-clause-heard : goal.returns-in-Err-clause-heard
 returns-in-Err-clause-heard g c limits me m r =
-    let said = polled_as g.L.Line.polls _ _ _ _ _ _ (c.me-me.ensures ∙ r.lockstep.whose.number) c.in-Err.is
+    let said = polled_as g.L.Line.polls _ _ _ _ _ _ (c.me-me.ensures.number ∙ r.lockstep.whose.number) c.in-Err.is
     c.poll.ensures.polled in
     let most = c.loop-heard.invariant.1 ∙ ap most_polls r.lockstep.whose.players in
     let few : c.loop-heard.heard < most_polls limits.players = omega (arith, c.loop-heard-test.true, most) in
@@ -32,7 +32,7 @@ loop-heard-preserved g c =
           c.in-Ok-Some.is ∙ before.2,
       λ limits me m r.
           let so_far = before.3 limits me m r in
-          let said = polled_as g.L.Line.polls _ _ _ _ _ _ (c.me-me.ensures ∙ r.lockstep.whose.number)
+          let said = polled_as g.L.Line.polls _ _ _ _ _ _ (c.me-me.ensures.number ∙ r.lockstep.whose.number)
           (c.in-Ok-Some.is ∙ ap Ok c.in-Ok-Some.field-0-is) c.poll.ensures.polled in
           let one = c.hear.ensures.heard limits me so_far.after so_far.node in
           record {

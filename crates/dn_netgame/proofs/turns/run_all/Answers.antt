@@ -34,3 +34,11 @@ returns-clause-run g c limits me m r =
 
 pub returns-clause-whose : goal.returns-clause-whose
 returns-clause-whose g c = c.run.ensures.step.same ∙ c.loop-ran.invariant.2
+
+pub overflow_add-ran : goal.overflow_add-ran
+overflow_add-ran g c =
+    omega (arith, c.loop-ran.invariant.0, c.run.ensures.further _ c.in-Ran.is, c.run.ensures.most)
+
+pub loop-ran-smaller : goal.loop-ran-smaller
+loop-ran-smaller g c =
+    omega (arith, c.loop-ran.invariant.0, c.run.ensures.further _ c.in-Ran.is, c.run.ensures.most)

@@ -1,4 +1,4 @@
-use Rattle.std.proofs.Common.{◌≡◌, ◌<◌, ◌+◌, ℕ, suc, length, get_or, refl, sym, ap, ◌∙◌, subst, arith}
+use Rattle.std.proofs.Common.{◌≡◌, ◌<◌, ◌+◌, ℕ, suc, length, refl, ap, ◌∙◌, subst, arith}
 use Rattle.std.proofs.lemmas.{List.length-set, Option.slice_get_read}
 use Rattle.dn_tic.specs.{declared.input.Input.Input, Inputs.input_of}
 use Rattle.dn_machine.specs.Node.{put}
@@ -6,7 +6,7 @@ use Rattle.dn_node.specs.declared.node.Node.{Node}
 use Rattle.dn_node.specs.Contents.{contents, Represents}
 use Rattle.dn_node.proofs.Stepping.{whose_set}
 use Rattle.dn_netgame.specs.Turning.{Seat, rules_at, TakeTurns, IsTurn}
-use Rattle.dn_netgame.proofs.Turning.{seated_with, one_of_four}
+use Rattle.dn_netgame.proofs.Turning.{seated_with}
 use Rattle.dn_netgame.proofs.turns.take_turns.Goals as goal
 
 pub loop-place-preserved : goal.loop-place-preserved
@@ -26,9 +26,8 @@ loop-place-preserved g c =
           (so_far.seated place c.index-nodes-place.result
           (slice_get_read nodes (length nodes) place c.index-nodes-place.result same below
           c.index-nodes-place.is)) in
-          let mine : c.me.result ≡ seat.me = c.me.ensures ∙ shown.lockstep.whose.number in
-          let few : c.me.result < 4 =
-          subst (λ (k : ℕ). k < 4) (sym c.me.ensures) (one_of_four (get_or nodes place c.index-nodes-place.result)) in
+          let mine : c.me.result ≡ seat.me = c.me.ensures.number ∙ shown.lockstep.whose.number in
+          let few : c.me.result < 4 = c.me.ensures.four in
           let told : c.input_of-input.result ≡ by c.me.result =
           c.input_of-input.ensures ∙ ap (input_of c.args.inputs.now) c.from.ensures ∙ of c.me.result few in
           let own : c.input_of-input.result ≡ by seat.me = told ∙ ap by mine in

@@ -1,4 +1,4 @@
-use Rattle.std.proofs.{Common.{rules, ◌≡◌, ◌<◌, length, ap, ◌∙◌, false, true, arith}}
+use Rattle.std.proofs.{Common.{rules, ◌≡◌, length, ap, ◌∙◌, false, true, arith}}
 use Rattle.dn_machine.specs.Node.{put}
 use Rattle.dn_link.specs.Pacing.{state_of}
 use Rattle.dn_link.proofs.Places.{place_put}

@@ -13,5 +13,5 @@ returns-then-not-is_empty-clause-fits c =
     c.push.ensures.items ∙ ap (λ (r : run.Run). was.parts.items ++ Run r ∷ []) same in
     let size : c.len.result ≡ length was.run.commands.items =
     c.len.ensures.value ∙ ap (λ (r : run.Run). length r.commands.items) same in
-    ended was _ c.requires.fits c.requires.few some items (ap (λ (n : ℕ). was.bytes + (5 + n)) size)
+    ended was _ c.requires.fits some items (ap (λ (n : ℕ). was.bytes + (5 + n)) size)
     (search rules) (search rules)

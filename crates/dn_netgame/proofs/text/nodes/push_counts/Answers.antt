@@ -37,7 +37,7 @@ loop-count-preserved g c =
     let n = contents c.args.node.now in
     counts_more c.loop-count.player n.players c.in-Some.count n.rings (string_bytes c.loop-count.text)
     (string_bytes c.push_fields.new.text)
-    (string_bytes c.args.text.now ++ counts n.players n.rings) c.in-Some.ensures c.loop-count.invariant put
+    (string_bytes c.args.text.now ++ counts n.players n.rings) c.in-Some.ensures.value c.loop-count.invariant put
 
 pub loop-count-init : goal.loop-count-init
 loop-count-init g c = search rules
