@@ -54,6 +54,15 @@ path_rules = path_rule (codes "in") ∷ path_rule (codes "out") ∷ []
 abbrev pub upgrade_rules : List Rule
 upgrade_rules = limit_rule long_limit ∷ path_rules
 
+abbrev pub json_rule : Rule
+json_rule = flag_rule (codes "json")
+
+abbrev pub stats_rules : List Rule
+stats_rules = json_rule ∷ files_rule ∷ []
+
+abbrev pub lumps_rules : List Rule
+lumps_rules = json_rule ∷ wads_rule ∷ []
+
 -- two demos
 abbrev pub diff_rules : List Rule
 diff_rules = word_rule (codes "one") ∷ word_rule (codes "other") ∷ []
@@ -133,8 +142,8 @@ readers =
 -- what is asked of demos
 abbrev pub demos : List Shape
 demos =
-    subcommand (codes "stats") (files_rule ∷ [])
-    ∷ subcommand (codes "lumps") (wads_rule ∷ [])
+    subcommand (codes "stats") stats_rules
+    ∷ subcommand (codes "lumps") lumps_rules
     ∷ subcommand (codes "diff") diff_rules
     ∷ subcommand (codes "record") path_rules ∷ []
 

@@ -10,7 +10,9 @@ use dn_demo::{Demo, DemoFault};
 use dn_measure::{push_fields, push_line};
 use dn_netgame::text::push_row;
 use dn_setup::Start;
-use dn_watch::{Difference, Row, RowsFault, demo_of_rows, first_difference, text_of_stats};
+use dn_watch::{
+    Difference, Row, RowsFault, demo_of_rows, first_difference, json_of_stats, text_of_stats,
+};
 use std::alloc::{AllocError, Global};
 use std::io::{BufRead, Read};
 use std::rt::Files;
@@ -78,9 +80,21 @@ fn print(rt: &(impl Print + Eprint + AllocGlobal), label: Option<&str>, text: &s
     }
 }
 
-/// Prints what is told of a demo, and answers the exit status.
+/// What is told of a demo: an object, or lines.
+fn text_of(alloc: Global, json: bool, path: &str, demo: &Demo) -> Result<String, AllocError> {
+    if !json {
+        return text_of_stats(alloc, demo);
+    }
+    let mut line = json_of_stats(alloc, path, demo)?;
+    line.push_str("\n")?;
+    Ok(line)
+}
+
+/// Prints what is told of a demo, and answers the exit status. An object names its file itself.
 fn tell(
     rt: &(impl Print + Eprint + AllocGlobal),
+    json: bool,
+    path: &str,
     label: Option<&str>,
     demo: Result<Demo, u8>,
 ) -> u8 {
@@ -88,9 +102,9 @@ fn tell(
         Ok(demo) => demo,
         Err(status) => return status,
     };
-    match text_of_stats(rt.alloc(), &demo) {
-        Ok(text) => print(rt, label, &text),
-        Err(fault) => complain(rt, label.unwrap_or(INPUT), fault, BROKEN_OFF),
+    match text_of(rt.alloc(), json, path, &demo) {
+        Ok(text) => print(rt, if json { None } else { label }, &text),
+        Err(fault) => complain(rt, path, fault, BROKEN_OFF),
     }
 }
 
@@ -105,13 +119,16 @@ pub(crate) fn run_stats<R: Files + Input + Print + Eprint + AllocGlobal>(
     from_terminal: bool,
     matches: &ArgMatches<'_>,
 ) -> Status {
+    let json = crate::options::json(matches);
     let Some(files) = crate::options::files(matches) else {
         hint(rt, from_terminal);
-        return Ok(tell(rt, None, demo_in(rt, INPUT, rt.reader())));
+        let demo = demo_in(rt, INPUT, rt.reader());
+        return Ok(tell(rt, json, INPUT, None, demo));
     };
     let mut status = 0;
     for path in files {
-        status = worst(status, tell(rt, label_of(files, path), demo_of(rt, path)));
+        let told = tell(rt, json, path, label_of(files, path), demo_of(rt, path));
+        status = worst(status, told);
     }
     Ok(status)
 }

@@ -1,11 +1,11 @@
 //! The options of a game, and of what is played from a script or a seed.
 
 ghost use Rattle.std.specs.Prelude.{IfOk, [], ◌∷◌};
-ghost use Rattle.dn_program.specs.{Arguments.HasMore, Commands.choice_rules, Commands.diff_rules, Commands.flag_rules, Commands.game_rules, Commands.limit_rule, Commands.path_rules, Commands.script_rule, Commands.seed_rule};
-ghost use Rattle.dn_program.specs.{Commands.short_limit, Commands.sim_rules, Commands.storm_rules, Commands.trace_rule, Commands.upgrade_rules};
+ghost use Rattle.dn_program.specs.{Arguments.HasMore, Commands.choice_rules, Commands.diff_rules, Commands.flag_rules, Commands.game_rules, Commands.json_rule, Commands.limit_rule, Commands.lumps_rules, Commands.path_rules, Commands.script_rule, Commands.seed_rule};
+ghost use Rattle.dn_program.specs.{Commands.short_limit, Commands.sim_rules, Commands.stats_rules, Commands.storm_rules, Commands.trace_rule, Commands.upgrade_rules};
 
 use crate::arguments::{
-    Added, switch, with, with_files, with_flag, with_number, with_path, with_word,
+    Added, switch, with, with_files, with_flag, with_number, with_path, with_wads, with_word,
 };
 use clap::Command;
 use std::alloc::Global;
@@ -40,6 +40,27 @@ pub(crate) fn with_record<'a>(alloc: Global, command: Command<'a>) -> Added<'a>
     let input = "The rows; standard input, if not given";
     let output = "The file that is made for the demo; standard output, if not given";
     with_paths(alloc, command, input, output)
+}
+
+/// Adds the flag that asks for objects in place of lines.
+fn with_json<'a>(alloc: Global, command: Command<'a>) -> Added<'a>
+    ensures { IfOk result (HasMore command.entry (json_rule ∷ [])) }
+{
+    with_flag(alloc, command, "json", "Prints a JSON object a line")
+}
+
+/// Adds the demos of which something is told.
+pub(crate) fn with_stats<'a>(alloc: Global, command: Command<'a>) -> Added<'a>
+    ensures { IfOk result (HasMore command.entry stats_rules) }
+{
+    with_files(alloc, with_json(alloc, command)?, "DEMO")
+}
+
+/// Adds the WADs whose demos are listed.
+pub(crate) fn with_lumps<'a>(alloc: Global, command: Command<'a>) -> Added<'a>
+    ensures { IfOk result (HasMore command.entry lumps_rules) }
+{
+    with_wads(alloc, with_json(alloc, command)?)
 }
 
 /// Adds the two demos of a comparison.

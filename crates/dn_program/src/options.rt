@@ -212,6 +212,13 @@ pub fn to<'a>(matches: &ArgMatches<'a>) -> Option<&'a str>
     matches.get_str("out")
 }
 
+/// Whether objects are printed in place of lines.
+pub fn json(matches: &ArgMatches<'_>) -> bool
+    ensures { IsFlagOf matches.now (codes "json") result }
+{
+    flag(matches, "json")
+}
+
 /// The first of two demos.
 pub fn one<'a>(matches: &ArgMatches<'a>) -> Option<&'a str>
     ensures { option_map (λ file. file.now) result ≡ first_value (found_of matches.now) (codes "one") }

@@ -5,17 +5,25 @@ use crate::inputs::{Status, label_of, worst};
 use crate::source::{complain, complain_of_wad, format_in, read_ahead};
 use clap::ArgMatches;
 use dn_netgame::RunFault;
-use dn_watch::{Lump, lumps, open};
+use dn_watch::{Lump, json_of_lump, lumps, open};
 use std::alloc::{AllocError, Global};
 use std::fs;
 use std::rt::Files;
+
+/// A WAD, and how its demos are listed.
+#[derive(Clone, Copy)]
+struct Listing<'a> {
+    path: &'a str,
+    label: Option<&'a str>,
+    json: bool,
+}
 
 /// The line of a lump.
 fn line_of(
     alloc: Global,
     label: Option<&str>,
     lump: &Lump,
-    format: Option<&'static str>,
+    format: Option<&str>,
 ) -> Result<String, AllocError> {
     let (file, colon) = match label {
         Some(label) => (label, ": "),
@@ -24,16 +32,16 @@ fn line_of(
     let name = str::from_utf8(lump.name()).unwrap_or("?");
     let Lump { place, size, .. } = *lump;
     let format = format.unwrap_or("no demo");
-    format!(in alloc; "{file}{colon}lump {name} place {place} size {size}: {format}\n")
+    format!(in alloc; "{file}{colon}lump {name} place {place} size {size}: {format}")
 }
 
-/// Lists a lump, whose file is opened anew.
+/// Prints what is told of a lump, whose file is opened anew.
 fn list_lump<R: Files + Print + Eprint + AllocGlobal>(
     rt: &R,
-    path: &str,
-    label: Option<&str>,
+    listing: Listing<'_>,
     lump: &Lump,
 ) -> Status {
+    let Listing { path, label, json } = listing;
     let bytes = match fs::open(rt, path) {
         Ok(file) => open(file, lump),
         Err(error) => return Ok(complain(rt, path, error, MISUSED)),
@@ -45,18 +53,20 @@ fn list_lump<R: Files + Print + Eprint + AllocGlobal>(
     let Some(mut input) = input else {
         return Err(RunFault::Memory);
     };
-    let line = line_of(rt.alloc(), label, lump, format_in(&mut input))?;
-    rt.print(line.as_str())
+    let format = format_in(&mut input);
+    let line = if json {
+        json_of_lump(rt.alloc(), path, lump, format)?
+    } else {
+        line_of(rt.alloc(), label, lump, format)?
+    };
+    rt.println(line.as_str())
         .map(|()| 0)
         .map_err(|_| RunFault::Write)
 }
 
 /// Lists the demos of a WAD: its lumps whose names begin with `DEMO`.
-fn list_file<R: Files + Print + Eprint + AllocGlobal>(
-    rt: &R,
-    path: &str,
-    label: Option<&str>,
-) -> Status {
+fn list_file<R: Files + Print + Eprint + AllocGlobal>(rt: &R, listing: Listing<'_>) -> Status {
+    let path = listing.path;
     let found = match fs::open(rt, path) {
         Ok(mut file) => lumps(rt.alloc(), &mut file, b"DEMO"),
         Err(error) => return Ok(complain(rt, path, error, MISUSED)),
@@ -75,7 +85,7 @@ fn list_file<R: Files + Print + Eprint + AllocGlobal>(
     }
     let mut status = 0;
     for lump in found.as_slice() {
-        status = worst(status, list_lump(rt, path, label, lump)?);
+        status = worst(status, list_lump(rt, listing, lump)?);
     }
     Ok(status)
 }
@@ -88,10 +98,12 @@ pub(crate) fn run_lumps<R: Files + Print + Eprint + AllocGlobal>(
     let Some(files) = crate::options::files(matches) else {
         return Ok(MISUSED);
     };
+    let json = crate::options::json(matches);
     let mut status = 0;
     for path in files {
         let label = label_of(files, path);
-        status = match list_file(rt, path, label) {
+        let listing = Listing { path, label, json };
+        status = match list_file(rt, listing) {
             Ok(more) => worst(status, more),
             Err(fault) => return Ok(complain(rt, path, fault, BROKEN_OFF)),
         };

@@ -4,7 +4,7 @@ ghost use Rattle.std.specs.Prelude.{◌≡◌, true, false, map, IfOk, IfErr, st
 ghost use Rattle.clap.specs.{Simple.app_of, Simple.new_app, Takes.takes, Values.kind_of, declared.builder.command.Command.TheViews.out-Command as fields_of, declared.error.kind.ErrorKind.TheVariants.OutOfMemory};
 ghost use Rattle.dn_program.specs.Commands.{IsReadAs, bare, demos, games, netgame, readers, sessions, with_subcommands};
 
-use crate::arguments::{Added, with_files, with_wads};
+use crate::arguments::{Added, with_files};
 use crate::{game_options, net_options};
 use clap::{ArgMatches, Command, Error};
 use std::alloc::Global;
@@ -75,8 +75,8 @@ fn with_readers<'a>(alloc: Global, command: Command<'a>) -> Added<'a>
 fn with_demos<'a>(alloc: Global, command: Command<'a>) -> Added<'a>
     ensures { IfOk result (λ c. app_of c ≡ with_subcommands (app_of command.entry) demos) }
 {
-    let stats = command.subcommand(with_files(alloc, sub(alloc, "stats", STATS), "DEMO")?)?;
-    let lumps = stats.subcommand(with_wads(alloc, sub(alloc, "lumps", LUMPS))?)?;
+    let stats = command.subcommand(game_options::with_stats(alloc, sub(alloc, "stats", STATS))?)?;
+    let lumps = stats.subcommand(game_options::with_lumps(alloc, sub(alloc, "lumps", LUMPS))?)?;
     let diff = lumps.subcommand(game_options::with_diff(alloc, sub(alloc, "diff", DIFF))?)?;
     diff.subcommand(game_options::with_record(alloc, sub(alloc, "record", RECORD))?)
 }

@@ -3,6 +3,7 @@
 
 mod difference;
 mod formats;
+mod json;
 mod reading;
 mod rows;
 mod tally;
@@ -12,6 +13,7 @@ mod writing;
 
 pub use difference::{Difference, first_difference};
 pub use formats::format_of;
+pub use json::{json_of_lump, json_of_stats};
 pub use reading::{WadFault, lumps, open};
 pub use rows::{RowsFault, demo_of_rows};
 pub use tally::{Counts, Tally};

@@ -19,7 +19,7 @@ const SKILLS: [&str; 5] = [
 ];
 
 /// How many hundredths of a second so many tics take.
-fn hundredths(tics: u64) -> u64
+pub(crate) fn hundredths(tics: u64) -> u64
     requires { tics < 2 ^ 40 }
     ensures { result ≡ spec.hundredths tics }
 {
