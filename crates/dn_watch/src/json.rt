@@ -1,8 +1,6 @@
 //! What is told of a demo or of a lump as JSON: an object on a line.
-ghost use Rattle.std.specs.Prelude.{◌<◌, ◌^◌, length};
 
 use crate::tally::{Counts, Tally};
-use crate::telling::hundredths;
 use crate::wad::Lump;
 use dn_demo::Demo;
 use serde_json::{Value, json};
@@ -37,12 +35,9 @@ fn players_of(alloc: Global, demo: &Demo) -> Result<Value, AllocError> {
 }
 
 /// The object of a demo, which has no line end: what its header has, its tics and time, and what its players did.
-pub fn json_of_stats(alloc: Global, file: &str, demo: &Demo) -> Result<String, AllocError>
-    requires { length demo.now.rows < 2 ^ 40 }
-{
+pub fn json_of_stats(alloc: Global, file: &str, demo: &Demo) -> Result<String, AllocError> {
     let players = players_of(alloc, demo)?;
     let start = demo.start();
-    let tics = demo.tics() as u64;
     let value = json!(in alloc; {
         "file": file,
         "version": demo.version(),
@@ -54,8 +49,7 @@ pub fn json_of_stats(alloc: Global, file: &str, demo: &Demo) -> Result<String, A
         "fast": start.fast,
         "nomonsters": start.no_monsters,
         "view": demo.view(),
-        "tics": tics,
-        "hundredths": hundredths(tics),
+        "tics": demo.tics() as u64,
         "cut": demo.cut() as u64,
         "after": demo.after() as u64,
         "players": players

@@ -19,15 +19,14 @@ const SKILLS: [&str; 5] = [
 ];
 
 /// How many hundredths of a second so many tics take.
-pub(crate) fn hundredths(tics: u64) -> u64
-    requires { tics < 2 ^ 40 }
+fn hundredths(tics: u64) -> u128
     ensures { result ≡ spec.hundredths tics }
 {
-    (tics * 100 + 17) / 35
+    (u128::from(tics) * 100 + 17) / 35
 }
 
 #[tactic(auto, unfolding(crate::specs::Telling::two_digits))]
-fn push_two(text: &mut String, number: u64) -> Result<(), AllocError>
+fn push_two(text: &mut String, number: u128) -> Result<(), AllocError>
     ensures { OnOk result (string_bytes text.new ≡ string_bytes text.old ++ two_digits number) }
 {
     let (tens, ones) = (number / 10, number % 10);
@@ -36,7 +35,7 @@ fn push_two(text: &mut String, number: u64) -> Result<(), AllocError>
 }
 
 #[tactic(auto, unfolding(crate::specs::Telling::time_text))]
-fn push_time(text: &mut String, hundredths: u64) -> Result<(), AllocError>
+fn push_time(text: &mut String, hundredths: u128) -> Result<(), AllocError>
     ensures { OnOk result (string_bytes text.new ≡ string_bytes text.old ++ time_text hundredths) }
 {
     let minutes = hundredths / 6000;
@@ -63,7 +62,6 @@ fn push_skill(text: &mut String, skill: u8) -> Result<(), AllocError>
 
 #[tactic(auto, unfolding(crate::specs::Telling::length_line))]
 fn push_length(text: &mut String, demo: &Demo) -> Result<(), AllocError>
-    requires { length demo.now.rows < 2 ^ 40 }
     ensures { OnOk result (string_bytes text.new ≡ string_bytes text.old ++ length_line demo.now) }
 {
     let tics = demo.tics() as u64;
@@ -119,7 +117,6 @@ fn push_seats(text: &mut String, present: [bool; 4], tally: &Tally) -> Result<()
 /// The lines of a demo: its time at 35 tics a second and its skill as the menu counts it, and then for each player
 /// in how many tics it did what. Err where memory is refused.
 pub fn text_of_stats(alloc: Global, demo: &Demo) -> Result<String, AllocError>
-    requires { length demo.now.rows < 2 ^ 40 }
     ensures { IfOk result (λ text. string_bytes text ≡ spec.stats_lines demo.now) }
 {
     let mut text = String::new(alloc);
