@@ -1,10 +1,12 @@
 //! The options of a game, and of what is played from a script or a seed.
 
 ghost use Rattle.std.specs.Prelude.{IfOk, [], ◌∷◌};
-ghost use Rattle.dn_program.specs.{Arguments.HasMore, Commands.choice_rules, Commands.flag_rules, Commands.game_rules, Commands.limit_rule, Commands.script_rule, Commands.seed_rule};
-ghost use Rattle.dn_program.specs.{Commands.short_limit, Commands.sim_rules, Commands.storm_rules, Commands.trace_rule, Commands.upgrade_rules};
+ghost use Rattle.dn_program.specs.{Arguments.HasMore, Commands.choice_rules, Commands.diff_rules, Commands.flag_rules, Commands.game_rules, Commands.json_rule, Commands.limit_rule, Commands.lumps_rules, Commands.path_rules, Commands.script_rule, Commands.seed_rule};
+ghost use Rattle.dn_program.specs.{Commands.short_limit, Commands.sim_rules, Commands.stats_rules, Commands.storm_rules, Commands.trace_rule, Commands.upgrade_rules};
 
-use crate::arguments::{Added, switch, with, with_flag, with_number};
+use crate::arguments::{
+    Added, switch, with, with_files, with_flag, with_number, with_path, with_wads, with_word,
+};
 use clap::Command;
 use std::alloc::Global;
 
@@ -23,11 +25,66 @@ fn with_limit<'a>(alloc: Global, command: Command<'a>, default: &'a str) -> Adde
     with_number(alloc, command, "limit", 1024, 16_777_216, default, about)
 }
 
+/// Adds the file that is read and the file that is made, by what help says of them.
+fn with_paths<'a>(alloc: Global, command: Command<'a>, input: &'a str, output: &'a str) -> Added<'a>
+    ensures { IfOk result (HasMore command.entry path_rules) }
+{
+    let from = with_path(alloc, command, "in", "IN", input)?;
+    with_path(alloc, from, "out", "OUT", output)
+}
+
+/// Adds the files of a recording.
+pub(crate) fn with_record<'a>(alloc: Global, command: Command<'a>) -> Added<'a>
+    ensures { IfOk result (HasMore command.entry path_rules) }
+{
+    let input = "The rows; standard input, if not given";
+    let output = "The file that is made for the demo; standard output, if not given";
+    with_paths(alloc, command, input, output)
+}
+
+/// Adds the flag that asks for objects in place of lines.
+fn with_json<'a>(alloc: Global, command: Command<'a>) -> Added<'a>
+    ensures { IfOk result (HasMore command.entry (json_rule ∷ [])) }
+{
+    with_flag(alloc, command, "json", "Prints a JSON object a line")
+}
+
+/// Adds the demos of which something is told.
+pub(crate) fn with_stats<'a>(alloc: Global, command: Command<'a>) -> Added<'a>
+    ensures { IfOk result (HasMore command.entry stats_rules) }
+{
+    with_files(alloc, with_json(alloc, command)?, "DEMO")
+}
+
+/// Adds the WADs whose demos are listed.
+pub(crate) fn with_lumps<'a>(alloc: Global, command: Command<'a>) -> Added<'a>
+    ensures { IfOk result (HasMore command.entry lumps_rules) }
+{
+    with_wads(alloc, with_json(alloc, command)?)
+}
+
+/// Adds the two demos of a comparison.
+pub(crate) fn with_diff<'a>(alloc: Global, command: Command<'a>) -> Added<'a>
+    ensures { IfOk result (HasMore command.entry diff_rules) }
+{
+    let one = with_word(alloc, command, "one", "ONE", "A demo")?;
+    with_word(
+        alloc,
+        one,
+        "other",
+        "OTHER",
+        "The demo that it is compared with",
+    )
+}
+
 /// Adds the options of an upgrade.
 pub(crate) fn with_upgrade<'a>(alloc: Global, command: Command<'a>) -> Added<'a>
     ensures { IfOk result (HasMore command.entry upgrade_rules) }
 {
-    with_limit(alloc, command, "16777216")
+    let limit = with_limit(alloc, command, "16777216")?;
+    let input = "The demo; standard input, if not given";
+    let output = "The file that is made for the new demo; standard output, if not given";
+    with_paths(alloc, limit, input, output)
 }
 
 /// Adds the options of a game that are numbers, but for the limit.
@@ -98,7 +155,8 @@ pub(crate) fn with_sim<'a>(alloc: Global, command: Command<'a>) -> Added<'a>
     ensures { IfOk result (HasMore command.entry sim_rules) }
 {
     let game = with_game(alloc, command)?;
-    with_trace(alloc, game)
+    let trace = with_trace(alloc, game)?;
+    with_files(alloc, trace, "SCRIPT")
 }
 
 /// Adds the options of a storm, a game's among them.

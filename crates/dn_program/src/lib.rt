@@ -3,16 +3,22 @@
 
 mod arguments;
 mod command_line;
+mod demos;
 mod ends;
 mod game_options;
+mod inputs;
 pub mod key;
+mod lines;
 mod net_options;
 mod network;
 pub mod options;
 mod runs;
 mod say;
 mod screen;
+mod source;
+mod upgrades;
+mod wads;
 mod words;
 
-pub use command_line::finish;
+pub use command_line::{Terminals, finish};
 pub use words::matches_of;

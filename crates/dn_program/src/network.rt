@@ -90,6 +90,7 @@ fn prepared(
     };
     let Ok(wire) = Udp::bind(rt, port) else {
         say_line(rt, raw, "socket fault")?;
+        let _ = eprintln!(rt; "UDP port {port} cannot be bound; another program may have it");
         return Ok(Err(BROKEN_OFF));
     };
     Ok(Ok((plan_of(secret, pace), wire)))
@@ -141,11 +142,23 @@ pub(crate) fn run_host<R: Print + Eprint + AllocGlobal + Net + Files + RandomSou
     print_session(rt, session, raw)
 }
 
-/// The first address of a host's name and port.
-fn found(rt: &impl Net, address: &str) -> Option<Address> {
-    match address.to_socket_addrs(rt) {
+/// The port of a host whose address names none.
+const PORT: u16 = 5029;
+
+/// The first of the addresses that a name stands for.
+fn first_of<A: ToSocketAddrs + Drop>(rt: &impl Net, name: A) -> Option<Address> {
+    match name.to_socket_addrs(rt) {
         Ok(mut addresses) => Some(address_of(addresses.next()?)),
         Err(_) => None,
+    }
+}
+
+/// The first address of a host's name and port. An IPv6 address without a port has more colons than one.
+fn found(rt: &impl Net, address: &str) -> Option<Address> {
+    let colons = address.bytes().filter(|byte| *byte == b':').count();
+    match first_of(rt, address) {
+        None if colons != 1 => first_of(rt, (address, PORT)),
+        found => found,
     }
 }
 

@@ -1,0 +1,122 @@
+//! Heads of files by hand, and what they are.
+
+use crate::{Directory, Lump, RowsFault, demo_of_rows, format_of};
+
+#[test]
+fn files_are_known_by_their_heads(rt: HostRuntime) {
+    let rows: [(&[u8], Option<&str>); 14] = [
+        (
+            b"IWAD\x05\0\0\0",
+            Some("a WAD: netgame lumps lists its demos"),
+        ),
+        (b"PWAD", Some("a WAD: netgame lumps lists its demos")),
+        (b"PWA", None),
+        (b"\x1f\x8b\x08", Some("compressed by gzip: gunzip it first")),
+        (
+            b"\xca\x1dBoom\xe6\0\x03\x01\x01",
+            Some("a demo of Boom 2.02, version 202"),
+        ),
+        (b"\xcb\x1dMBF\xe6\0", Some("a demo of MBF, version 203")),
+        (b"\xcb\x1dBoom\xe6\0", Some("a demo of LxDoom, version 203")),
+        (b"\xdd\x1dMBF21\0", Some("a demo of MBF21, version 221")),
+        (b"\x6d\x04\x01\x01", Some("a demo of Doom 1.9, version 109")),
+        (b"\x6d\x05\x01\x01", None),
+        (b"\x65\x02\x01\0", Some("a demo of Strife, version 101")),
+        (
+            b"\x02\x01\x01\x01\0\0\0",
+            Some("a demo without a version, of Heretic, Hexen or Doom before 1.4"),
+        ),
+        (b"build 0 -\n", None),
+        (b"", None),
+    ];
+    for (bytes, name) in rows {
+        assert_eq!(rt; format_of(bytes), name, "{bytes:?}");
+    }
+}
+
+#[test]
+fn a_directory_is_found_by_its_header(rt: HostRuntime) {
+    let directory = Directory {
+        count: 2,
+        place: 0x0102_0304,
+    };
+    assert_eq!(rt;
+        Directory::of(b"PWAD\x02\0\0\0\x04\x03\x02\x01"),
+        Some(directory)
+    );
+    assert_eq!(rt; Directory::of(b"WAD2\x02\0\0\0\x04\x03\x02\x01"), None);
+}
+
+#[test]
+fn a_lump_is_found_by_its_entry(rt: HostRuntime) {
+    let lump = Lump::of(b"\x0c\0\0\0\x07\x01\0\0DEMO1\0\0\0");
+    assert_eq!(rt; (lump.place, lump.size), (12, 263));
+    assert_eq!(rt; lump.name(), b"DEMO1".as_slice());
+    let full = Lump::of(b"\0\0\0\0\0\0\0\0ABCDEFGH");
+    assert_eq!(rt; full.name(), b"ABCDEFGH".as_slice());
+}
+
+/// The header of the rows below.
+const HEAD: &str =
+    "version 109 skill 3 episode 1 map 7 deathmatch 1 respawn 0 fast 0 nomonsters 1 view 1 players 0 1\n";
+
+/// Two tics of two players, written by hand.
+const STEPS: [&str; 4] = [
+    "tic 0 player 0 forward 50 side 0 turn 0 buttons 0\n",
+    "tic 0 player 1 forward 0 side 0 turn 256 buttons 0\n",
+    "tic 1 player 0 forward -50 side 0 turn 0 buttons 1\n",
+    "tic 1 player 1 forward 25 side 24 turn 16384 buttons 0\n",
+];
+
+#[test]
+fn rows_are_written_as_a_demo(rt: HostRuntime) {
+    let [a, b, c, d] = STEPS;
+    let first = b"\x32\0\0\0\0\0\x01\0".as_slice();
+    let second = b"\xce\0\0\x01\x19\x18\x40\0".as_slice();
+    let rows: [([&str; 5], Result<[&[u8]; 2], RowsFault>); 8] = [
+        ([a, b, c, d, HEAD], Ok([first, second])),
+        ([HEAD, a, b, c, d], Ok([first, second])),
+        ([HEAD, a, b, a, b], Ok([first, first])),
+        ([c, d, a, b, HEAD], Ok([second, first])),
+        (
+            [a, b, c, HEAD, "tics 2 cut 0 after 0\n"],
+            Err(RowsFault::Seats(1)),
+        ),
+        ([a, b, c, d, "\n"], Err(RowsFault::Head)),
+        (
+            [a, b, "tic 1 forward 3\n", d, HEAD],
+            Err(RowsFault::Line(3)),
+        ),
+        (
+            [
+                HEAD,
+                a,
+                "tic 0 player 1 forward 0 side 0 turn 257 buttons 0\n",
+                c,
+                d,
+            ],
+            Err(RowsFault::Turn(0)),
+        ),
+    ];
+    for (lines, wanted) in rows {
+        let mut text = String::new(rt.alloc());
+        for line in lines {
+            let pushed = text.push_str(line);
+            assert!(rt; pushed.is_ok());
+        }
+        let demo = demo_of_rows(rt.alloc(), text.as_bytes());
+        match (demo, wanted) {
+            (Ok(demo), Ok([one, other])) => {
+                assert_eq!(rt;
+                    &demo[..13],
+                    b"\x6d\x03\x01\x07\x01\0\0\x01\x01\x01\x01\0\0".as_slice()
+                );
+                assert_eq!(rt; &demo[13..21], one);
+                assert_eq!(rt; &demo[21..29], other);
+                assert_eq!(rt; &demo[29..], b"\x80".as_slice());
+            }
+            (Err(fault), Err(wanted)) => assert_eq!(rt; fault, wanted),
+            _ => panic!(rt; "{text}"),
+        }
+    }
+}
