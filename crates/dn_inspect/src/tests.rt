@@ -1,6 +1,7 @@
 //! Heads of files by hand, and what they are.
 
 use crate::{Directory, Lump, RowsFault, demo_of_rows, format_of};
+use std::alloc::Global;
 
 #[test]
 fn files_are_known_by_their_heads(rt: HostRuntime) {
@@ -68,45 +69,29 @@ const STEPS: [&str; 4] = [
     "tic 1 player 1 forward 25 side 24 turn 16384 buttons 0\n",
 ];
 
+/// The demo of five lines.
+fn demo_of(alloc: Global, lines: [&str; 5]) -> Result<Vec<u8>, RowsFault> {
+    let mut text = String::new(alloc);
+    for line in lines {
+        text.push_str(line)?;
+    }
+    demo_of_rows(alloc, text.as_bytes())
+}
+
 #[test]
 fn rows_are_written_as_a_demo(rt: HostRuntime) {
     let [a, b, c, d] = STEPS;
     let first = b"\x32\0\0\0\0\0\x01\0".as_slice();
     let second = b"\xce\0\0\x01\x19\x18\x40\0".as_slice();
-    let rows: [([&str; 5], Result<[&[u8]; 2], RowsFault>); 8] = [
-        ([a, b, c, d, HEAD], Ok([first, second])),
-        ([HEAD, a, b, c, d], Ok([first, second])),
-        ([HEAD, a, b, a, b], Ok([first, first])),
-        ([c, d, a, b, HEAD], Ok([second, first])),
-        (
-            [a, b, c, HEAD, "tics 2 cut 0 after 0\n"],
-            Err(RowsFault::Seats(1)),
-        ),
-        ([a, b, c, d, "\n"], Err(RowsFault::Head)),
-        (
-            [a, b, "tic 1 forward 3\n", d, HEAD],
-            Err(RowsFault::Line(3)),
-        ),
-        (
-            [
-                HEAD,
-                a,
-                "tic 0 player 1 forward 0 side 0 turn 257 buttons 0\n",
-                c,
-                d,
-            ],
-            Err(RowsFault::Turn(0)),
-        ),
+    let rows: [([&str; 5], [&[u8]; 2]); 4] = [
+        ([a, b, c, d, HEAD], [first, second]),
+        ([HEAD, a, b, c, d], [first, second]),
+        ([HEAD, a, b, a, b], [first, first]),
+        ([c, d, a, b, HEAD], [second, first]),
     ];
-    for (lines, wanted) in rows {
-        let mut text = String::new(rt.alloc());
-        for line in lines {
-            let pushed = text.push_str(line);
-            assert!(rt; pushed.is_ok());
-        }
-        let demo = demo_of_rows(rt.alloc(), text.as_bytes());
-        match (demo, wanted) {
-            (Ok(demo), Ok([one, other])) => {
+    for (lines, [one, other]) in rows {
+        match demo_of(rt.alloc(), lines) {
+            Ok(demo) => {
                 assert_eq!(rt;
                     &demo[..13],
                     b"\x6d\x03\x01\x07\x01\0\0\x01\x01\x01\x01\0\0".as_slice()
@@ -115,8 +100,28 @@ fn rows_are_written_as_a_demo(rt: HostRuntime) {
                 assert_eq!(rt; &demo[21..29], other);
                 assert_eq!(rt; &demo[29..], b"\x80".as_slice());
             }
-            (Err(fault), Err(wanted)) => assert_eq!(rt; fault, wanted),
-            _ => panic!(rt; "{text}"),
+            Err(fault) => panic!(rt; "{fault}"),
+        }
+    }
+}
+
+#[test]
+fn lines_that_make_no_demo_are_refused(rt: HostRuntime) {
+    let [a, b, c, d] = STEPS;
+    let odd_turn = "tic 0 player 1 forward 0 side 0 turn 257 buttons 0\n";
+    let rows: [([&str; 5], RowsFault); 4] = [
+        (
+            [a, b, c, HEAD, "tics 2 cut 0 after 0\n"],
+            RowsFault::Seats(1),
+        ),
+        ([a, b, c, d, "\n"], RowsFault::Head),
+        ([a, b, "tic 1 forward 3\n", d, HEAD], RowsFault::Line(3)),
+        ([HEAD, a, odd_turn, c, d], RowsFault::Turn(0)),
+    ];
+    for (lines, wanted) in rows {
+        match demo_of(rt.alloc(), lines) {
+            Err(fault) => assert_eq!(rt; fault, wanted),
+            Ok(_) => panic!(rt; "{wanted}"),
         }
     }
 }
