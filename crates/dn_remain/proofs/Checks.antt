@@ -1,18 +1,14 @@
 -- The mark of a command that a node runs, or has run, is that of the node's own world. So is a mark that is
 -- compared, and a run finds none that is off.
-use Rattle.std.proofs.Common.{◌≡◌, ℕ, ◌+◌, ◌-◌, ◌<◌, ◌≤◌, refl, sym, ◌∙◌, ap, arith, inl, pos, leb, ltb, List, ◌∷◌, length, inr, [], take}
-use Rattle.std.specs.Prelude.{◌⊎◌, ◌&&◌, Bool, false, not, None}
+use Rattle.std.proofs.Common.{◌≡◌, ℕ, ◌+◌, ◌-◌, ◌<◌, ◌≤◌, refl, sym, ◌∙◌, ap, arith, inl, pos, leb, ltb, List, ◌∷◌, length, inr, [], take, ◌⊎◌, ◌&&◌, Bool, false, not, None}
 use Rattle.std.proofs.lemmas.{Bool.cond_both, Bool.cond-false, Bool.and_left, Bool.and_right, Bool.le-ltb, Bool.leb-false, Bool.ltb-true, List.length_push, Option.same_Some, Option.slice_get-get_or}
 use Rattle.dn_tic.specs.declared.command.TicCmd.{TicCmd}
 use Rattle.dn_tic.proofs.Making.{made_by-mark}
 use Rattle.dn_setup.specs.Settings.{Settings}
 use Rattle.dn_machine.specs.{declared.answers.Phase.TheVariants.Playing, Game.Game, Game.with_node, Node.got, Node.held_at, Node.own_mark, Node.lowest, Worlds.Rules, Node.blank, Node.made, Worlds.world_after}
 use Rattle.dn_machine.specs.Node as machine
-use Rattle.dn_machine.specs.Running.{is_absent, is_awaited, is_off, first_off, is_over}
-use Rattle.dn_machine.specs.Sparing.{first_off_but}
-use Rattle.dn_machine.proofs.Calls.{ran_on}
-use Rattle.dn_machine.proofs.Truth.{lowest_none, lowest_none_each, same_passes}
-use Rattle.dn_machine.proofs.Put.{put_at}
+use Rattle.dn_machine.specs.{Running.{is_absent, is_awaited, is_off, first_off, is_over}, Sparing.first_off_but}
+use Rattle.dn_machine.proofs.{Calls.ran_on, Truth.{lowest_none, lowest_none_each, same_passes}, Put.put_at}
 use Rattle.dn_remain.specs.{Vanished.Promise.lacks_at, Wary.end_seen, Wary.holder_of, Wary.now_of, Vanished.Node.Node, Vanished.Node.Was, Vanished.Node.ran, Vanished.Promise.Marked, Vanished.Steps.IsRun, Wary.rows_to, Wary.row_had}
 use Rattle.dn_remain.specs.Vanished.Commands.{Holder, Had, seen, past_seen, AreHanded}
 use Rattle.dn_remain.proofs.{Vanished.Always.always, Vanished.Handing.was_seen, Vanished.Invariant.IsKept, Known.Follows, Known.Went, Marked.IsMarked, Running.absent_is, Running.runs_on, Seeing.length_rows}

@@ -1,16 +1,14 @@
 -- What holds after each event, where it holds of the game as it was, and after each call that is made: the
 -- cases of a run, of a give-up and of a report.
-use Rattle.std.proofs.Common.{◌≡◌, ℕ, ◌<◌, refl, arith, ◌≢◌, ℤ, sym, ◌∙◌, ap, cond, ltb, inl, inr}
-use Rattle.std.specs.Prelude.{false, Option, Some, None, slice_get, Bool, not, ◌&&◌, true}
+use Rattle.std.proofs.Common.{◌≡◌, ℕ, ◌<◌, refl, arith, ◌≢◌, ℤ, sym, ◌∙◌, ap, cond, ltb, inl, inr, false, Option, Some, None, slice_get, Bool, not, ◌&&◌, true}
 use Rattle.std.proofs.lemmas.Bool.{cond_both, ltb-true, eqb-false}
 use Rattle.std.specs.Bool.{⊤}
 use Rattle.dn_machine.specs.{declared.events.Event.Event, declared.events.Refusal.Refusal, Worlds.Rules, declared.answers.Cause.Cause, declared.answers.Phase.TheVariants.Playing, Limits.Limits, Node.Node}
-use Rattle.dn_machine.specs.{Node.held_at, Node.own_mark, Node.lowest, Node.ran, declared.answers.Ran.Ran, Runs.Next}
-use Rattle.dn_machine.specs.declared.events.Event.TheVariants.{Run}
+use Rattle.dn_machine.specs.{Node.{held_at, own_mark, lowest, ran}, declared.answers.Ran.Ran, Runs.Next}
+use Rattle.dn_machine.specs.{declared.events.Event.TheVariants.Run, Sparing.{on_run_but, is_off_but, first_off_but}}
 use Rattle.dn_machine.specs.Game.{Game, with_node, own_marks, refused_at, refused, on_event, applied_if, applied}
 use Rattle.dn_machine.specs.Running.{is_awaited, is_off, first_off, row_held, full_at, on_run}
-use Rattle.dn_machine.specs.Sparing.{on_run_but, is_off_but, first_off_but}
-use Rattle.dn_machine.proofs.{Calls.ended_by, Calls.ran_on, Put.same_functions}
+use Rattle.dn_machine.proofs.{Calls.{ended_by, ran_on}, Put.same_functions}
 use Rattle.dn_remain.specs.{declared.events.RemainEvent.RemainEvent, Vanished.Calls.is_newer, Vanished.Commands.seen, Vanished.Commands.on_decision}
 use Rattle.dn_remain.specs.Remaining.{Telling, Remaining, wary_of, with_wary, unless, with_telling, after_hearing, is_barred, after_run, after_event, NextRemain, NextGame, NobodyGivenUp}
 use Rattle.dn_remain.specs.Wary.{Wary, Report, on_give_up, on_report, report_to, report_of, newest_seen, can_settle, or_fresh, settled, after_news, with_gone, with_report, is_in_game}

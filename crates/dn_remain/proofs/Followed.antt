@@ -1,25 +1,19 @@
 -- What is known of a game in which players may be given up, with one node put in its place; and that each
 -- event of the machine keeps it.
-use Rattle.std.proofs.Common.{◌≡◌, ℕ, ◌+◌, ◌<◌, refl, ◌∙◌, ap, arith, inl, inr, List, [], ◌∷◌, ◌++◌, length, ltb}
-use Rattle.std.specs.Prelude.{Bool, Option, ◌&&◌, true, false, Some, None, slice_get}
-use Rattle.std.proofs.lemmas.Bool.{cases_eq, ltb-true, and_parts}
-use Rattle.std.proofs.lemmas.List.{length_push}
+use Rattle.std.proofs.Common.{◌≡◌, ℕ, ◌+◌, ◌<◌, refl, ◌∙◌, ap, arith, inl, inr, List, [], ◌∷◌, ◌++◌, length, ltb, Bool, Option, ◌&&◌, true, false, Some, None, slice_get}
+use Rattle.std.proofs.lemmas.{Bool.{cases_eq, ltb-true, and_parts}, List.length_push}
 use Rattle.dn_tic.specs.{declared.command.TicCmd.TicCmd, declared.input.Input.Input, Inputs.made_by, declared.input.Input.TheVariants.Pressed, declared.input.Input.TheVariants.Given}
-use Rattle.dn_machine.specs.declared.answers.Phase.TheVariants.{Playing}
-use Rattle.dn_machine.specs.Node.{ends_of, made, ran, is_ended, own_mark, put}
-use Rattle.dn_machine.specs.Game.{Game, with_node}
-use Rattle.dn_machine.specs.Sending.{on_build}
-use Rattle.dn_machine.specs.Worlds.{Rules}
+use Rattle.dn_machine.specs.declared.{answers.Phase.TheVariants.Playing, events.Event.TheVariants.{Quit, Stop}}
+use Rattle.dn_machine.specs.{Node.{ends_of, made, ran, is_ended, own_mark, put, Node}, Game.{Game, with_node}}
+use Rattle.dn_machine.specs.{Sending.on_build, Worlds.Rules}
 use Rattle.dn_machine.specs.{declared.events.Event.Event, Flight.Flight, Game.own_marks, Game.refused_at, Game.refused, Game.delivered, Game.on_event, declared.events.Event.TheVariants.Build}
 use Rattle.dn_machine.specs.{declared.events.Event.TheVariants.Give, declared.events.Event.TheVariants.Send, declared.events.Event.TheVariants.Deliver, declared.events.Event.TheVariants.Run}
-use Rattle.dn_machine.specs.{declared.events.Event.TheVariants.Quit, declared.events.Event.TheVariants.Stop, Node.Node}
-use Rattle.dn_machine.proofs.{Calls.built, Calls.build_cases, Put.put_at, Put.put_off, Put.same_functions, Games.passes}
+use Rattle.dn_machine.proofs.{Calls.{built, build_cases}, Put.{put_at, put_off, same_functions}, Games.passes}
 use Rattle.dn_machine.specs.Node as machine
 use Rattle.dn_remain.specs.{Vanished.Steps.Make, Vanished.Commands.Holder, Vanished.Commands.seen, Wary.reached, Wary.end_seen, Wary.rows_to, Wary.holder_of, Wary.now_of, Vanished.Commands.Had, Wary.Report}
 use Rattle.dn_remain.specs.{Remaining.Telling, Remaining.Remaining, Remaining.is_barred_flight, Remaining.is_barred, Remaining.after_event, Wary.Wary, Remaining.wary_of, Remaining.with_wary}
 use Rattle.dn_remain.proofs.{Seeing.same_node, Seeing.length_rows, Known.Follows, Known.Went, Known.fit_self, Known.not_left, Following.stays, Following.steps, Each.IsNoRun, Each.each_event, Known.known_so}
-use Rattle.dn_remain.proofs.{Hearing.hears, Running.runs, Running.quits, Sending.sends}
-use Rattle.dn_remain.proofs.Vanished.Put.{own_put, twice_put}
+use Rattle.dn_remain.proofs.{Hearing.hears, Running.{runs, quits}, Sending.sends, Vanished.Put.{own_put, twice_put}}
 
 same_all : (a b : Remaining) → a.game ≡ b.game → a.gone ≡ b.gone → a.newest ≡ b.newest → a.reports ≡ b.reports
     → a ≡ b

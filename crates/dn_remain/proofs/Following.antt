@@ -1,6 +1,5 @@
 -- A game whose nodes have a history goes on: nothing that is seen changes, or one node steps.
-use Rattle.std.proofs.Common.{◌≡◌, ℕ, ◌<◌, ◌≤◌, sym, ◌∙◌, ap, subst, inl, inr, List, [], ◌∷◌, ◌++◌, length, get_or, take, refl, arith}
-use Rattle.std.specs.Prelude.{◌≢◌, ◌⊎◌, Bool, true, false, Some, None}
+use Rattle.std.proofs.Common.{◌≡◌, ℕ, ◌<◌, ◌≤◌, sym, ◌∙◌, ap, subst, inl, inr, List, [], ◌∷◌, ◌++◌, length, get_or, take, refl, arith, ◌≢◌, ◌⊎◌, Bool, true, false, Some, None}
 use Rattle.std.proofs.lemmas.{Bool.both_ways, List.length_push}
 use Rattle.dn_tic.specs.declared.command.TicCmd.{TicCmd}
 use Rattle.dn_machine.specs.Node as machine

@@ -1,8 +1,6 @@
 -- A packet that comes to a node: it takes commands, learns an end, or changes nothing that is seen.
-use Rattle.std.proofs.Common.{◌≡◌, ℕ, refl, sym, ◌∙◌, ap, inl, List, ◌∷◌, ◌<◌, ◌≤◌, subst, arith, inr, length, take, ◌-◌, ◌++◌, drop, cond}
-use Rattle.std.specs.Prelude.{Bool, true, false, ◌⊎◌, Option, Some, None}
+use Rattle.std.proofs.Common.{◌≡◌, ℕ, refl, sym, ◌∙◌, ap, inl, List, ◌∷◌, ◌<◌, ◌≤◌, subst, arith, inr, length, take, ◌-◌, ◌++◌, drop, cond, Bool, true, false, ◌⊎◌, Option, Some, None, length-take-le}
 use Rattle.std.proofs.lemmas.Bool.{lt-leb, cases_Bool, cond-true, cond-false}
-use Rattle.std.proofs.lemmas.List.{length-take-le}
 use Rattle.dn_tic.specs.declared.command.TicCmd.{TicCmd}
 use Rattle.dn_machine.specs.{declared.answers.Heard.Heard, declared.peer.Peer.Peer, Flight.Flight, Node.got, Node.made, Node.is_ended, Game.Game, Game.with_node, Worlds.Rules, Hearing.after_request}
 use Rattle.dn_machine.specs.{Hearing.on_packet, Node.ends_of, Node.ran, Node.has_left, Node.put, Running.is_over, declared.answers.Phase.TheVariants.Playing, Flight.is_exit, Flight.end_of, Node.with_peer}

@@ -1,8 +1,6 @@
 -- What is known of a game whose nodes have a history, and of one that opens.
-use Rattle.std.proofs.Common.{◌≡◌, ◌≢◌, ℕ, ◌<◌, ◌≤◌, inl, List, [], ◌∷◌, ◌++◌, length, get_or, take, drop, refl, arith}
-use Rattle.std.specs.Prelude.{◌⊎◌, Bool, true, false, Some, None, slice_get}
-use Rattle.std.proofs.lemmas.Bool.{and_right}
-use Rattle.std.proofs.lemmas.Option.{none-some}
+use Rattle.std.proofs.Common.{◌≡◌, ◌≢◌, ℕ, ◌<◌, ◌≤◌, inl, List, [], ◌∷◌, ◌++◌, length, get_or, take, drop, refl, arith, ◌⊎◌, Bool, true, false, Some, None, slice_get}
+use Rattle.std.proofs.lemmas.{Bool.and_right, Option.none-some}
 use Rattle.dn_tic.specs.declared.command.TicCmd.{TicCmd}
 use Rattle.dn_setup.specs.Settings.{Settings}
 use Rattle.dn_machine.specs.{Flight.Exit, Flight.Flight, Flight.end_of, Node.ends_of, Node.made, Node.is_ended, Node.has_left, Game.Game, Worlds.Rules, Limits.Limits, Game.opening_game}

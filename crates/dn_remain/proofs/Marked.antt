@@ -1,23 +1,17 @@
 -- What every node's commands, marks and demo are made of, and that calls keep it.
-use Rattle.std.proofs.Common.{◌≡◌, ◌≢◌, ℕ, ℤ, zero, suc, ◌+◌, ◌-◌, ◌<◌, ◌≤◌, refl, sym, ◌∙◌, ap, subst, arith, inl, inr, pos, List, [], ◌∷◌, ◌++◌, length, get_or, take}
-use Rattle.std.specs.Prelude.{false, nat_lt, if◌then◌else◌, Option, Some, fold, Bool, true}
+use Rattle.std.proofs.Common.{◌≡◌, ◌≢◌, ℕ, ℤ, zero, suc, ◌+◌, ◌-◌, ◌<◌, ◌≤◌, refl, sym, ◌∙◌, ap, subst, arith, inl, inr, pos, List, [], ◌∷◌, ◌++◌, length, get_or, take, false, nat_lt, if◌then◌else◌, Option, Some, fold, Bool, true, take-suc}
 use Rattle.std.proofs.lemmas.{Bool.cases_eq, List.length_push, List.get_or_append_left, List.get_or_push, List.take-append-le, List.take_all}
-use Rattle.std.proofs.Math.Seq.{take-suc}
 use Rattle.std.proofs.lemmas.Bool.{cond_both, cond-false}
 use Rattle.dn_tic.specs.{declared.command.TicCmd.TicCmd, declared.command.Move.Move, declared.input.Input.Input, Inputs.made_by}
 use Rattle.dn_setup.specs.Settings.{Settings}
 use Rattle.dn_machine.specs.declared.answers.Cause.TheVariants as Cause
-use Rattle.dn_machine.specs.declared.answers.Phase.TheVariants.{Ended}
-use Rattle.dn_machine.specs.Sending.{on_build}
-use Rattle.dn_machine.specs.Node.{Node, blank, made, ran, held_at, own_mark, demo_rows}
-use Rattle.dn_machine.specs.Running.{tic_limit}
+use Rattle.dn_machine.specs.{declared.answers.Phase.TheVariants.Ended, Sending.on_build, Running.{tic_limit, on_quit}}
+use Rattle.dn_machine.specs.{Node.{Node, blank, made, ran, held_at, own_mark, demo_rows}, Hearing.on_packet}
 use Rattle.dn_machine.specs.{Running.is_over, Worlds.Rules, Worlds.opening, Worlds.world_after, declared.answers.Heard.Heard, declared.answers.Phase.Phase, Flight.Flight, Limits.Limits, Sending.on_send}
-use Rattle.dn_machine.specs.{Hearing.on_packet, Running.on_quit}
 use Rattle.dn_machine.proofs.{Calls.build_cases, Calls.built, Put.put_at, Calls.send_cases, Calls.quit_cases, Calls.packet_cases, Put.put_off}
 use Rattle.dn_remain.specs.Wary.{end_seen, holder_of, Report, Wary, or_fresh, settled, after_news, noted_gone, with_gone, with_report, on_give_up, on_report}
-use Rattle.dn_remain.proofs.{Seeing.over_stays}
-use Rattle.dn_remain.specs.{Vanished.Commands.on_decision, Vanished.Commands.longest, Vanished.Commands.told}
-use Rattle.dn_remain.proofs.Each.{news_cases, give_up_cases, report_cases}
+use Rattle.dn_remain.proofs.{Seeing.over_stays, Each.{news_cases, give_up_cases, report_cases}}
+use Rattle.dn_remain.specs.Vanished.Commands.{on_decision, longest, told}
 
 -- What a call on a node leaves as it was, which is no build and no run.
 

@@ -1,6 +1,5 @@
 -- What a node tells, and what it does when it gives up a player, keeps a report, or decides.
-use Rattle.std.proofs.Common.{◌≡◌, ℕ, ◌<◌, refl, sym, ◌∙◌, ap, subst, arith, inl, inr, List, ◌∷◌, length}
-use Rattle.std.specs.Prelude.{true, false, Some}
+use Rattle.std.proofs.Common.{◌≡◌, ℕ, ◌<◌, refl, sym, ◌∙◌, ap, subst, arith, inl, inr, List, ◌∷◌, length, true, false, Some}
 use Rattle.std.proofs.lemmas.{Bool.cond_both, Bool.and_right, Bool.true≢false, Option.same_Some}
 use Rattle.dn_tic.specs.declared.command.TicCmd.{TicCmd}
 use Rattle.dn_machine.specs.{declared.answers.Phase.Phase, Limits.Limits, Node.put, Node.got, Node.is_ended, Node.has_left, Worlds.Rules}

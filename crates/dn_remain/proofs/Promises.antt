@@ -1,7 +1,5 @@
 -- What a history says of its game.
-use Rattle.std.proofs.Common.{◌≡◌, ℕ, ℤ, ◌+◌, ◌-◌, ◌<◌, pos, take, ltb, refl, sym, ◌∙◌, ap, arith, inl, List, [], ◌∷◌, length, get_or, drop, ◌≤◌, inr}
-use Rattle.std.specs.Prelude.{nat_lt, Some, slice_get, Bool, true, false, Option, None, if◌then◌else◌}
-use Rattle.std.specs.List.{take_while}
+use Rattle.std.proofs.Common.{◌≡◌, ℕ, ℤ, ◌+◌, ◌-◌, ◌<◌, pos, take, ltb, refl, sym, ◌∙◌, ap, arith, inl, List, [], ◌∷◌, length, get_or, drop, ◌≤◌, inr, nat_lt, Some, slice_get, Bool, true, false, Option, None, if◌then◌else◌, take_while}
 use Rattle.std.proofs.lemmas.{Bool.cases_lt, Bool.cond-true, Bool.cond-false, Bool.lt-ltb, Bool.le-ltb, List.get_or-take, List.Folds.length-prefix_len, List.Prefix.front_from_reads, Option.same_Some, Option.slice_get-get_or}
 use Rattle.dn_tic.specs.{declared.command.TicCmd.TicCmd, declared.command.Move.Move, Inputs.made_by}
 use Rattle.dn_setup.specs.Settings.{Settings}

@@ -1,7 +1,6 @@
 -- A game in which nobody was given up is one of the machine's, and a game of the machine is one in which
 -- nobody is given up.
-use Rattle.std.proofs.Common.{◌≡◌, ℕ, refl, sym, ◌∙◌, ap, subst, inl, List, [], ◌∷◌, ◌++◌, arith, inr, map}
-use Rattle.std.specs.Prelude.{Bool, true, false, Option, Some, None}
+use Rattle.std.proofs.Common.{◌≡◌, ℕ, refl, sym, ◌∙◌, ap, subst, inl, List, [], ◌∷◌, ◌++◌, arith, inr, map, Bool, true, false, Option, Some, None}
 use Rattle.std.proofs.lemmas.Bool.{both_ways, cond-false}
 use Rattle.dn_setup.specs.Settings.{Settings}
 use Rattle.dn_machine.specs.{declared.events.Event.Event, Game.Game, Game.opening_game, Game.with_node, Limits.Limits, Node.Node, Node.put, Runs.Runs, Worlds.Rules, Flight.Flight, Runs.Leads}

@@ -1,30 +1,22 @@
 -- What is known of each game that a list of events leads to.
-use Rattle.std.proofs.Common.{◌≡◌, ℕ, ◌<◌, refl, inl, inr, List, ◌∷◌, arith, sym, ap, subst, []}
-use Rattle.std.specs.Prelude.{◌⊎◌, Bool, false, Option, Some, None, slice_get, true, ◌≢◌, if◌then◌else◌}
-use Rattle.std.proofs.lemmas.Bool.{ltb-true, and_parts, both_ways, cond-false, cases_eq, true≢false}
-use Rattle.std.proofs.lemmas.Option.{none-some}
-use Rattle.dn_tic.specs.{declared.command.TicCmd.TicCmd, declared.input.Input.Input}
+use Rattle.std.proofs.Common.{◌≡◌, ℕ, ◌<◌, refl, inl, inr, List, ◌∷◌, arith, sym, ap, subst, [], ◌⊎◌, Bool, false, Option, Some, None, slice_get, true, ◌≢◌, if◌then◌else◌}
+use Rattle.std.proofs.lemmas.{Bool.{ltb-true, and_parts, both_ways, cond-false, cases_eq, true≢false}, Option.none-some}
+use Rattle.dn_tic.specs.declared.{command.TicCmd.TicCmd, input.Input.Input}
 use Rattle.dn_setup.specs.Settings.{Settings}
-use Rattle.dn_machine.specs.declared.events.Event.{Event}
-use Rattle.dn_machine.specs.Sending.{on_build}
-use Rattle.dn_machine.specs.Flight.{Flight}
-use Rattle.dn_machine.specs.Node.{Node, put}
-use Rattle.dn_machine.specs.Worlds.{Rules}
-use Rattle.dn_machine.specs.Sparing.{on_run_but}
-use Rattle.dn_machine.specs.Game.{Game, with_node, own_marks, posted}
+use Rattle.dn_machine.specs.declared.{events.Event.Event, answers.{Phase.TheVariants.Ended, Cause.Cause}}
+use Rattle.dn_machine.specs.{Sending.on_build, Flight.Flight, Node.{Node, put}, Worlds.Rules, Sparing.on_run_but}
+use Rattle.dn_machine.specs.Game.{Game, with_node, own_marks, posted, opening_game}
 use Rattle.dn_machine.specs.{Game.refused_at, Game.refused, Game.delivered, Game.on_event, Limits.Limits, Node.got, declared.answers.Phase.TheVariants.Listening, declared.answers.Phase.TheVariants.Gathering}
-use Rattle.dn_machine.specs.{declared.answers.Phase.TheVariants.Ended, declared.answers.Cause.Cause, Game.opening_game}
-use Rattle.dn_machine.proofs.{Games.passes}
+use Rattle.dn_machine.proofs.{Games.passes, Put.{slice_get_push, put_off, put_at}}
 use Rattle.dn_machine.specs.Node as machine
-use Rattle.dn_machine.proofs.Put.{slice_get_push, put_off, put_at}
 use Rattle.dn_remain.specs.{Vanished.Commands.Holder, Vanished.Commands.seen, Vanished.Commands.past_seen, Wary.now_of, Remaining.Remaining, Remaining.wary_of, Remaining.NextRemain}
 use Rattle.dn_remain.specs.{declared.events.RemainEvent.RemainEvent, Wary.end_seen, Remaining.with_wary, Remaining.after_event, Wary.Report, Wary.Wary, Wary.can_settle, Wary.after_news, Wary.with_gone}
 use Rattle.dn_remain.specs.{Wary.with_report, Wary.on_give_up, Wary.on_report, Vanished.Commands.Had, Remaining.opening_remaining, Remaining.LeadsRemain, Remaining.RunsRemain, Wary.report_to}
-use Rattle.dn_remain.specs.{Remaining.Telling}
+use Rattle.dn_remain.specs.Remaining.{Telling}
 use Rattle.dn_remain.proofs.{Vanished.Always.always, Marked.IsAlike, Marked.alike_sent, Marked.alike_quit, Marked.alike_heard, Marked.alike_give_up, Marked.alike_report, Each.IsNoRun, Each.each_event}
 use Rattle.dn_remain.proofs.{Each.each_remain, Followed.IsFollowed, Followed.named, Answering.settled_at, Each.give_up_cases, Each.report_cases, Followed.there, Seeing.reached_some, Vanished.Handing.was_seen}
 use Rattle.dn_remain.proofs.{Vanished.Invariant.IsKept, Followed.AreFollowed, Followed.anchored, Marked.IsMarked, Marked.alike_keeps, Marked.build_keeps, RunMarks.run_keeps, Settings.AreSet, Followed.own_place}
-use Rattle.dn_remain.proofs.{Followed.owns, News.tells, News.news_there, News.here, News.noted, News.gives, News.keeps}
+use Rattle.dn_remain.proofs.{Followed.owns, News.{tells, news_there, here, noted, gives, keeps}}
 use Rattle.dn_remain.proofs.Known
 use Rattle.dn_remain.proofs.Settings
 

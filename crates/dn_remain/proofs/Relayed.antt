@@ -1,7 +1,5 @@
 -- A packet with a command of a third player keeps what is known of a game.
-use Rattle.std.proofs.Common.{◌≡◌, ℕ, zero, suc, ◌<◌, refl, sym, subst, arith, inl, inr, List, [], ◌∷◌, ◌++◌, length, get_or, take, drop}
-use Rattle.std.specs.Prelude.{map, Option, Some, None}
-use Rattle.std.proofs.lemmas.Bool.{true≢false}
+use Rattle.std.proofs.Common.{◌≡◌, ℕ, zero, suc, ◌<◌, refl, sym, subst, arith, inl, inr, List, [], ◌∷◌, ◌++◌, length, get_or, take, drop, map, Option, Some, None, true≢false}
 use Rattle.dn_tic.specs.declared.command.TicCmd.{TicCmd}
 use Rattle.dn_setup.specs.Settings.{Settings}
 use Rattle.dn_machine.specs.{Node.blank, Relaying.relayed, Relaying.with_relayed, Worlds.Rules}

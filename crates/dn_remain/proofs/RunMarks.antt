@@ -1,20 +1,16 @@
 -- A run keeps what a node's commands, marks and demo are made of.
-use Rattle.std.proofs.Common.{◌≡◌, ◌≢◌, ℕ, ℤ, ◌+◌, ◌<◌, ◌≤◌, refl, sym, ◌∙◌, ap, arith, inl, inr, ltb, List, [], ◌∷◌, length, get_or, take}
-use Rattle.std.specs.Prelude.{◌&&◌, Bool, true, false, not, if◌then◌else◌, Option, Some, None}
+use Rattle.std.proofs.Common.{◌≡◌, ◌≢◌, ℕ, ℤ, ◌+◌, ◌<◌, ◌≤◌, refl, sym, ◌∙◌, ap, arith, inl, inr, ltb, List, [], ◌∷◌, length, get_or, take, ◌&&◌, Bool, true, false, not, if◌then◌else◌, Option, Some, None, option_map}
 use Rattle.std.specs.List.{prefix_len, take_while}
-use Rattle.std.specs.Option.{option_map}
 use Rattle.std.proofs.lemmas.{Bool.both_ways, Bool.cases_lt, Bool.cond-true, Bool.cond-false, Bool.and_from, Bool.lt-ltb, Bool.le-ltb, List.length_push, List.take-append-le, List.Folds.length-prefix_len, List.Sums.prefix_len_stops, Option.none-some}
-use Rattle.dn_tic.specs.{declared.command.TicCmd.TicCmd, declared.command.Move.Move, Inputs.made_by}
+use Rattle.dn_tic.specs.{declared.command.{TicCmd.TicCmd, Move.Move}, Inputs.made_by}
 use Rattle.dn_setup.specs.Settings.{Settings}
 use Rattle.dn_machine.specs.{declared.answers.Cause.Cause, declared.answers.Phase.TheVariants.Playing, Game.Game, Game.own_marks, Node.blank, Node.held_at, Node.own_mark, Node.is_whole, Node.demo_rows, Worlds.Rules, Worlds.mark_in, Worlds.world_after}
 use Rattle.dn_machine.specs.declared.answers.Cause.TheVariants as failed
 use Rattle.dn_machine.specs.Node as machine
-use Rattle.dn_machine.specs.Running.{tic_limit, full_at, is_absent, row_held, marks_kept, is_over}
-use Rattle.dn_machine.specs.Sparing.{on_run_but}
+use Rattle.dn_machine.specs.{Running.{tic_limit, full_at, is_absent, row_held, marks_kept, is_over}, Sparing.on_run_but}
 use Rattle.dn_machine.proofs.{Calls.ended_by, Calls.ran_on, Demos.front_short, Demos.front_stops, Demos.whole_more, Put.put_at, Put.put_off}
-use Rattle.dn_remain.specs.Vanished.Commands.{Holder, Had, seen, past_seen}
+use Rattle.dn_remain.specs.{Vanished.Commands.{Holder, Had, seen, past_seen}, Wary.{end_seen, now_of}}
 use Rattle.dn_remain.proofs.{Vanished.Windows.roomy, Each.run_but_cases, Checks.none_off, Known.Follows, Marked.IsMarked, Marked.world_same, Running.absent_is, Seeing.length_rows, Seeing.none_over, Seeing.over_before}
-use Rattle.dn_remain.specs.Wary.{end_seen, now_of}
 
 -- where all pass, the front is the whole
 all_front : {A : Type 0} (test : A → Bool) (xs : List A) (d : A)

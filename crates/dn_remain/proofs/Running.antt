@@ -1,14 +1,11 @@
 -- A run runs a tic, ends a node, or changes nothing; and a quit ends one.
-use Rattle.std.proofs.Common.{◌≡◌, ℤ, ℕ, suc, ◌<◌, leb, refl, sym, ◌∙◌, ap, arith, inl, inr, List, [], ◌∷◌, ◌++◌, length}
-use Rattle.std.specs.Prelude.{Bool, true, false, not, ◌&&◌, if◌then◌else◌, Option, None, Some}
-use Rattle.std.proofs.lemmas.{Bool.cases_Bool, Bool.leb-false, Bool.lt-leb, List.length_push}
-use Rattle.dn_tic.specs.{declared.command.TicCmd.TicCmd, declared.command.Move.Move}
+use Rattle.std.proofs.Common.{◌≡◌, ℤ, ℕ, suc, ◌<◌, leb, refl, sym, ◌∙◌, ap, arith, inl, inr, List, [], ◌∷◌, ◌++◌, length, Bool, true, false, not, ◌&&◌, if◌then◌else◌, Option, None, Some}
+use Rattle.std.proofs.lemmas.{Bool.{cases_Bool, leb-false, lt-leb}, List.length_push}
+use Rattle.dn_tic.specs.declared.command.{TicCmd.TicCmd, Move.Move}
 use Rattle.dn_machine.specs.{declared.answers.Cause.Cause, declared.answers.Phase.TheVariants.Playing, declared.answers.Phase.TheVariants.Ended, Node.ends_of, Node.got, Node.held_at, Node.is_ended, Node.lowest, Game.Game, Game.with_node, Worlds.Rules}
 use Rattle.dn_machine.specs.Node as machine
-use Rattle.dn_machine.specs.Running.{is_absent, is_awaited, row_held, on_quit, is_over}
-use Rattle.dn_machine.specs.Sparing.{on_run_but}
-use Rattle.dn_machine.proofs.Calls.{ran_on, quit_cases}
-use Rattle.dn_machine.proofs.Truth.{lowest_none_each, row_of_same}
+use Rattle.dn_machine.specs.{Running.{is_absent, is_awaited, row_held, on_quit, is_over}, Sparing.on_run_but}
+use Rattle.dn_machine.proofs.{Calls.{ran_on, quit_cases}, Truth.{lowest_none_each, row_of_same}}
 use Rattle.dn_remain.specs.{Vanished.Steps.Run, Vanished.Steps.Leave, Vanished.Commands.Holder, Vanished.Commands.seen, Vanished.Commands.past_seen, Wary.end_seen, Wary.rows_to, Wary.holder_of, Wary.now_of, Wary.row_had}
 use Rattle.dn_remain.proofs.{Vanished.Invariant.IsKept, Vanished.Always.always, Vanished.Stepping.cases_Option, Seeing.same_node, Seeing.same_holder, Seeing.length_rows, Seeing.reached_cases, Each.run_but_cases, Known.Follows, Known.IsFit, Known.Went, Known.fit_self, Known.not_left, Following.stays, Following.steps}
 

@@ -1,18 +1,11 @@
 -- What is seen of nodes; and that rows of it stay as they are.
-use Rattle.std.proofs.Common.{◌≡◌, ℕ, zero, suc, ◌+◌, ◌-◌, ◌≤◌, refl, sym, ◌∙◌, ap, arith, List, [], ◌∷◌, ◌++◌, length, take, drop, ◌<◌, leb, inl, inr, get_or}
-use Rattle.std.proofs.lemmas.List.{drop-take, drop-drop, length_push}
-use Rattle.std.proofs.Math.Seq.{take-append_seam, take-add}
-use Rattle.std.specs.Prelude.{◌⊎◌, Bool, true, false, if◌then◌else◌, Option, Some, None}
-use Rattle.std.specs.Option.{is_none}
-use Rattle.std.proofs.lemmas.Bool.{both_ways, le-leb, leb-true, lt-leb, cond-true, cond-false}
-use Rattle.std.proofs.lemmas.Option.{none-some, same_Some}
-use Rattle.std.proofs.lemmas.{Bool.cases_Bool, List.get_or_append_left, List.get_or_push, Option.slice_get-get_or}
-use Rattle.dn_tic.specs.declared.command.TicCmd.{TicCmd}
-use Rattle.dn_tic.specs.{declared.command.Move.Move}
-use Rattle.dn_machine.proofs.Put.{same_functions}
-use Rattle.dn_machine.specs.Running.{is_over}
-use Rattle.dn_machine.specs.{Limits.Limits, Node.blank}
-use Rattle.dn_machine.proofs.Truth.{row_of_same}
+use Rattle.std.proofs.Common.{◌≡◌, ℕ, zero, suc, ◌+◌, ◌-◌, ◌≤◌, refl, sym, ◌∙◌, ap, arith, List, [], ◌∷◌, ◌++◌, length, take, drop, ◌<◌, leb, inl, inr, get_or, ◌⊎◌, Bool, true, false, if◌then◌else◌, Option, Some, None, is_none}
+use Rattle.std.proofs.lemmas.List.{drop-take, drop-drop, length_push, get_or_append_left, get_or_push}
+use Rattle.std.proofs.lemmas.Bool.{both_ways, le-leb, leb-true, lt-leb, cond-true, cond-false, cases_Bool}
+use Rattle.std.proofs.{lemmas.Option.{none-some, same_Some, slice_get-get_or}, Math.Seq.{take-append_seam, take-add}}
+use Rattle.dn_tic.specs.declared.command.{TicCmd.TicCmd, Move.Move}
+use Rattle.dn_machine.proofs.{Put.same_functions, Truth.row_of_same}
+use Rattle.dn_machine.specs.{Running.is_over, Limits.Limits, Node.blank}
 use Rattle.dn_remain.specs.{Vanished.Node.Node, Wary.reached, Wary.rows_to, Vanished.Node.Was, Vanished.Node.ran, Vanished.Promise.lacks_at, Vanished.Steps.IsRun, Wary.row_had}
 use Rattle.dn_remain.specs.Vanished.Commands.{seen, Holder, past_seen, Had, AreHanded}
 use Rattle.dn_remain.proofs.{Vanished.Invariant.IsGrown, Vanished.Invariant.IsKept, Vanished.Always.always, Vanished.Handing.same_held, Vanished.Handing.was_seen, Vanished.Handing.row_held}

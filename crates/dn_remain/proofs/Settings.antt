@@ -1,20 +1,14 @@
 -- The key player's settings are everybody's, after every list of events.
-use Rattle.std.proofs.Common.{◌≡◌, ℕ, refl, ap, arith, sym}
-use Rattle.std.specs.Prelude.{Bool, ℤ, true, Option, Some, false, ◌==◌, if◌then◌else◌, None, slice_get}
-use Rattle.std.proofs.lemmas.Bool.{cond_both, true≢false}
-use Rattle.std.proofs.lemmas.Option.{none-some}
+use Rattle.std.proofs.Common.{◌≡◌, ℕ, refl, ap, arith, sym, Bool, ℤ, true, Option, Some, false, ◌==◌, if◌then◌else◌, None, slice_get}
+use Rattle.std.proofs.lemmas.{Bool.{cond_both, true≢false}, Option.none-some}
 use Rattle.dn_setup.specs.Settings.{Settings}
 use Rattle.dn_tic.specs.{declared.input.Input.Input, declared.input.Input.TheVariants.Pressed, declared.input.Input.TheVariants.Given}
-use Rattle.dn_machine.specs.declared.answers.Heard.{Heard}
-use Rattle.dn_machine.specs.declared.answers.Phase.{Phase}
-use Rattle.dn_machine.specs.Flight.{SetUp, Flight}
-use Rattle.dn_machine.specs.Limits.{Limits}
-use Rattle.dn_machine.specs.Node.{Node}
-use Rattle.dn_machine.specs.Sending.{on_build, set_up_flight, on_send}
+use Rattle.dn_machine.specs.{declared.answers.{Heard.Heard, Phase.Phase}, Flight.{SetUp, Flight}, Limits.Limits}
+use Rattle.dn_machine.specs.{Node.Node, Sending.{on_build, set_up_flight, on_send}}
+use Rattle.dn_machine.specs.Game.{own_marks, posted, refused, delivered, on_event, with_node}
 use Rattle.dn_machine.specs.{Hearing.on_packet, Running.on_quit, Sparing.on_run_but, declared.answers.Phase.TheVariants.Gathering, declared.answers.Phase.TheVariants.Playing, declared.answers.Phase.TheVariants.Listening}
 use Rattle.dn_machine.specs.{declared.events.Event.Event, Worlds.Rules, declared.events.Event.TheVariants.Build, declared.events.Event.TheVariants.Give, declared.events.Event.TheVariants.Send}
 use Rattle.dn_machine.specs.{declared.events.Event.TheVariants.Deliver, declared.events.Event.TheVariants.Run, declared.events.Event.TheVariants.Quit, declared.events.Event.TheVariants.Stop, Game.Game, Game.opening_game}
-use Rattle.dn_machine.specs.{Game.own_marks, Game.posted, Game.refused, Game.delivered, Game.on_event, Game.with_node}
 use Rattle.dn_machine.proofs.{Calls.build_cases, Calls.send_cases, Calls.quit_cases, Calls.packet_cases, Put.slice_get_push}
 use Rattle.dn_remain.proofs.{Each.run_but_cases, Each.IsNoRun, Each.each_event, Each.each_remain, Each.news_cases, Each.give_up_cases, Each.report_cases, Vanished.Put.at_put}
 use Rattle.dn_remain.specs.{Wary.Report, Wary.settled, Wary.noted_gone, Vanished.Commands.on_decision, Remaining.Remaining, Remaining.wary_of, Remaining.NextRemain, declared.events.RemainEvent.RemainEvent, Wary.Wary}

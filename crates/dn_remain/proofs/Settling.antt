@@ -1,10 +1,7 @@
 -- A decision of a node is a step.
-use Rattle.std.proofs.Common.{◌≡◌, ℕ, ◌<◌, eqb, refl, sym, ◌∙◌, ap, subst, arith, inl, inr, List, ◌∷◌, length}
-use Rattle.std.specs.Prelude.{Bool, true, false, Option, Some, None}
-use Rattle.std.specs.Option.{option_map}
+use Rattle.std.proofs.Common.{◌≡◌, ℕ, ◌<◌, eqb, refl, sym, ◌∙◌, ap, subst, arith, inl, inr, List, ◌∷◌, length, Bool, true, false, Option, Some, None, option_map}
 use Rattle.std.proofs.lemmas.Bool.{both_ways, cases_Bool, cases_lt, cond-true, cond-false, lt-leb, or_cases, eqb-true, true≢false}
-use Rattle.std.proofs.lemmas.Option.{none-some, same_Some}
-use Rattle.std.proofs.Math.Seq.{take-length}
+use Rattle.std.proofs.{lemmas.Option.{none-some, same_Some}, Math.Seq.take-length}
 use Rattle.dn_tic.specs.declared.command.TicCmd.{TicCmd}
 use Rattle.dn_machine.specs.{declared.peer.Peer.Peer, Game.Game, Game.with_node, Node.ends_of, Node.has_left, Node.put, Worlds.Rules, Running.is_over}
 use Rattle.dn_machine.specs.Node as machine

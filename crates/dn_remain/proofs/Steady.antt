@@ -1,23 +1,20 @@
 -- No check fails among those who remain, and nothing is dropped but for a reason.
-use Rattle.std.proofs.Common.{◌≡◌, ℕ, ℤ, zero, suc, ◌+◌, ◌<◌, ◌≤◌, refl, sym, ◌∙◌, arith, List, ◌∷◌, length, ◌≢◌, ltb, ap, subst, inl, inr}
-use Rattle.std.specs.Prelude.{◌⊎◌, Bool, true, false, Option, Some, None, slice_get}
-use Rattle.std.specs.Option.{option_map}
-use Rattle.std.proofs.lemmas.{Bool.and_parts, Bool.true≢false, Option.none-some}
-use Rattle.std.proofs.lemmas.Bool.{both_ways, eq-eqb, le-ltb, or_cases}
+use Rattle.std.proofs.Common.{◌≡◌, ℕ, ℤ, zero, suc, ◌+◌, ◌<◌, ◌≤◌, refl, sym, ◌∙◌, arith, List, ◌∷◌, length, ◌≢◌, ltb, ap, subst, inl, inr, ◌⊎◌, Bool, true, false, Option, Some, None, slice_get, option_map}
+use Rattle.std.proofs.lemmas.{Bool.{and_parts, true≢false, both_ways, eq-eqb, le-ltb, or_cases}, Option.none-some}
 use Rattle.dn_tic.specs.declared.command.TicCmd.{TicCmd}
 use Rattle.dn_setup.specs.Settings.{Settings}
 use Rattle.dn_machine.specs.{declared.answers.Ran.TheVariants.Waiting, Limits.Limits, Limits.IsWindow, Node.got, Node.lowest, Running.is_awaited, Running.on_run, Sparing.on_run_but, Worlds.Rules}
 use Rattle.dn_machine.specs.{declared.answers.Heard.Heard, declared.answers.Heard.TheVariants.Dropped, Flight.Flight, Flight.is_exit, Flight.end_of, Node.ends_of, Node.is_ended, Node.has_left}
-use Rattle.dn_machine.specs.{Hearing.is_past_end, Hearing.is_strange_end, Hearing.left_or, Hearing.on_packet}
+use Rattle.dn_machine.specs.Hearing.{is_past_end, is_strange_end, left_or, on_packet}
 use Rattle.dn_machine.specs.Drops as drops
 use Rattle.dn_machine.specs.Node as machine
 use Rattle.dn_machine.proofs.Calls.{Refused, packet_cases}
 use Rattle.dn_remain.specs.{Vanished.Calls.is_newer, Vanished.Node.Within, Wary.now_of, Wary.Report, Wary.Wary, Wary.newest_seen, Wary.can_settle, Wary.on_report, Remaining.Telling, Remaining.Remaining}
-use Rattle.dn_remain.specs.{Remaining.wary_of, Promise.SteadyInPairs, Wary.end_seen, Remaining.heard_of}
+use Rattle.dn_remain.specs.{Remaining.{wary_of, heard_of}, Promise.SteadyInPairs, Wary.end_seen}
 use Rattle.dn_remain.specs.Vanished.Commands.{Holder, Had, seen, past_seen}
 use Rattle.dn_remain.proofs.{Vanished.Always.always, Vanished.Handing.was_seen, Vanished.Tests.steady, Answering.missing, Each.run_is, Checks.none_off, Checks.none_off_at_all, Followed.anchored}
 use Rattle.dn_remain.proofs.{Known.Follows, Reached.IsReached, Seeing.reached_cases, Vanished.Windows.fits, Arriving.end_is, Arriving.made_it, Arriving.below_made, Known.IsTold, Known.not_left}
-use Rattle.dn_remain.proofs.{Seeing.length_rows}
+use Rattle.dn_remain.proofs.Seeing.{length_rows}
 use Rattle.dn_remain.specs.declared.events.Reported.TheVariants as Reported
 use Rattle.dn_remain.proofs.Known
 

@@ -1,6 +1,5 @@
 -- What is decided can be taken.
-use Rattle.std.proofs.Common.{◌≡◌, ℕ, ◌+◌, ◌<◌, ◌≤◌, refl, sym, ◌∙◌, ap, subst, arith, inl, inr, List, ◌∷◌, length, drop}
-use Rattle.std.specs.Prelude.{true, false, Some}
+use Rattle.std.proofs.Common.{◌≡◌, ℕ, ◌+◌, ◌<◌, ◌≤◌, refl, sym, ◌∙◌, ap, subst, arith, inl, inr, List, ◌∷◌, length, drop, true, false, Some}
 use Rattle.std.proofs.lemmas.Bool.{both_ways, cond-true}
 use Rattle.dn_tic.specs.declared.command.TicCmd.{TicCmd}
 use Rattle.dn_machine.specs.{Game.with_node, Node.put, Node.ran, Node.has_left, Promise.IsPrefixOf, Worlds.Rules}

@@ -1,6 +1,5 @@
 -- A decision keeps all.
-use Rattle.std.proofs.Common.{◌≡◌, ℕ, ◌<◌, ◌≤◌, eqb, refl, sym, ◌∙◌, arith, inl, inr, List, ◌∷◌}
-use Rattle.std.specs.Prelude.{◌⊎◌, Bool, true, false, Some}
+use Rattle.std.proofs.Common.{◌≡◌, ℕ, ◌<◌, ◌≤◌, eqb, refl, sym, ◌∙◌, arith, inl, inr, List, ◌∷◌, ◌⊎◌, Bool, true, false, Some}
 use Rattle.std.proofs.lemmas.{Bool.both_ways, Bool.cases_eq, Bool.cases_Bool, Bool.eq-eqb, Bool.ne_eqb, Bool.cond-true, Bool.cond-false, Option.same_Some}
 use Rattle.dn_machine.proofs.Put.{put_at, put_off}
 use Rattle.dn_machine.specs.Node.{put}

@@ -1,7 +1,6 @@
 -- Lists that are handed on piece by piece are fronts of their makers' lists. So of any two demos one is a
 -- prefix of the other.
-use Rattle.std.proofs.Common.{◌≡◌, ℕ, ◌<◌, zero, suc, refl, sym, ◌∙◌, ap, subst, arith, inl, inr, List, [], ◌∷◌, ◌++◌, append_assoc, length, take, drop, ◌≤◌, ltb, get_or}
-use Rattle.std.specs.Prelude.{◌⊎◌, false, slice_get, true, not, Option, None}
+use Rattle.std.proofs.Common.{◌≡◌, ℕ, ◌<◌, zero, suc, refl, sym, ◌∙◌, ap, subst, arith, inl, inr, List, [], ◌∷◌, ◌++◌, append_assoc, length, take, drop, ◌≤◌, ltb, get_or, ◌⊎◌, false, slice_get, true, not, Option, None}
 use Rattle.std.proofs.lemmas.{Bool.cases_eq, List.take-append-drop, Bool.cases_lt, Bool.not-true, Bool.lt-ltb, Bool.le-ltb, Bool.cond-true, Bool.cond-false, List.Sums.prefix_len-le-length}
 use Rattle.std.proofs.lemmas.{List.Sums.prefix_len_passes, List.Folds.length-prefix_len}
 use Rattle.std.specs.List.{take_while, prefix_len}

@@ -1,16 +1,13 @@
 -- Decisions on lists. The last commands of a list that is told are enough for one.
-use Rattle.std.proofs.Common.{◌≡◌, ℕ, ◌<◌, ◌≤◌, ltb, eqb, zero, suc, refl, sym, ◌∙◌, ap, arith, inl, inr, List, [], ◌∷◌, length, cond, ◌+◌, ◌-◌, subst, ◌++◌, take, drop}
-use Rattle.std.specs.Prelude.{◌⊎◌, max, Bool, true, false, Some}
+use Rattle.std.proofs.Common.{◌≡◌, ℕ, ◌<◌, ◌≤◌, ltb, eqb, zero, suc, refl, sym, ◌∙◌, ap, arith, inl, inr, List, [], ◌∷◌, length, cond, ◌+◌, ◌-◌, subst, ◌++◌, take, drop, ◌⊎◌, max, Bool, true, false, Some}
 use Rattle.std.proofs.lemmas.Bool.{cases_eq, cases_lt, cases_Bool, lt-ltb, le-ltb, eq-eqb, ne_eqb, cond-true, cond-false}
-use Rattle.std.proofs.Math.Nat.{max-eq_left, max-eq_right}
-use Rattle.std.proofs.lemmas.{Bool.both_ways, List.take-append-drop, List.take-append-le, List.drop-drop}
-use Rattle.std.proofs.Math.Seq.{take-append_seam, take-length}
+use Rattle.std.proofs.Math.{Nat.{max-eq_left, max-eq_right}, Seq.{take-append_seam, take-length}}
+use Rattle.std.proofs.lemmas.{Bool.both_ways, List.{take-append-drop, take-append-le, drop-drop}}
 use Rattle.dn_machine.proofs.Put.{same_functions}
 use Rattle.dn_machine.specs.{Promise.IsPrefixOf, Node.put}
-use Rattle.dn_remain.specs.Vanished.Node.{highest, share, decided_end, decided}
+use Rattle.dn_remain.specs.Vanished.{Node.{highest, share, decided_end, decided}, Steps.IsRun}
 use Rattle.dn_remain.proofs.Vanished.Put.{highest_bounds}
 use Rattle.dn_remain.specs.Vanished.Commands.{Holder, seen, past_seen, holders, Handed, AreHanded, longer, longest, told, on_decision, HasHeardLists, IsReady, caught_up}
-use Rattle.dn_remain.specs.Vanished.Steps.{IsRun}
 use Rattle.dn_remain.proofs.{Vanished.Invariant.IsKept, Vanished.Views.stands_outside, Vanished.Always.always, Vanished.Tests.bounded, Vanished.Windows.fits, Vanished.Handing.handed, Vanished.Handing.was_seen}
 
 length_if : {C : Type 0} (b : Bool) (xs ys : List C) → length (cond b xs ys) ≡ cond b (length xs) (length ys)

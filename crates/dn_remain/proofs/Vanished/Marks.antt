@@ -1,7 +1,6 @@
 -- Where a command comes from, its maker had the rows that the one who has it has. So the marks of two nodes
 -- agree.
-use Rattle.std.proofs.Common.{◌≡◌, ℕ, ◌<◌, ◌≤◌, sym, ◌∙◌, arith, inl, inr, List, ◌+◌, refl, ap, subst, [], ◌∷◌}
-use Rattle.std.specs.Prelude.{false, Some}
+use Rattle.std.proofs.Common.{◌≡◌, ℕ, ◌<◌, ◌≤◌, sym, ◌∙◌, arith, inl, inr, List, ◌+◌, refl, ap, subst, [], ◌∷◌, false, Some}
 use Rattle.std.proofs.lemmas.Bool.{lt-leb, both_ways, cases_eq, cases_Bool}
 use Rattle.dn_machine.specs.{Running.is_over, Node.put}
 use Rattle.dn_machine.proofs.Put.{put_at, put_off}

@@ -1,17 +1,12 @@
 -- When one node steps and its new state meets what is asked of it, all is kept. So the steps that decide
 -- nothing keep all.
-use Rattle.std.proofs.Common.{◌≡◌, ℕ, ◌<◌, ◌≤◌, refl, sym, subst, arith, inl, inr, List, ◌∷◌}
-use Rattle.std.specs.Prelude.{◌⊎◌, true, false, Option, Some, None}
-use Rattle.std.proofs.lemmas.Bool.{both_ways}
-use Rattle.std.proofs.lemmas.{Bool.lt-leb, Option.none-some}
+use Rattle.std.proofs.Common.{◌≡◌, ℕ, ◌<◌, ◌≤◌, refl, sym, subst, arith, inl, inr, List, ◌∷◌, ◌⊎◌, true, false, Option, Some, None}
+use Rattle.std.proofs.lemmas.{Bool.{both_ways, lt-leb}, Option.none-some}
 use Rattle.dn_machine.proofs.Put.{put_at, put_off}
-use Rattle.dn_machine.specs.Node.{put}
-use Rattle.dn_machine.specs.{Running.is_over}
-use Rattle.dn_remain.specs.Vanished.Node.{Node, Was, ran, now, Within}
-use Rattle.dn_remain.proofs.Vanished.Put.{at_put}
-use Rattle.dn_remain.proofs.Vanished.Invariant.{IsLater, IsSound, IsMet, IsKept, IsGrown, HasSource}
+use Rattle.dn_machine.specs.{Node.put, Running.is_over}
+use Rattle.dn_remain.specs.Vanished.{Node.{Node, Was, ran, now, Within}, Promise.lacks_at}
+use Rattle.dn_remain.proofs.Vanished.{Put.at_put, Invariant.{IsLater, IsSound, IsMet, IsKept, IsGrown, HasSource}}
 use Rattle.dn_remain.proofs.Vanished.Views.{later_self, later_joined, later_kept, sound_kept, outside, source_kept}
-use Rattle.dn_remain.specs.Vanished.Promise.{lacks_at}
 
 -- what is asked of the new state of node `q`
 pub record IsGood (players : ℕ) (nodes : ℕ → Node) (older : List (ℕ → Node)) (q : ℕ) (new : Node) : Type 0 where

@@ -1,6 +1,5 @@
 -- States of nodes, and what of them stays when a node steps.
-use Rattle.std.proofs.Common.{◌≡◌, ℕ, ◌<◌, ◌≤◌, sym, ◌∙◌, arith, inl, inr, List, ◌∷◌}
-use Rattle.std.specs.Prelude.{Bool, true, false}
+use Rattle.std.proofs.Common.{◌≡◌, ℕ, ◌<◌, ◌≤◌, sym, ◌∙◌, arith, inl, inr, List, ◌∷◌, Bool, true, false}
 use Rattle.std.proofs.lemmas.Bool.{both_ways, false_from_ne_true}
 use Rattle.dn_remain.specs.Vanished.Node.{Node, now, Was, Same, Within, Stands}
 use Rattle.dn_remain.proofs.Vanished.Invariant.{IsBase, IsDecision, IsFrozen, IsLater, HasSource, IsSound, IsKept}

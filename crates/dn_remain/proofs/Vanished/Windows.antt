@@ -1,16 +1,13 @@
 -- How far counts may lie apart, how many commands a node has that it has not run, and what else fits. Every
 -- command was made by a step that might make it.
-use Rattle.std.proofs.Common.{◌≡◌, ℕ, ◌+◌, ◌<◌, ◌≤◌, refl, sym, ◌∙◌, ap, subst, arith, inl, inr, List, [], ◌∷◌}
-use Rattle.std.specs.Prelude.{false, None, true}
-use Rattle.std.proofs.lemmas.{Bool.both_ways, List.length_push}
-use Rattle.std.proofs.lemmas.Bool.{cases_eq, cases_lt, cases_Bool}
+use Rattle.std.proofs.Common.{◌≡◌, ℕ, ◌+◌, ◌<◌, ◌≤◌, refl, sym, ◌∙◌, ap, subst, arith, inl, inr, List, [], ◌∷◌, false, None, true}
+use Rattle.std.proofs.lemmas.{Bool.{both_ways, cases_eq, cases_lt, cases_Bool}, List.length_push}
 use Rattle.dn_machine.proofs.Put.{put_at, put_off}
 use Rattle.dn_machine.specs.Node.{put}
-use Rattle.dn_remain.specs.Vanished.Node.{Node, ran, fresh, now, Was, HasHeard, decided}
+use Rattle.dn_remain.specs.Vanished.{Node.{Node, ran, fresh, now, Was, HasHeard, decided}, Promise.Fits}
 use Rattle.dn_remain.specs.Vanished.Steps.{Act, Acts, Step, IsRun, HandsOn, Make, Take, Learn, Run, GiveUp, Leave, Decide}
 use Rattle.dn_remain.proofs.{Vanished.Invariant.IsKept, Vanished.Views.outside, Vanished.Views.stands_outside, Vanished.Stepping.was_q, Vanished.Stepping.was_other, Vanished.Stepping.cases_Option}
 use Rattle.dn_remain.proofs.{Vanished.Deciding.got_in, Vanished.Deciding.got_out, Vanished.Deciding.reached, Vanished.Always.always, Vanished.Put.at_put, Vanished.Stepping.each_was}
-use Rattle.dn_remain.specs.Vanished.Promise.{Fits}
 
 module _ (players ahead : ℕ) (nodes : ℕ → Node) (older : List (ℕ → Node)) (q : ℕ) (l : q < players)
     (here : (nodes q).left ≡ false) (kept : IsKept players (nodes ∷ older)) (tic : ℕ)

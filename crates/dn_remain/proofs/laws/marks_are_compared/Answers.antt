@@ -1,6 +1,5 @@
 -- Which marks a run compares.
-use Rattle.std.proofs.Common.{◌≡◌, ℕ, ℤ, ◌<◌, ◌∙◌, ap, arith, inl, inr, ltb}
-use Rattle.std.specs.Prelude.{Bool, true, false, not, Some, None}
+use Rattle.std.proofs.Common.{◌≡◌, ℕ, ℤ, ◌<◌, ◌∙◌, ap, arith, inl, inr, ltb, Bool, true, false, not, Some, None}
 use Rattle.std.proofs.lemmas.Bool.{both_ways, and_from, and_parts, cond-true, lt-ltb, not-true}
 use Rattle.dn_machine.specs.{declared.answers.Phase.TheVariants.Playing, declared.answers.Ran.TheVariants.Inconsistent, Limits.Limits, Node.Node, Node.held_at, Node.own_mark, Node.lowest, Node.ran, Running.is_awaited}
 use Rattle.dn_machine.specs.{Running.is_off, Sparing.is_off_but, Sparing.first_off_but, Sparing.on_run_but}

@@ -1,7 +1,5 @@
 -- What a decision brings.
-use Rattle.std.proofs.Common.{◌≡◌, ℕ, ◌<◌, sym, ◌∙◌, ap, List, ◌∷◌, refl, subst, inl, []}
-use Rattle.std.specs.Prelude.{true, false, Option, Some}
-use Rattle.std.proofs.lemmas.Bool.{leb-false}
+use Rattle.std.proofs.Common.{◌≡◌, ℕ, ◌<◌, sym, ◌∙◌, ap, List, ◌∷◌, refl, subst, inl, [], true, false, Option, Some, leb-false}
 use Rattle.dn_machine.specs.{Running.is_over, Node.put}
 use Rattle.dn_remain.specs.{Vanished.Node.Node, Vanished.Node.ran, Vanished.Node.HasHeard, Vanished.Node.decided, Vanished.Steps.Decide, Vanished.Steps.Step}
 use Rattle.dn_remain.proofs.{Vanished.Invariant.IsKept, Vanished.Deciding.got_in, Vanished.Deciding.ends_in, Vanished.Always.always}
