@@ -3,10 +3,10 @@ use Rattle.std.proofs.Common.{◌≡◌, ℕ, ◌<◌, ◌≤◌, refl, sym, ◌
 use Rattle.std.proofs.lemmas.{Bool.{cond-true, cond-false}, Option.same_Some}
 use Rattle.dn_tic.specs.declared.command.TicCmd.{TicCmd}
 use Rattle.dn_machine.specs.{declared.peer.Peer.Peer, Flight.Flight, Flight.is_exit, Flight.end_of, Node.with_peer, Node.ends_of, Node.got, Node.made, Game.Game, Game.with_node, Worlds.Rules}
-use Rattle.dn_machine.specs.Node as machine
 use Rattle.dn_machine.proofs.{Games.exit_is, Put.{put_off, same_functions}}
 use Rattle.dn_remain.specs.{Vanished.Node.Node, Vanished.Commands.Holder, Vanished.Commands.seen, Vanished.Commands.past_seen, Wary.reached, Wary.end_seen, Wary.rows_to, Wary.holder_of, Wary.now_of}
 use Rattle.dn_remain.proofs.{Vanished.Invariant.IsLater, Vanished.Invariant.IsKept, Vanished.Always.always, Vanished.Handing.was_seen, Vanished.Put.at_put, Seeing.same_holder, Seeing.reached_cases, Known.IsTold, Known.IsEnd, Known.Follows, Known.IsFit, Known.Went, Following.stays}
+use Rattle.dn_machine.specs.Node as machine
 
 module _ {S : Type 0} {known : ℕ → Holder TicCmd → Type 0} {rules : Rules S} {game : Game} {gone : ℕ → ℕ → Bool} {older : List (ℕ → Holder TicCmd)}
     (follows : Follows known rules game gone older) {flight : Flight}

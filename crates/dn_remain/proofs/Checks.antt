@@ -6,13 +6,13 @@ use Rattle.dn_tic.specs.declared.command.TicCmd.{TicCmd}
 use Rattle.dn_tic.proofs.Making.{made_by-mark}
 use Rattle.dn_setup.specs.Settings.{Settings}
 use Rattle.dn_machine.specs.{declared.answers.Phase.TheVariants.Playing, Game.Game, Game.with_node, Node.got, Node.held_at, Node.own_mark, Node.lowest, Worlds.Rules, Node.blank, Node.made, Worlds.world_after}
-use Rattle.dn_machine.specs.Node as machine
 use Rattle.dn_machine.specs.{Running.{is_absent, is_awaited, is_off, first_off, is_over}, Sparing.first_off_but}
 use Rattle.dn_machine.proofs.{Calls.ran_on, Truth.{lowest_none, lowest_none_each, same_passes}, Put.put_at}
 use Rattle.dn_remain.specs.{Vanished.Promise.lacks_at, Wary.end_seen, Wary.holder_of, Wary.now_of, Vanished.Node.Node, Vanished.Node.Was, Vanished.Node.ran, Vanished.Promise.Marked, Vanished.Steps.IsRun, Wary.rows_to, Wary.row_had}
 use Rattle.dn_remain.specs.Vanished.Commands.{Holder, Had, seen, past_seen, AreHanded}
 use Rattle.dn_remain.proofs.{Vanished.Always.always, Vanished.Handing.was_seen, Vanished.Invariant.IsKept, Known.Follows, Known.Went, Marked.IsMarked, Running.absent_is, Running.runs_on, Seeing.length_rows}
 use Rattle.dn_remain.proofs.{Seeing.over_before, Vanished.Handing.same_held, Vanished.Marks.marked, Vanished.Windows.roomy, Marked.fronts_same, Marked.world_same, Seeing.made_row, Seeing.same_row}
+use Rattle.dn_machine.specs.Node as machine
 use Rattle.dn_remain.proofs.Vanished.Windows as commands
 
 module _ {S : Type 0} (rules : Rules S) (settings : Settings) (game : Game) (gone : ℕ → ℕ → Bool)
@@ -156,8 +156,7 @@ module _ {S : Type 0} (rules : Rules S) (settings : Settings) (game : Game) (gon
     present : lacks_at (seen then_seen) tic p ≡ false
     present =
         let a = longer in
-        (kept.sound q (seen then_seen) (was_seen history q then_seen was_then)).rows p tic its (omega arith)
-        ∙ over
+        (kept.sound q (seen then_seen) (was_seen history q then_seen was_then)).rows p tic its (omega arith) ∙ over
 
     pub mark_fits : (held_at (game.nodes q) p tic).mark ≡ own_mark (game.nodes q) p tic
     mark_fits =
@@ -167,8 +166,7 @@ module _ {S : Type 0} (rules : Rules S) (settings : Settings) (game : Game) (gon
         (λ back. refl) compared
         ∙ (sym ((all_marked q).told p (tic - 12) its (omega arith)
         (over_before (end_seen (game.nodes q) p) (tic - 12) tic (omega arith) over))
-        ∙ sym (cond-false (ltb tic 12) (pos 0) ((game.nodes q).marks (tic - 12) p) (le-ltb tic 12
-        (omega arith))))
+        ∙ sym (cond-false (ltb tic 12) (pos 0) ((game.nodes q).marks (tic - 12) p) (le-ltb tic 12 (omega arith))))
 
   -- so none is off of what is compared
   off_none : (p : ℕ) → p < rules.players → 12 < tic → (gone q p ≡ false) ⊎ (rules.ahead + rules.ahead ≤ 12)

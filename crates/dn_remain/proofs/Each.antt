@@ -1,7 +1,7 @@
 -- What holds after each event, where it holds of the game as it was, and after each call that is made: the
 -- cases of a run, of a give-up and of a report.
-use Rattle.std.proofs.Common.{◌≡◌, ℕ, ◌<◌, refl, arith, ◌≢◌, ℤ, sym, ◌∙◌, ap, cond, ltb, inl, inr, false, Option, Some, None, slice_get, Bool, not, ◌&&◌, true}
-use Rattle.std.proofs.lemmas.Bool.{cond_both, ltb-true, eqb-false}
+use Rattle.std.proofs.Common.{◌≡◌, ℕ, ◌<◌, refl, arith, ◌≢◌, ℤ, sym, ◌∙◌, ap, cond, ltb, inl, inr, false, Option, Some}
+use Rattle.std.proofs.{Common.{None, slice_get, Bool, not, ◌&&◌, true}, lemmas.Bool.{cond_both, ltb-true, eqb-false}}
 use Rattle.std.specs.Bool.{⊤}
 use Rattle.dn_machine.specs.{declared.events.Event.Event, declared.events.Refusal.Refusal, Worlds.Rules, declared.answers.Cause.Cause, declared.answers.Phase.TheVariants.Playing, Limits.Limits, Node.Node}
 use Rattle.dn_machine.specs.{Node.{held_at, own_mark, lowest, ran}, declared.answers.Ran.Ran, Runs.Next}
@@ -62,8 +62,7 @@ nobody_is limits gone node marks nobody = run_is limits 0 gone node marks
 
 -- so where nobody is given up, each event does what it does in a game of the machine
 module _ {S : Type 0} (rules : Rules S) (all : Remaining) (nobody : NobodyGivenUp all) where
-  run_of : (node : ℕ) (o : Option Refusal) → after_run rules all node o ≡ (applied_if rules all.game
-      (Run node) o).0
+  run_of : (node : ℕ) (o : Option Refusal) → after_run rules all node o ≡ (applied_if rules all.game (Run node) o).0
   run_of node (Some refusal) = refl
   run_of node None = grind (arith, nobody_is)
 
@@ -114,11 +113,7 @@ module _ {S : Type 0} (rules : Rules S) (all : Remaining) (P : Event → Game �
     (on_run_but rules.limits (all.gone node) (all.game.nodes node) (own_marks rules (all.game.nodes node))).0)) where
   applies : (event : Event) → IsNoRun event → P event (applied rules all.game event).0
   unfolding applied
-  applies event n = go (refused rules.players all.game event) refl
-    where
-      go : (o : Option Refusal) → refused rules.players all.game event ≡ o → P event (applied_if rules all.game event o).0
-      go (Some refusal) h = same event
-      go None h = happens event h n
+  applies event n = grind (arith, refused, applied_if)
 
   run_on : (node : ℕ) (o : Option Refusal) → refused_at rules.players all.game node ≡ o
       → P (Run node) (after_run rules all node o)

@@ -1,12 +1,12 @@
 -- What a history says of its game.
 use Rattle.std.proofs.Common.{◌≡◌, ℕ, ℤ, ◌+◌, ◌-◌, ◌<◌, pos, take, ltb, refl, sym, ◌∙◌, ap, arith, inl, List, [], ◌∷◌, length, get_or, drop, ◌≤◌, inr, nat_lt, Some, slice_get, Bool, true, false, Option, None, if◌then◌else◌, take_while}
 use Rattle.std.proofs.lemmas.{Bool.cases_lt, Bool.cond-true, Bool.cond-false, Bool.lt-ltb, Bool.le-ltb, List.get_or-take, List.Folds.length-prefix_len, List.Prefix.front_from_reads, Option.same_Some, Option.slice_get-get_or}
-use Rattle.dn_tic.specs.{declared.command.TicCmd.TicCmd, declared.command.Move.Move, Inputs.made_by}
+use Rattle.dn_tic.specs.{declared.command.{TicCmd.TicCmd, Move.Move}, Inputs.made_by}
 use Rattle.dn_setup.specs.Settings.{Settings}
 use Rattle.dn_machine.specs.{Promise.IsPrefixOf, Worlds.Rules, Worlds.world_after, Running.is_over}
+use Rattle.dn_machine.specs.Node.{Node, blank, held_at, made, own_mark, ran, is_whole, lacks, demo_rows}
 use Rattle.dn_machine.proofs.Demos.{front_each, front_passes, front_short, none_is, seat_is, whole_has}
 use Rattle.dn_machine.proofs.Truth.{lowest_none_each}
-use Rattle.dn_machine.specs.Node.{Node, blank, held_at, made, own_mark, ran, is_whole, lacks, demo_rows}
 use Rattle.dn_remain.specs.{Vanished.Promise.Agree, Vanished.Promise.Fits, Vanished.Promise.lacks_at, Vanished.Commands.Holder, Vanished.Commands.seen, Vanished.Commands.past_seen, Wary.reached, Wary.end_seen}
 use Rattle.dn_remain.specs.{Wary.now_of, Wary.row_had, Remaining.Remaining, Promise.IsPair, Promise.AgreeInPairs, Vanished.Node.Was, Remaining.Telling, Promise.FitsInPairs}
 use Rattle.dn_remain.proofs.{Vanished.Always.always, Vanished.Windows.fits, Vanished.Handing.handed, Vanished.Handing.same_held, Vanished.Always.agree, Seeing.length_rows, Seeing.none_over, Seeing.same_row}
@@ -36,8 +36,7 @@ module _ {S : Type 0} (rules : Rules S) (settings : Settings) (all : Remaining) 
   f = h.followed
 
   agreed : Agree rules.players (past_seen past)
-  agreed = agree rules.players (past_seen past)
-      (always rules.players rules.ahead (past_seen past) f.follows.run)
+  agreed = agree rules.players (past_seen past) (always rules.players rules.ahead (past_seen past) f.follows.run)
 
   fitted : Fits rules.players rules.ahead (past_seen past)
   fitted = fits rules.players rules.ahead (past_seen past) f.follows.run
@@ -45,14 +44,12 @@ module _ {S : Type 0} (rules : Rules S) (settings : Settings) (all : Remaining) 
   long : (q : ℕ) → length ((now q).rows) ≡ ran (node q)
   long q = length_rows (end_seen (node q)) (ran (node q))
 
-  row_at : (q tic : ℕ) → tic < ran (node q) → slice_get (node q).rows tic
-      ≡ Some (row_had rules.limits (now q) tic)
+  row_at : (q tic : ℕ) → tic < ran (node q) → slice_get (node q).rows tic ≡ Some (row_had rules.limits (now q) tic)
   row_at q tic l = slice_get-get_or (node q).rows tic [] l
       ∙ ap (λ (r : List (Option Move)). Some r) (f.follows.rows q tic l)
 
   -- a row of a demo lacks nobody
-  whole_at : (q tic p : ℕ) → tic < length (demo q) → p < rules.players
-      → lacks_at (seen (now q)) tic p ≡ false
+  whole_at : (q tic p : ℕ) → tic < length (demo q) → p < rules.players → lacks_at (seen (now q)) tic p ≡ false
   whole_at q tic p l m =
       let short = front_short (is_whole rules.players) (node q).rows in
       let a = long q in

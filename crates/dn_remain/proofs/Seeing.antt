@@ -6,8 +6,8 @@ use Rattle.std.proofs.{lemmas.Option.{none-some, same_Some, slice_get-get_or}, M
 use Rattle.dn_tic.specs.declared.command.{TicCmd.TicCmd, Move.Move}
 use Rattle.dn_machine.proofs.{Put.same_functions, Truth.row_of_same}
 use Rattle.dn_machine.specs.{Running.is_over, Limits.Limits, Node.blank}
-use Rattle.dn_remain.specs.{Vanished.Node.Node, Wary.reached, Wary.rows_to, Vanished.Node.Was, Vanished.Node.ran, Vanished.Promise.lacks_at, Vanished.Steps.IsRun, Wary.row_had}
-use Rattle.dn_remain.specs.Vanished.Commands.{seen, Holder, past_seen, Had, AreHanded}
+use Rattle.dn_remain.specs.Vanished.{Commands.{seen, Holder, past_seen, Had, AreHanded}, Node.{Node, Was, ran}}
+use Rattle.dn_remain.specs.{Wary.{reached, rows_to, row_had}, Vanished.{Promise.lacks_at, Steps.IsRun}}
 use Rattle.dn_remain.proofs.{Vanished.Invariant.IsGrown, Vanished.Invariant.IsKept, Vanished.Always.always, Vanished.Handing.same_held, Vanished.Handing.was_seen, Vanished.Handing.row_held}
 
 -- of two states, at whichever nodes, which ran a tic and whose rows lack the same players
@@ -88,8 +88,7 @@ rows_alike e f (suc n) h =
     let row : ◌≡◌ {A = ℕ → Bool} (λ p. is_over (e p) n) (λ p. is_over (f p) n) =
     same_functions (λ p. h p n (omega arith)) in
     ap (λ (rows : List (ℕ → Bool)). rows ++ (λ p. is_over (e p) n) ∷ []) (rows_alike e f n (λ p tic l. h p tic
-    (omega arith)))
-    ∙ ap (λ (r : ℕ → Bool). rows_to f n ++ r ∷ []) row
+    (omega arith))) ∙ ap (λ (r : ℕ → Bool). rows_to f n ++ r ∷ []) row
 
 -- an end counts, or not
 pub reached_none : (got e : ℕ) → got < e → reached got (Some e) ≡ None

@@ -6,15 +6,15 @@ use Rattle.dn_setup.specs.Settings.{Settings}
 use Rattle.dn_machine.specs.{declared.answers.Ran.TheVariants.Waiting, Limits.Limits, Limits.IsWindow, Node.got, Node.lowest, Running.is_awaited, Running.on_run, Sparing.on_run_but, Worlds.Rules}
 use Rattle.dn_machine.specs.{declared.answers.Heard.Heard, declared.answers.Heard.TheVariants.Dropped, Flight.Flight, Flight.is_exit, Flight.end_of, Node.ends_of, Node.is_ended, Node.has_left}
 use Rattle.dn_machine.specs.Hearing.{is_past_end, is_strange_end, left_or, on_packet}
-use Rattle.dn_machine.specs.Drops as drops
-use Rattle.dn_machine.specs.Node as machine
 use Rattle.dn_machine.proofs.Calls.{Refused, packet_cases}
-use Rattle.dn_remain.specs.{Vanished.Calls.is_newer, Vanished.Node.Within, Wary.now_of, Wary.Report, Wary.Wary, Wary.newest_seen, Wary.can_settle, Wary.on_report, Remaining.Telling, Remaining.Remaining}
-use Rattle.dn_remain.specs.{Remaining.{wary_of, heard_of}, Promise.SteadyInPairs, Wary.end_seen}
-use Rattle.dn_remain.specs.Vanished.Commands.{Holder, Had, seen, past_seen}
+use Rattle.dn_remain.specs.Vanished.{Calls.is_newer, Node.Within, Commands.{Holder, Had, seen, past_seen}}
+use Rattle.dn_remain.specs.Wary.{now_of, Report, Wary, newest_seen, can_settle, on_report, end_seen}
+use Rattle.dn_remain.specs.{Remaining.{Telling, Remaining, wary_of, heard_of}, Promise.SteadyInPairs}
 use Rattle.dn_remain.proofs.{Vanished.Always.always, Vanished.Handing.was_seen, Vanished.Tests.steady, Answering.missing, Each.run_is, Checks.none_off, Checks.none_off_at_all, Followed.anchored}
 use Rattle.dn_remain.proofs.{Known.Follows, Reached.IsReached, Seeing.reached_cases, Vanished.Windows.fits, Arriving.end_is, Arriving.made_it, Arriving.below_made, Known.IsTold, Known.not_left}
 use Rattle.dn_remain.proofs.Seeing.{length_rows}
+use Rattle.dn_machine.specs.Drops as drops
+use Rattle.dn_machine.specs.Node as machine
 use Rattle.dn_remain.specs.declared.events.Reported.TheVariants as Reported
 use Rattle.dn_remain.proofs.Known
 
@@ -57,8 +57,7 @@ module _ {S : Type 0} (rules : Rules S) (settings : Settings) (all : Remaining) 
         let d = length_rows (end_seen (all.game.nodes flight.to)) (machine.ran (all.game.nodes flight.to)) in
         omega arith
 
-    last_is : is_exit flight.kind ≡ true → end_of flight ≡ length
-        ((all.game.nodes flight.from).held flight.from)
+    last_is : is_exit flight.kind ≡ true → end_of flight ≡ length ((all.game.nodes flight.from).held flight.from)
     last_is x = (end_is is_anchored told open_from x).3
 
     known_is : (e : ℕ) → ends_of (all.game.nodes flight.to) flight.from ≡ Some e
@@ -84,8 +83,7 @@ module _ {S : Type 0} (rules : Rules S) (settings : Settings) (all : Remaining) 
           (all.game.nodes flight.to) flight.from)) early in
           let a = last_is parts.0 in
           let b = below_made is_anchored told open_from in
-          both_ways _ (le-ltb (end_of flight) (got (all.game.nodes flight.to) flight.from)
-          (omega arith)) parts.1
+          both_ways _ (le-ltb (end_of flight) (got (all.game.nodes flight.to) flight.from) (omega arith)) parts.1
       | inr past ↦ not_past (ends_of (all.game.nodes flight.to) flight.from) refl past
     ]
 
@@ -98,10 +96,8 @@ module _ {S : Type 0} (rules : Rules S) (settings : Settings) (all : Remaining) 
 
   packet_kept : (flight : Flight) → IsTold rules.players (now_of all.game all.gone ∷ older) flight
       → all.gone flight.to flight.from ≡ false → (number : ℕ)
-      → (on_packet rules.limits flight.to (all.game.nodes flight.to) flight).1 ≡ Dropped number
-      → IsDropWord number
-  packet_kept flight told open_from number = packet_cases rules.limits flight.to
-      (all.game.nodes flight.to) flight
+      → (on_packet rules.limits flight.to (all.game.nodes flight.to) flight).1 ≡ Dropped number → IsDropWord number
+  packet_kept flight told open_from number = packet_cases rules.limits flight.to (all.game.nodes flight.to) flight
       (λ (r : machine.Node × Heard). r.1 ≡ Dropped number → IsDropWord number) (record {
         dropped = λ other why e. subst (λ (i : ℕ). IsDropWord i) (same_number other number e) why;
         starts = λ s listens kind e. absurd (cc);
@@ -163,8 +159,7 @@ module _ {S : Type 0} (rules : Rules S) (settings : Settings) (all : Remaining) 
   follows = anchored Known.known rules all older h.followed
 
   narrow : (q : ℕ) (marks : ℕ → ℤ) → q < rules.players → rules.ahead + rules.ahead ≤ 12
-      → on_run_but rules.limits (all.gone q) (all.game.nodes q) marks ≡ on_run rules.limits
-      (all.game.nodes q) marks
+      → on_run_but rules.limits (all.gone q) (all.game.nodes q) marks ≡ on_run rules.limits (all.game.nodes q) marks
   narrow q marks mine low = run_is rules.limits q (all.gone q) (all.game.nodes q) marks (λ plays nobody.
       none_off rules settings all.game all.gone older follows h.marked window.back q mine plays nobody
       ∙ sym (none_off_at_all rules settings all.game all.gone older follows h.marked window.back q mine plays

@@ -1,13 +1,13 @@
 -- What is decided can be taken.
-use Rattle.std.proofs.Common.{◌≡◌, ℕ, ◌+◌, ◌<◌, ◌≤◌, refl, sym, ◌∙◌, ap, subst, arith, inl, inr, List, ◌∷◌, length, drop, true, false, Some}
-use Rattle.std.proofs.lemmas.Bool.{both_ways, cond-true}
+use Rattle.std.proofs.Common.{◌≡◌, ℕ, ◌+◌, ◌<◌, ◌≤◌, refl, sym, ◌∙◌, ap, subst, arith, inl, inr, List, ◌∷◌, length}
+use Rattle.std.proofs.{Common.{drop, true, false, Some}, lemmas.Bool.{both_ways, cond-true}}
 use Rattle.dn_tic.specs.declared.command.TicCmd.{TicCmd}
-use Rattle.dn_machine.specs.{Game.with_node, Node.put, Node.ran, Node.has_left, Promise.IsPrefixOf, Worlds.Rules}
-use Rattle.dn_machine.specs.Node as machine
+use Rattle.dn_machine.specs.{Game.with_node, Node.{put, ran, has_left}, Promise.IsPrefixOf, Worlds.Rules}
 use Rattle.dn_machine.proofs.Put.{put_at, put_off}
 use Rattle.dn_remain.specs.Vanished.Commands.{Holder, Had, seen, past_seen, longest, told, on_decision}
 use Rattle.dn_remain.specs.{Wary.end_seen, Wary.now_of, Wary.Report, Wary.Wary, Wary.or_fresh, Wary.can_settle, Wary.settled, Remaining.Remaining, Remaining.wary_of, Remaining.with_wary, Promise.CanBeTaken}
 use Rattle.dn_remain.proofs.{Vanished.Always.always, Vanished.Lists.begins, Vanished.Windows.fits, Vanished.Handing.handed, Vanished.Invariant.IsKept, Vanished.Lists.own_below, Followed.IsFollowed, Followed.AreFollowed, Followed.anchored, Known.Follows, Followed.there, Seeing.length_rows, Settling.settles}
+use Rattle.dn_machine.specs.Node as machine
 use Rattle.dn_remain.proofs.Known
 
 module _ {S : Type 0} (known : ℕ → Holder TicCmd → Type 0) (rules : Rules S) (all : Remaining)

@@ -4,9 +4,9 @@ use Rattle.std.proofs.Common.{◌≡◌, ℕ, ◌<◌, ◌≤◌, eqb, zero, suc
 use Rattle.std.proofs.lemmas.Bool.{both_ways, cases_eq, cases_lt, and_parts, or_cases, not-true, eqb-true, true≢false, cases_Bool, eq-eqb, cond-true}
 use Rattle.dn_machine.proofs.Put.{put_at, put_off}
 use Rattle.dn_machine.specs.Node.{put}
-use Rattle.dn_remain.specs.Vanished.{Node.{Node, now, Was, Within, Stands, HasHeard}, Steps.{Act, Acts, IsRun}}
-use Rattle.dn_remain.specs.Vanished.Promise.{Steady}
-use Rattle.dn_remain.specs.Vanished.Calls.{every, is_within_at, is_report, is_report_in, is_heard, can_decide, report_or, Keeper, after_news, is_newer}
+use Rattle.dn_remain.specs.Vanished.Calls.{every, is_within_at, is_report, is_report_in, is_heard, can_decide}
+use Rattle.dn_remain.specs.Vanished.{Calls.{report_or, Keeper, after_news, is_newer}, Steps.{Act, Acts, IsRun}}
+use Rattle.dn_remain.specs.Vanished.{Node.{Node, now, Was, Within, Stands, HasHeard}, Promise.Steady}
 use Rattle.dn_remain.proofs.{Vanished.Views.both_within, Vanished.Stepping.cases_Option, Vanished.Invariant.IsLater, Vanished.Invariant.IsKept, Vanished.Views.same_within, Vanished.Views.same_turned}
 
 both : (a b : Bool) → a ≡ true → b ≡ true → (a && b) ≡ true

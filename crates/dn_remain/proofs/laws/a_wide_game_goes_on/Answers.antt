@@ -1,6 +1,6 @@
 -- Three players in a window of seven: one runs by the commands of another, whose marks tell of another world.
-use Rattle.std.proofs.Common.{◌≡◌, ℕ, refl, ◌∙◌, ap, arith, List, [], ◌∷◌, ◌++◌, get_or, take, true, false, Option, None}
-use Rattle.std.proofs.lemmas.List.{length_push, get_or_append_left, get_or_push}
+use Rattle.std.proofs.Common.{◌≡◌, ℕ, refl, ◌∙◌, ap, arith, List, [], ◌∷◌, ◌++◌, get_or, take, true, false, Option}
+use Rattle.std.proofs.{Common.None, lemmas.List.{length_push, get_or_append_left, get_or_push}}
 use Rattle.dn_tic.specs.declared.command.{TicCmd.TicCmd, Move.Move}
 use Rattle.dn_tic.proofs.Making.{made_by-mark}
 use Rattle.dn_setup.specs.Settings.{Settings}
@@ -108,8 +108,7 @@ module _ {S : Type 0} (physics : Physics S) (settings : Settings) where
       let a = is_there.ran_it in
       let b = is_there.full in
       ap (λ (o : Option Refusal). after_run (rules_within physics sevens) there 1 o) is_there.goes
-      ∙ ap (λ (r : Node × Ran). with_node there.game 1 r.0)
-      (runs_tic sevens 1 (there.gone 1) (there.game.nodes 1)
+      ∙ ap (λ (r : Node × Ran). with_node there.game 1 r.0) (runs_tic sevens 1 (there.gone 1) (there.game.nodes 1)
       (own_marks (rules_within physics sevens) (there.game.nodes 1)) is_there.plays is_there.nobody none
       (λ e. absurd (omega arith)))
 
@@ -142,8 +141,7 @@ module _ {S : Type 0} (physics : Physics S) (settings : Settings) where
         is_there.with_two,
         ap (λ (row : List (Option Move)). lacks row 2)
             (get_or_append_left (there.game.nodes 1).rows (row_held sevens (there.game.nodes 1) ∷ []) [] 0
-            (omega arith))
-            ∙ is_there.without,
+            (omega arith)) ∙ is_there.without,
         ap (λ (c : TicCmd). c.mark) (agreed.held 1 0 0 13 (omega arith) (omega arith)
             ∙ agreed.own 0 13 (omega arith) (omega arith) (omega arith))
             ∙ made_by-mark (take 14 (there.game.nodes 0).inputs) _,
