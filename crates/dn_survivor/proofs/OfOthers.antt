@@ -1,29 +1,22 @@
 -- What is kept of the others answers as the reports themselves, stays what it represents, and is enough for
 -- a decision.
-use Rattle.std.proofs.Common.{◌≡◌, ◌≢◌, ◌<◌, ℕ, zero, suc, length, refl, ap, sym, ◌∙◌, arith, Option, ◌≤◌, [], ◌∷◌, get_or, set, Some, None, ◌+◌, ◌-◌, List, ◌++◌, take, drop, subst, inl, inr, append-nil}
-use Rattle.std.specs.Prelude.{Bool, true, not, ◌&&◌, max, if◌then◌else◌, false}
-use Rattle.std.specs.Option.{option_map, unwrap_or}
-use Rattle.std.proofs.lemmas.Bool.{eq-eqb, ne_eqb, both_ways, cond-true}
-use Rattle.std.proofs.lemmas.List.{get_or-set_same, get_or-set_other, length-set}
-use Rattle.std.proofs.lemmas.{Bool.cases_Bool, Bool.cases_eq, Bool.cases_lt, List.drop-drop, List.drop_all, List.length-drop, List.take-append-le}
-use Rattle.std.proofs.Math.Nat.{max-eq_left, max-eq_right}
+use Rattle.std.proofs.Common.{◌≡◌, ◌≢◌, ◌<◌, ℕ, zero, suc, length, refl, ap, sym, ◌∙◌, arith, Option, ◌≤◌, [], ◌∷◌, get_or, set, Some, None, ◌+◌, ◌-◌, List, ◌++◌, take, drop, subst, inl, inr, append-nil, Bool, true, not, ◌&&◌, max, if◌then◌else◌, false, option_map, unwrap_or, get_or-set_same, get_or-set_other, length-set}
+use Rattle.std.proofs.{lemmas.Bool.{eq-eqb, ne_eqb, both_ways, cond-true}, Math.Nat.{max-eq_left, max-eq_right}}
 use Rattle.std.proofs.Math.Seq.{take-append_seam, take-length}
+use Rattle.std.proofs.lemmas.{Bool.cases_Bool, Bool.cases_eq, Bool.cases_lt, List.drop-drop, List.drop_all, List.length-drop, List.take-append-le}
 use Rattle.dn_tic.specs.declared.command.TicCmd.{TicCmd}
 use Rattle.dn_machine.proofs.Put.{put_at, put_off}
-use Rattle.dn_machine.specs.Node.{put}
-use Rattle.dn_machine.specs.Promise.{IsPrefixOf}
-use Rattle.dn_remain.specs.{Vanished.Node.Node, Vanished.Commands.Holder, Vanished.Commands.fresh_holder, Vanished.Commands.seen, Vanished.Commands.on_decision, Vanished.Node.highest, Vanished.Node.share}
-use Rattle.dn_remain.specs.{Vanished.Node.decided_end, Vanished.Calls.every, Vanished.Calls.is_within_at, Vanished.Calls.is_report_in, Vanished.Calls.is_heard, Vanished.Calls.can_decide}
-use Rattle.dn_remain.specs.{Vanished.Calls.is_newer, Vanished.Calls.report_or, Vanished.Commands.caught_up, Vanished.Commands.last_of}
+use Rattle.dn_machine.specs.{Node.put, Promise.IsPrefixOf}
+use Rattle.dn_remain.specs.Vanished.Node.{Node, highest, share, decided_end}
+use Rattle.dn_remain.specs.Vanished.Commands.{Holder, fresh_holder, seen, on_decision, caught_up, last_of}
+use Rattle.dn_remain.specs.Vanished.Calls.{every, is_within_at, is_report_in, is_heard, can_decide, is_newer, report_or}
 use Rattle.dn_remain.proofs.Vanished.Lists.{counts, begins, pieces}
-use Rattle.dn_survivor.specs.declared.report.Report.{Report}
-use Rattle.dn_survivor.specs.declared.others.Others.{Others}
-use Rattle.dn_survivor.specs.OfOthers.{reported_as, AreTold, Tells}
-use Rattle.dn_survivor.specs.OfOthers.{Represents}
-use Rattle.dn_survivor.specs.{declared.others.hearing.Reported.TheVariants.Kept, declared.others.hearing.Reported.TheVariants.GivenUp, declared.others.hearing.Reported.TheVariants.Excluded}
-use Rattle.dn_survivor.specs.{declared.others.hearing.Reported.TheVariants.Stale, OfOthers.with_newest, OfOthers.AreWithin}
-use Rattle.dn_survivor.specs.OfOthers.{commands_of, node_of, nodes_of, own_of, told_of, newest_of, nothing_kept, count_by, first_of, has, last_by, last_in, teller_of}
-use Rattle.dn_survivor.proofs.{Lowest.highest_of_two, Lowest.largest_is}
+use Rattle.dn_survivor.specs.declared.{report.Report.Report, others.Others.Others}
+use Rattle.dn_survivor.specs.declared.others.hearing.Reported.TheVariants.{Kept, GivenUp, Excluded, Stale}
+use Rattle.dn_survivor.specs.OfOthers.{reported_as, AreTold, Tells, Represents, with_newest, AreWithin, commands_of}
+use Rattle.dn_survivor.specs.OfOthers.{node_of, nodes_of, own_of, told_of, newest_of, nothing_kept, count_by, first_of}
+use Rattle.dn_survivor.specs.OfOthers.{has, last_by, last_in, teller_of}
+use Rattle.dn_survivor.proofs.Lowest.{highest_of_two, largest_is}
 
 -- What is kept of the others answers as the reports themselves.
 
@@ -131,8 +124,7 @@ module _ (players places me : ℕ) (others : Others) (gone : ℕ → Bool) (newe
     module _ (from : ℕ) (holder : Holder TicCmd) (report : Report) (below : from < 4)
         (tells : Tells players places me from holder report)
       where
-        told : (p : ℕ) → p < players
-            → AreTold players places me p (newest_of (with_newest others from report) p)
+        told : (p : ℕ) → p < players → AreTold players places me p (newest_of (with_newest others from report) p)
             (put newest from (Some holder) p)
         told p within = grind (arith, get_or-set_same, put_at, get_or-set_other, put_off)
 
@@ -156,8 +148,7 @@ same_length xs ys zs h k e =
 
 -- a list with what it lacks of another is the longer of the two
 catches : (places : ℕ) (own told longer made : List TicCmd) → IsPrefixOf own made → IsPrefixOf told made
-    → IsPrefixOf longer made → length longer ≡ max (length own) (length told)
-    → length told ≤ length own + places
+    → IsPrefixOf longer made → length longer ≡ max (length own) (length told) → length told ≤ length own + places
     → caught_up places own told ≡ longer
 catches places own told longer made ho ht hl is near =
     let s : ℕ = length told - places in
@@ -232,8 +223,7 @@ module _ (players places me player : ℕ) (others : Others) (holder : Holder Tic
       where
         go : (teller : ℕ) (kept : Option Report) (told : Option (Holder TicCmd)) → newest teller ≡ told
             → AreTold players places me teller kept told → teller < players → teller ≢ me
-            → holder.gone teller ≡ false → player ≢ teller
-            → (list : List TicCmd)
+            → holder.gone teller ≡ false → player ≢ teller → (list : List TicCmd)
             × IsTold teller ((report_or (option_map node_of kept)).got player) (last_in kept player) list
         go teller None None is tells member other remains another = ([], none_told teller)
         go teller None (Some report) is tells member other remains another = absurd tells

@@ -1,14 +1,11 @@
 -- Nothing counts of what was told by one who is given up.
-use Rattle.std.proofs.Common.{◌≡◌, ◌-◌, ℕ, set, length, refl, ap, Option, arith, sym, subst}
-use Rattle.std.specs.Prelude.{true, ◌||◌, ◌==◌, if◌then◌else◌, []}
-use Rattle.std.specs.Option.{option_map}
-use Rattle.std.proofs.lemmas.List.{get_or-set_other}
+use Rattle.std.proofs.Common.{◌≡◌, ◌-◌, ℕ, set, length, refl, ap, Option, arith, sym, subst, true, ◌||◌, ◌==◌, if◌then◌else◌, [], option_map, get_or-set_other}
 use Rattle.dn_machine.proofs.Put.{same_functions}
-use Rattle.dn_survivor.specs.{declared.report.Report.Report, declared.others.Others.Others, OfOthers.commands_of, OfOthers.first_of, OfOthers.has, OfOthers.largest_at}
-use Rattle.dn_survivor.specs.{OfOthers.last_by, OfOthers.last_in, OfOthers.newest_of, OfOthers.node_of, OfOthers.nodes_of, OfOthers.own_of, OfOthers.teller_of}
-use Rattle.dn_survivor.specs.{OfOthers.told_of}
-use Rattle.dn_remain.specs.{Vanished.Calls.every, Vanished.Calls.is_heard, Vanished.Calls.is_report_in, Vanished.Calls.can_decide, Vanished.Calls.report_or, Vanished.Node.highest, Vanished.Node.share}
-use Rattle.dn_remain.specs.{Vanished.Node.decided_end}
+use Rattle.dn_survivor.specs.declared.{report.Report.Report, others.Others.Others}
+use Rattle.dn_survivor.specs.OfOthers.{commands_of, first_of, has, largest_at, last_by, last_in, newest_of, node_of}
+use Rattle.dn_survivor.specs.OfOthers.{nodes_of, own_of, teller_of, told_of}
+use Rattle.dn_remain.specs.Vanished.Calls.{every, is_heard, is_report_in, can_decide, report_or}
+use Rattle.dn_remain.specs.Vanished.Node.{highest, share, decided_end}
 use Rattle.dn_survivor.proofs.others.laws.lies_are_undone.Goals as goal
 
 -- the same reports are missing, and a player has the same end and the same commands

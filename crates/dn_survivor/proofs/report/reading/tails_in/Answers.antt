@@ -1,10 +1,8 @@
 -- Players are told in order of their numbers, one after the other.
-use Rattle.std.proofs.Common.{◌≡◌, ◌≢◌, ◌≤◌, ℕ, suc, List, [], ◌∷◌, ◌++◌, length, refl, subst, sym, arith, ◌∙◌, ◌+◌, ◌*◌, drop, ap, append-nil}
-use Rattle.std.proofs.lemmas.List.{length_push, take_rest, length-drop, nil_from_length}
-use Rattle.std.proofs.lemmas.List.Elements.{All-nil, All-push}
-use Rattle.std.specs.List.{flat_map}
-use Rattle.dn_survivor.specs.{declared.report.Tail.Tail, ReportBytes.AreInOrder, ReportBytes.AreTold, ReportBytes.IsTail, ReportBytes.next_after, ReportBytes.tail_bytes, ReportBytes.fault_at}
-use Rattle.dn_survivor.specs.{ReportBytes.told_number}
+use Rattle.std.proofs.Common.{◌≡◌, ◌≢◌, ◌≤◌, ℕ, suc, List, [], ◌∷◌, ◌++◌, length, refl, subst, sym, arith, ◌∙◌, ◌+◌, ◌*◌, drop, ap, append-nil, flat_map}
+use Rattle.std.proofs.lemmas.List.{length_push, take_rest, length-drop, nil_from_length, Elements.{All-nil, All-push}}
+use Rattle.dn_survivor.specs.declared.report.Tail.{Tail}
+use Rattle.dn_survivor.specs.ReportBytes.{AreInOrder, AreTold, IsTail, next_after, tail_bytes, fault_at, told_number}
 use Rattle.dn_survivor.proofs.ReportBytes.{one_read}
 use Rattle.dn_survivor.proofs.report.reading.tails_in.Goals as goal
 
@@ -66,8 +64,7 @@ loop-rest-preserved c =
       so_far = one_read tail_bytes c.args.bytes.now rest _ found _ tail inv.so_far
           (told.4 ∙ ap (λ (bs : List ℕ). tail_bytes tail ++ bs) behind) pushed;
       are = more_told found _ tail pushed inv.are told.0
-          (λ e. told.1.another (c.len.ensures.value ∙ e))
-          (omega (arith, inv.next, told.1.order, told.2));
+          (λ e. told.1.another (c.len.ensures.value ∙ e)) (omega (arith, inv.next, told.1.order, told.2));
       next = omega (arith, next_told found _ tail pushed);
     }
 
