@@ -36,8 +36,7 @@ module _ {S : Type 0} {known : ℕ → Holder TicCmd → Type 0} {rules : Rules 
       let a : length (told.state.held flight.from) ≤ length ((game.nodes flight.from).held flight.from) =
       (kept.sound told.by (seen told.state) (was_seen (now_of game gone ∷ older) told.by told.state told.had)).made
       flight.from in
-      let b = told.reaches in
-      omega arith
+      omega (arith, told.reaches)
 
   pub below_made : got (game.nodes flight.to) flight.from ≤ length ((game.nodes flight.from).held flight.from)
   below_made = (kept.sound flight.to (seen (now_of game gone flight.to)) (inl refl)).made flight.from

@@ -46,8 +46,7 @@ module _ {S : Type 0} (rules : Rules S) (settings : Settings) (game : Game) (gon
   close =
       let a = (roomy rules.players rules.ahead (past_seen (now_of game gone ∷ older)) follows.run).own p
       (seen (now_of game gone p)) (inl refl) in
-      let b = long p in
-      omega arith
+      omega (arith, long p)
 
   -- the state in which the player made the command
   maker : (m : Node) × Was (past_seen history) p m × (m.got p ≡ tic) × (tic < ran m + rules.ahead)
@@ -105,8 +104,7 @@ module _ {S : Type 0} (rules : Rules S) (settings : Settings) (game : Game) (gon
   mark_is = grind (arith, close, made_it, held_same, made_by-mark, cond-false, le-ltb, world_same, fronts)
 
 module _ {S : Type 0} (rules : Rules S) (settings : Settings) (game : Game) (gone : ℕ → ℕ → Bool)
-    (older : List (ℕ → Holder TicCmd))
-    (follows : Follows (Had (now_of game gone ∷ older)) rules game gone older)
+    (older : List (ℕ → Holder TicCmd)) (follows : Follows (Had (now_of game gone ∷ older)) rules game gone older)
     (all_marked : (x : ℕ) → IsMarked rules settings x (game.nodes x)) (low : rules.ahead ≤ 12)
     (q : ℕ) (mine : q < rules.players) (plays : (game.nodes q).phase ≡ Playing)
     (nobody : lowest rules.players (is_awaited (game.nodes q)) ≡ None) where
@@ -147,8 +145,7 @@ module _ {S : Type 0} (rules : Rules S) (settings : Settings) (game : Game) (gon
         lowest_none_each rules.players (is_awaited (game.nodes q)) nobody p its in
         let here_too : leb (got (game.nodes q) p) tic ≡ false =
         sym (ap (λ (b : Bool). not b && leb (got (game.nodes q) p) tic) here) ∙ none in
-        let a = leb-false (got (game.nodes q) p) tic here_too in
-        omega arith
+        omega (arith, leb-false (got (game.nodes q) p) tic here_too)
 
     over : is_over (end_seen (game.nodes q) p) tic ≡ false
     over = sym (absent_is follows q mine p its) ∙ here

@@ -48,8 +48,7 @@ module _ {S : Type 0} {known : ℕ → Holder TicCmd → Type 0} {rules : Rules 
   me = game.nodes q
 
   -- one command more
-  module _ (input : Input) (plays : me.phase ≡ Playing)
-      (low : made q me < ran me + rules.ahead) where
+  module _ (input : Input) (plays : me.phase ≡ Playing) (low : made q me < ran me + rules.ahead) where
     abbrev next : machine.Node
     next = built rules.limits q me input
 

@@ -243,10 +243,7 @@ module _ {S : Type 0} {known : ℕ → Holder TicCmd → Type 0} {rules : Rules 
           | inl none ↦ pass f none.0
           | inr some ↦
               let is = follows.ends flight.to flight.from some.0 some.1 open_from in
-              let a = is.3 in
-              let b = made_it follows told open_from in
-              let c = some.3 in
-              let at : some.0 ≡ end_of flight = omega arith in
+              let at : some.0 ≡ end_of flight = omega (arith, is.3, made_it follows told open_from, some.3) in
               learn_end (subst (λ (i : ℕ). IsEnd game.nodes gone flight.to flight.from i) at is)
               (old_end f ∙ (some.1 ∙ ap (λ (i : ℕ). Some i) at))
         ]

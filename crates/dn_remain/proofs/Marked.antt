@@ -1,11 +1,11 @@
 -- What every node's commands, marks and demo are made of, and that calls keep it.
-use Rattle.std.proofs.Common.{◌≡◌, ◌≢◌, ℕ, ℤ, zero, suc, ◌+◌, ◌<◌, ◌≤◌, refl, sym, ◌∙◌, ap, arith, List, [], ◌∷◌, ◌++◌, length, get_or, take, false, nat_lt, Option, Some, fold, Bool, true, take-suc}
+use Rattle.std.proofs.Common.{◌≡◌, ◌≢◌, ℕ, ℤ, zero, suc, ◌+◌, ◌<◌, ◌≤◌, refl, sym, ◌∙◌, ap, arith, List, [], ◌∷◌, ◌++◌, length, get_or, take, false, Option, Some, fold, Bool, true, take-suc}
 use Rattle.std.proofs.lemmas.{List.length_push, List.get_or_append_left, List.get_or_push, List.take-append-le, List.take_all}
 use Rattle.std.proofs.lemmas.Bool.{cond_both, cond-false}
 use Rattle.dn_tic.specs.{declared.{command.{TicCmd.TicCmd, Move.Move}, input.Input.Input}, Inputs.made_by}
 use Rattle.dn_setup.specs.Settings.{Settings}
 use Rattle.dn_machine.specs.{declared.answers.Phase.TheVariants.Ended, Sending.on_build, Running.{tic_limit, on_quit}}
-use Rattle.dn_machine.specs.{Node.{Node, blank, made, ran, held_at, own_mark, demo_rows}, Hearing.on_packet}
+use Rattle.dn_machine.specs.{Node.{Node, made, ran, held_at, own_mark, demo_rows}, Hearing.on_packet}
 use Rattle.dn_machine.specs.{Running.is_over, Worlds.Rules, Worlds.opening, Worlds.world_after, declared.answers.Heard.Heard, declared.answers.Phase.Phase, Flight.Flight, Limits.Limits, Sending.on_send}
 use Rattle.dn_machine.proofs.{Calls.{build_cases, built, send_cases, quit_cases, packet_cases}, Put.{put_at, put_off}}
 use Rattle.dn_remain.specs.Wary.{end_seen, holder_of, Report, Wary, or_fresh, settled, after_news, noted_gone, with_gone, with_report, on_give_up, on_report}
@@ -129,19 +129,7 @@ module _ {S : Type 0} (rules : Rules S) (settings : Settings) where
     -- a call that is no build and no run
     pub alike_keeps : (new : Node) → IsAlike me old new
         → ((p e : ℕ) → end_seen old p ≡ Some e → end_seen new p ≡ Some e) → IsMarked rules settings me new
-    alike_keeps new a ends = grind (
-      arith,
-      blank,
-      made_by,
-      own_mark,
-      nat_lt,
-      told,
-      over_stays,
-      end_seen,
-      world_after,
-      demo_rows,
-      tic_limit,
-    )
+    alike_keeps new a ends = grind (arith, made_by, world_after, over_stays)
 
     -- a build
     pub build_keeps : (input : Input)
@@ -162,18 +150,5 @@ module _ {S : Type 0} (rules : Rules S) (settings : Settings) where
         builds : made me old < ran old + rules.ahead
             → ((p e : ℕ) → end_seen old p ≡ Some e → end_seen (built rules.limits me old input) p ≡ Some e)
             → IsMarked rules settings me (built rules.limits me old input)
-        builds room ends = grind (
-          arith,
-          length_push,
-          made_by,
-          own_mark,
-          made,
-          blank,
-          get_or_append_left,
-          take-append-le,
-          get_or_push,
-          take_all,
-          over_stays,
-          end_seen,
-          built,
-        )
+        builds room ends =
+            grind (arith, length_push, made_by, get_or_append_left, take-append-le, get_or_push, take_all, over_stays)

@@ -17,8 +17,7 @@ front_at : (test : List (Option Move) → Bool) (rows : List (List (Option Move)
     → tic < length (take_while test rows) → get_or (take_while test rows) tic [] ≡ get_or rows tic []
 front_at test rows tic l = grind (arith, length-prefix_len, get_or-take)
 
-module _ {S : Type 0} (rules : Rules S) (settings : Settings) (all : Remaining) (older : List (ℕ
-    → Holder TicCmd))
+module _ {S : Type 0} (rules : Rules S) (settings : Settings) (all : Remaining) (older : List (ℕ → Holder TicCmd))
     (h : IsReached rules settings all older) where
   abbrev past : List (ℕ → Holder TicCmd)
   past = now_of all.game all.gone ∷ older
@@ -153,8 +152,7 @@ module _ {S : Type 0} (rules : Rules S) (settings : Settings) (all : Remaining) 
   }
 
 -- Of each player at most twice the window is unread, and a demo has the room that it needs.
-module _ {S : Type 0} (rules : Rules S) (settings : Settings) (all : Remaining) (older : List (ℕ
-    → Holder TicCmd))
+module _ {S : Type 0} (rules : Rules S) (settings : Settings) (all : Remaining) (older : List (ℕ → Holder TicCmd))
     (h : IsReached rules settings all older) where
   windows : Fits rules.players rules.ahead (past_seen (now_of all.game all.gone ∷ older))
   windows = fitted rules settings all older h
@@ -208,13 +206,11 @@ module _ {S : Type 0} (rules : Rules S) (settings : Settings) (all : Remaining) 
         let a = ran_is flight.to in
         let b = windows.overrun flight.to told.by flight.from (seen told.state) told.receiver here
         (was_seen (now_of all.game all.gone ∷ older) told.by told.state told.had) told.open_to in
-        let c = told.reaches in
-        omega arith;
+        omega (arith, told.reaches);
     told = λ which p t e here.
         let a = ran_is t.to in
         let k = h.told which t e in
-        let b = windows.overrun t.to t.from p (seen t.report) k.0 here (report_was which t e) k.1 in
-        omega arith;
+        omega (arith, windows.overrun t.to t.from p (seen t.report) k.0 here (report_was which t e) k.1);
     untold = λ which p t e l here none.
         let k = h.told which t e in
         windows.unended t.to t.from p (seen t.report) k.0 l here (report_was which t e) k.1 none;

@@ -48,16 +48,7 @@ same_game game q = ap (λ (nodes : ℕ → Node). record game { nodes = nodes })
 -- a decision of nobody changes nothing
 settled_same : (players me : ℕ) (node : Node) (gone : ℕ → Bool) (heard : ℕ → Report) → ((p : ℕ) → gone p ≡ false)
     → settled node gone (on_decision players me (holder_of node gone) heard) ≡ node
-settled_same players me node gone heard h = grind (
-  arith,
-  on_decision,
-  holder_of,
-  same_functions,
-  cond-false,
-  longest,
-  told,
-  settled,
-)
+settled_same players me node gone heard h = grind (arith, same_functions, cond-false, longest)
 
 -- the game stays, and nobody was given up before
 abbrev IsQuiet : Remaining → Remaining → Type 0

@@ -66,12 +66,6 @@ module _ {S : Type 0} (known : ℕ → Holder TicCmd → Type 0) (rules : Rules 
         (λ node to low report is. tells known rules all older f node to report is)
         (λ which t e none. hears_report t (named known rules all older f t.to none) (f.reports which t e))
 
-  followed_to : (events : List RemainEvent) (all last : Remaining) → AreFollowed known rules all → LeadsRemain rules all events last
-      → AreFollowed known rules last
-  followed_to [] all last have same = subst (λ (r : Remaining). AreFollowed known rules r) (sym same) have
-  followed_to (event ∷ events) all last have way =
-      followed_to events way.0 last (followed_after all have.0 have.1 event way.0 way.1) way.2
-
 pub followed_at_first : {S : Type 0} (rules : Rules S) (settings : Settings)
     → IsFollowed Known.known rules (opening_remaining settings) []
 unfolding opening_remaining
@@ -80,11 +74,6 @@ followed_at_first rules settings = record {
   newest = λ q r report h. absurd (none-some report h);
   reports = λ which t h. absurd (none-some t h);
 }
-
-pub follow_all : {S : Type 0} (rules : Rules S) (settings : Settings) (events : List RemainEvent) (all : Remaining)
-    → RunsRemain rules settings events all → AreFollowed Known.known rules all
-follow_all rules settings events all run =
-    followed_to Known.known rules events (opening_remaining settings) all ([], followed_at_first rules settings) run
 
 -- Each event changes one node at most: by a build, a run, or a call that leaves what it made and ran.
 
@@ -111,9 +100,7 @@ module _ {S : Type 0} {known : ℕ → Holder TicCmd → Type 0} {rules : Rules 
   delivers : (o : Option Flight) (which : ℕ) → slice_get all.game.flights which ≡ o
       → IsChange rules all (delivered rules all.game o).0
   delivers None which h = inl refl
-  delivers (Some flight) which h =
-      let told = f.follows.flights which flight h in
-      grind (arith, alike_heard)
+  delivers (Some flight) which h = grind (arith, f.follows.flights which flight h, alike_heard)
 
   -- a call of a node
   calls : (node : ℕ) → refused_at rules.players all.game node ≡ None → (new : Node)
@@ -271,3 +258,8 @@ module _ {S : Type 0} (rules : Rules S) (settings : Settings) where
   pub reached_by : (events : List RemainEvent) (all : Remaining) → RunsRemain rules settings events all
       → (older : List (ℕ → Holder TicCmd)) × IsReached rules settings all older
   reached_by events all run = leads events (opening_remaining settings) all [] opens run
+
+pub follow_all : {S : Type 0} (rules : Rules S) (settings : Settings) (events : List RemainEvent) (all : Remaining)
+    → RunsRemain rules settings events all → AreFollowed Known.known rules all
+follow_all rules settings events all run =
+    let known = reached_by rules settings events all run in (known.0, known.1.followed)

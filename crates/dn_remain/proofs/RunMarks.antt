@@ -23,8 +23,7 @@ all_front test xs d h =
     ]
 
 module _ {S : Type 0} (rules : Rules S) (settings : Settings) (game : Game) (gone : ℕ → ℕ → Bool)
-    (older : List (ℕ → Holder TicCmd))
-    (follows : Follows (Had (now_of game gone ∷ older)) rules game gone older)
+    (older : List (ℕ → Holder TicCmd)) (follows : Follows (Had (now_of game gone ∷ older)) rules game gone older)
     (all_marked : (x : ℕ) → IsMarked rules settings x (game.nodes x)) (q : ℕ) (mine : q < rules.players)
     (set : (game.nodes q).phase ≡ Playing → (game.nodes q).settings ≡ Some settings) where
   abbrev me : machine.Node

@@ -52,8 +52,7 @@ module _ {S : Type 0} {known : ℕ → Holder TicCmd → Type 0} {rules : Rules 
         grind (arith, cases_Option, ends_of, is_over, machine.ran, lt-leb)
   ]
 
-  module _ (plays : me.phase ≡ Playing)
-      (nobody : lowest rules.players (is_awaited me) ≡ None) (marks : ℕ → ℤ) where
+  module _ (plays : me.phase ≡ Playing) (nobody : lowest rules.players (is_awaited me) ≡ None) (marks : ℕ → ℤ) where
     abbrev next : machine.Node
     next = ran_on rules.limits q me marks
 
@@ -67,8 +66,7 @@ module _ {S : Type 0} {known : ℕ → Holder TicCmd → Type 0} {rules : Rules 
         let none : is_awaited me p ≡ false = lowest_none_each rules.players (is_awaited me) nobody p l in
         let late : leb (got me p) (machine.ran me) ≡ false =
         sym (ap (λ (b : Bool). not b && leb (got me p) (machine.ran me)) present) ∙ none in
-        let a = leb-false (got me p) (machine.ran me) late in
-        omega arith
+        omega (arith, leb-false (got me p) (machine.ran me) late)
 
     -- the row that is run is that of what is seen
     row_is : next.rows ≡ me.rows ++ row_had rules.limits (holder_of next (gone q)) (machine.ran me) ∷ []

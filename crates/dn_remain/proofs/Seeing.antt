@@ -47,8 +47,7 @@ module _ (limits : Limits) (history : List (ℕ → Holder TicCmd)) (handed : Ar
 module _ (limits : Limits) (history : List (ℕ → Holder TicCmd)) (handed : AreHanded history)
     (run : IsRun limits.players limits.ahead (past_seen history)) (q : ℕ) (u v : Holder TicCmd)
     (w : Had history q u) (y : Had history q v) (grown : IsGrown (seen u) (seen v))
-    (olds news : List (List (Option Move))) (long : length u.rows ≡ length olds)
-    (long' : length v.rows ≡ length news)
+    (olds news : List (List (Option Move))) (long : length u.rows ≡ length olds) (long' : length v.rows ≡ length news)
     (before : (tic : ℕ) → tic < length olds → get_or olds tic [] ≡ row_had limits u tic) where
   old_row : (tic : ℕ) → tic < length olds → get_or olds tic [] ≡ row_had limits v tic
   old_row tic l = grind (arith, same_row)
@@ -74,10 +73,7 @@ same_holder a b g e o l r = λ i. record { held = g i; ends = e i; gone = o i; l
 pub length_rows : (ends : ℕ → Option ℕ) (n : ℕ) → length (rows_to ends n) ≡ n
 unfolding rows_to
 length_rows ends zero = refl
-length_rows ends (suc n) =
-    let a = length_push (rows_to ends n) (λ p. is_over (ends p) n) in
-    let b = length_rows ends n in
-    omega arith
+length_rows ends (suc n) = omega (arith, length_push (rows_to ends n) (λ p. is_over (ends p) n), length_rows ends n)
 
 -- rows by ends that come later than the tics
 pub rows_alike : (e f : ℕ → Option ℕ) (n : ℕ)

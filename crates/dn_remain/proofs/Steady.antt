@@ -36,16 +36,14 @@ heard_cases : (limits : Limits) (all : Remaining) (flight : Flight) (number : �
     × ((on_packet limits flight.to (all.game.nodes flight.to) flight).1 ≡ Dropped number))
 heard_cases limits all flight number h = grind arith
 
-module _ {S : Type 0} (rules : Rules S) (settings : Settings) (all : Remaining) (older : List (ℕ
-    → Holder TicCmd))
+module _ {S : Type 0} (rules : Rules S) (settings : Settings) (all : Remaining) (older : List (ℕ → Holder TicCmd))
     (h : IsReached rules settings all older) (window : IsWindow rules.limits) where
   is_anchored : Follows (Had (now_of all.game all.gone ∷ older)) rules all.game all.gone older
   is_anchored = anchored Known.known rules all older h.followed
 
   -- no packet of one who is not given up is an overrun, or ends where it cannot
   module _ (flight : Flight) (told : IsTold rules.players (now_of all.game all.gone ∷ older) flight)
-      (open_from : all.gone flight.to flight.from ≡ false) (here : has_left
-      (all.game.nodes flight.to) ≡ false) where
+      (open_from : all.gone flight.to flight.from ≡ false) (here : has_left (all.game.nodes flight.to) ≡ false) where
     fits_in : end_of flight ≤ machine.ran (all.game.nodes flight.to) + rules.places
     fits_in =
         let a = (fits rules.players rules.ahead (past_seen
@@ -54,8 +52,7 @@ module _ {S : Type 0} (rules : Rules S) (settings : Settings) (all : Remaining) 
         (was_seen (now_of all.game all.gone ∷ older) told.by told.state told.had) told.open_to in
         let b = told.reaches in
         let c = window.twice in
-        let d = length_rows (end_seen (all.game.nodes flight.to)) (machine.ran (all.game.nodes flight.to)) in
-        omega arith
+        omega (arith, length_rows (end_seen (all.game.nodes flight.to)) (machine.ran (all.game.nodes flight.to)))
 
     last_is : is_exit flight.kind ≡ true → end_of flight ≡ length ((all.game.nodes flight.from).held flight.from)
     last_is x = (end_is is_anchored told open_from x).3
@@ -152,8 +149,7 @@ unfolding lowest
 lowest_passes zero test p h = absurd (none-some p h)
 lowest_passes (suc bound) test p h = grind (arith, lowest_passes bound test)
 
-module _ {S : Type 0} (rules : Rules S) (settings : Settings) (all : Remaining) (older : List (ℕ
-    → Holder TicCmd))
+module _ {S : Type 0} (rules : Rules S) (settings : Settings) (all : Remaining) (older : List (ℕ → Holder TicCmd))
     (h : IsReached rules settings all older) (window : IsWindow rules.limits) where
   follows : Follows (Had (now_of all.game all.gone ∷ older)) rules all.game all.gone older
   follows = anchored Known.known rules all older h.followed

@@ -49,9 +49,7 @@ module _ {S : Type 0} (known : ℕ → Holder TicCmd → Type 0) (rules : Rules 
       let a = (fits rules.players rules.ahead (past_seen (later ∷ past))
       went.run).unread q p (seen (later q)) mine (inl refl) in
       let b = length_rows (end_seen (put all.game.nodes q after q)) (ran (put all.game.nodes q after q)) in
-      let c = ap (λ (n : machine.Node). length (n.held p)) node_is in
-      let d = ap (λ (n : machine.Node). ran n) node_is in
-      omega arith
+      omega (arith, ap (λ (n : machine.Node). length (n.held p)) node_is, ap (λ (n : machine.Node). ran n) node_is)
 
   made : (p : ℕ) → all.gone q p ≡ true → IsPrefixOf (after.held p) ((all.game.nodes p).held p)
   made p t = subst (λ (n : machine.Node). IsPrefixOf (after.held p) (n.held p))

@@ -52,16 +52,10 @@ module _ (players : ℕ) (nodes : ℕ → Node) (older : List (ℕ → Node)) (q
   share_gone p r n o = cond-false (eqb r q) _ _ (ne_eqb r q n) ∙ cond-true ((nodes q).gone r) 0 ((heard r).got p) o
 
   above_own : (p : ℕ) → (nodes q).got p ≤ end p
-  above_own p =
-      let a = highest_bounds players (share q (nodes q) heard p) q l in
-      let b = share_own p q refl in
-      omega arith
+  above_own p = omega (arith, highest_bounds players (share q (nodes q) heard p) q l, share_own p q refl)
 
   above : (p r : ℕ) → r < players → (r ≡ q → ⊥) → (nodes q).gone r ≡ false → (heard r).got p ≤ end p
-  above p r m n o =
-      let a = highest_bounds players (share q (nodes q) heard p) r m in
-      let b = share_other p r n o in
-      omega arith
+  above p r m n o = omega (arith, highest_bounds players (share q (nodes q) heard p) r m, share_other p r n o)
 
   -- the end is the count of the node itself, or of one that it heard
   pub reached : (p : ℕ) → (end p ≡ (nodes q).got p)

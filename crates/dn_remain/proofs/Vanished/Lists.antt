@@ -66,8 +66,7 @@ module _ {C : Type 0} where
         let a = highest_bounds players (λ r. length (told q holder heard p r)) q l in
         let b : length (told q holder heard p q) ≡ length (holder.held p) =
         ap length (cond-true (eqb q q) _ _ (eq-eqb q q refl)) in
-        let c = longest_counts players (told q holder heard p) in
-        omega arith
+        omega (arith, longest_counts players (told q holder heard p))
 
     pub pieces : (p : ℕ) → q < players → ((on_decision players q holder heard).held p ≡ holder.held p)
         ⊎ ((r : ℕ) × (r < players) × ((r ≡ q → ⊥)) × (holder.gone r ≡ false)

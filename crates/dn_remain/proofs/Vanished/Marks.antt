@@ -130,8 +130,7 @@ module _ (players ahead : ℕ) (nodes : ℕ → Node) (older : List (ℕ → Nod
       → back < ran sent → (back < ran (nodes q)) × (lacks_at (nodes q) back r ≡ lacks_at sent back r)
   told_row p r back tic sent m n f w g o a b c d =
       let s = room.near q p a sent l here w g in
-      let t = room.own q (nodes q) (inl refl) in
-      let k : back < ran (nodes q) = omega arith in
+      let k : back < ran (nodes q) = omega (arith, room.own q (nodes q) (inl refl)) in
       (k, (agree players past kept).rows_same q p r back (nodes q) sent l m n f (inl refl) w o g k d)
 
   decided_row : (heard : ℕ → Node) → HasHeard players past q (nodes q) heard

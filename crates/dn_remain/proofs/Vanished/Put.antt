@@ -27,8 +27,7 @@ highest_bounds zero f r h = absurd (omega arith)
 highest_bounds (suc n) f r h = elim (cases_lt r n) [
   | inl l ↦
       let k : f r ≤ highest n f = highest_bounds n f r l in
-      let m = le-max_left (highest n f) (f n) in
-      omega arith
+      omega (arith, le-max_left (highest n f) (f n))
   | inr l ↦ grind (arith, le-max_right)
 ]
 

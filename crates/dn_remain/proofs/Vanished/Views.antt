@@ -47,8 +47,7 @@ module _ (players : ℕ) where
   later_joined history x u v w h k = grind arith
 
   -- the old history, and the one with these nodes before it
-  module _ (history : List (ℕ → Node)) (next : ℕ → Node)
-      (grows : (r p : ℕ) → (now history r).got p ≤ (next r).got p)
+  module _ (history : List (ℕ → Node)) (next : ℕ → Node) (grows : (r p : ℕ) → (now history r).got p ≤ (next r).got p)
       (kept : IsKept players history) where
     -- a floor stays one: a new state of a player has no lower count than an old one that stands for the set
     pub base_kept : (set : ℕ → Bool) (p e : ℕ)
@@ -56,8 +55,7 @@ module _ (players : ℕ) where
         → IsBase players history set p e → IsBase players (next ∷ history) set p e
     base_kept set p e sees h = record {
       bound = λ b k. h.bound b (λ r l o.
-          let g = k r l o in
-          grind arith);
+          grind (arith, k r l o));
     }
 
     pub decision_kept : (x : ℕ) (d : Node) → IsDecision players history x d

@@ -89,9 +89,7 @@ module _ (players ahead : ℕ) (nodes : ℕ → Node) (older : List (ℕ → Nod
         | inl e ↦ grind arith
         | inr e ↦ elim (sound.source x e.0 e.1) [
           | inl k ↦ absurd (both_ways (nodes x).left h k.0)
-          | inr d ↦
-              let w = d.1.sees q l (outside d.0.gone sent.gone q d.4 g) in
-              grind (arith, both_ways)
+          | inr d ↦ grind (arith, d.1.sees q l (outside d.0.gone sent.gone q d.4 g), both_ways)
         ]
       ]
 
@@ -195,8 +193,7 @@ unread_now players ahead history run x p l h =
     let room = roomy players ahead history run in
     let here = now_was players ahead history run x in
     let a = room.own x (now history x) here in
-    let b = room.near x x p (now history x) l h here (kept.sound x (now history x) here).own in
-    omega arith
+    omega (arith, room.near x x p (now history x) l h here (kept.sound x (now history x) here).own)
 
 unread : (players ahead : ℕ) (history : List (ℕ → Node)) → IsRun players ahead history → (x p : ℕ) (u : Node)
     → x < players → Was history x u → u.got p ≤ ran u + (ahead + ahead)
