@@ -262,8 +262,7 @@ module _ {S : Type 0} (rules : Rules S) (window : IsWindow rules.limits) (all : 
     (older : List (ℕ → Holder TicCmd)) (f : IsFollowed Known.known rules all older) (q : ℕ)
     (mine : q < rules.players) (here : has_left (all.game.nodes q) ≡ false)
     (can : can_settle rules.limits q (wary_of all q) ≡ true) (taken : CanBeTaken rules.limits all q)
-    (ended : AreEnded all)
-    (fair : (p : ℕ) → list_any is_stop ((all.game.nodes p).held p) ≡ false) where
+    (ended : AreEnded all) (fair : (p : ℕ) → list_any is_stop ((all.game.nodes p).held p) ≡ false) where
   kept : IsKept rules.players (past_seen (now_of all.game all.gone ∷ older))
   kept = always rules.players rules.ahead (past_seen (now_of all.game all.gone ∷ older)) f.follows.run
 

@@ -173,14 +173,13 @@ pub chain : {A B : Type 0} {old mid new : Contents} {done : A} {last : B}
     (first : Limits → ℕ → machine.Node → machine.Node × A) (next : Limits → ℕ → machine.Node × A → machine.Node × B)
     → Steps old mid first (λ a. done ≡ a) → Steps mid new (λ limits me m. next limits me (m, done)) (λ b. last ≡ b)
     → Steps old new (λ limits me m. next limits me (first limits me m)) (λ b. last ≡ b)
-chain {A} {B} {old} {mid} {new} {done} {last} first next one two =
-    record {
-      same = two.same ∙ one.same;
-      step = λ limits me m r.
-          let a = one.step limits me m r in
-          let P : A → Type 0 = λ x. IsAfter limits me new (next limits me ((first limits me m).0, x)) (λ b. last ≡ b) in
-          subst P a.answer (two.step limits me (first limits me m).0 a.node);
-    }
+chain {A} {B} {old} {mid} {new} {done} {last} first next one two = record {
+  same = two.same ∙ one.same;
+  step = λ limits me m r.
+      let a = one.step limits me m r in
+      let P : A → Type 0 = λ x. IsAfter limits me new (next limits me ((first limits me m).0, x)) (λ b. last ≡ b) in
+      subst P a.answer (two.step limits me (first limits me m).0 a.node);
+}
 
 module _ (limits : Limits) (me : ℕ) (others : Others) (m : machine.Node) where
   pub below_zero : settled_below limits me others 0 m ≡ (m, Ends.Taken)

@@ -114,14 +114,13 @@ no_longer (Some x) xs e = absurd (none-some x (sym e))
 pub one_less : {A : Type 0} (f : ℕ → Option A) (count from p : ℕ) → f p ≡ None → from ≤ p → p < from + count
     → length (filter_map f (range_with_len from count)) + 1 ≤ count
 one_less f zero from p none low high = absurd (omega (arith, low, high))
-one_less f (suc count) from p none low high =
-    elim (cases_eq from p) [
-      | inl same ↦ grind (arith, picks_few, no_longer)
-      | inr other ↦
-          let rest = one_less f count (from + 1) p none (omega (arith, low, other)) (omega (arith, high)) in
-          let here = longer (f from) (filter_map f (range_with_len (from + 1) count)) in
-          omega (arith, rest, here)
-    ]
+one_less f (suc count) from p none low high = elim (cases_eq from p) [
+  | inl same ↦ grind (arith, picks_few, no_longer)
+  | inr other ↦
+      let rest = one_less f count (from + 1) p none (omega (arith, low, other)) (omega (arith, high)) in
+      let here = longer (f from) (filter_map f (range_with_len (from + 1) count)) in
+      omega (arith, rest, here)
+]
 
 -- and two less, where nothing is of two
 pub two_less : {A : Type 0} (f : ℕ → Option A) (count from p q : ℕ) → p ≢ q → f p ≡ None → f q ≡ None

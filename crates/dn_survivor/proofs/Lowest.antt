@@ -102,11 +102,10 @@ largest_of_both n m at one last f is there here next = grind (arith, largest_las
 -- it is one of them, and none is larger
 pub largest_is : (n : ℕ) (f : ℕ → ℕ) → 0 < n → (largest_at n f < n) × ((i : ℕ) → i < n → f i ≤ f (largest_at n f))
 largest_is zero f some = absurd (omega (arith, some))
-largest_is (suc zero) f some =
-    elim (largest_of_both 0 1 0 (f 0) (f 0) f refl (sym (no_largest f)) refl refl) [
-      | inl more ↦ absurd (omega (arith, more.0))
-      | inr most ↦ grind arith
-    ]
+largest_is (suc zero) f some = elim (largest_of_both 0 1 0 (f 0) (f 0) f refl (sym (no_largest f)) refl refl) [
+  | inl more ↦ absurd (omega (arith, more.0))
+  | inr most ↦ grind arith
+]
 largest_is (suc (suc n)) f some =
     let before = largest_is (suc n) f (omega arith) in
     let at : ℕ = largest_at (suc n) f in

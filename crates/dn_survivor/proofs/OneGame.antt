@@ -391,20 +391,19 @@ module _ (marking : Marking) (limits : Limits) (settings : Settings) where
       becomes event w new step shows quiet = grind (arith, changes, elsewhere, there, inputs_stay, rows_stay)
 
       -- a give-up
-      module _ (player : ℕ) (new : Surviving) (answer : GivenUp) (by : GivesUp player old new answer)
-        where
-          pub gave_up_is : Represents limits i new (on_give_up limits i wary player).0
-              × (answer ≡ given_up_is (on_give_up limits i wary player).1)
-          gave_up_is =
-              waries.gave_up limits i old new wary shown player answer
-              (λ phase peer can. gone_can rules settings game.window game.events game.last game.runs i player mine
-              (grind (arith, peer)) (λ e. absurd (grind (arith, peer, e))) phase can) by
+      module _ (player : ℕ) (new : Surviving) (answer : GivenUp) (by : GivesUp player old new answer) where
+        pub gave_up_is : Represents limits i new (on_give_up limits i wary player).0
+            × (answer ≡ given_up_is (on_give_up limits i wary player).1)
+        gave_up_is =
+            waries.gave_up limits i old new wary shown player answer
+            (λ phase peer can. gone_can rules settings game.window game.events game.last game.runs i player mine
+            (grind (arith, peer)) (λ e. absurd (grind (arith, peer, e))) phase can) by
 
-          pub gives_up : Still (with_survivor session i new)
-          gives_up =
-              becomes (GiveUp i player) (on_give_up limits i wary player).0 new
-              (sym (ap (λ (o : Option Refusal). unless o game.last (with_wary game.last i
-              (on_give_up limits i wary player).0)) accepts)) gave_up_is.0 (give_up_quiet limits i wary player)
+        pub gives_up : Still (with_survivor session i new)
+        gives_up =
+            becomes (GiveUp i player) (on_give_up limits i wary player).0 new
+            (sym (ap (λ (o : Option Refusal). unless o game.last (with_wary game.last i
+            (on_give_up limits i wary player).0)) accepts)) gave_up_is.0 (give_up_quiet limits i wary player)
 
       -- a report, if one is given
       module _ (to : ℕ) where
@@ -518,47 +517,45 @@ module _ (marking : Marking) (limits : Limits) (settings : Settings) where
       receiver_made = grind (arith, receiver, got_is, told_there)
 
       -- comes as it was given
-      module _ (new : Surviving) (heard : Heard)
-          (near : is_near (made there_now.lockstep) packet ≡ true)
+      module _ (new : Surviving) (heard : Heard) (near : is_near (made there_now.lockstep) packet ≡ true)
           (by : has_given_up there_now packet.from ≡ false
-          → HearsNear packet.from (bytes_of packet) there_now.lockstep new.lockstep heard)
-        where
-          accepted_there : refused_flight game.last.game (Some packet) ≡ None
-          accepted_there = grind (arith, receiver_made)
+          → HearsNear packet.from (bytes_of packet) there_now.lockstep new.lockstep heard) where
+        accepted_there : refused_flight game.last.game (Some packet) ≡ None
+        accepted_there = grind (arith, receiver_made)
 
-          pub heard_there : has_given_up there_now packet.from ≡ false
-              → IsAfter limits packet.to new.lockstep (on_packet limits packet.to its packet)
-              (λ answer. heard ≡ answer)
-          heard_there free =
-              let r = receiver.node in
-              let told = told_there in
-              let steps = by free packet (game.fair which packet at) refl refl
-              (omega (arith, told.sender, r.whose.players)) (λ e. told.apart (e ∙ r.whose.number)) near in
-              steps.step limits packet.to its r
+        pub heard_there : has_given_up there_now packet.from ≡ false
+            → IsAfter limits packet.to new.lockstep (on_packet limits packet.to its packet)
+            (λ answer. heard ≡ answer)
+        heard_there free =
+            let r = receiver.node in
+            let told = told_there in
+            let steps = by free packet (game.fair which packet at) refl refl
+            (omega (arith, told.sender, r.whose.players)) (λ e. told.apart (e ∙ r.whose.number)) near in
+            steps.step limits packet.to its r
 
-          delivers : after_event rules game.last (Deliver which)
-              ≡ record {
-                nodes = put node packet.to (on_packet limits packet.to its packet).0;
-                stopped = game.last.game.stopped;
-                flights = game.last.game.flights;
-              }
-          delivers =
-              by_event packet.to told_there.receiver (Deliver which)
-              (ap (refused_flight game.last.game) given_there ∙ accepted_there)
-              ∙ ap (λ (o : Option Flight). (delivered rules game.last.game o).0) given_there
+        delivers : after_event rules game.last (Deliver which)
+            ≡ record {
+              nodes = put node packet.to (on_packet limits packet.to its packet).0;
+              stopped = game.last.game.stopped;
+              flights = game.last.game.flights;
+            }
+        delivers =
+            by_event packet.to told_there.receiver (Deliver which)
+            (ap (refused_flight game.last.game) given_there ∙ accepted_there)
+            ∙ ap (λ (o : Option Flight). (delivered rules game.last.game o).0) given_there
 
-          pub hears : (has_given_up there_now packet.from ≡ true → heard ≡ Heard.Dropped drops.given_up)
-              → Spares there_now new heard → new.others ≡ there_now.others
-              → Still (with_survivor session packet.to new)
-          hears barred spares same = elim (cases_Bool (has_given_up there_now packet.from)) [
-            | inl given ↦ keeps packet.to new (spares 15 (barred given))
-            | inr free ↦
-                moves packet.to told_there.receiver (Deliver which) (on_packet limits packet.to its packet).0
-                new (ap (is_barred_flight game.last) given_there ∙ free_of packet.to told_there.receiver
-                packet.from free) delivers (steps.stepped limits packet.to there_now new
-                (wary_of game.last packet.to) _ receiver (heard_there free).node same)
-                (hear_quiet limits packet.to its packet)
-          ]
+        pub hears : (has_given_up there_now packet.from ≡ true → heard ≡ Heard.Dropped drops.given_up)
+            → Spares there_now new heard → new.others ≡ there_now.others
+            → Still (with_survivor session packet.to new)
+        hears barred spares same = elim (cases_Bool (has_given_up there_now packet.from)) [
+          | inl given ↦ keeps packet.to new (spares 15 (barred given))
+          | inr free ↦
+              moves packet.to told_there.receiver (Deliver which) (on_packet limits packet.to its packet).0
+              new (ap (is_barred_flight game.last) given_there ∙ free_of packet.to told_there.receiver
+              packet.from free) delivers (steps.stepped limits packet.to there_now new
+              (wary_of game.last packet.to) _ receiver (heard_there free).node same)
+              (hear_quiet limits packet.to its packet)
+        ]
 
     -- a report that was given, and comes as it was given
     module _ (which : ℕ) (given : Given) (at : slice_get session.reports which ≡ Some given) where

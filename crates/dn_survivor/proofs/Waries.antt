@@ -167,8 +167,7 @@ module _ (limits : Limits) (me : ℕ) (old new : Surviving) (wary : Wary) (r : R
   -- a report comes
   module _ (from : ℕ) (report : Told) (holder : Report) (answer : Reported) (player : from < limits.players)
       (other : from ≢ me) (tells : Tells limits.players limits.places me from holder report)
-      (can : is_in_game wary.node.phase ≡ true
-      → can_settle limits me (with_report wary from holder) ≡ true
+      (can : is_in_game wary.node.phase ≡ true → can_settle limits me (with_report wary from holder) ≡ true
       → CanTakeAll limits me (with_report wary from holder)) where
     abbrev IsReported : Wary × remain_reported.Reported → Type 0
     IsReported after = Represents limits me new after.0 × (answer ≡ reported_is after.1)

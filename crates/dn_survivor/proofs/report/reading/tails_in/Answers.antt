@@ -20,18 +20,16 @@ next_more least [] tail = refl
 next_more least (t ∷ told) tail = next_more (suc t.player) told tail
 
 -- one player more is told
-module _ (told more : List Tail) (tail : Tail) (pushed : more ≡ told ++ tail ∷ [])
-  where
-    more_told : AreTold told → IsTail tail → length told ≢ 2 → next_after 0 told ≤ tail.player → AreTold more
-    more_told are is another next =
-        subst AreTold (sym pushed) (record {
-          few = omega (arith, are.few, another, length_push told tail);
-          order = in_order 0 told tail are.order next;
-          tails = All-push IsTail told tail are.tails is;
-        })
+module _ (told more : List Tail) (tail : Tail) (pushed : more ≡ told ++ tail ∷ []) where
+  more_told : AreTold told → IsTail tail → length told ≢ 2 → next_after 0 told ≤ tail.player → AreTold more
+  more_told are is another next = subst AreTold (sym pushed) (record {
+    few = omega (arith, are.few, another, length_push told tail);
+    order = in_order 0 told tail are.order next;
+    tails = All-push IsTail told tail are.tails is;
+  })
 
-    next_told : next_after 0 more ≡ suc tail.player
-    next_told = subst (λ (ts : List Tail). next_after 0 ts ≡ suc tail.player) (sym pushed) (next_more 0 told tail)
+  next_told : next_after 0 more ≡ suc tail.player
+  next_told = subst (λ (ts : List Tail). next_after 0 ts ≡ suc tail.player) (sym pushed) (next_more 0 told tail)
 
 pub loop-rest-init : goal.loop-rest-init
 loop-rest-init c =
