@@ -171,8 +171,4 @@ module _ (marking : Marking) (limits : Limits) (settings : Settings) (session : 
         (sym (gives_own seal pace to old new bytes gives ∙ packed.front)) past
 
   pub brings : is_brief pace to ≡ false → Brings (made old.node) (put links player new) gives.bundle
-  brings full e =
-      let goes_on : has_ended (links to).node ≡ false = ap (λ (l : Linked). has_ended l.node) (sym theirs) ∙ e in
-      let same : got (links to).node player ≡ got (put links player new gives.bundle.to).node gives.bundle.from =
-      (λ i. got (sym theirs i).node (sym (gives.from ∙ own) i)) in
-      subst (λ (n : ℕ). made old.node ≤ last_end n (own_in gives.bundle)) same (there goes_on full)
+  brings full e = grind (arith, theirs, own, there)

@@ -20,10 +20,7 @@ not_yet {old} {new} stays is = grind (arith, true≢false)
 pub ends_on : (session later : Session) (player : ℕ) (old new : Linked) → surviving_of old ≡ session.survivors player
     → later.survivors ≡ put session.survivors player (surviving_of new) → IsLater session later
     → has_ended old.node ≡ true → has_ended new.node ≡ true
-ends_on session later player old new at placed is was =
-    ap (λ (s : Surviving). has_ended s.lockstep) (sym (ap (λ (f : ℕ → Surviving). f player) placed
-    ∙ put_at session.survivors player player (surviving_of new) refl))
-    ∙ is.ended player (ap (λ (s : Surviving). has_ended s.lockstep) (sym at) ∙ was)
+ends_on session later player old new at placed is was = grind (arith, put_at)
 
 grown : (held : ℕ → List TicCmd) (player : ℕ) (more : List TicCmd)
     → length (held player) ≤ length (put held player (held player ++ more) player)
@@ -68,19 +65,7 @@ module _ (limits : Limits) (links : ℕ → Linked) (player : ℕ) (new : Linked
     where
       -- what another keeps for it
       to_it : (one : ℕ) → one < limits.players → one ≢ player → IsCaughtUp limits one player (links one) new
-      to_it one one_in off =
-          let was = were.pairs one player one_in mine (λ e. off (sym e)) in
-          record {
-            rising = was.rising;
-            chain = was.chain;
-            asks = was.asks;
-            near = was.near;
-            there = λ goes_on. let then = was.there (not_yet stays goes_on) in
-                let grown = more one one_in in omega (arith, then, grown);
-            next = λ goes_on. was.next (not_yet stays goes_on);
-            least = λ goes_on. was.least (not_yet stays goes_on);
-            close = λ goes_on. was.close (not_yet stays goes_on);
-          }
+      to_it one one_in off = grind (arith, not_yet, grown)
 
   -- a call that hears and sends nothing
   pub record IsStill : Type 0 where

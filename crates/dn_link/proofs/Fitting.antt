@@ -113,10 +113,7 @@ all_sized given fair from to (packet ∷ packets) all =
     (All-tail (λ packet. WasGiven given to (opened_from from packet)) packet packets all))
   where
     one : (flight : Flight) → IsFair flight → opened_from from packet ≡ opened_of flight → IsSized packet
-    one flight fair is =
-        let short = short_of flight fair in
-        subst (λ (o : Opened). IsSized (record { start = o.start; ask = o.ask; datagram = o.datagram })) (sym is)
-        (whole_of flight, omega (arith, short))
+    one flight fair is = grind (arith, short_of, whole_of)
 
 -- so there is room for what is kept of so many commands
 pub fits : (from lag made done wide : ℕ) (packets : List Carried) (covered next : ℕ) → lag ≤ 1
