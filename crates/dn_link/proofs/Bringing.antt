@@ -1,5 +1,5 @@
 -- A datagram brings all that its sender made by then.
-use Rattle.std.proofs.Common.{◌≡◌, ◌≢◌, ◌<◌, ◌≤◌, ◌+◌, ◌-◌, ℕ, Bool, true, false, List, [], ◌∷◌, ◌++◌, length, map, take, refl, ap, sym, ◌∙◌, subst, arith, All, Option, Some, None, inl, inr}
+use Rattle.std.proofs.Common.{◌≡◌, ◌≢◌, ◌<◌, ◌≤◌, ◌+◌, ℕ, Bool, true, false, List, [], ◌∷◌, map, refl, ap, sym, ◌∙◌, subst, arith, All, Option, Some, None, inl, inr}
 use Rattle.std.proofs.lemmas.{Bool.{lt-ltb, ne_eqb, true≢false}, Option.same_Some}
 use Rattle.std.specs.Prelude.{if◌then◌else◌}
 use Rattle.dn_seal.specs.declared.{opened.Opened.Opened, seal.Seal.Seal}

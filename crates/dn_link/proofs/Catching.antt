@@ -6,7 +6,7 @@ use Rattle.dn_machine.specs.{Sending.{lag, on_build}, Limits.Limits, Node.put, R
 use Rattle.dn_machine.proofs.{Calls.{build_cases, quit_cases}, Put.{put_at, put_off}}
 use Rattle.dn_remain.proofs.{Each.run_but_cases, Vanished.Put.at_put}
 use Rattle.dn_lockstep.specs.{Represents.Represents, Told.got}
-use Rattle.dn_survivor.specs.{OneGame.Session, Surviving.Surviving}
+use Rattle.dn_survivor.specs.{OneGame.Session}
 use Rattle.dn_lockstep.proofs.Shown.{has}
 use Rattle.dn_link.specs.{CaughtUp.{AreCaughtUp, IsCaughtUp, IsClose, IsKeptChain, StayCaughtUp, next_to}, Counting.has_ended, Kept.{IsKeptRising, Unacknowledged}, Linked.{IsWhole, Linked, surviving_of}, RemainingLinks.IsLater}
 use Rattle.dn_link.proofs.Relinking.{still_whole}

@@ -1,7 +1,7 @@
 -- A datagram of one who has left tells so.
 use Rattle.std.proofs.Common.{◌≡◌, ◌≢◌, ◌<◌, ◌≤◌, ◌+◌, ◌-◌, ◌/◌, ℕ, Bool, true, false, List, [], ◌∷◌, ◌++◌, length, map, take, append-nil, refl, ap, sym, ◌∙◌, subst, arith, All, Option, Some, None, inl, inr}
 use Rattle.std.proofs.{lemmas.{Bool.{and_parts, le-ltb, lt-ltb, ne_eqb, true≢false}, List.{length-append, length-map, map-append}}, Math.Seq.take-append_seam}
-use Rattle.std.specs.{Prelude.{bit_and, is_none, nat_lt, not, slice_index, ◌&&◌, ◌==◌}, Option.option_map}
+use Rattle.std.specs.{Prelude.{bit_and, is_none, not, slice_index, ◌&&◌, ◌==◌}, Option.option_map}
 use Rattle.dn_packet.specs.Flags as flag
 use Rattle.dn_seal.specs.declared.{opened.Opened.Opened, seal.Seal.Seal}
 use Rattle.dn_setup.specs.Settings.{Settings}
@@ -10,10 +10,9 @@ use Rattle.dn_machine.specs.{Node.is_ended, Sending.{after_sent, commands_flight
 use Rattle.dn_machine.proofs.Stages.{lag_low}
 use Rattle.dn_lockstep.specs.{Marking.Marking, Represents.Represents, Sent.{bytes_of, sent_to}, Told.{got, made}}
 use Rattle.dn_lockstep.proofs.Shown.{made_is}
-use Rattle.dn_open.specs.Arrivals.{flag_in}
 use Rattle.dn_open.proofs.Letters.{flags_at}
 use Rattle.dn_survivor.specs.{OneGame.Session, Surviving.Surviving}
-use Rattle.dn_link.specs.{CaughtUp.{AreCaughtUp, HasExit, IsCaughtUp, next_to}, Counting.has_ended, Hearing.carried_of, Kept.{Unacknowledged, commands_in, end_of, going, is_idle, taken_by, takes_packet}}
+use Rattle.dn_link.specs.{CaughtUp.{AreCaughtUp, HasExit, IsCaughtUp, next_to}, Counting.has_ended, Hearing.carried_of, Kept.{Unacknowledged, commands_in, end_of, going, is_idle, taken_by}}
 use Rattle.dn_link.specs.{Linked.{Gives, Linked}, Packets.{opened_from, own_in}, Packing.ArePacked, Pacing.{PaceState, is_brief}, Relays.handed_part, RemainingLinks.AreRemainingLinks}
 use Rattle.dn_link.specs.{Text.IsPart, declared.bundle.Carried.Carried}
 use Rattle.dn_link.proofs.{CatchingOut.two_windows, Fitting.{all_go, all_sized, fits, gives_own, weight, weight_on}, Growing.ended_is, Leaving.All-front, Makers.exit_back, Relinking.AreGiven, Sending.{Follows, first_is, follows}}

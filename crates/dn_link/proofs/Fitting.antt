@@ -1,7 +1,7 @@
 -- A datagram has room for all packets that its receiver needs.
-use Rattle.std.proofs.Common.{◌≡◌, ◌<◌, ◌≤◌, ◌+◌, ◌-◌, ◌*◌, ◌/◌, ◌%◌, ◌^◌, ℕ, zero, suc, Bool, true, false, List, [], ◌∷◌, ◌++◌, length, map, take, drop, append-nil, refl, ap, sym, ◌∙◌, subst, arith, All, inl, inr, Option, Some, None}
+use Rattle.std.proofs.Common.{◌≡◌, ◌≤◌, ◌+◌, ◌-◌, ◌*◌, ◌/◌, ◌%◌, ◌^◌, ℕ, zero, suc, Bool, true, false, List, [], ◌∷◌, ◌++◌, length, map, take, drop, append-nil, refl, ap, sym, ◌∙◌, subst, arith, All, inl, inr, Option, Some, None}
 use Rattle.std.proofs.lemmas.{List.{Elements.{All-append, All-cons, All-head, All-nil, All-tail}, length-append, length-map, length-take, map-append}, Bool.cases_lt, Grind.flat_map-append}
-use Rattle.std.specs.{Prelude.{if◌then◌else◌, min, slice_get}, List.flat_map}
+use Rattle.std.specs.{Prelude.{if◌then◌else◌, slice_get}, List.flat_map}
 use Rattle.dn_machine.specs.Flight.{Flight}
 use Rattle.dn_lockstep.specs.Sent.{IsFair}
 use Rattle.dn_open.specs.Sealed.{opened_of}

@@ -1,5 +1,5 @@
 -- What one packet that asks for nothing does to the node that hears it.
-use Rattle.std.proofs.Common.{◌≡◌, ◌≢◌, ◌<◌, ◌≤◌, ◌+◌, ◌-◌, ◌⊎◌, ◌++◌, ℕ, Bool, true, false, List, length, drop, refl, ap, sym, ◌∙◌, subst, arith, Option, None, Some, inl, inr}
+use Rattle.std.proofs.Common.{◌≡◌, ◌≢◌, ◌<◌, ◌≤◌, ◌+◌, ◌-◌, ◌⊎◌, ◌++◌, ℕ, Bool, true, false, List, length, drop, refl, ap, sym, ◌∙◌, subst, arith, None, Some, inl, inr}
 use Rattle.std.proofs.lemmas.{Bool.cases_eq, List.{length-append, length-drop}}
 use Rattle.std.specs.Prelude.{max}
 use Rattle.dn_tic.specs.declared.command.TicCmd.{TicCmd}

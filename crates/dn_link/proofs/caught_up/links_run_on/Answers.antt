@@ -1,11 +1,12 @@
 -- How many tics are run in rounds, over plain numbers.
-use Rattle.std.proofs.Common.{◌≡◌, ◌<◌, ◌≤◌, ◌+◌, ◌-◌, ◌*◌, ℕ, zero, suc, subst, arith, inl, inr, ℤ, ◌≢◌, ◌++◌, [], ◌∷◌, Bool, true, false, List, length, refl, ap, sym, ◌∙◌, Option, Some, None}
-use Rattle.std.proofs.{lemmas.{Bool.{cases_lt, and_parts, and_right, cases_eq, cond_both, le-leb, leb-true, lt-ltb, ne_eqb, not-true, true≢false}, List.length-append, Option.{none-some, same_Some}}, Math.Nat.{mul-zero, mul-suc}}
-use Rattle.std.specs.{Prelude.{min, if◌then◌else◌, ◌==◌, nat_le, not}, Option.option_or}
+use Rattle.std.proofs.Common.{◌≡◌, ◌<◌, ◌≤◌, ◌+◌, ◌-◌, ◌*◌, ℕ, zero, suc, subst, arith, inl, inr, ℤ, ◌≢◌, ◌++◌, [], ◌∷◌, Bool, true, false, List, length, refl, ap, sym, ◌∙◌, Option, Some}
+use Rattle.std.proofs.{lemmas.{Bool.{cases_lt, and_parts, and_right, cases_eq, le-leb, leb-true, lt-ltb, ne_eqb, not-true, true≢false}, List.length-append, Option.{none-some}}, Math.Nat.{mul-zero, mul-suc}}
+use Rattle.std.specs.{Prelude.{min, nat_le, not}}
 use Rattle.dn_tic.specs.declared.{command.TicCmd.TicCmd, input.Input.Input}
 use Rattle.dn_setup.specs.Settings.{Settings}
-use Rattle.dn_machine.specs.{Running.{is_absent, is_awaited, is_over, on_run_in, on_run_playing, full_at, row_held}, Sparing.{first_off_but, on_run_but}, Sending.on_build, Limits.Limits}
-use Rattle.dn_machine.specs.{declared.answers.{Phase.{Phase, TheVariants.Playing}, Ran.Ran}, Node.{ends_of, is_ended, known_end, lowest, put}}
+use Rattle.dn_remain.proofs.Steady.{lowest_passes}
+use Rattle.dn_machine.specs.{Running.{is_absent, is_awaited, is_over}, Sparing.{on_run_but}, Sending.on_build, Limits.Limits}
+use Rattle.dn_machine.specs.{declared.answers.{Phase.{TheVariants.Playing}, Ran.Ran}, Node.{ends_of, is_ended, known_end, lowest, put}}
 use Rattle.dn_machine.proofs.{Calls.build_cases, Put.{put_at, put_off}, Stages.lag_low}
 use Rattle.dn_lockstep.specs.{Contents.end_in, Marking.Marking, Represents.Represents, Steps.marks_in, Told.{got, made}}
 use Rattle.dn_survivor.specs.{OneGame.Session, Surviving.Surviving}
@@ -123,28 +124,11 @@ module _ (Plays : ℕ → Type 0) (count delay ahead base : ℕ) (some : 1 ≤ d
           omega (arith, run, late)
     ]
 
--- the lowest that passes is below the bound, and passes
-lowest_some : (bound : ℕ) (test : ℕ → Bool) (least : ℕ) → lowest bound test ≡ Some least
-    → (least < bound) × (test least ≡ true)
+-- the lowest that passes is below the bound
+lowest_below : (bound : ℕ) (test : ℕ → Bool) (least : ℕ) → lowest bound test ≡ Some least → least < bound
 unfolding lowest
-lowest_some zero test least e = absurd (none-some least e)
-lowest_some (suc bound) test least e = go (lowest bound test) refl (λ other is. lowest_some bound test other is) e
-  where
-    last : (passes : Bool) → test bound ≡ passes → (if passes then Some bound else None) ≡ Some least
-        → (least < suc bound) × (test least ≡ true)
-    last true is e =
-        let same : bound ≡ least = same_Some bound least e in
-        (omega (arith, same), ap test (sym same) ∙ is)
-    last false is e = absurd (none-some least e)
-
-    go : (found : Option ℕ) → lowest bound test ≡ found
-        → ((other : ℕ) → lowest bound test ≡ Some other → (other < bound) × (test other ≡ true))
-        → option_or found (if test bound then Some bound else None) ≡ Some least → (least < suc bound) × (test least ≡ true)
-    go None is below e = last (test bound) refl e
-    go (Some other) is below e =
-        let same : other ≡ least = same_Some other least e in
-        let before = below other is in
-        (omega (arith, same, before.0), ap test (sym same) ∙ before.1)
+lowest_below zero test least e = absurd (none-some least e)
+lowest_below (suc bound) test least e = grind (arith, lowest_below bound test)
 
 module _ (limits : Limits) (me : ℕ) (m : machine.Node) (plays : m.phase ≡ Playing) where
   -- a playing node makes a command, or is a window ahead
@@ -156,36 +140,24 @@ module _ (limits : Limits) (me : ℕ) (m : machine.Node) (plays : m.phase ≡ Pl
     where
       longer : (held : ℕ → List TicCmd) (me : ℕ) (one : TicCmd)
           → min (length (held me) + 1) (machine.ran m + limits.ahead) ≤ length (put held me (held me ++ one ∷ []) me)
-      longer held me one =
-          let at = ap (length {A = TicCmd}) (put_at held me me (held me ++ one ∷ []) refl)
-          ∙ length-append (held me) (one ∷ []) in
-          omega (arith, at)
+      longer held me one = grind (arith, put_at, length-append)
 
   -- it waits for a player of whom it has run all commands, and not to the end
   abbrev IsLacked : ℕ → Type 0
   IsLacked other = (other < limits.players) × (length (m.held other) ≤ machine.ran m) × (is_absent m other ≡ false)
 
+  waits_for : (gone : ℕ → Bool) (marks : ℕ → ℤ) (other : ℕ) → Ran.Waiting other ≡ (on_run_but limits gone m marks).1
+      → lowest limits.players (is_awaited m) ≡ Some other
+  unfolding on_run_but
+  waits_for gone marks other e = grind arith
+
   run_waits : (gone : ℕ → Bool) (marks : ℕ → ℤ) (other : ℕ) → Ran.Waiting other ≡ (on_run_but limits gone m marks).1
       → IsLacked other
-  unfolding on_run_but
   run_waits gone marks other e =
-      go (lowest limits.players (is_awaited m)) (first_off_but limits gone m) refl
-      (e ∙ ap (λ (p : Phase). (on_run_in limits m marks (first_off_but limits gone m) p).1) plays)
-    where
-      go : (awaited off : Option ℕ) → lowest limits.players (is_awaited m) ≡ awaited
-          → Ran.Waiting other ≡ (on_run_playing limits m marks awaited off).1 → IsLacked other
-      go (Some one) off is e =
-          let found = lowest_some limits.players (is_awaited m) one is in
-          let both = and_parts (not (is_absent m one)) (nat_le (machine.got m one) (machine.ran m)) found.1 in
-          subst IsLacked (waiting_same one other (sym e))
-          (found.0, leb-true (length (m.held one)) (machine.ran m) both.1, not-true (is_absent m one) both.0)
-        where
-          waiting_same : (one other : ℕ) → ◌≡◌ {A = Ran} (Ran.Waiting one) (Ran.Waiting other) → one ≡ other
-          waiting_same one other e = cc
-      go None (Some off) is e = absurd (cc)
-      go None None is e = cond_both (machine.ran m == full_at limits (row_held limits m)) _ _
-          (λ (r : machine.Node × Ran). Ran.Waiting other ≡ r.1 → IsLacked other) (λ full e. absurd (cc))
-          (λ free e. absurd (cc)) e
+      let is = waits_for gone marks other e in
+      let both = and_parts (not (is_absent m other)) (nat_le (machine.got m other) (machine.ran m))
+      (lowest_passes limits.players (is_awaited m) other is) in
+      (lowest_below limits.players (is_awaited m) other is, leb-true (length (m.held other)) (machine.ran m) both.1, not-true (is_absent m other) both.0)
 
 module _ {marking : Marking} {limits : Limits} {settings : Settings} {last : ℕ}
     (stretch : Stretch marking limits settings last) where
