@@ -68,6 +68,7 @@ module _ (marking : Marking) (limits : Limits) (settings : Settings) (session : 
   nothing same = still limits links player new mine were (record {
     others = λ p l n. ap (λ (l : Linked). got l.node p) same;
     own = omega (arith, ap (λ (l : Linked). got l.node player) same);
+    no_more = λ left. ap (λ (l : Linked). got l.node player) same;
     sends = λ p l. ap (λ (l : Linked). next_to l.node p) same;
     wants = λ p l. ap (λ (l : Linked). (l.node.peers p).want) same;
     ran = omega (arith, ap (λ (l : Linked). l.node.ran) same);
@@ -326,7 +327,7 @@ module _ (marking : Marking) (limits : Limits) (settings : Settings) (session : 
 
       pub taken_in : StayCaughtUp limits links player new
       taken_in = relinked limits links player new mine were (still_whole old new takes_it.gone (were.whole player mine)) pair came.least (omega (arith, came.ran))
-          (λ which l off goes_on. let same = came.sends which l in omega (arith, same)) stays
+          (λ which l off goes_on. let same = came.sends which l in omega (arith, same)) stays (λ left. came.own)
 
       -- a player that plays has all of them then
       pub brings : new.node.phase ≡ phase.Playing → last_end first (own_in bundle) ≤ got new.node from

@@ -170,6 +170,7 @@ module _ {marking : Marking} {limits : Limits} {settings : Settings} {last : ℕ
     ran = λ p l. omega arith;
     sends = λ p w l m n e. omega arith;
     ended = λ p l e. e;
+    still = λ p l e. refl;
   }
 
   -- one that has not ended then does not before the last moment
@@ -199,6 +200,7 @@ module _ {marking : Marking} {limits : Limits} {settings : Settings} {last : ℕ
               let two = next.sends p w l m n (still_not to from w (omega (arith, before)) (omega (arith, inside)) m e) in
               omega (arith, one, two);
           ended = λ p l e. next.ended p l (first.ended p l e);
+          still = λ p l e. next.still p l (first.ended p l e) ∙ first.still p l e;
         }
     | inr at ↦
         let same : suc to ≡ from = omega (arith, at, less) in
