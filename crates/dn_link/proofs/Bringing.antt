@@ -25,25 +25,12 @@ last_up tic later (packet ∷ packets) less = omega arith
 -- what is so of a datagram stays so
 pub in_step_on : (limits : Limits) (links later : ℕ → Linked) (bundle : Bundle) → HasGrown limits links later
     → IsInStep limits links bundle → IsInStep limits later bundle
-in_step_on limits links later bundle grown is = record {
-  sender = is.sender;
-  receiver = is.receiver;
-  apart = is.apart;
-  plain = is.plain;
-  asks = is.asks;
-  follows = λ e. later_goes (got (links bundle.to).node bundle.from) (got (later bundle.to).node bundle.from)
-      (own_in bundle) (grown.got bundle.to bundle.from is.receiver is.sender)
-      (is.follows (not_yet (grown.ended bundle.to is.receiver) e));
-}
+in_step_on limits links later bundle grown is = grind (arith, later_goes, not_yet)
 
 pub brings_on : (limits : Limits) (links later : ℕ → Linked) (bundle : Bundle) (count : ℕ)
     → HasGrown limits links later → bundle.from < limits.players → bundle.to < limits.players
     → Brings count links bundle → Brings count later bundle
-brings_on limits links later bundle count grown from to was e =
-    let before = was (not_yet (grown.ended bundle.to to) e) in
-    let up = last_up (got (links bundle.to).node bundle.from) (got (later bundle.to).node bundle.from) (own_in bundle)
-    (grown.got bundle.to bundle.from to from) in
-    omega (arith, before, up)
+brings_on limits links later bundle count grown from to was e = grind (arith, not_yet, last_up)
 
 -- a playing node gives its commands
 plays_sent : (limits : Limits) (me : ℕ) (m : machine.Node) (to : ℕ) → to < limits.players → me ≢ to

@@ -1,7 +1,6 @@
 -- The links of a game stay caught up where one is another now.
 use Rattle.std.proofs.Common.{ℤ, ◌≡◌, ◌≢◌, ◌<◌, ◌≤◌, ◌++◌, [], ◌∷◌, ℕ, Bool, true, false, List, length, refl, ap, sym, ◌∙◌, subst, arith, inl, inr}
 use Rattle.std.proofs.lemmas.{Bool.{and_parts, cases_eq, true≢false}, List.length-append}
-use Rattle.dn_machine.specs.declared.peer.Peer.{Peer}
 use Rattle.dn_tic.specs.declared.{command.TicCmd.TicCmd, input.Input.Input}
 use Rattle.dn_machine.specs.{Sending.{lag, on_build}, Limits.Limits, Node.{is_ended, put}, Running.{on_quit, row_held}, Sparing.on_run_but}
 use Rattle.dn_machine.proofs.{Calls.{build_cases, quit_cases}, Put.{put_at, put_off}}
@@ -69,19 +68,7 @@ module _ (limits : Limits) (links : ℕ → Linked) (player : ℕ) (new : Linked
     where
       -- what another keeps for it
       to_it : (one : ℕ) → one < limits.players → one ≢ player → IsCaughtUp limits one player (links one) new
-      to_it one one_in off =
-          let was = were.pairs one player one_in mine (λ e. off (sym e)) in
-          record {
-            rising = was.rising;
-            chain = was.chain;
-            asks = was.asks;
-            near = was.near;
-            there = λ goes_on. let then = was.there (not_yet stays goes_on) in
-                let grown = more one one_in in omega (arith, then, grown);
-            next = λ goes_on. was.next (not_yet stays goes_on);
-            least = λ goes_on. was.least (not_yet stays goes_on);
-            close = λ goes_on. was.close (not_yet stays goes_on);
-          }
+      to_it one one_in off = grind (arith, not_yet, grown)
 
   -- a call that hears and sends nothing
   pub record IsStill : Type 0 where
@@ -124,18 +111,7 @@ module _ (limits : Limits) (links : ℕ → Linked) (player : ℕ) (new : Linked
 
   pub shows_still : (m after : machine.Node) → Represents limits player old.node m → Represents limits player new.node after
       → IsQuiet m after → IsStill
-  shows_still m after was now quiet =
-      let have : (p : ℕ) → p < limits.players → got old.node p ≡ length (m.held p) = has limits player old.node m was in
-      let having : (p : ℕ) → p < limits.players → got new.node p ≡ length (after.held p) = has limits player new.node after now in
-      record {
-        others = λ p l n. having p l ∙ quiet.0 p n ∙ sym (have p l);
-        own = omega (arith, quiet.1.0, have player mine, having player mine);
-        no_more = λ left. having player mine ∙ quiet.1.3 (sym (ended_is limits player old.node m was) ∙ left)
-            ∙ sym (have player mine);
-        sends = λ p l. ap (λ (x : Peer). x.resend) (now.peers.known p l ∙ quiet.1.1 p ∙ sym (was.peers.known p l));
-        wants = λ p l. ap (λ (x : Peer). x.want) (now.peers.known p l ∙ quiet.1.1 p ∙ sym (was.peers.known p l));
-        ran = omega (arith, quiet.1.2, was.table.ran, now.table.ran);
-      }
+  shows_still m after was now quiet = grind (arith, has, ended_is)
 
   quiet_same : (m : machine.Node) → IsQuiet m m
   quiet_same m = ((λ p n. refl), (omega arith, (λ p. refl), omega arith, (λ left. refl)))

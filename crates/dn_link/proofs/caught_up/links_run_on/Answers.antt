@@ -349,24 +349,19 @@ module _ {marking : Marking} {limits : Limits} {settings : Settings} {last : ℕ
         omega (arith, run, ap (λ (s : Surviving). got s.lockstep player) same, ap (λ (s : Surviving). s.lockstep.ran) same)
 
 -- what a law says of a datagram that arrives
-abbrev Brought : Marking → Limits → Settings → Type 0
-Brought marking limits settings =
-    (session : Session) (links : ℕ → Linked) (player : ℕ) (seal : Seal)
-    (bytes : List ℕ) (new : Linked) (answer : Received) (bundle : Bundle) (count : ℕ) → AreRemainingLinks marking limits
-    settings session links → AreCaughtUp limits links → player < limits.players → IsGenuineIn seal session
-    player bytes → IsInStepTo seal limits links player bytes → Receives seal bytes (links player)
-    new answer → IsDatagramOf (sealing_of seal player) bytes bundle → new.node.phase
-    ≡ Playing → Brings count links bundle → count ≤ got new.node bundle.from
+abbrev AtArrival : ((ℕ → Linked) → Linked → Bundle → ℕ → Type 0) → Marking → Limits → Settings → Type 0
+AtArrival Says marking limits settings =
+    (session : Session) (links : ℕ → Linked) (player : ℕ) (seal : Seal) (bytes : List ℕ) (new : Linked)
+    (answer : Received) (bundle : Bundle) (count : ℕ) → AreRemainingLinks marking limits settings session links
+    → AreCaughtUp limits links → player < limits.players → IsGenuineIn seal session player bytes
+    → IsInStepTo seal limits links player bytes → Receives seal bytes (links player) new answer
+    → IsDatagramOf (sealing_of seal player) bytes bundle → new.node.phase ≡ Playing → Says links new bundle count
 
--- and of the end
+abbrev Brought : Marking → Limits → Settings → Type 0
+Brought = AtArrival (λ links new bundle count. Brings count links bundle → count ≤ got new.node bundle.from)
+
 abbrev Learnt : Marking → Limits → Settings → Type 0
-Learnt marking limits settings =
-    (session : Session) (links : ℕ → Linked) (player : ℕ) (seal : Seal)
-    (bytes : List ℕ) (new : Linked) (answer : Received) (bundle : Bundle) (end : ℕ) → AreRemainingLinks marking limits
-    settings session links → AreCaughtUp limits links → player < limits.players → IsGenuineIn seal session
-    player bytes → IsInStepTo seal limits links player bytes → Receives seal bytes (links player)
-    new answer → IsDatagramOf (sealing_of seal player) bytes bundle → new.node.phase
-    ≡ Playing → HasExit bundle.from end (own_in bundle) → end + 1 ≤ has_of new.node bundle.from
+Learnt = AtArrival (λ links new bundle end. HasExit bundle.from end (own_in bundle) → end + 1 ≤ has_of new.node bundle.from)
 
 module _ {marking : Marking} {limits : Limits} {settings : Settings} {last : ℕ}
     (stretch : Stretch marking limits settings last) (brought : Brought marking limits settings)
