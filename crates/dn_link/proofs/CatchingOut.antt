@@ -356,7 +356,7 @@ module _ (marking : Marking) (limits : Limits) (settings : Settings) (session : 
     | inl at ↦ subst (λ (k : ℕ). next_to old.node k ≤ next_to new.node k) (sym at)
         (sends_then (ap (λ (k : ℕ). has_ended (links k).node) (sym at) ∙ goes_on)).up
     | inr off ↦ let same = gave_it.others which l off in omega (arith, same)
-  ]) stays
+  ]) stays (λ left. gave_it.gots player mine)
 
   -- what the peer is given is in step
   abbrev packets : List Carried

@@ -139,8 +139,10 @@ HasExit from end (packet ∷ packets) =
     ⊎ HasExit from end packets
 
 -- each player has as many commands of each as before, or more; it has run as many tics, or more; its next
--- packet to a peer that has not ended begins no earlier; and a player who had ended has ended
+-- packet to a peer that has not ended begins no earlier; and a player who had ended has ended, and makes no more
 pub record HasGrown (limits : Limits) (old new : ℕ → Linked) : Type 0 where
+  pub still : (player : ℕ) → player < limits.players → has_ended (old player).node ≡ true
+      → got (new player).node player ≡ got (old player).node player
   pub got : (player which : ℕ) → player < limits.players → which < limits.players
       → got (old player).node which ≤ got (new player).node which
   pub ran : (player : ℕ) → player < limits.players → (old player).node.ran ≤ (new player).node.ran

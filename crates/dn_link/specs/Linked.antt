@@ -5,7 +5,7 @@ use Rattle.dn_machine.specs.Node.{put}
 use Rattle.dn_lockstep.specs.{Contents.{Contents, end_in}, Told.made, Told.{command_told}}
 use Rattle.dn_survivor.specs.{OfOthers.has, declared.{others.Others.Others, answers.Reported.{Reported, TheVariants.Kept}, report.{Report.Report, ReportFault.ReportFault}}, Surviving.Surviving, Telling.{MayRelay, report_for}, Calls.HearsReport, ReportBytes.{IsReadAs, IsReport, report_bytes}}
 use Rattle.dn_open.specs.Sealed.{sealing_of}
-use Rattle.dn_link.specs.{declared.{received.Received.{TheVariants.{Unopened, Stranger, GivenUp, Excluded, Heard}, Received}, bundle.{Bundle.Bundle, BundleFault.BundleFault, Carried.Carried, Part.Part}, line.Line.Line, tally.Figures.Figures}, Kept.{Unacknowledged, acknowledged, going, kept_after, taken_by}, Reading.IsBundledAs, Counting.{counts_of, held_of, reached}, Hearing.{SendsCarried, ByTest, HearsAll}, Line.{missing, own_echo}, Pacing.PaceState, Packets.{heard_in, takes_relay}, Packing.ArePacked, Relays.{AreHandedOn, AreLacked, Handed, handed_part}, Ends.{excludes, left_by, told_cause}, Text.{IsBundle, parts_bytes, sealed_bytes}, Packing.{parts_room}, Pacing.{is_brief}, Relays.{IsNewest, newest_from}}
+use Rattle.dn_link.specs.{declared.{received.Received.{TheVariants.{Unopened, Stranger, GivenUp, Excluded, Heard}, Received}, bundle.{Bundle.Bundle, BundleFault.BundleFault, Carried.Carried, Part.Part}, line.Line.Line, tally.Figures.Figures}, Kept.{Unacknowledged, acknowledged, going, kept_after, taken_by}, Reading.IsBundledAs, Counting.{counts_of, held_of, reached}, Hearing.{SendsCarried, ByTest, HearsAll}, Line.{missing, own_echo}, Pacing.PaceState, Packets.{heard_in, takes_relay}, Packing.ArePacked, Relays.{AreHandedOn, AreLacked, Handed, handed_part}, Ends.{excludes, left_by, told_cause}, Text.{IsBundle, sealed_bytes}, Packing.{parts_room}, Pacing.{is_brief}, Relays.{IsNewest, newest_from}}
 use Rattle.dn_link.specs.declared.bundle.Relay as relay
 
 -- what it keeps of a peer: the packets that the peer has not acknowledged, the most that the peer's datagrams

@@ -157,7 +157,7 @@ pub fn links_bring_all()
 /// after r rounds each has run at least r + 1 - (k + d) tics more than all had run at first. A round is a
 /// player's own: one command is asked for, and later tics are run until one is waited for. From one datagram that a
 /// player gives another to the next it makes eleven commands at most; so a round may go by without one. Others may have
-/// left before, if all who play know their ends.
+/// left before, if who plays knows their ends at first, or the lines from them do the same.
 pub fn links_run_on()
     ensures goes_on { (marking : Marking) (limits : Limits) (settings : Settings) (last : ℕ)
         (stretch : Stretch marking limits settings last) (count : ℕ) (rounds : AreRounds stretch count) (seal : Seal)

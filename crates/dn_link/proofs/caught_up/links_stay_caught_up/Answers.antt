@@ -46,6 +46,7 @@ returns-clause-kept c = λ marking limits settings session links player new link
     still limits links player new mine were (record {
       others = λ p l n. ap (λ (n : Contents). got n p) same;
       own = omega (arith, ap (λ (n : Contents). got n player) same);
+      no_more = λ left. ap (λ (n : Contents). got n player) same;
       sends = λ p l. ap (λ (n : Contents). next_to n p) same;
       wants = λ p l. ap (λ (n : Contents). (n.peers p).want) same;
       ran = omega (arith, ap (λ (n : Contents). n.ran) same);
