@@ -422,33 +422,41 @@ module _ (old new : Meeting) (sent : Option (Address × List ℕ)) where
   part_sent had after = moves None (λ o n. SendsPart o n sent) (λ n is. is.0) (λ one is. is)
       (λ one next is. sends_on (playing one).passing (playing one) (playing next) sent is) had after
 
-  pub reply_kept : (reply : Option (Address × List ℕ)) → SendsReply reply old new sent → KeepsOut None old new
-  reply_kept (Some one) (is, goes) = record {
-    keeps = kept None old new (ap (λ m. m.secret) goes) (unmoved old.lobby new.lobby (ap (λ m. m.lobby) goes))
-        (inr (subst (Has Greets) (sym (ap (λ m. m.reply) goes)) tt)) (inl (ap (λ m. m.call) goes))
-        (inl (ap (λ m. passing_in m.part) goes));
-    out = λ none. ap (λ m. m.part) goes ∙ none;
-  }
+  goes : (reply call : Option (Address × List ℕ)) → Kept old.reply reply → Kept old.call call
+      → (part : Option Part) → Moves None old.part part
+      → new ≡ record old { reply = reply; call = call; part = part } → KeepsOut None old new × (new.lobby ≡ old.lobby)
+  goes reply call replies calls part moves is =
+      let lobby : new.lobby ≡ old.lobby = ap (λ m. m.lobby) is in (
+        record {
+          keeps = kept None old new (ap (λ m. m.secret) is) (unmoved old.lobby new.lobby lobby)
+              (subst (Kept old.reply) (sym (ap (λ m. m.reply) is)) replies)
+              (subst (Kept old.call) (sym (ap (λ m. m.call) is)) calls)
+              (subst (λ (o : Option Part). Passes None (passing_in old.part) (passing_in o)) (sym (ap (λ m. m.part) is)) moves.1);
+          out = λ none. ap (λ m. m.part) is ∙ moves.0 none;
+        },
+        lobby,
+      )
+
+  pub reply_kept : (reply : Option (Address × List ℕ)) → SendsReply reply old new sent
+      → KeepsOut None old new × (new.lobby ≡ old.lobby)
+  reply_kept (Some one) (is, same) = goes None old.call (inr tt) (inl refl) old.part (λ none. none, inl refl) same
   reply_kept None sends = call_kept old.call sends
     where
-      call_kept : (call : Option (Address × List ℕ)) → SendsCall call old new sent → KeepsOut None old new
-      call_kept (Some one) (is, goes) = record {
-        keeps = kept None old new (ap (λ m. m.secret) goes) (unmoved old.lobby new.lobby (ap (λ m. m.lobby) goes))
-            (inl (ap (λ m. m.reply) goes)) (inr (subst (Has Greets) (sym (ap (λ m. m.call) goes)) tt))
-            (inl (ap (λ m. passing_in m.part) goes));
-        out = λ none. ap (λ m. m.part) goes ∙ none;
-      }
-      call_kept None (part, goes) = kept_lobby None old new goes (part_sent old.part new.part part)
+      call_kept : (call : Option (Address × List ℕ)) → SendsCall call old new sent
+          → KeepsOut None old new × (new.lobby ≡ old.lobby)
+      call_kept (Some one) (is, same) = goes old.reply None (inl refl) (inr tt) old.part (λ none. none, inl refl) same
+      call_kept None (part, same) =
+          goes old.reply old.call (inl refl) (inl refl) new.part (part_sent old.part new.part part) same
 
-  -- a reply goes first, and then a call
-  abbrev pub Sent : Type 0
-  Sent = (sent ≡ old.reply) ⊎ ((old.reply ≡ None) × ((sent ≡ old.call) ⊎ (old.call ≡ None)))
+  -- a reply goes first, then a call, and then what the part sends
+  abbrev pub FromCall : Type 0
+  FromCall = (sent ≡ old.call) ⊎ ((old.call ≡ None) × SendsPart old.part new.part sent)
 
-  pub in_turn : (reply : Option (Address × List ℕ)) → old.reply ≡ reply → SendsReply reply old new sent → Sent
+  pub in_turn : (reply : Option (Address × List ℕ)) → old.reply ≡ reply → SendsReply reply old new sent
+      → (sent ≡ old.reply) ⊎ ((old.reply ≡ None) × FromCall)
   in_turn (Some one) at is = inl (is.0 ∙ sym at)
   in_turn None none is = inr (none, of_call old.call refl is)
     where
-      of_call : (call : Option (Address × List ℕ)) → old.call ≡ call → SendsCall call old new sent
-          → (sent ≡ old.call) ⊎ (old.call ≡ None)
+      of_call : (call : Option (Address × List ℕ)) → old.call ≡ call → SendsCall call old new sent → FromCall
       of_call (Some one) at is = inl (is.0 ∙ sym at)
-      of_call None none is = inr none
+      of_call None none is = inr (none, is.0)

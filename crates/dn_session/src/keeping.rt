@@ -5,7 +5,7 @@ ghost use Rattle.dn_tic.specs.{declared.command.Move.Move, declared.input.Input.
 ghost use Rattle.dn_machine.specs.declared.answers.Ran.{Ran};
 ghost use Rattle.dn_lockstep.specs.declared.config.NodeFault.{NodeFault};
 ghost use Rattle.dn_session.specs.declared.greeting.Address.{Address};
-ghost use Rattle.dn_session.specs.Session.{Begins, GivesPart, GivesUpPart, HearsAny, Kicks, Meeting, PassesTo, QuitsPart, RunsPart, Sends};
+ghost use Rattle.dn_session.specs.Session.{Begins, GivesPart, GivesUpPart, HearsAny, Kicks, Meeting, PassesTo, QuitsPart, RunsPart, Sends, SendsPart};
 ghost use Rattle.dn_session.specs.Sessions.{Keeps, KeepsOut};
 
 use crate::laws::begun_once;
@@ -28,10 +28,12 @@ pub fn sessions_keep()
     ensures gives_up { (player now : ℕ) (gave : Bool) (old new : Meeting)
         → GivesUpPart player now old.part new.part gave → new ≡ record old { part = new.part } → KeepsOut None old new }
     ensures kicks { (seat : ℕ) (old new : Meeting) → Kicks seat old new → KeepsOut None old new }
-    ensures sends { (old new : Meeting) (sent : Option (Address × List ℕ)) → Sends old new sent → KeepsOut None old new }
-    // A reply goes first, and then a call.
+    ensures sends { (old new : Meeting) (sent : Option (Address × List ℕ)) → Sends old new sent
+        → KeepsOut None old new × (new.lobby ≡ old.lobby) }
+    // A reply goes first, then a call, and then what the part sends.
     ensures sent { (old new : Meeting) (sent : Option (Address × List ℕ)) → Sends old new sent
-        → (sent ≡ old.reply) ⊎ ((old.reply ≡ None) × ((sent ≡ old.call) ⊎ (old.call ≡ None))) }
+        → (sent ≡ old.reply) ⊎ ((old.reply ≡ None) × ((sent ≡ old.call)
+        ⊎ ((old.call ≡ None) × SendsPart old.part new.part sent))) }
 {
     begun_once();
 }
