@@ -54,6 +54,7 @@ rested old new is = record {
     passing = inl (ap (λ m. passing_in m.part) is);
   };
   out = λ none. ap (λ m. m.part) is ∙ none;
+  stays = λ none. sym (ap (λ m. m.part) is) ∙ none;
 }
 
 -- where the lobby is the same

@@ -55,6 +55,7 @@ pub record AreInGame {W S : Type 0} (state : W → S) (physics : Physics S) (sec
   pub places : length t.engines.items ≡ b.terms.players
   pub new : (p : ℕ) (e : Engine W) (part : Part) → HasEngine t p e → (met e).part ≡ Some part
       → (q : Playing) × IsLinkOf secret (record b { me = p }) q.link
+  pub idle : (p : ℕ) (e : Engine W) → HasEngine t p e → (met e).part ≡ None → e.told.items ≡ []
   pub play : (parts : ℕ → Playing) → AreNew secret b parts → ArePlaying state physics secret b t
 
 -- sessions of one secret, in their lobbies or in one game

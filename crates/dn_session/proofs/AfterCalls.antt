@@ -210,18 +210,18 @@ module _ (came : Option (List ℕ)) where
   abbrev pub Passes : Option (Address × List ℕ) → Option (Address × List ℕ) → Type 0
   Passes old new = (new ≡ old) ⊎ Has (λ bytes. came ≡ Some bytes) new
 
-  -- no part comes, and what it passes on was there before, or came
+  -- no part comes or goes, and what it passes on was there before, or came
   abbrev pub Moves : Option Part → Option Part → Type 0
-  Moves old new = (old ≡ None → new ≡ None) × Passes (passing_in old) (passing_in new)
+  Moves old new = (old ≡ None → new ≡ None) × (new ≡ None → old ≡ None) × Passes (passing_in old) (passing_in new)
 
   pub moves : (Does : Option Part → Option Part → Type 0) → ((after : Option Part) → Does None after → after ≡ None)
       → ((one : Part) → Does (Some one) None → ⊥)
       → ((one next : Part) → Does (Some one) (Some next) → Passes (playing one).passing (playing next).passing)
       → (old new : Option Part) → Does old new → Moves old new
   moves Does none lost step None new does =
-      (λ e. none new does, inl (ap passing_in (none new does)))
+      (λ e. none new does, λ e. refl, inl (ap passing_in (none new does)))
   moves Does none lost step (Some one) None does = absurd (lost one does)
-  moves Does none lost step (Some one) (Some next) does = (λ e. absurd (none-some one (sym e)), step one next does)
+  moves Does none lost step (Some one) (Some next) does = (λ e. absurd (none-some one (sym e)), λ e. absurd (none-some next (sym e)), step one next does)
 
   pub if_playing : (Does : Playing → Playing → Type 0) → ((p q : Playing) → Does p q → Passes p.passing q.passing)
       → (old new : Option Part) → IfPlaying Does old new → Moves old new
@@ -250,8 +250,9 @@ module _ (came : Option (List ℕ)) where
       → KeepsOut came old new
   kept_lobby old new is moves = record {
     keeps = kept old new (ap (λ m. m.secret) is) (unmoved old.lobby new.lobby (ap (λ m. m.lobby) is))
-        (inl (ap (λ m. m.reply) is)) (inl (ap (λ m. m.call) is)) moves.1;
+        (inl (ap (λ m. m.reply) is)) (inl (ap (λ m. m.call) is)) moves.2;
     out = moves.0;
+    stays = moves.1;
   }
 
 -- What is to be passed on, after each call on a part.
@@ -360,6 +361,7 @@ hears_kept c from bytes now old new true (lobby, reply, greeting, is) =
           (inl (ap (λ m. m.call) is))
           (inl (ap (λ m. passing_in m.part) is));
       out = λ none. ap (λ m. m.part) is ∙ none;
+      stays = λ none. sym (ap (λ m. m.part) is) ∙ none;
     }
 hears_kept c from bytes now old new false (plays, is) =
     kept_lobby (Some bytes) old new is
@@ -389,8 +391,9 @@ passes_kept c now old new (call, calls, polls, is) =
     old.part new.part polls in
     record {
       keeps = kept None old new (ap (λ m. m.secret) is) both.0 (inl (ap (λ m. m.reply) is))
-          (both.1 old.call new.call (ap (λ m. m.call) is)) part.1;
+          (both.1 old.call new.call (ap (λ m. m.call) is)) part.2;
       out = part.0;
+      stays = part.1;
     }
 
 -- what of three a call does to a part, or nothing where there is none
@@ -415,6 +418,7 @@ kicks_kept seat old new kicks is = record {
       (inl (ap (λ m. m.reply) is)) (inl (ap (λ m. m.call) is))
       (inl (ap (λ m. passing_in m.part) is));
   out = λ none. ap (λ m. m.part) is ∙ none;
+  stays = λ none. sym (ap (λ m. m.part) is) ∙ none;
 }
 
 module _ (old new : Meeting) (sent : Option (Address × List ℕ)) where
@@ -431,20 +435,21 @@ module _ (old new : Meeting) (sent : Option (Address × List ℕ)) where
           keeps = kept None old new (ap (λ m. m.secret) is) (unmoved old.lobby new.lobby lobby)
               (subst (Kept old.reply) (sym (ap (λ m. m.reply) is)) replies)
               (subst (Kept old.call) (sym (ap (λ m. m.call) is)) calls)
-              (subst (λ (o : Option Part). Passes None (passing_in old.part) (passing_in o)) (sym (ap (λ m. m.part) is)) moves.1);
+              (subst (λ (o : Option Part). Passes None (passing_in old.part) (passing_in o)) (sym (ap (λ m. m.part) is)) moves.2);
           out = λ none. ap (λ m. m.part) is ∙ moves.0 none;
+          stays = λ none. moves.1 (sym (ap (λ m. m.part) is) ∙ none);
         },
         lobby,
       )
 
   pub reply_kept : (reply : Option (Address × List ℕ)) → SendsReply reply old new sent
       → KeepsOut None old new × (new.lobby ≡ old.lobby)
-  reply_kept (Some one) (is, same) = goes None old.call (inr tt) (inl refl) old.part (λ none. none, inl refl) same
+  reply_kept (Some one) (is, same) = goes None old.call (inr tt) (inl refl) old.part (λ none. none, λ none. none, inl refl) same
   reply_kept None sends = call_kept old.call sends
     where
       call_kept : (call : Option (Address × List ℕ)) → SendsCall call old new sent
           → KeepsOut None old new × (new.lobby ≡ old.lobby)
-      call_kept (Some one) (is, same) = goes old.reply None (inl refl) (inr tt) old.part (λ none. none, inl refl) same
+      call_kept (Some one) (is, same) = goes old.reply None (inl refl) (inr tt) old.part (λ none. none, λ none. none, inl refl) same
       call_kept None (part, same) =
           goes old.reply old.call (inl refl) (inl refl) new.part (part_sent old.part new.part part) same
 

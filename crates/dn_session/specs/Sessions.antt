@@ -68,7 +68,8 @@ pub record Keeps (came : Option (List ℕ)) (old new : Meeting) : Type 0 where
   pub call : (new.call ≡ old.call) ⊎ Has Greets new.call
   pub passing : (passing_in new.part ≡ passing_in old.part) ⊎ Has (λ bytes. came ≡ Some bytes) (passing_in new.part)
 
--- and no part, if it had none
+-- and a part, if it had one, and else none
 pub record KeepsOut (came : Option (List ℕ)) (old new : Meeting) : Type 0 where
   pub keeps : Keeps came old new
   pub out : old.part ≡ None → new.part ≡ None
+  pub stays : new.part ≡ None → old.part ≡ None
