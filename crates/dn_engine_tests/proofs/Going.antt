@@ -26,7 +26,7 @@ set_elsewhere (y ∷ xs) zero (suc j) x h = refl
 set_elsewhere (y ∷ xs) (suc i) zero x h = refl
 set_elsewhere (y ∷ xs) (suc i) (suc j) x h = set_elsewhere xs i j x (λ e. h (ap suc e))
 
-all_at : {X : Type 0} (P : X → Type 0) (xs : List X) → All P xs → (k : ℕ) (x : X) → slice_get xs k ≡ Some x → P x
+pub all_at : {X : Type 0} (P : X → Type 0) (xs : List X) → All P xs → (k : ℕ) (x : X) → slice_get xs k ≡ Some x → P x
 all_at P [] all k x e = absurd (none-some x e)
 all_at P (y ∷ xs) all zero x e = subst P (same_Some y x e) (All-head P y xs all)
 all_at P (y ∷ xs) all (suc k) x e = all_at P xs (All-tail P y xs all) k x e

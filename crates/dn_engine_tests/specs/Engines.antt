@@ -26,6 +26,11 @@ pub record IsOf (secret : Option (List ℕ)) (m : Meeting) : Type 0 where
   pub reply : Has Greets m.reply
   pub call : Has Greets m.call
 
+-- one with no part in a game, that has nothing to send
+pub record IsFresh (secret : Option (List ℕ)) (m : Meeting) : Type 0 where
+  pub of : IsOf secret m
+  pub out : m.part ≡ None
+
 -- bytes are a greeting, or were sealed in the game
 abbrev pub MayCome : Option (List ℕ) → Begun → History → List ℕ → Type 0
 MayCome secret b history bytes = Greets bytes ⊎ WasSealedIn (game_seal secret b.game) history bytes

@@ -71,9 +71,10 @@ StayTable state physics old new =
 
 -- What they agree on.
 
--- all have begun their game
+-- there are engines, and all have begun their game
 abbrev pub HaveBegun : {W : Type 0} → Table W → Type 0
-HaveBegun {W} t = (p : ℕ) (e : Engine W) → HasEngine t p e → (part : Part) × ((met e).part ≡ Some part)
+HaveBegun {W} t = (0 < length t.engines.items)
+    × ((p : ℕ) (e : Engine W) → HasEngine t p e → (part : Part) × ((met e).part ≡ Some part))
 
 -- in some history of the game each engine's link is what the readers say of it, its runs told just these rows, and by
 -- these its world was stepped; and of that history all is so that is promised of links

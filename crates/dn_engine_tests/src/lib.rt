@@ -13,13 +13,15 @@ mod sessions;
 mod steps;
 mod table;
 #[cfg(test)]
+mod table_tests;
+#[cfg(test)]
 mod tests;
 
 pub use calls::{Parcel, give, hand, quit, run, take};
 pub use engine::Engine;
 pub use letters::hear_letter;
 pub use pairs::{Pair, open, pass, play};
-pub use playing::{TableFault, open as open_table, play_on};
+pub use playing::{TableFault, open_table, play_table, tables_agree};
 pub use sessions::{begin_game, pass_on, run_tic};
 pub use steps::{Call, Done, Event, Refusal, Step};
 pub use table::Table;

@@ -86,13 +86,13 @@ const HOST: Address = Address { bytes: [1; 32] };
 const JOINER: Address = Address { bytes: [2; 32] };
 
 /// Its host.
-fn host(settings: Settings) -> HostConfig {
+pub(crate) fn host(players: u8, settings: Settings) -> HostConfig {
     HostConfig {
         secret: SECRET,
         random: [3; 32],
         name: [0; 16],
         terms: Terms {
-            players: 2,
+            players,
             extra: false,
             ahead: 2,
             rate: 35,
@@ -105,11 +105,11 @@ fn host(settings: Settings) -> HostConfig {
     }
 }
 
-/// Who joins.
-fn joiner() -> JoinConfig {
+/// Who joins, by the number of the player.
+pub(crate) fn joiner(player: u8) -> JoinConfig {
     JoinConfig {
         secret: SECRET,
-        random: [4; 32],
+        random: [player.wrapping_add(3); 32],
         host: HOST,
         seat: None,
         players: None,
@@ -120,8 +120,8 @@ fn joiner() -> JoinConfig {
 
 #[test]
 fn sessions_begin_and_run(rt: HostRuntime) -> Result<(), Fail> {
-    let mut one = Session::host(&host(Settings::new(2, 0, false, false, 1, 1)?))?;
-    let mut other = Session::join(&joiner(), 0)?;
+    let mut one = Session::host(&host(2, Settings::new(2, 0, false, false, 1, 1)?))?;
+    let mut other = Session::join(&joiner(1), 0)?;
     for now in [0, 600, 1200] {
         other.poll(now);
         pass_on(&mut other, &mut one, &JOINER, now);
