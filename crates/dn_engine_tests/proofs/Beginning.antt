@@ -14,10 +14,10 @@ use Rattle.dn_session.specs.{Parts.limits_of, Parts.links_of, Playing.Playing, P
 use Rattle.dn_session.specs.{Sessions.AreSessions, Sessions.Greets, Sessions.Has, Sessions.IsPartFor, Sessions.Keeps, Sessions.PlaysWith, Sessions.StaySessions}
 use Rattle.dn_session.specs.declared.{part.Part.Part, side.Begun.Begun, side.Side.Side}
 use Rattle.dn_engine_tests.specs.declared.{engine.Engine.Engine, table.Table.Table}
-use Rattle.dn_engine_tests.specs.Engines.{BeginsIn, IsOf, IsTold, MayCome, met}
+use Rattle.dn_engine_tests.specs.Engines.{BeginsIn, IsOf, IsTold, MayCome, Rests, met}
 use Rattle.dn_engine_tests.specs.Tables.{AreApart, AreInGame, AreInLobby, AreNew, ArePlaying, HasEngine, StayTable}
-use Rattle.dn_engine_tests.proofs.Calling.{StaySealed}
-use Rattle.dn_engine_tests.proofs.Going.{IsAfter, all_of, apart_before, by_place, each_after, inside, moved}
+use Rattle.dn_engine_tests.proofs.Calling.{StaySealed, rests_on}
+use Rattle.dn_engine_tests.proofs.Going.{IsAfter, all_of, apart_before, by_place, each_after, goes_on, inside, moved}
 use Rattle.dn_link_game.proofs.Going.{length_set}
 
 -- a session that begins has no part before, and then one in the game that had begun for it
@@ -70,6 +70,11 @@ BeginsLaw marking = (secret : Option (List ℕ)) (b : Begun) (history : History)
     → ((here : Begun) → begins_now (meetings player) ≡ Some here
     → PlaysWith one b player (meetings player).lobby here) → Begins now (meetings player) new result
     → StaySessions marking secret b history meetings player new None
+
+abbrev pub StaysLaw : Marking → Type 0
+StaysLaw marking = (secret : Option (List ℕ)) (b : Begun) (history : History) (meetings : ℕ → Meeting) (player : ℕ)
+    (new : Meeting) → AreSessions marking secret b history meetings → player < b.terms.players
+    → new.part ≡ (meetings player).part → StaySessions marking secret b history meetings player new None
 
 abbrev pub MadeLaw : Type 0
 MadeLaw = (secret : Option (List ℕ)) (one side : Side) (b here : Begun) (player now : ℕ) (part : Playing)
@@ -209,3 +214,12 @@ module _ {W S : Type 0} (state : W → S) (physics : Physics S) (old new : Table
             (subst IsSide (sym (ap (λ (m : Meeting). m.lobby) its.new_is))) was.0,
         inr (b, in_game secret apart was.0 in_one),
       )
+
+-- an engine of which nothing changed leaves a table
+pub stood : {W S : Type 0} (state : W → S) (physics : Physics S) (old new : Table W) (me : ℕ) (before after : Engine W)
+    (at : HasEngine old me before) (engines : new.engines.items ≡ set old.engines.items me after)
+    → new.given.items ≡ old.given.items → Rests state before after → StaysLaw (marking_of physics) → StaySealed
+    → StayTable state physics old new
+stood state physics old new me before after at engines given rests law stay =
+    goes_on state physics old new me before after at engines None None
+    (rests_on state physics before after rests law) (inl given) (inl refl) stay

@@ -1,7 +1,7 @@
 //! A table: the engines of one game in one process, and every datagram that they gave.
 
-ghost use Rattle.std.specs.Prelude.{◌≡◌, length, nat_lt};
-ghost use Rattle.dn_engine_tests.specs.Tables.{StayTable};
+ghost use Rattle.std.specs.Prelude.{◌≡◌, None, length, nat_lt};
+ghost use Rattle.dn_engine_tests.specs.{Engines.came_of, Tables.StayTable};
 
 use crate::engine::Engine;
 use crate::steps::{Call, Done, Event, Refusal, Step};
@@ -35,6 +35,7 @@ impl<W: World> Table<W> {
         sessions_keep();
         sessions_play();
         sessions_stay();
+        remaining_bytes_are_genuine();
         if !self.has(player) {
             return Err(Refusal::NoEngine);
         }
@@ -52,6 +53,7 @@ impl<W: World> Table<W> {
 
     /// A call of an engine. What it gives joins what was given; where there is no room it is lost.
     fn call(&mut self, player: u8, call: &Call, now: u32) -> Result<Done, Refusal>
+        requires { came_of call.now ≡ None }
         ensures { StayTable W.state W.physics self.old self.new }
     {
         if !self.has(player) {
