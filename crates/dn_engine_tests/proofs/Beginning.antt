@@ -85,9 +85,12 @@ module _ {W S : Type 0} (state : W → S) (physics : Physics S) (secret : Option
     (host : Engine W) (at_host : HasEngine t 0 host) (begun : begun_in (met host).lobby ≡ Some b)
     (places : length t.engines.items ≡ b.terms.players) (law : OpensLaw (marking_of physics)) where
   -- what the session of a place is
-  meeting_at : Option (Engine W) → Meeting
+  abbrev meeting_at : Option (Engine W) → Meeting
   meeting_at (Some e) = met e
   meeting_at None = met host
+
+  abbrev opening : (ℕ → Playing) → History
+  opening parts = started_session b.terms.players b.terms.settings (λ p. surviving_of (links_of parts p))
 
   -- engines in their lobbies are in the game that the host's has begun
   pub opens : ((i : ℕ) (e : Engine W) → HasEngine t i e → IsOf secret (met e)) → AreInLobby t
@@ -100,7 +103,7 @@ module _ {W S : Type 0} (state : W → S) (physics : Physics S) (secret : Option
     new = λ p e part there has. absurd (none-some part (sym (is.out p e there) ∙ has));
     idle = λ p e there none. is.told p e there;
     play = λ parts new. record {
-      history = started_session b.terms.players b.terms.settings (λ p. surviving_of (links_of parts p));
+      history = opening parts;
       meetings = λ p. meeting_at (slice_get t.engines.items p);
       are = law secret (met host).lobby b (λ p. meeting_at (slice_get t.engines.items p)) parts (of 0 host at_host).fits begun
           (λ p low. (
@@ -112,8 +115,9 @@ module _ {W S : Type 0} (state : W → S) (physics : Physics S) (secret : Option
         told = is.told p e there;
         world = λ part has. absurd (none-some part (sym (is.out p e there) ∙ has));
       };
-      passing = λ p e there. subst (λ (o : Option Part). Has _ (passing_in o)) (sym (is.out p e there)) tt;
-      given = All-weaker (λ (bytes : ArrayVec ℕ). Greets bytes.items) _ (λ bytes greets. inl greets) t.given.items is.given;
+      passing = λ p e there. subst (λ (o : Option Part). Has (MayCome secret b (opening parts)) (passing_in o)) (sym (is.out p e there)) tt;
+      given = All-weaker (λ (bytes : ArrayVec ℕ). Greets bytes.items)
+          (λ (bytes : ArrayVec ℕ). MayCome secret b (opening parts) bytes.items) (λ bytes greets. inl greets) t.given.items is.given;
     };
   }
     where
@@ -134,7 +138,7 @@ module _ {W S : Type 0} (state : W → S) (physics : Physics S) (old new : Table
 
   module _ (secret : Option (List ℕ)) (apart : AreApart old)
       (of : (i : ℕ) (e : Engine W) → HasEngine old i e → IsOf secret (met e)) where
-    one : Side
+    abbrev one : Side
     one = (met host).lobby
 
     -- it plays the host's game

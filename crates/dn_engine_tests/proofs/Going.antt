@@ -1,6 +1,6 @@
 -- A call of one engine takes its table on.
 use Rattle.std.proofs.Common.{◌≡◌, ◌≢◌, ◌<◌, ◌⊎◌, ℕ, zero, suc, List, [], ◌∷◌, ◌++◌, Option, Some, None, sym, ap, ◌∙◌, subst, length, set, refl, inl, inr, arith}
-use Rattle.std.specs.Prelude.{All, IfSome, OnErr, OnOk, Result, Ok, Err, slice_get}
+use Rattle.std.specs.Prelude.{All, Bool, IfSome, false, if◌then◌else◌, slice_get, true}
 use Rattle.std.proofs.lemmas.List.Elements.{All-head, All-push, All-tail, All-weaker}
 use Rattle.std.proofs.lemmas.Option.{none-some, same_Some, slice_get_within}
 use Rattle.std.proofs.lemmas.Bool.{cases_eq}
@@ -32,11 +32,11 @@ all_at P (y ∷ xs) all zero x e = subst P (same_Some y x e) (All-head P y xs al
 all_at P (y ∷ xs) all (suc k) x e = all_at P xs (All-tail P y xs all) k x e
 
 -- what is pushed joins what was given, or is lost
-pub joined : (old new : List (ArrayVec ℕ)) (sent : Option (ArrayVec ℕ)) (bytes : ArrayVec ℕ) {F : Type 0}
-    (pushed : Result (Unit {0}) F) → sent ≡ Some bytes → OnOk pushed (new ≡ old ++ bytes ∷ []) → OnErr pushed (new ≡ old)
+pub joined : (old new : List (ArrayVec ℕ)) (sent : Option (ArrayVec ℕ)) (bytes : ArrayVec ℕ) (pushed : Bool)
+    → sent ≡ Some bytes → new ≡ (if pushed then old ++ bytes ∷ [] else old)
     → (new ≡ old) ⊎ ((bytes : ArrayVec ℕ) × (sent ≡ Some bytes) × (new ≡ old ++ bytes ∷ []))
-joined old new sent bytes (Ok done) is ok err = inr (bytes, is, ok)
-joined old new sent bytes (Err failed) is ok err = inl err
+joined old new sent bytes true is same = inr (bytes, is, same)
+joined old new sent bytes false is same = inl same
 
 -- a session of the secret is one after a call too
 pub still_of : (secret came : Option (List ℕ)) (old new : Meeting) → Keeps came old new

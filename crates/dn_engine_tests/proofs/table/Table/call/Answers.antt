@@ -1,4 +1,5 @@
 use Rattle.std.proofs.Common.{rules, ◌≡◌, ◌<◌, ℕ, length, refl, sym, inl, inr, arith}
+use Rattle.std.specs.Prelude.{is_ok}
 use Rattle.std.proofs.lemmas.Option.{slice_get_read}
 use Rattle.dn_engine_tests.specs.Tables.{HasEngine}
 use Rattle.dn_engine_tests.proofs.Going.{goes_on, joined}
@@ -13,8 +14,8 @@ returns-in-Some g c =
     before refl (omega (arith, there)) c.index_mut.ensures.value in
     goes_on g.W.World.state g.W.World.physics old _ c.from.result before c.call-done.new.self at refl _ c.call-done.result.1
     c.call-done.ensures
-    (joined old.given.items c.push.new.self.items c.call-done.result.1 c.in-Some.bytes c.push.result c.in-Some.is
-    c.push.ensures.ok c.push.ensures.err)
+    (joined old.given.items c.push.new.self.items c.call-done.result.1 c.in-Some.bytes (is_ok c.push.result)
+    c.in-Some.is c.push.ensures.items)
     (inl c.requires) c.remaining_bytes_are_genuine.ensures.stay
 
 pub returns-in_default : goal.returns-in_default
