@@ -1,20 +1,17 @@
 -- The engines of a table agree.
-use Rattle.std.proofs.Common.{◌≡◌, ◌≢◌, ◌<◌, ℕ, zero, suc, List, [], ◌∷◌, Option, Some, None, length, refl, sym, ap, ◌∙◌, subst, inl, inr, arith}
-use Rattle.std.specs.Prelude.{slice_get, true, false}
+use Rattle.std.proofs.Common.{◌≡◌, ◌<◌, ℕ, zero, suc, List, [], ◌∷◌, Option, Some, None, length, refl, sym, ap, ◌∙◌, subst, inl, inr, arith}
+use Rattle.std.specs.Prelude.{slice_get}
 use Rattle.std.proofs.lemmas.Bool.{cases_lt}
 use Rattle.std.proofs.lemmas.Option.{none-some, same_Some, slice_get_within}
 use Rattle.dn_world.specs.Physics.{Physics}
 use Rattle.dn_machine.specs.Node.{put}
 use Rattle.dn_machine.proofs.Put.{put_at, put_off}
-use Rattle.dn_lockstep.specs.{Contents.end_in, OneGame.world_told, Told.got, Told.made}
-use Rattle.dn_survivor.specs.{OneGame.Session as History, Surviving.Surviving}
-use Rattle.dn_link.specs.{Counting.has_ended, Linked.Linked, Linked.has_given_up, Linked.may_leave, Linked.surviving_of, Linking.linked, declared.link.Link.Link}
-use Rattle.dn_link_game.specs.Playing.{marking_of, world_by}
-use Rattle.dn_session.specs.{Parts.limits_of, Parts.links_of, Playing.Playing, Playing.playing, Session.IsLinkOf, Session.Meeting, Session.link_in, Sessions.IsPartFor}
+use Rattle.dn_link.specs.{Linking.linked, declared.link.Link.Link}
+use Rattle.dn_session.specs.{Parts.links_of, Playing.Playing, Playing.playing, Session.IsLinkOf, Session.Meeting, Session.link_in, Sessions.IsPartFor}
 use Rattle.dn_session.specs.declared.{part.Part.Part, side.Begun.Begun}
 use Rattle.dn_engine_tests.specs.declared.{engine.Engine.Engine, table.Table.Table}
 use Rattle.dn_engine_tests.specs.Engines.{met}
-use Rattle.dn_engine_tests.specs.Tables.{AreInGame, AreNew, ArePlaying, HasEngine, HaveBegun}
+use Rattle.dn_engine_tests.specs.Tables.{AreInGame, ArePlaying, HasEngine, HaveBegun}
 
 -- one for each number, where there is one for each
 choose : {A : Type 0} (n : ℕ) (P : ℕ → A → Type 0) → A → ((p : ℕ) → p < n → (a : A) × P p a)

@@ -1,23 +1,23 @@
 -- An engine begins the host's game.
-use Rattle.std.proofs.Common.{◌≡◌, ◌<◌, ℕ, List, [], Option, Some, None, Result, Ok, Bool, true, false, sym, ap, ◌∙◌, subst, length, set, refl, inl, inr, arith}
-use Rattle.std.specs.Prelude.{All, IfSome, slice_get, is_some, if◌then◌else◌}
+use Rattle.std.proofs.Common.{◌≡◌, ◌<◌, ℕ, List, [], Option, Some, None, Result, Ok, Bool, true, sym, ap, ◌∙◌, subst, length, set, refl, inl, inr}
+use Rattle.std.specs.Prelude.{slice_get, is_some, if◌then◌else◌}
 use Rattle.std.proofs.lemmas.List.Elements.{All-weaker}
 use Rattle.std.proofs.lemmas.Option.{none-some, same_Some}
 use Rattle.arrayvec.specs.ArrayVec.{ArrayVec}
 use Rattle.dn_setup.specs.Settings.{start_of}
 use Rattle.dn_world.specs.Physics.{Physics}
-use Rattle.dn_lockstep.specs.{Contents.Whose, Marking.Marking, OneGame.told_on, OneGame.world_told, Rows.seats_of, declared.config.NodeFault.NodeFault}
+use Rattle.dn_lockstep.specs.{Contents.Whose, Marking.Marking, OneGame.world_told, Rows.seats_of, declared.config.NodeFault.NodeFault}
 use Rattle.dn_survivor.specs.OneGame.{Session as History, started_session}
-use Rattle.dn_link.specs.{Linked.surviving_of, Linking.linked, declared.link.Link.Link}
+use Rattle.dn_link.specs.{Linked.surviving_of}
 use Rattle.dn_link_game.specs.Playing.{marking_of, world_by}
-use Rattle.dn_session.specs.{Parts.limits_of, Parts.links_of, Playing.Playing, Playing.playing, Roster.IsSide, Roster.Place, Session.Begins, Session.BeginsAs, Session.IsLinkOf, Session.IsMadeAs, Session.IsPartOf, Session.Meeting, Session.begins_now, Session.begun_in, Session.link_in, Session.passing_in}
+use Rattle.dn_session.specs.{Parts.limits_of, Parts.links_of, Playing.Playing, Playing.playing, Roster.IsSide, Session.Begins, Session.BeginsAs, Session.IsLinkOf, Session.IsPartOf, Session.Meeting, Session.begins_now, Session.begun_in, Session.link_in, Session.passing_in}
 use Rattle.dn_session.specs.{Sessions.AreSessions, Sessions.Greets, Sessions.Has, Sessions.IsPartFor, Sessions.Keeps, Sessions.PlaysWith, Sessions.StaySessions}
 use Rattle.dn_session.specs.declared.{part.Part.Part, side.Begun.Begun, side.Side.Side}
 use Rattle.dn_engine_tests.specs.declared.{engine.Engine.Engine, table.Table.Table}
-use Rattle.dn_engine_tests.specs.Engines.{BeginsIn, IsOf, IsTold, MayCome, Rests, met}
-use Rattle.dn_engine_tests.specs.Tables.{AreApart, AreInGame, AreInLobby, AreNew, ArePlaying, HasEngine, StayTable}
+use Rattle.dn_engine_tests.specs.Engines.{BeginsIn, IsOf, MayCome, Rests, met}
+use Rattle.dn_engine_tests.specs.Tables.{AreApart, AreInGame, AreInLobby, HasEngine, StayTable}
 use Rattle.dn_engine_tests.proofs.Calling.{StaySealed, rests_on}
-use Rattle.dn_engine_tests.proofs.Going.{IsAfter, all_of, apart_before, by_place, each_after, goes_on, inside, moved}
+use Rattle.dn_engine_tests.proofs.Going.{all_of, apart_before, by_place, each_after, goes_on, inside, moved}
 use Rattle.dn_link_game.proofs.Going.{length_set}
 
 -- a session that begins has no part before, and then one in the game that had begun for it

@@ -1,6 +1,6 @@
 -- What a call of an engine leads to, in whatever game its session is.
-use Rattle.std.proofs.Common.{◌≡◌, ◌<◌, ◌⊎◌, ℕ, ℤ, pos, List, length, Option, Some, None, refl, ap, sym, subst, ◌∙◌, inl, inr, arith}
-use Rattle.std.specs.Prelude.{IfSome, get_or}
+use Rattle.std.proofs.Common.{◌≡◌, ◌<◌, ◌⊎◌, ℕ, ℤ, List, Option, Some, None, refl, ap, sym, subst, ◌∙◌, inl, inr, arith}
+use Rattle.std.specs.Prelude.{IfSome}
 use Rattle.std.specs.Option.{option_map}
 use Rattle.std.proofs.lemmas.Option.{none-some}
 use Rattle.std.proofs.lemmas.List.Sums.{fold_push}
@@ -14,11 +14,11 @@ use Rattle.dn_survivor.specs.OneGame.{Session as History}
 use Rattle.dn_link.specs.{Linking.linked, RemainingLinks.IsLater, RemainingLinks.WasSealedIn, declared.link.Link.Link}
 use Rattle.dn_seal.specs.declared.seal.Seal.{Seal}
 use Rattle.dn_link_game.specs.Playing.{marking_of, world_by}
-use Rattle.dn_session.specs.{Parts.AreMarksOf, Parts.limits_of, Passing.sent_of, Roster.IsSide, Roster.key_of, Roster.place_in, Session.Meeting, Session.RunsPart, Session.Sends, Session.SendsPart, Session.begun_in, Session.link_in, Session.passing_in}
+use Rattle.dn_session.specs.{Parts.AreMarksOf, Parts.limits_of, Passing.sent_of, Roster.IsSide, Roster.key_of, Roster.place_in, Session.Meeting, Session.RunsPart, Session.SendsPart, Session.begun_in, Session.link_in, Session.passing_in}
 use Rattle.dn_session.specs.{Sessions.AreSessions, Sessions.Greets, Sessions.Has, Sessions.KeepsOut, Sessions.StaySessions, Text.game_seal}
 use Rattle.dn_session.specs.declared.{greeting.Address.Address, part.Part.Part, part.sending.Transmit.Transmit, side.Begun.Begun}
 use Rattle.dn_engine_tests.specs.declared.engine.Engine.{Engine}
-use Rattle.dn_engine_tests.specs.Engines.{GoesOn, IsOf, IsTold, MayCome, Rests, RunsIn, met}
+use Rattle.dn_engine_tests.specs.Engines.{GoesOn, IsTold, MayCome, Rests, RunsIn, met}
 
 -- what is so of bytes is so of what they have
 pub has_more : (P Q : List ℕ → Type 0) → ((bytes : List ℕ) → P bytes → Q bytes) → (held : Option (Address × List ℕ))

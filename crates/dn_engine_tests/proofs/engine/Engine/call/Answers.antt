@@ -1,4 +1,4 @@
-use Rattle.std.proofs.Common.{◌≡◌, ◌∙◌, ℕ, Option, Some, None, refl, sym, subst, inl, inr, true≢false}
+use Rattle.std.proofs.Common.{◌≡◌, ◌∙◌, Option, Some, None, refl, sym, subst, inl, inr, true≢false}
 use Rattle.std.specs.Prelude.{IfSome}
 use Rattle.std.specs.Option.{option_map}
 use Rattle.dn_machine.specs.declared.answers.Ran.{Ran}
@@ -6,7 +6,6 @@ use Rattle.dn_link_game.specs.Playing.{marking_of}
 use Rattle.dn_session.specs.{Passing.sent_of, Roster.IsSide, Session.GivesPart, Session.GivesUpPart, Session.HearsAny, Session.Meeting, Session.PassesTo, Session.QuitsPart, Session.Sends, Session.meeting, Text.game_seal}
 use Rattle.dn_session.specs.declared.part.sending.Transmit.{Transmit}
 use Rattle.dn_engine_tests.specs.Engines.{GoesOn, RunsIn, Rests, met}
-use Rattle.dn_engine_tests.specs.declared.engine.Engine.{Engine}
 use Rattle.dn_engine_tests.proofs.Calling.{gave, ran_on, rests_on, same_lobby, silent}
 use Rattle.dn_engine_tests.proofs.engine.Engine.call.Goals as goal
 

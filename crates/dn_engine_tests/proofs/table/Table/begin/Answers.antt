@@ -1,11 +1,10 @@
-use Rattle.std.proofs.Common.{rules, ◌≡◌, ◌≢◌, ◌<◌, ℕ, Bool, true, false, Result, Ok, Err, Some, length, refl, sym, ap, ◌∙◌, subst, arith}
+use Rattle.std.proofs.Common.{rules, ◌≡◌, ◌<◌, ℕ, Bool, true, false, Ok, Some, length, refl, sym, ap, ◌∙◌, subst, arith}
 use Rattle.std.specs.Vec.{with_item}
 use Rattle.std.proofs.lemmas.Option.{slice_get_read}
-use Rattle.dn_lockstep.specs.declared.config.NodeFault.{NodeFault}
 use Rattle.dn_link_game.specs.Playing.{marking_of}
 use Rattle.dn_session.specs.{Session.begun_in, declared.side.Begun.Begun}
-use Rattle.dn_engine_tests.specs.declared.{engine.Engine.Engine, table.Table.Table}
-use Rattle.dn_engine_tests.specs.Engines.{BeginsIn, Rests, met}
+use Rattle.dn_engine_tests.specs.declared.{table.Table.Table}
+use Rattle.dn_engine_tests.specs.Engines.{BeginsIn, met}
 use Rattle.dn_engine_tests.specs.Tables.{HasEngine, StayTable}
 use Rattle.dn_engine_tests.proofs.Beginning.{begins_on, stood}
 use Rattle.dn_engine_tests.proofs.table.Table.begin.Goals as goal

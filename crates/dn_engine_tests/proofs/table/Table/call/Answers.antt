@@ -1,4 +1,4 @@
-use Rattle.std.proofs.Common.{rules, ◌≡◌, ◌<◌, ℕ, length, refl, sym, inl, inr, arith}
+use Rattle.std.proofs.Common.{rules, ◌<◌, length, refl, inl, arith}
 use Rattle.std.specs.Prelude.{is_ok}
 use Rattle.std.proofs.lemmas.Option.{slice_get_read}
 use Rattle.dn_engine_tests.specs.Tables.{HasEngine}
