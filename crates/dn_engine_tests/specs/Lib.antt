@@ -2,5 +2,4 @@ pub mod Calls
 pub mod Engines
 pub mod Letters
 pub mod Pairs
-pub mod Sessions
 pub mod Tables
