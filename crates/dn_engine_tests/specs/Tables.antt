@@ -7,7 +7,7 @@ use Rattle.dn_survivor.specs.{Agreed.AreAgreedInPairs, Agreed.DemosAgreeInPairs,
 use Rattle.dn_link.specs.{Counting.has_ended, Linked.has_given_up, Linked.may_leave, Linked.surviving_of, Linking.linked, RemainingLinks.HeadersAgree, declared.link.Link.Link}
 use Rattle.dn_link_game.specs.Playing.{marking_of, world_by}
 use Rattle.dn_session.specs.{Parts.limits_of, Playing.Playing, Roster.Place, Roster.key_of, Roster.number_of_game, Roster.place_in, Roster.text_of_game, Session.IsLinkOf, Session.Meeting, Session.begun_in, Session.link_in, Session.passing_in, Sessions.AreSessions, Sessions.Greets, Sessions.Has}
-use Rattle.dn_session.specs.declared.{part.Part.Part, side.Begun.Begun, terms.Terms.Terms}
+use Rattle.dn_session.specs.declared.{part.Part.Part, side.Begun.Begun}
 use Rattle.dn_engine_tests.specs.Engines.{IsOf, IsTold, MayCome, met}
 use Rattle.dn_engine_tests.specs.declared.{engine.Engine.Engine, table.Table.Table}
 
@@ -76,20 +76,21 @@ abbrev pub HaveBegun : {W : Type 0} → Table W → Type 0
 HaveBegun {W} t = (0 < length t.engines.items)
     × ((p : ℕ) (e : Engine W) → HasEngine t p e → (part : Part) × ((met e).part ≡ Some part))
 
--- in some history of the game each engine's link is what the readers say of it, its runs told just these rows, and by
--- these its world was stepped; and of that history all is so that is promised of links
-pub record HaveAgreed {W S : Type 0} (state : W → S) (physics : Physics S) (terms : Terms) (t : Table W) : Type 0 where
-  pub places : length t.engines.items ≡ terms.players
+-- in some history of the game that the host has begun each engine's link is what the readers say of it, its runs told
+-- just these rows, and by these its world was stepped; and of that history all is so that is promised of links
+pub record HaveAgreed {W S : Type 0} (state : W → S) (physics : Physics S) (b : Begun) (t : Table W) : Type 0 where
+  pub begun : (host : Engine W) → HasEngine t 0 host → begun_in (met host).lobby ≡ Some b
+  pub places : length t.engines.items ≡ b.terms.players
   pub history : History
   pub links : (p : ℕ) (e : Engine W) → HasEngine t p e → (link : Link) × (link_in (met e).part ≡ Some link)
       × (surviving_of (linked link) ≡ history.survivors p)
   pub told : (p : ℕ) (e : Engine W) → HasEngine t p e → e.told.items ≡ history.told p
   pub worlds : (p : ℕ) (e : Engine W) → HasEngine t p e
-      → state e.world ≡ world_by physics (world_told (limits_of terms) terms.settings e.told.items)
-  pub agreed : AreAgreedInPairs (limits_of terms) terms.settings history
-  pub fit : FitInPairs (limits_of terms) history
-  pub demos : DemosAgreeInPairs terms.players terms.settings history
-  pub headers : HeadersAgree terms.players history.survivors
+      → state e.world ≡ world_by physics (world_told (limits_of b.terms) b.terms.settings e.told.items)
+  pub agreed : AreAgreedInPairs (limits_of b.terms) b.terms.settings history
+  pub fit : FitInPairs (limits_of b.terms) history
+  pub demos : DemosAgreeInPairs b.terms.players b.terms.settings history
+  pub headers : HeadersAgree b.terms.players history.survivors
   -- who may leave is needed by nobody who plays on
   pub leaving : (p q : ℕ) (one other : Engine W) (link its : Link) → HasEngine t p one → HasEngine t q other → q ≢ p
       → link_in (met one).part ≡ Some link → link_in (met other).part ≡ Some its

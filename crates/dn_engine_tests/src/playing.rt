@@ -84,7 +84,7 @@ pub fn open_table<W: World>(
 /// Once all engines of a table have begun their game, they agree.
 pub fn tables_agree<W: World>()
     ensures { (secret : Option (List ℕ)) (t : Table W) → IsTable W.state W.physics secret t → AreApart t → HaveBegun t
-        → (b : Begun) × HaveAgreed W.state W.physics b.terms t }
+        → (b : Begun) × HaveAgreed W.state W.physics b t }
 {
     remaining_links_agree();
     leaving_is_safe();
@@ -101,7 +101,7 @@ pub fn play_table<W: World>(
 ) -> Result<Table<W>, TableFault>
     ensures table { IfOk result (λ table. IsTable W.state W.physics host.now.secret table) }
     ensures agreed { IfOk result (λ table. AreApart table → HaveBegun table
-        → (b : Begun) × HaveAgreed W.state W.physics b.terms table) }
+        → (b : Begun) × HaveAgreed W.state W.physics b table) }
 {
     tables_agree::<W>();
     let mut table = open_table(alloc, host, joiners, worlds, 0)?;

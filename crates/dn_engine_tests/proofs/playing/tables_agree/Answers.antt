@@ -1,11 +1,12 @@
 use Rattle.std.proofs.Common.{◌≡◌, ℕ, List, Option, Some, sym, ap, ◌∙◌, subst, inl, inr}
 use Rattle.std.specs.Prelude.{true, false}
-use Rattle.std.proofs.lemmas.Option.{none-some}
+use Rattle.std.proofs.lemmas.Option.{none-some, same_Some}
 use Rattle.dn_tic.specs.declared.command.Move.{Move}
 use Rattle.dn_lockstep.specs.{Contents.end_in, OneGame.world_told, Told.got, Told.made}
 use Rattle.dn_link.specs.{Counting.has_ended, Linked.Linked, Linked.has_given_up, Linked.may_leave, Linked.surviving_of, Linking.linked}
 use Rattle.dn_link_game.specs.Playing.{marking_of, world_by}
-use Rattle.dn_session.specs.{Parts.limits_of, Parts.links_of, Playing.playing, Session.link_in}
+use Rattle.dn_session.specs.{Parts.limits_of, Parts.links_of, Playing.playing, Session.begun_in, Session.link_in}
+use Rattle.dn_engine_tests.specs.Engines.{met}
 use Rattle.dn_engine_tests.proofs.Agreeing.{below, its, plays, there_is}
 use Rattle.dn_engine_tests.proofs.playing.tables_agree.Goals as goal
 
@@ -27,6 +28,8 @@ returns g c = λ secret t table apart begun.
           let marking = marking_of physics in (
             b,
             record {
+              begun = λ host there. ap (λ e. begun_in (met e).lobby) (same_Some host game.host (sym there ∙ game.at))
+                  ∙ game.begun;
               places = game.places;
               history = are.history;
               links = λ p e there.
