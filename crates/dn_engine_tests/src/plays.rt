@@ -20,12 +20,8 @@ pub fn address(player: u8) -> Address {
 /// A table, what the network does to datagrams, and what came to pass.
 #[derive(Drop)]
 pub struct Play {
-    /// The table.
-    pub table: Table<Walk>,
-    /// All that happened.
-    pub events: Vec<Event>,
-    /// How many play.
-    pub players: u8,
+    table: Table<Walk>,
+    players: u8,
     now: u32,
     /// By sender and receiver: whose datagrams are lost.
     lost: [bool; 16],
@@ -44,7 +40,6 @@ impl Play {
     pub fn new(rt: &HostRuntime, table: Table<Walk>, players: u8) -> Play {
         Play {
             table,
-            events: Vec::new(rt.alloc()),
             players,
             now: 0,
             lost: [false; 16],
@@ -111,13 +106,12 @@ impl Play {
     }
 
     /// A step of an engine, now.
-    fn apply(&mut self, rt: &HostRuntime, player: u8, step: Step) -> Result<Done, Fail> {
+    fn apply(&mut self, rt: &HostRuntime, player: u8, step: &Step) -> Result<Done, Fail> {
         let event = Event {
             player,
             now: self.now,
-            step,
+            step: *step,
         };
-        self.events.push(event)?;
         match self.table.apply(rt.alloc(), &event) {
             Ok(done) => Ok(done),
             Err(_) => Err("refused".into()),
@@ -125,11 +119,11 @@ impl Play {
     }
 
     /// A step of an engine, which then sends all that it has to send.
-    pub fn act(&mut self, rt: &HostRuntime, player: u8, step: Step) -> Result<Done, Fail> {
+    pub fn act(&mut self, rt: &HostRuntime, player: u8, step: &Step) -> Result<Done, Fail> {
         let done = self.apply(rt, player, step)?;
         for _ in 0..16 {
-            let which = self.table.given.len() as u32;
-            let Done::Sent(Some(to)) = self.apply(rt, player, Step::Send)? else {
+            let which = (self.table.given.len() % 0x1_0000_0000) as u32;
+            let Done::Sent(Some(to)) = self.apply(rt, player, &Step::Send)? else {
                 break;
             };
             let receiver = to.bytes[0].wrapping_sub(1);
@@ -143,7 +137,7 @@ impl Play {
     /// These datagrams come.
     fn deliver(&mut self, rt: &HostRuntime, coming: &[(u8, u32, Address)]) -> Result<(), Fail> {
         for &(player, which, from) in coming {
-            self.act(rt, player, Step::Hear { which, from })?;
+            self.act(rt, player, &Step::Hear { which, from })?;
         }
         Ok(())
     }
@@ -164,7 +158,7 @@ impl Play {
     }
 
     /// Each engine that has not vanished does this.
-    fn all(&mut self, rt: &HostRuntime, step: Step) -> Result<(), Fail> {
+    fn all(&mut self, rt: &HostRuntime, step: &Step) -> Result<(), Fail> {
         for player in 0..self.players {
             if !self.is_gone(player) {
                 self.act(rt, player, step)?;
@@ -175,7 +169,7 @@ impl Play {
 
     /// All who join call the host, which replies; then 600 milliseconds go by.
     pub fn meet(&mut self, rt: &HostRuntime) -> Result<(), Fail> {
-        self.all(rt, Step::Poll)?;
+        self.all(rt, &Step::Poll)?;
         self.flow(rt)?;
         self.now = self.now.wrapping_add(600);
         Ok(())
@@ -185,14 +179,14 @@ impl Play {
     pub fn tick(&mut self, rt: &HostRuntime) -> Result<(), Fail> {
         self.flow(rt)?;
         self.now = self.now.wrapping_add(TICK / 2);
-        self.all(rt, Step::Poll)?;
+        self.all(rt, &Step::Poll)?;
         if !self.late {
             self.flow(rt)?;
         }
         self.now = self.now.wrapping_add(TICK - TICK / 2);
-        self.all(rt, Step::Poll)?;
-        self.all(rt, Step::Give(Input::Pressed(Keys::default())))?;
-        self.all(rt, Step::Run)?;
-        self.all(rt, Step::Run)
+        self.all(rt, &Step::Poll)?;
+        self.all(rt, &Step::Give(Input::Pressed(Keys::default())))?;
+        self.all(rt, &Step::Run)?;
+        self.all(rt, &Step::Run)
     }
 }

@@ -1,7 +1,7 @@
 //! Scripts of tables: rows of text, each a word and at most two numbers, read by one reader.
 
 use crate::plays::{Play, address};
-use crate::{Done, Step, open_table, play_table};
+use crate::{Done, Step, open_table};
 use dn_session::{HostConfig, JoinConfig, Policy, Terms};
 use dn_setup::Settings;
 use dn_tic::Move;
@@ -13,7 +13,7 @@ use std::test::Fail;
 const SECRET: Option<[u8; 32]> = Some([7; 32]);
 
 /// The host of a game of so many, in a window of two commands.
-fn host(players: u8) -> Result<HostConfig, Fail> {
+pub fn host(players: u8) -> Result<HostConfig, Fail> {
     Ok(HostConfig {
         secret: SECRET,
         random: [3; 32],
@@ -33,7 +33,7 @@ fn host(players: u8) -> Result<HostConfig, Fail> {
 }
 
 /// Who joins, by the number of the player.
-fn joiner(player: u8) -> JoinConfig {
+pub fn joiner(player: u8) -> JoinConfig {
     JoinConfig {
         secret: SECRET,
         random: [player.wrapping_add(3); 32],
@@ -86,9 +86,12 @@ fn deed(
             }
             true
         }
-        "begin" => matches!(play.act(rt, one, Step::Begin)?, Done::Begun(true)),
-        "giveup" => matches!(play.act(rt, one, Step::GiveUp(other))?, Done::GivenUp(true)),
-        "quit" => matches!(play.act(rt, one, Step::Quit)?, Done::Done),
+        "begin" => matches!(play.act(rt, one, &Step::Begin)?, Done::Begun(true)),
+        "giveup" => matches!(
+            play.act(rt, one, &Step::GiveUp(other))?,
+            Done::GivenUp(true)
+        ),
+        "quit" => matches!(play.act(rt, one, &Step::Quit)?, Done::Done),
         _ => return Ok(None),
     }))
 }
@@ -120,21 +123,6 @@ fn seats(rt: &HostRuntime, players: u8) -> Result<(Vec<Walk>, Vec<JoinConfig>), 
         }
     }
     Ok((worlds, joiners))
-}
-
-/// The same events lead to the same rows.
-fn again(rt: &HostRuntime, play: &Play, host: &HostConfig) -> Result<(), Fail> {
-    let (worlds, joiners) = seats(rt, play.players)?;
-    let events = play.events.as_slice();
-    let Ok(table) = play_table(rt.alloc(), host, joiners.as_slice(), worlds, events) else {
-        return Err("no table".into());
-    };
-    for (engine, other) in table.engines.iter().zip(play.table.engines.iter()) {
-        if engine.told.as_slice() != other.told.as_slice() {
-            return Err("other rows".into());
-        }
-    }
-    Ok(())
 }
 
 /// A small number.
@@ -176,5 +164,5 @@ pub fn read(rt: &HostRuntime, players: u8, script: &str) -> Result<(), Fail> {
             return Err("a row is not so".into());
         }
     }
-    again(rt, &play, &host)
+    Ok(())
 }

@@ -1,6 +1,10 @@
 //! Games at tables, from the lobby on.
 
-use crate::scripts::read;
+use crate::plays::address;
+use crate::scripts::{host, joiner, read};
+use crate::{Event, Step, play_table};
+use dn_world::Walk;
+use std::process::Abort;
 use std::test::Fail;
 
 #[test]
@@ -105,4 +109,43 @@ fn two_give_up_the_third(rt: HostRuntime) -> Result<(), Fail> {
          begins 0 1
          begins 2 1",
     )
+}
+
+/// An event of a player.
+fn at(now: u32, player: u8, step: Step) -> Event {
+    Event { player, now, step }
+}
+
+/// Who joins calls, and is refused for its cookie; with its second call it has the last seat, and both begin.
+#[test]
+fn events_are_played(rt: HostRuntime) -> Result<(), Fail> {
+    let mut worlds = Vec::new(rt.alloc());
+    worlds.push(Walk::new())?;
+    worlds.push(Walk::new())?;
+    let mut events = Vec::new(rt.alloc());
+    for (call, reply, now) in [(0, 1, 0), (2, 3, 600)] {
+        events.push(at(now, 1, Step::Poll))?;
+        events.push(at(now, 1, Step::Send))?;
+        let from = address(1);
+        events.push(at(now, 0, Step::Hear { which: call, from }))?;
+        events.push(at(now, 0, Step::Send))?;
+        let from = address(0);
+        events.push(at(now, 1, Step::Hear { which: reply, from }))?;
+    }
+    events.push(at(600, 0, Step::Begin))?;
+    events.push(at(600, 1, Step::Begin))?;
+    let Ok(table) = play_table(
+        rt.alloc(),
+        &host(2)?,
+        &[joiner(1)],
+        worlds,
+        events.as_slice(),
+    ) else {
+        return Err("no table".into());
+    };
+    assert_eq!(&rt; table.given.len(), 4);
+    for engine in &table.engines {
+        assert!(&rt; engine.session.part().is_some());
+    }
+    Ok(())
 }
