@@ -8,7 +8,8 @@ use Rattle.dn_machine.specs.Node.{Node, got, is_ended}
 use Rattle.dn_machine.proofs.{Games.always, Invariant.IsKept}
 use Rattle.dn_machine.proofs.Promises
 use Rattle.dn_lockstep.specs.{Agreed.recorded, Rows.seats_of}
-use Rattle.dn_lockstep.proofs.Shown.{has, started}
+use Rattle.dn_lockstep.proofs.Shown.{has, started, starts}
+use Rattle.dn_machine.specs.declared.answers.Phase.TheVariants.{Playing}
 use Rattle.dn_node.specs.{Contents.{contents, locked}, Kept.Kept}
 use Rattle.dn_node.specs.Contents as node
 use Rattle.dn_node.proofs.Running.{world_played}
@@ -32,15 +33,19 @@ module _ {W S : Type 0} (state : W → S) (rules : Rules S) (settings : Settings
       (is_ended n.phase || nat_lt (length (whole_rows rules.players m.rows)) n.ran)
   text_is begun = let played = plays begun in let known = chosen played in grind arith
 
-  pub shows : rules.limits.places ≡ 12 → (demo : List ℕ) → demo ≡ recorded_in n.demo.bytes
+  pub shows : rules.limits.places ≡ 12 → (m.phase ≡ Playing → m.played ≡ true) → (demo : List ℕ)
+      → demo ≡ recorded_in n.demo.bytes
       → Shows state rules.physics settings rules.players me n
       (record { phase = m.phase; rows = m.rows; got = got m; demo = demo })
-  shows twelve demo is = record {
+  shows twelve playing demo is = record {
     phase = sym r.lockstep.stands.phase;
     ran = sym r.lockstep.table.ran;
     got = λ p below. sym (has rules.limits me (locked (contents n)) m r.lockstep p below);
     places = r.lockstep.whose.places ∙ twelve;
     demo = is;
+    started = λ on.
+        let played = playing (sym r.lockstep.stands.phase ∙ on) in
+        starts rules.limits me (locked (contents n)) m r.lockstep settings played (chosen played);
     world = world_is;
     rows = text_is;
   }
@@ -78,6 +83,7 @@ module _ {W S : Type 0} (state : W → S) (rules : Rules S) (settings : Settings
         shown = shown_at;
         nodes = λ i n at. shows state rules settings i n (r.last.nodes i) (r.game.nodes i n at)
             (kept.sound i (agreeing.inside state rules g r.last r.game i (contents n) (n, at, refl))).played twelve
+            (kept.sound i (agreeing.inside state rules g r.last r.game i (contents n) (n, at, refl))).playing
             (recorded (lockstep_at g i)) (recorded_there i n at);
         headline = record {
           same = all.same;

@@ -4,6 +4,7 @@ use Rattle.std.specs.Prelude.{IfOk, slice_get}
 use Rattle.dn_setup.specs.Settings.{Settings}
 use Rattle.dn_machine.specs.{declared.events.Event.Event, Game.opening_game, Limits.Limits, Worlds.Rules}
 use Rattle.dn_machine.specs.Node.{Node}
+use Rattle.dn_machine.specs.declared.answers.Phase.TheVariants.{Playing}
 use Rattle.dn_machine.proofs.{Games.always, Invariant.IsKept}
 use Rattle.dn_lockstep.proofs.Shown.{starts}
 use Rattle.dn_node.specs.{Contents.{contents, locked}, Kept.Kept}
@@ -15,15 +16,16 @@ use Rattle.dn_game.proofs.Agreeing as agreeing
 
 module _ {W S : Type 0} (state : W → S) (rules : Rules S) (settings : Settings) (limit : ℕ) where
   shows_node : (me : ℕ) (n : Kept W) (m : Node) → node.Represents state rules me (contents n) m
-      → (m.played ≡ true → m.settings ≡ Some settings) → rules.limits.places ≡ 12 → n.demo.limit ≡ limit
+      → (m.played ≡ true → m.settings ≡ Some settings) → (m.phase ≡ Playing → m.played ≡ true)
+      → rules.limits.places ≡ 12 → n.demo.limit ≡ limit
       → ShowsNode state rules settings limit me n m
-  shows_node me n m r chosen twelve limited = record {
+  shows_node me n m r chosen playing twelve limited = record {
     players = r.lockstep.whose.players;
     number = r.lockstep.whose.number;
     extra = r.lockstep.whose.extra;
     capacity = r.lockstep.whose.capacity;
     ahead = r.lockstep.whose.ahead;
-    shown = shows state rules settings me n m r chosen twelve (recorded_in n.demo.bytes) refl;
+    shown = shows state rules settings me n m r chosen twelve playing (recorded_in n.demo.bytes) refl;
     started = (
       plays state rules settings me n m r chosen,
       λ played. starts rules.limits me (locked (contents n)) m r.lockstep settings played (chosen played),
@@ -52,6 +54,7 @@ module _ {W S : Type 0} (state : W → S) (rules : Rules S) (settings : Settings
       events reached.last reached.run in
       shows_node i n (reached.last.nodes i) (reached.game.nodes i n at)
       (kept.sound i (agreeing.inside state rules g reached.last reached.game i (contents n) (n, at, refl))).played
+      (kept.sound i (agreeing.inside state rules g reached.last reached.game i (contents n) (n, at, refl))).playing
       (ap (λ (l : Limits). l.places) reached.game.vanilla) limited
 
   pub shows_run : (worlds : List W) (events : List Event) (played : Played W)

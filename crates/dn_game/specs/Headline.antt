@@ -8,6 +8,7 @@ use Rattle.dn_demo.specs.Places.{commands_in}
 use Rattle.dn_demo.specs.Text.{demo_text, header_size}
 use Rattle.dn_machine.specs.Headline.{Headline, Shown, ran_by, whole_rows}
 use Rattle.dn_machine.specs.Node.{is_ended}
+use Rattle.dn_machine.specs.declared.answers.Phase.TheVariants.{Playing}
 use Rattle.dn_lockstep.specs.Tables.{ring_at}
 use Rattle.dn_lockstep.specs.Rows.{seats_of}
 use Rattle.dn_node.specs.Kept.{Kept}
@@ -28,7 +29,9 @@ pub record Shows {W S : Type 0} (state : W → S) (physics : Physics S) (setting
   pub places : n.places ≡ 12
   -- the bytes of the demo's commands
   pub demo : shown.demo ≡ recorded_in n.demo.bytes
-  -- once it has started, and has a demo, its world began with the settings' start and was stepped by the rows
+  -- who plays has started: it has a demo
+  pub started : n.phase ≡ Playing → n.demo.bytes ≢ []
+  -- once it has one, its world began with the settings' start and was stepped by the rows
   pub world : n.demo.bytes ≢ []
       → state n.world ≡ fold physics.step (physics.begin (start_of settings) (seats_of players)) shown.rows
   -- and its demo is the text of the rows before the first that lacks a player. It is closed once the node ran a

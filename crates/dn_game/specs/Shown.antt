@@ -58,7 +58,7 @@ pub record ShowsNode {W S : Type 0} (state : W → S) (rules : Rules S) (setting
 -- the game that is left shows one that the events lead to from the opening, each with its answer, and the answers
 -- are counted
 pub record ShowsRun {W S : Type 0} (state : W → S) (rules : Rules S) (settings : Settings) (limit : ℕ)
-    (worlds : List W) (events : List Event) (g : Contents W) (applied left : ℕ) : Type 0 where
+    (worlds : List W) (events : List Event) (g : Contents W) (applied refusals : ℕ) : Type 0 where
   pub last : machine.Game
   pub answers : List (Result Done Refusal)
   pub plays : Plays rules (opening_game settings) events answers last
@@ -74,4 +74,4 @@ pub record ShowsRun {W S : Type 0} (state : W → S) (rules : Rules S) (settings
   -- started or ran a tic
   pub given : KeepsGiven worlds events answers g
   pub done : applied ≡ count_by is_ok answers
-  pub refused : left ≡ count_by is_err answers
+  pub refused : refusals ≡ count_by is_err answers

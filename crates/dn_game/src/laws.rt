@@ -1,11 +1,11 @@
 //! What holds of every game.
 
-ghost use Rattle.std.specs.Prelude.{◌≡◌, ℕ, Bool, List, Some, Result, slice_get};
+ghost use Rattle.std.specs.Prelude.{◌≡◌, ℕ, All, Bool, List, Some, Result, slice_get};
 ghost use Rattle.dn_setup.specs.Settings.{Settings};
 ghost use Rattle.dn_machine.specs.{declared.events.Done.Done, declared.events.Event.Event, declared.events.Refusal.Refusal, Game.applied, Game.opening_game, Game.Game as Whole, Promise.inputs_of, Runs.Runs, Worlds.rules_of};
 ghost use Rattle.dn_game.specs.{Agreed.AreAgreed, Contents.Contents};
 ghost use Rattle.dn_node.specs.Kept.{Kept};
-ghost use Rattle.dn_game.specs.{Headline.HaveAgreed, Played.IsReachedWith, Played.Plays, Promised.IsReached, Promised.IsPromised, Promised.IsSteady, Shown.ShowsNode};
+ghost use Rattle.dn_game.specs.{Headline.HaveAgreed, Played.IsReachedWith, Played.Plays, Promised.IsReached, Promised.IsPromised, Promised.IsSteady, Promised.inputs_made, Shown.ShowsNode};
 
 use dn_world::World;
 
@@ -50,7 +50,7 @@ pub fn reached_games_agree<W: World>()
 
 /// Events lead to a game of the machine just where they lead there with answers: what was played is a run, and each
 /// run can be played.
-#[tactic(auto, using(crate::proofs::Answering::leads_plays, crate::proofs::Answering::plays_leads))]
+#[tactic(auto, using(crate::proofs::Answering::leads_plays, crate::proofs::Answering::plays_leads, crate::proofs::Agreeing::inputs_played, crate::proofs::Agreeing::steady_answers, dn_machine::proofs::Vanilla::vanilla_window))]
 pub fn runs_have_answers<W: World>()
     ensures answers { (players : ℕ) (extra : Bool) (capacity : ℕ) (settings : Settings) (events : List Event)
         (last : Whole) → Runs (rules_of W.physics players extra capacity) settings events last
@@ -60,4 +60,13 @@ pub fn runs_have_answers<W: World>()
         (answers : List (Result Done Refusal)) (last : Whole)
         → Plays (rules_of W.physics players extra capacity) (opening_game settings) events answers last
         → Runs (rules_of W.physics players extra capacity) settings events last }
+    // The players' inputs are those of the builds that made a command, and no answer tells of a failed check.
+    ensures inputs { (players : ℕ) (extra : Bool) (capacity : ℕ) (settings : Settings) (events : List Event)
+        (answers : List (Result Done Refusal)) (last : Whole)
+        → Plays (rules_of W.physics players extra capacity) (opening_game settings) events answers last
+        → inputs_of last ≡ inputs_made events answers }
+    ensures steady { (players : ℕ) (extra : Bool) (capacity : ℕ) (settings : Settings) (events : List Event)
+        (answers : List (Result Done Refusal)) (last : Whole)
+        → Plays (rules_of W.physics players extra capacity) (opening_game settings) events answers last
+        → All IsSteady answers }
 {}

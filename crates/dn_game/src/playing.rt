@@ -29,6 +29,7 @@ pub fn play<W: World>(
         (contents played.game)) }
     // The game is a run of the machine: each event is applied as the machine applies it, but for sends that are
     // left out since memory was refused, and each is counted by its answer.
+    // Who goes on with the game that is left under the laws of its calls plays it by `play_observed`.
     ensures run { IfOk result (λ played. ShowsRun W.state
         (rules_in W.physics config (length worlds.items)) config.settings config.limit worlds.items events.now
         (contents played.game) played.done played.refused) }

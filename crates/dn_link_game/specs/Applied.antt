@@ -23,9 +23,9 @@ abbrev pub player_of : LinkEvent → ℕ
 player_of (Call player call) = player
 player_of (Deliver player which) = player
 
--- in a game of so many players, in which so many datagrams were given, an event is done and has an answer of its kind, or
--- it is refused for the first thing that is wrong: it names no player; or it brings what was never given. To one that asks for a datagram memory
--- may be refused
+-- in a game of so many players, in which so many datagrams were given, an event is done and has an answer of its
+-- kind; or it is refused for the first thing that is wrong: it names no player, or it brings what was never given.
+-- To an event that asks for a datagram memory may be refused
 abbrev pub IsAnswered : (players given : ℕ) → LinkEvent → Result LinkDone LinkRefusal → Type 0
 IsAnswered players given event (Err NoPlayer) = players ≤ player_of event
 IsAnswered players given (Deliver player which) (Err NoDatagram) = (player < players) × (given ≤ which)
@@ -45,7 +45,8 @@ pub record AddsToGiven {W : Type 0} (old new : LinkGame W) (answer : Result Link
   pub stays : take (length old.given.items) new.given.items ≡ old.given.items
   pub more : length new.given.items ≡ length old.given.items + given_by (answer ∷ [])
 
--- an answer that tells of no failed check: no mark was off in a run, and no end was refused that was decided at a give-up
+-- an answer that tells of no failed check: no mark was off in a run, and no end was refused that was decided at a
+-- give-up
 abbrev pub IsSteady : Result LinkDone LinkRefusal → Type 0
 IsSteady (Ok (LinkDone.Ran (Ran.Inconsistent player was should) row)) = ⊥
 IsSteady (Ok (LinkDone.GivenUp (GivenUp.Untaken player reason))) = ⊥

@@ -7,12 +7,12 @@ use crate::source::{complain, format_in, open, read_ahead, refuse};
 use crate::upgrades::put;
 use clap::ArgMatches;
 use dn_demo::{Demo, DemoFault};
+use dn_inspect::{
+    Difference, Row, RowsFault, demo_of_rows, first_difference, json_of_stats, text_of_stats,
+};
 use dn_measure::{push_fields, push_line};
 use dn_netgame::text::push_row;
 use dn_setup::Start;
-use dn_watch::{
-    Difference, Row, RowsFault, demo_of_rows, first_difference, json_of_stats, text_of_stats,
-};
 use std::alloc::{AllocError, Global};
 use std::io::{BufRead, Read};
 use std::rt::Files;

@@ -3,7 +3,7 @@
 ghost use Rattle.std.specs.Prelude.{◌≤◌, length, take, ◌≡◌};
 
 use crate::ends::{BROKEN_OFF, MISUSED, REFUSED};
-use dn_watch::{WadFault, format_of, lumps, open as open_lump};
+use dn_inspect::{WadFault, format_of, lumps, open as open_lump};
 use std::alloc::Global;
 use std::fmt::Display;
 use std::fs;

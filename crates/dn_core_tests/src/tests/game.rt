@@ -2,7 +2,7 @@
 
 ghost use Rattle.std.specs.Prelude.{ℕ, Bool, List, [], ◌∷◌, ◌++◌, length, IfOk, Result as Outcome};
 ghost use Rattle.dn_setup.specs.Settings.{Settings as Choice};
-ghost use Rattle.dn_machine.specs.{declared.events.Done.Done as Made, declared.events.Event.Event as Any, declared.events.Refusal.Refusal as Why, Promise.Agree, Worlds.rules_of};
+ghost use Rattle.dn_machine.specs.{declared.events.Done.Done as Made, declared.events.Event.Event as AnyEvent, declared.events.Refusal.Refusal as Why, Promise.Agree, Worlds.rules_of};
 ghost use Rattle.dn_game.specs.{Contents.contents, Opening.rules_in, Played.IsReachedWith, Promised.IsReached, Shown.ShowsRun};
 
 mod calls;
@@ -22,7 +22,7 @@ use std::process::Abort;
 
 /// Applies an event. Whatever events led to the game, they and this one lead to the next, and each has an answer.
 fn applied<W: World>(game: &mut Game<W>, event: Event) -> Result<Done, Refusal>
-    ensures { (players : ℕ) (extra : Bool) (capacity : ℕ) (settings : Choice) (events : List Any)
+    ensures { (players : ℕ) (extra : Bool) (capacity : ℕ) (settings : Choice) (events : List AnyEvent)
         → IsReached W.state (rules_of W.physics players extra capacity) settings events (contents game.old)
         → (answers : List (Outcome Made Why))
         × IsReachedWith W.state (rules_of W.physics players extra capacity) settings (events ++ event ∷ []) answers

@@ -1,6 +1,0 @@
-use Rattle.std.proofs.Common.{rules}
-use Rattle.dn_watch.proofs.SameLists.{same_lists}
-use Rattle.dn_watch.proofs.difference.first_tic.Goals as goal
-
-pub returns : goal.returns
-returns c = (c.requires.alike, same_lists _ _ (search rules))

@@ -1,6 +1,0 @@
-use Rattle.std.proofs.Common.{◌<◌, ℕ}
-use Rattle.dn_watch.specs.Differing.{IsSameTic}
-use Rattle.dn_watch.proofs.difference.first_tic.Given as goal
-
-abbrev pub invariant-loop-tic : goal.invariant-loop-tic
-invariant-loop-tic l = (t : ℕ) → t < l.tic → IsSameTic l.one l.other t
