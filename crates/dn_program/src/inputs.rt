@@ -120,7 +120,7 @@ pub(crate) fn run_reader<R: Files + Input + Print + Eprint + AllocGlobal>(
     reader: Reader,
     matches: &ArgMatches<'_>,
 ) -> Status {
-    if let Some(files) = crate::options::files(matches) {
+    if let Some(files) = crate::named::files(matches) {
         return Ok(run_files(rt, reader, matches, files));
     }
     hint(rt, from_terminal);

@@ -5,6 +5,7 @@ ghost use Rattle.clap.specs.Matches.{found_of, first_value};
 ghost use Rattle.dn_program.specs.{OptionValues.IsGuestOf, OptionValues.IsOwnPort, Printed.Answers, Printed.key_status, Sessions.IsHostingOf, Sessions.IsKeyRun, Sessions.IsPlanOf, Sessions.IsPrepared};
 ghost use Rattle.dn_program.specs.{Sessions.IsSecretOf};
 
+use crate::address::found;
 use crate::ends::{BROKEN_OFF, MISUSED, REFUSED, print_session};
 use crate::key::{KEY, KeyFault, make_key, read_key};
 use crate::options::Pace;
@@ -12,10 +13,10 @@ use crate::say::say_line;
 use crate::screen::ErrorScreen;
 use clap::ArgMatches;
 use dn_game::GameConfig;
-use dn_host::{Guest, Hosting, Os, Plan, Udp, address_of, host_game, join_game};
+use dn_host::{Guest, Hosting, Os, Plan, Udp, host_game, join_game};
 use dn_netgame::RunFault;
 use dn_session::Address;
-use std::net::{Net, ToSocketAddrs};
+use std::net::Net;
 use std::random::RandomSource;
 use std::rt::Files;
 use std::time::Clock;
@@ -140,26 +141,6 @@ pub(crate) fn run_host<R: Print + Eprint + AllocGlobal + Net + Files + RandomSou
         &hosting,
     );
     print_session(rt, session, raw)
-}
-
-/// The port of a host whose address names none.
-const PORT: u16 = 5029;
-
-/// The first of the addresses that a name stands for.
-fn first_of<A: ToSocketAddrs + Drop>(rt: &impl Net, name: A) -> Option<Address> {
-    match name.to_socket_addrs(rt) {
-        Ok(mut addresses) => Some(address_of(addresses.next()?)),
-        Err(_) => None,
-    }
-}
-
-/// The first address of a host's name and port. An IPv6 address without a port has more colons than one.
-fn found(rt: &impl Net, address: &str) -> Option<Address> {
-    let colons = address.bytes().filter(|byte| *byte == b':').count();
-    match first_of(rt, address) {
-        None if colons != 1 => first_of(rt, (address, PORT)),
-        found => found,
-    }
 }
 
 /// Whom a joiner calls, and for what.

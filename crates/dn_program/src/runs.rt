@@ -1,7 +1,8 @@
 //! What each subcommand runs, and the exit status.
 
 use crate::command_line::Terminals;
-use crate::demos::{run_diff, run_record, run_stats};
+use crate::demos::{run_record, run_stats};
+use crate::differing::run_diff;
 use crate::ends::MISUSED;
 use crate::inputs::{Reader, Status, run_reader};
 use crate::network::{run_host, run_join, run_key};

@@ -110,9 +110,9 @@ pub(crate) fn run_upgrading<R: Files + Input + Print + Eprint + AllocGlobal>(
     let Some(limit) = crate::options::limit(matches) else {
         return Ok(MISUSED);
     };
-    if let Some(path) = crate::options::from(matches) {
+    if let Some(path) = crate::named::from(matches) {
         return match upgraded_file(rt, limit, path) {
-            Ok(bytes) => Ok(put(rt, crate::options::to(matches), &bytes)),
+            Ok(bytes) => Ok(put(rt, crate::named::to(matches), &bytes)),
             Err(status) => Ok(status),
         };
     }

@@ -95,7 +95,7 @@ pub(crate) fn run_lumps<R: Files + Print + Eprint + AllocGlobal>(
     rt: &R,
     matches: &ArgMatches<'_>,
 ) -> Status {
-    let Some(files) = crate::options::files(matches) else {
+    let Some(files) = crate::named::files(matches) else {
         return Ok(MISUSED);
     };
     let json = crate::options::json(matches);
