@@ -81,25 +81,27 @@ fn demo_of(alloc: Global, lines: [&str; 5]) -> Result<Vec<u8>, RowsFault> {
 #[test]
 fn rows_are_written_as_a_demo(rt: HostRuntime) {
     let [a, b, c, d] = STEPS;
-    let first = b"\x32\0\0\0\0\0\x01\0".as_slice();
-    let second = b"\xce\0\0\x01\x19\x18\x40\0".as_slice();
-    let rows: [([&str; 5], [&[u8]; 2]); 4] = [
-        ([a, b, c, d, HEAD], [first, second]),
-        ([HEAD, a, b, c, d], [first, second]),
-        ([HEAD, a, b, a, b], [first, first]),
-        ([c, d, a, b, HEAD], [second, first]),
+    let rows: [([&str; 5], &[u8]); 4] = [
+        (
+            [a, b, c, d, HEAD],
+            b"\x6d\x03\x01\x07\x01\0\0\x01\x01\x01\x01\0\0\x32\0\0\0\0\0\x01\0\xce\0\0\x01\x19\x18\x40\0\x80",
+        ),
+        (
+            [HEAD, a, b, c, d],
+            b"\x6d\x03\x01\x07\x01\0\0\x01\x01\x01\x01\0\0\x32\0\0\0\0\0\x01\0\xce\0\0\x01\x19\x18\x40\0\x80",
+        ),
+        (
+            [HEAD, a, b, a, b],
+            b"\x6d\x03\x01\x07\x01\0\0\x01\x01\x01\x01\0\0\x32\0\0\0\0\0\x01\0\x32\0\0\0\0\0\x01\0\x80",
+        ),
+        (
+            [c, d, a, b, HEAD],
+            b"\x6d\x03\x01\x07\x01\0\0\x01\x01\x01\x01\0\0\xce\0\0\x01\x19\x18\x40\0\x32\0\0\0\0\0\x01\0\x80",
+        ),
     ];
-    for (lines, [one, other]) in rows {
+    for (lines, wanted) in rows {
         match demo_of(rt.alloc(), lines) {
-            Ok(demo) => {
-                assert_eq!(rt;
-                    &demo[..13],
-                    b"\x6d\x03\x01\x07\x01\0\0\x01\x01\x01\x01\0\0".as_slice()
-                );
-                assert_eq!(rt; &demo[13..21], one);
-                assert_eq!(rt; &demo[21..29], other);
-                assert_eq!(rt; &demo[29..], b"\x80".as_slice());
-            }
+            Ok(demo) => assert_eq!(rt; demo.as_slice(), wanted),
             Err(fault) => panic!(rt; "{fault}"),
         }
     }
