@@ -1,5 +1,4 @@
-/* Two players in one process, whose world is a line on which each has a place.
- * cc quickstart.c $(pkg-config --cflags --libs zirmegat) */
+/* Two players in one process. cc quickstart.c $(pkg-config --cflags --libs zirmegat) */
 #include <stdio.h>
 #include <zirmegat.h>
 
