@@ -14,7 +14,14 @@ fn boxed(alloc: Global, held: Held) -> Option<Box<Handle>>
     ensures { IfSome result (λ handle. handle.value.held ≡ held) }
 {
     let held = Box::new(alloc, held).ok()?;
-    Box::new(alloc, Handle::of(held)).ok()
+    match Box::new(alloc, Handle::of(held)) {
+        Ok(handle) => Some(handle),
+        Err(failed) => {
+            // A handle that is dropped frees nothing.
+            drop(failed.value.into_box(alloc));
+            None
+        }
+    }
 }
 
 /// Writes a handle of this, or null where there is no memory for it.
