@@ -4,3 +4,4 @@ pub mod HolderFunctions
 pub mod HolderLends
 pub mod SlotFunctions
 pub mod OfKinds
+pub mod Turning

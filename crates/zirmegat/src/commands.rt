@@ -1,6 +1,6 @@
 //! Whole commands as plain numbers.
 
-ghost use Rattle.std.specs.Prelude.{◌≡◌, ◌++◌, ◌%◌, ◌^◌, [], ◌∷◌, List, pos};
+ghost use Rattle.std.specs.Prelude.{◌≡◌, ◌≤◌, ◌++◌, ◌%◌, ◌^◌, [], ◌∷◌, List, pos};
 ghost use Rattle.dn_tic.specs.{declared.input.Input.Input, declared.input.Input.TheVariants.Pressed, Inputs.hold_of, Inputs.made_by};
 ghost use Rattle.zirmegat.specs.Commands.{command_told, given_in, most_held, whole_told};
 
@@ -69,14 +69,23 @@ pub(crate) fn given(command: &CommandFields) -> Command
     }
 }
 
+/// So many, of which six count.
+fn most_held(hold: u8) -> u8
+    ensures value { result ≡ most_held hold }
+    ensures most { result ≤ 6 }
+{
+    if hold < 6 { hold } else { 6 }
+}
+
 /// A builder for which a turn key was down so often in succession, as far as it counts.
 fn turning(hold: u8) -> Builder
     ensures { result ≡ most_held hold }
 {
     let left = Keys::from_bits(4);
+    let most = most_held(hold);
     let mut builder = Builder::new();
     let mut count = 0;
-    while count < hold && count < 6 {
+    while count < most {
         let _ = builder.build(left, 0);
         count += 1;
     }

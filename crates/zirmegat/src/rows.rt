@@ -76,7 +76,7 @@ impl RowFields {
     {
         let [zero, one, two, three] = moves;
         RowFields {
-            tic: tic as u32,
+            tic: (tic % 0x1_0000_0000) as u32,
             present: seats(moves),
             commands: [move_of(*zero), move_of(*one), move_of(*two), move_of(*three)],
             ..RowFields::NONE
