@@ -4,4 +4,5 @@ pub mod HolderFunctions
 pub mod HolderLends
 pub mod SlotFunctions
 pub mod OfKinds
+pub mod Calling
 pub mod Turning

@@ -29,10 +29,7 @@ impl Model for Handle {
 
 impl Handle {
     ghost use Rattle.zirmegat.specs.Lends.{lends_demo, lends_held, lends_link, lends_lockstep, lends_session};
-    ghost use Rattle.zirmegat.specs.Kinds.{demo_in, joined_in, contents_in, meeting_in};
-    ghost use Rattle.zirmegat.specs.Joined.{joined_of};
-    ghost use Rattle.dn_lockstep.specs.Contents.{contents};
-    ghost use Rattle.dn_session.specs.Session.{meeting};
+    ghost use Rattle.zirmegat.specs.Kinds.{demo_in, link_in, lockstep_in, session_in};
 
     /// The handle of what a raw box points to.
     fn of_loose(loose: Loose<Held, Global>) -> Handle
@@ -79,7 +76,7 @@ impl Handle {
     /// Lends the session that it holds, if it holds one.
     pub(crate) fn session(&mut self) -> Option<&mut Session>
         ensures* writes_back { sem 𝓛 (lends_session self.entry result) }
-        ensures value { meeting_in self.old.held ≡ option_map (λ value. meeting value.now) result }
+        ensures value { session_in self.old.held ≡ option_map (λ value. value.now) result }
     {
         match self.held() {
             Held::Session(value) => Some(value),
@@ -101,7 +98,7 @@ impl Handle {
     /// Lends the lockstep that it holds, if it holds one.
     pub(crate) fn lockstep(&mut self) -> Option<&mut Lockstep>
         ensures* writes_back { sem 𝓛 (lends_lockstep self.entry result) }
-        ensures value { contents_in self.old.held ≡ option_map (λ value. contents value.now) result }
+        ensures value { lockstep_in self.old.held ≡ option_map (λ value. value.now) result }
     {
         match self.held() {
             Held::Lockstep(value) => Some(value),
@@ -112,7 +109,7 @@ impl Handle {
     /// Lends the link that it holds, if it holds one.
     pub(crate) fn link(&mut self) -> Option<&mut Link>
         ensures* writes_back { sem 𝓛 (lends_link self.entry result) }
-        ensures value { joined_in self.old.held ≡ option_map (λ value. joined_of value.now) result }
+        ensures value { link_in self.old.held ≡ option_map (λ value. value.now) result }
     {
         match self.held() {
             Held::Link(value) => Some(value),

@@ -1,9 +1,12 @@
 //! What is known of the line to a player, and of its commands, as plain numbers.
 
 ghost use Rattle.std.specs.Prelude.{◌≡◌};
+ghost use Rattle.dn_lockstep.specs.Contents.{contents};
+ghost use Rattle.zirmegat.specs.Commands.{end_of, got_of};
 ghost use Rattle.zirmegat.specs.Lines.{end_told, got_told, line_told};
 
 use dn_link::Figures;
+use dn_lockstep::Lockstep;
 
 /// What is known of the line to another player, and all 0 where there is none.
 #[repr(C)]
@@ -56,20 +59,20 @@ impl LineAnswer {
 }
 
 /// How many commands of a player are here, and 0 of no player.
-pub(crate) fn got_told(got: Option<u32>) -> u32
-    ensures { result ≡ got_told got }
+pub(crate) fn got_of(lockstep: &Lockstep, player: u8) -> u32
+    ensures { result ≡ got_told (got_of (contents lockstep.now) player) }
 {
-    match got {
+    match lockstep.got(player) {
         Some(got) => got,
         None => 0,
     }
 }
 
 /// The tic after a player's last command, or the largest number where it is not known.
-pub(crate) fn end_told(end: Option<u32>) -> u32
-    ensures { result ≡ end_told end }
+pub(crate) fn end_of(lockstep: &Lockstep, player: u8) -> u32
+    ensures { result ≡ end_told (end_of (contents lockstep.now) player) }
 {
-    match end {
+    match lockstep.end(player) {
         Some(end) => end,
         None => u32::MAX,
     }

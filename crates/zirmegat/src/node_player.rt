@@ -9,7 +9,7 @@ ghost use Rattle.zirmegat.specs.NodeStates.{left_told, lockstep_player, player_o
 
 use crate::fault::{DONE, Fault};
 use crate::handle::Handle;
-use crate::lines::{LineAnswer, end_told, got_told};
+use crate::lines::{LineAnswer, end_of, got_of};
 use dn_link::Link;
 use dn_lockstep::Lockstep;
 
@@ -64,8 +64,8 @@ impl NodePlayer {
         ensures { result ≡ lockstep_player player (contents lockstep.now) }
     {
         NodePlayer {
-            got: got_told(lockstep.got(player)),
-            end: end_told(lockstep.end(player)),
+            got: got_of(lockstep, player),
+            end: end_of(lockstep, player),
             left: 0,
             given_up: 0,
             is_resting: 0,

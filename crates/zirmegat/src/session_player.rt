@@ -8,7 +8,7 @@ ghost use Rattle.zirmegat.specs.SessionStates.{holder_told, in_game, no_seat, no
 
 use crate::fault::{DONE, Fault};
 use crate::handle::Handle;
-use crate::lines::{LineAnswer, end_told, got_told};
+use crate::lines::{LineAnswer, end_of, got_of};
 use dn_link::Link;
 use dn_session::{Holder, Part, Seat, Seating, Seen, Session, Shown, Side, Standing, View};
 
@@ -206,13 +206,14 @@ impl PlayerInGame {
     fn of(link: &Link, player: u8, seen: Option<Seen>) -> PlayerInGame
         ensures { result ≡ seen_told link.now player seen }
     {
+        let lockstep = link.lockstep();
         match seen {
             Some(seen) => PlayerInGame {
                 standing: standing_code(seen.standing),
                 awaited: seen.awaited,
                 silent: seen.silent,
-                got: got_told(link.lockstep().got(player)),
-                end: end_told(link.lockstep().end(player)),
+                got: got_of(lockstep, player),
+                end: end_of(lockstep, player),
                 line: LineAnswer::of(link.figures(player)),
             },
             None => PlayerInGame::NONE,

@@ -166,10 +166,11 @@ fn why_of(side: &Side, part: &Option<Part>) -> OverAnswer
 fn game_in(link: &Link) -> GameAnswer
     ensures { result ≡ game_in (linked link.now) }
 {
-    let phase = PhaseAnswer::of(link.lockstep().phase());
+    let lockstep = link.lockstep();
+    let phase = PhaseAnswer::of(lockstep.phase());
     GameAnswer {
-        made: link.lockstep().made(),
-        ran: link.lockstep().ran(),
+        made: lockstep.made(),
+        ran: lockstep.ran(),
         unacknowledged: link.unacknowledged(),
         may_leave: u32::from(link.may_leave()),
         was: phase.was,

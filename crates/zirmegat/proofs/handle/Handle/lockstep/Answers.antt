@@ -1,6 +1,6 @@
 use Rattle.std.proofs.Common.{◌≡◌, ◌∙◌, ap, sym}
 use mathlib.Core.Logic.{inr}
-use Rattle.zirmegat.specs.{Lends.holding, Kinds.contents_in}
+use Rattle.zirmegat.specs.{Lends.holding, Kinds.lockstep_in}
 use Rattle.zirmegat.proofs.OfKinds.{no_lockstep}
 use Rattle.zirmegat.proofs.handle.Handle.lockstep.Goals as goal
 
@@ -8,5 +8,5 @@ pub returns-in_default : goal.returns-in_default
 returns-in_default c =
     let same = c.held.ensures.value in (
       ap (λ held. inr (holding c.args.self.now held)) same,
-      record { writes_back = tt; value = ap contents_in (sym same) ∙ no_lockstep _ c.in_default.not-Lockstep },
+      record { writes_back = tt; value = ap lockstep_in (sym same) ∙ no_lockstep _ c.in_default.not-Lockstep },
     )
