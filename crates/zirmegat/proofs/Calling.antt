@@ -7,7 +7,8 @@ use Rattle.dn_machine.specs.{declared.answers.Made.Made, declared.answers.Ran.Ra
 use Rattle.dn_lockstep.specs.Contents.{Contents}
 use Rattle.dn_link.specs.declared.link.Link.{Link}
 use Rattle.dn_session.specs.{Session.meeting, Session.Meeting, declared.session.Session.Session}
-use Rattle.zirmegat.specs.{Calls.Calls, Calls.CallsBy, Calls.WhenBy, Calls.session_of, Joined.joined_of, Kinds.session_in, Lends.holding, Links.BuildsOf, declared.handle.Handle.Handle, declared.held.Held.TheVariants as kind}
+use Rattle.zirmegat.specs.{Calls.Calls, Calls.CallsBy, Calls.WhenBy, Calls.session_of, Joined.joined_of, Kinds.session_in, Lends.holding, Links.BuildsOf, declared.handle.Handle.Handle}
+use Rattle.zirmegat.specs.declared.held.Held.TheVariants as kind
 
 -- a handle that held something is called as what it held
 pub lent : {A : Type 0} {before after : Option A} (h k : Handle) (n m : A) (Step : A → A → Type 0) (Other : Type 0)

@@ -40,9 +40,12 @@ SendsInto to addressed room written count n k =
     (sent : Option (Address × List ℕ)) × Sends n k sent × IsSent sent to addressed room written count
 
 -- the commands that a part in the game has for the next tic
+abbrev pub next_of : Part → List (Option TicCmd)
+next_of part = next_of_four (linked (playing part).link).node
+
 abbrev pub next_commands : Option Part → List (Option TicCmd)
 next_commands None = replicate 4 None
-next_commands (Some part) = next_of_four (linked (playing part).link).node
+next_commands (Some part) = next_of part
 
 -- where the next tic should wait for the next tick, nothing changes; 5 says so
 abbrev pub RunsWhen : Bool → List ℤ → RowFields → ℕ → Meeting → Meeting → Type 0

@@ -4,7 +4,7 @@ ghost use Rattle.std.specs.Prelude.{◌≡◌, false};
 ghost use Rattle.dn_session.specs.Session.{meeting};
 ghost use Rattle.zirmegat.specs.Calls.{Calls, session_of};
 ghost use Rattle.zirmegat.specs.Rows.{no_row};
-ghost use Rattle.zirmegat.specs.Sessions.{next_commands, RunsSession, RunsWhen};
+ghost use Rattle.zirmegat.specs.Sessions.{next_commands, next_of, RunsSession, RunsWhen};
 
 use crate::handle::Handle;
 use crate::rows::{RowFields, next_of_four, run_code};
@@ -17,12 +17,19 @@ const HELD: u32 = 5;
 /// Nobody plays.
 const NOT_PLAYING: u32 = 0;
 
-/// The commands that a part in the game has for the next tic.
+/// The commands that a part has for the next tic.
+fn next_of(part: &Part) -> [Option<TicCmd>; 4]
+    ensures { result ≡ next_of part.now }
+{
+    next_of_four(part.link().lockstep())
+}
+
+/// Those of a part in the game.
 fn next_commands(part: &Option<Part>) -> [Option<TicCmd>; 4]
     ensures { result ≡ next_commands part.now }
 {
     match part {
-        Some(part) => next_of_four(part.link().lockstep()),
+        Some(part) => next_of(part),
         None => [None; 4],
     }
 }

@@ -3,6 +3,7 @@
 ghost use Rattle.std.specs.Prelude.{◌≡◌, ◌<◌, ◌≤◌, length, take, drop};
 ghost use Rattle.dn_packet.specs.Written.{IsWritten};
 ghost use Rattle.dn_link.specs.Linking.{linked};
+ghost use Rattle.dn_lockstep.specs.Tables.{count_of};
 ghost use Rattle.dn_session.specs.Playing.{playing};
 ghost use Rattle.zirmegat.specs.Calls.{Reads, session_of};
 ghost use Rattle.zirmegat.specs.SessionStates.{demo_of, game_in, game_of, me_of, progress_code, progress_over, side_code, side_over, stage_code, stage_over, state_told, terms_of, where_of, why_of};
@@ -162,15 +163,21 @@ fn why_of(side: &Side, part: &Option<Part>) -> OverAnswer
     }
 }
 
+/// How many commands its player built.
+fn made(link: &Link) -> u32
+    ensures { result ≡ count_of (linked link.now).node.rings (linked link.now).node.me }
+{
+    link.lockstep().made()
+}
+
 /// How far a link is.
 fn game_in(link: &Link) -> GameAnswer
     ensures { result ≡ game_in (linked link.now) }
 {
-    let lockstep = link.lockstep();
-    let phase = PhaseAnswer::of(lockstep.phase());
+    let phase = PhaseAnswer::of(link.lockstep().phase());
     GameAnswer {
-        made: lockstep.made(),
-        ran: lockstep.ran(),
+        made: made(link),
+        ran: link.lockstep().ran(),
         unacknowledged: link.unacknowledged(),
         may_leave: u32::from(link.may_leave()),
         was: phase.was,
