@@ -1,6 +1,6 @@
 -- What the functions of a struct do that owns a box by its pointer.
-use Rattle.std.proofs.Common.{◌≡◌, ℕ, List, map, [], ◌∷◌, ◌++◌, refl, sym, ◌∙◌, lit<}
-use Rattle.std.specs.Prelude.{Some, None}
+use Rattle.std.proofs.Common.{◌≡◌, ℕ, List, map, [], ◌∷◌, ◌++◌, refl, ◌∙◌, lit<}
+use Rattle.std.specs.Prelude.{None}
 use Rattle.std.proofs.raw_atomic.Walks.{proved, proved_at}
 use Rattle.std.proofs.Handle.{heap_val, heap_Tells}
 use Rattle.std.specs.declared.alloc.Global.{Global}
@@ -16,7 +16,7 @@ use contract.Running.{Running, MachineTables, tables}
 use prog.Model.{Model}
 use prog.Wp.{WpFn, Closed}
 use types.Logic.{Logic, sem}
-use types.Kit.{‵, ◌⊛◌, ◌$◌, ◌∵◌, !, qed, done, drop, move, keep, split, join, fsplit, fpick, fpack, rewrite, suffices, group, use0}
+use types.Kit.{‵, ◌⊛◌, ◌$◌, ◌∵◌, !, qed, done, drop, move, keep, split, join, fsplit, fpick, fpack, rewrite, suffices, group}
 use types.Part.{agg, sub, whole}
 use types.Run.{enter, of_opd, fld, stop, lit, no_more, and_then, returns}
 use types.ByLocal.{alloc_all, pass_all, free_all, look_at, get, get_in, sets}
@@ -34,7 +34,6 @@ use denote.Triple.Spec.{Meets}
 use denote.Triple.Walked.{Stays, walk_of, stay_dropped, Goes-dropped, says, ends_at}
 use Rattle.zirmegat.specs.Owned.{owned}
 use Rattle.zirmegat.specs.contracts.held.Held as held
-use Rattle.zirmegat.specs.contracts.handle.Handle as handle
 use Rattle.zirmegat.proofs.{Values.runs_at, Values.both, Values.loose_in, Values.loose_out, Values.loose_good, Holders.Z, Holders.LZ, Holders.g, Holders.Holder, Holders.word, Holders.holder_type, Holders.row}
 use Rattle.zirmegat.proofs.{Holders.handle_holder, Holders.slot_holder, Holders.holder_out, Holders.holder_in, Holders.full_in}
 use Rattle.zirmegat.specs.contracts.loose.Loose as loose

@@ -9,7 +9,7 @@ use base.Fraction.{full_share}
 use base.Logic.{ent, sep, emp, never, fst∗, id⊢}
 use seplogic.Ra.Ura.{Ura}
 use mir.Raw.{raw as bare}
-use mir.Syntax.{Fn, Body, Sym, Callee, named, erased, mut, local, value_local, block, seq, assign, place, field, deref, addr_of, rv_opd, copy, return, ty_ptr, ty_ref, ty_named, tnil}
+use mir.Syntax.{Fn, Body, Callee, named, erased, mut, local, value_local, block, seq, assign, place, field, deref, addr_of, rv_opd, copy, return, ty_ptr, ty_ref, ty_named, tnil}
 use mir.Val.{Val, vptr}
 use contract.Running.{Running, MachineTables, tables}
 use contract.Monad.{fact}
@@ -20,7 +20,7 @@ use types.Kit.{‵, raw, ◌⊛◌, some, later, at_ret, ◌$◌, ◌∵◌, !, 
 use types.Part.{whole, sub, look_in}
 use types.Run.{enter, of_opd, load, addr, stop, fld, first, blocks, exec, returns}
 use types.ByLocal.{alloc_all, pass_all, free_all, look_at, get, through, sets, sets_last, env}
-use denote.Builtin.{RefMutOf, One}
+use denote.Builtin.{RefMutOf}
 use denote.Exit.{no}
 use denote.Follow.{follows, Part, lends_Part}
 use denote.Memory.{lone, cell_at, part_at, part_of, mem}

@@ -1,8 +1,7 @@
 -- A struct that owns a box by its pointer: its machine value, and what it owns.
 use Rattle.std.specs.declared.alloc.Allocator.{Ghosts}
 use Rattle.std.proofs.Common.{refl, ◌≡◌, ℕ, List, [], ◌∷◌, sym, ◌∙◌, ◌++◌}
-use Rattle.std.specs.Prelude.{Option, Some, None}
-use Rattle.std.specs.declared.alloc.Global.{Global}
+use Rattle.std.specs.Prelude.{Option, Some}
 use denote.RattleType.{RattleType, Valss}
 use denote.Param.Laws.{Laws}
 use base.Fml.{Fml, fex, fsep}

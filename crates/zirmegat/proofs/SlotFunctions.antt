@@ -1,5 +1,5 @@
 -- What `into_loose` of a pointer to a handle does.
-use Rattle.std.proofs.Common.{◌≡◌, ℕ, List, map, [], ◌∷◌, ◌++◌, refl, sym, ◌∙◌, lit<}
+use Rattle.std.proofs.Common.{◌≡◌, ℕ, List, [], ◌∷◌, ◌++◌, refl, ◌∙◌, lit<}
 use Rattle.std.specs.Prelude.{Option, Some, None}
 use Rattle.std.specs.Option.{option_map}
 use Rattle.std.proofs.raw_atomic.Walks.{proved_at}
@@ -7,13 +7,13 @@ use Rattle.std.proofs.VecSteps.Shapes.{after}
 use Rattle.std.proofs.Handle.{heap_val, heap_Tells}
 use Rattle.std.proofs.GlobalToken.{dealloc_token-Testable}
 use Rattle.std.specs.declared.alloc.Global.{Global}
-use base.Fml.{Fml, ftrue}
+use base.Fml.{ftrue}
 use base.Logic.{SProp, ent, emp, via, snd∗, guard, guard_i, never, never_e, id⊢}
 use seplogic.Ra.Ura.{Ura}
 use mir.Raw.{raw as bare}
 use mir.Syntax.{Fn, Body, Callee, seq, assign, cond, place, field, aggregate, rv_opd, op2, ptr_eq, copy, int, w8, w64, return, ty_ptr, ty_bool}
 use mir.Val.{Val, vptr, vcons, vnil}
-use contract.Monad.{fact, fact_use}
+use contract.Monad.{fact_use}
 use contract.Running.{Running, MachineTables, tables}
 use prog.Model.{Model}
 use prog.Wp.{WpFn, Closed}

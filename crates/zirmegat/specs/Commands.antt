@@ -1,5 +1,5 @@
 -- Whole commands: what a caller gives of one, and what is told of one.
-use Rattle.std.specs.Prelude.{◌≡◌, ◌<◌, ℕ, ℤ, pos, Bool, true, nat_lt, Option, Some, None, is_some, if◌then◌else◌}
+use Rattle.std.specs.Prelude.{◌≡◌, ℕ, ℤ, pos, Bool, nat_lt, Option, Some, None, if◌then◌else◌}
 use Rattle.dn_tic.specs.declared.command.TicCmd.{TicCmd}
 use Rattle.dn_tic.specs.declared.input.Command.{Command}
 use Rattle.dn_tic.specs.declared.input.Input.{Input}

@@ -1,5 +1,5 @@
 -- What is known of a node and of its players, as plain numbers.
-use Rattle.std.specs.Prelude.{ℕ, List, [], ◌∷◌, map, replicate, length, Option, Some, None, is_some}
+use Rattle.std.specs.Prelude.{ℕ, List, map, replicate, length, Option, Some, None, is_some}
 use Rattle.dn_setup.specs.Settings.{bit}
 use Rattle.dn_lockstep.specs.Contents.{Contents}
 use Rattle.dn_lockstep.specs.Tables.{count_of}

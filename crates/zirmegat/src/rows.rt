@@ -42,7 +42,11 @@ impl RowFields {
     };
 
     /// What came of a run by these moves, whose whole commands these are.
-    pub(crate) fn of(ran: Ran, moves: &[Option<Move>; 4], commands: &[Option<TicCmd>; 4]) -> RowFields
+    pub(crate) fn of(
+        ran: Ran,
+        moves: &[Option<Move>; 4],
+        commands: &[Option<TicCmd>; 4],
+    ) -> RowFields
         ensures { result ≡ row_told ran moves.now commands.now }
     {
         match ran {
@@ -78,7 +82,12 @@ impl RowFields {
         RowFields {
             tic: (tic % 0x1_0000_0000) as u32,
             present: seats(moves),
-            commands: [move_of(*zero), move_of(*one), move_of(*two), move_of(*three)],
+            commands: [
+                move_of(*zero),
+                move_of(*one),
+                move_of(*two),
+                move_of(*three),
+            ],
             ..RowFields::NONE
         }
     }

@@ -88,7 +88,11 @@ fn put_sent(sent: Option<Transmit>, to: &mut Bytes, out: &mut [u8]) -> usize
 /// many bytes it has; 0 where there is nothing. Where the room is below 1,200 bytes, it returns 0, and all
 /// stays.
 #[unsafe(no_mangle)]
-pub extern "C" fn zmg_session_transmit(session: &mut Handle, to: &mut Bytes, out: &mut [u8]) -> usize
+pub extern "C" fn zmg_session_transmit(
+    session: &mut Handle,
+    to: &mut Bytes,
+    out: &mut [u8],
+) -> usize
     ensures sends { 1200 ≤ length out.old → Calls session_of session.old session.new
         (SendsInto to.old to.new out.old out.new result) ((result ≡ 0) × (to.new ≡ to.old) × (out.new ≡ out.old)) }
     ensures no_room { length out.old < 1200

@@ -225,7 +225,11 @@ const STATE_SIZE: usize = 328;
 
 /// Writes what is known of the session, where the caller's struct has so many bytes.
 #[unsafe(no_mangle)]
-pub extern "C" fn zmg_session_state(session: &mut Handle, out: &mut SessionAnswer, size: usize) -> u32
+pub extern "C" fn zmg_session_state(
+    session: &mut Handle,
+    out: &mut SessionAnswer,
+    size: usize,
+) -> u32
     ensures tells { 328 ≤ size → Reads session_of session.old session.new
         (λ m. (result ≡ 0) × (out.new ≡ state_told m)) ((result ≡ 1) × (out.new ≡ out.old)) }
     ensures small { size < 328 → (result ≡ 2) × (session.new ≡ session.old) × (out.new ≡ out.old) }

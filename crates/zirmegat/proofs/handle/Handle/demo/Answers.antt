@@ -1,4 +1,4 @@
-use Rattle.std.proofs.Common.{◌≡◌, ◌∙◌, ap, sym}
+use Rattle.std.proofs.Common.{◌∙◌, ap, sym}
 use mathlib.Core.Logic.{inr}
 use Rattle.zirmegat.specs.{Lends.holding, Kinds.demo_in}
 use Rattle.zirmegat.proofs.OfKinds.{no_demo}

@@ -1,4 +1,4 @@
-use Rattle.std.proofs.Common.{◌≡◌, ◌∙◌, ap, refl, sym}
+use Rattle.std.proofs.Common.{◌∙◌, ap, refl, sym}
 use mathlib.Core.Logic.{inr}
 use Rattle.zirmegat.specs.{Lends.holding, Kinds.session_in}
 use Rattle.zirmegat.proofs.OfKinds.{no_session}

@@ -4,7 +4,7 @@ use Rattle.dn_link.specs.Linked.{has_given_up}
 use Rattle.dn_link.specs.Linking.{linked}
 use Rattle.dn_link.specs.Pace.{is_resting, wants_second}
 use Rattle.dn_link.specs.Pacing.{pace_of}
-use Rattle.zirmegat.specs.{declared.node_player.NodePlayer.NodePlayer, Joined.joined_of, Lines.line_told, Links.figures_at, Links.left_of, NodeStates.left_told, NodeStates.lockstep_player}
+use Rattle.zirmegat.specs.{Joined.joined_of, Lines.line_told, Links.figures_at, Links.left_of, NodeStates.left_told, NodeStates.lockstep_player}
 use Rattle.zirmegat.proofs.node_player.NodePlayer.of_link.Goals as goal
 
 pub returns : goal.returns

@@ -15,7 +15,7 @@ returns-in-Some c =
     let end : c.end_of.result ≡ end_told (end_of link.node p) =
     c.end_of.ensures ∙ ap (λ (n : Contents). end_told (end_of n p)) same in
     let line : c.of.result
-        ≡ line_told (if is_peer link.node p then Some (figures_of ((pace_of c.args.link.now).lines p)) else None) =
+    ≡ line_told (if is_peer link.node p then Some (figures_of ((pace_of c.args.link.now).lines p)) else None) =
     search rules in
     let told : _ ≡ seen_told c.args.link.now p (Some c.in-Some.seen) =
     λ i. record {
