@@ -10,9 +10,8 @@ static void step(zmg_session *session, int16_t world[4]) { /* runs what can be r
 
 static void send_all(zmg_session *from, zmg_session *to, const zmg_address *place, uint32_t now) {
     uint8_t bytes[ZMG_DATAGRAM_SIZE];
-    zmg_address where;
-    size_t length; /* an engine sends the bytes by UDP, to `where` */
-    while ((length = zmg_session_transmit(from, &where, bytes, sizeof bytes)) > 0)
+    zmg_address where; /* an engine sends the bytes by UDP, to `where` */
+    for (size_t length; (length = zmg_session_transmit(from, &where, bytes, sizeof bytes)) > 0;)
         zmg_session_receive(to, place, bytes, length, now);
 }
 
@@ -37,4 +36,5 @@ int main(void) {
         }
     for (int me = 0; me < 2; me++) printf("player %d sees %d %d\n", me, worlds[me][0], worlds[me][1]);
     for (int me = 0; me < 2; me++) zmg_session_free(players[me]);
+    return 0;
 }

@@ -8,7 +8,10 @@ fn main() {
     let named = std::env::var("ZIRMEGAT_LIB").ok();
     let folders = match &named {
         Some(folder) => vec![folder.clone()],
-        None => vec![format!("{here}/../out"), format!("{here}/../../../lib")],
+        None => vec![
+            format!("{here}/../../out"),
+            format!("{here}/../../../../lib"),
+        ],
     };
     println!("cargo:rerun-if-env-changed=ZIRMEGAT_LIB");
     for folder in &folders {
