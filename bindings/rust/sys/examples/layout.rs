@@ -291,5 +291,9 @@ fn main() {
     number!(ZMG_UNSETTLED_OVERRUN);
     number!(ZMG_UNSETTLED_STOPPER);
     number!(ZMG_UNSETTLED_OTHER_END);
+    number!(ZMG_FLAG_KILL);
+    number!(ZMG_FLAG_SETUP);
+    number!(ZMG_FLAG_RETRANSMIT);
+    number!(ZMG_FLAG_EXIT);
     number!(ZMG_MOST_COMMANDS);
 }

@@ -529,6 +529,10 @@ pub struct zmg_given_up {
     pub player: u32,
 }
 
+pub const ZMG_FLAG_KILL: u32 = 1;
+pub const ZMG_FLAG_SETUP: u32 = 2;
+pub const ZMG_FLAG_RETRANSMIT: u32 = 4;
+pub const ZMG_FLAG_EXIT: u32 = 8;
 pub const ZMG_MOST_COMMANDS: usize = 12;
 #[repr(C)]
 #[derive(Clone, Copy, Debug)]
