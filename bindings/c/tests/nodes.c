@@ -170,6 +170,31 @@ static void send_links(unsigned k, int second, unsigned loss) {
     }
 }
 
+/* A datagram that came comes again, and brings no command; comes altered, cut or to another player, and changes nothing
+ * but the count of what was refused. */
+static void attack_link(unsigned k, const flight *f) {
+    zmg_received r;
+    zmg_node_state before, after;
+    flight bad = *f;
+    unsigned other = (k + 1) % players;
+    uint32_t got = seen(k, f->from).got;
+    MUST(zmg_link_receive(nodes[k], f->bytes, f->length, &r) != ZMG_RECEIVED_UNOPENED && seen(k, f->from).got == got);
+    before = state_of(k);
+    bad.bytes[below((unsigned)f->length)] ^= (uint8_t)(1u << below(8));
+    MUST(zmg_link_receive(nodes[k], bad.bytes, bad.length, &r) == ZMG_RECEIVED_UNOPENED && r.player == 0);
+    MUST(r.reason >= ZMG_UNOPENED_SUITE && r.reason <= ZMG_UNOPENED_TAG);
+    MUST(zmg_link_receive(nodes[k], f->bytes, below((unsigned)f->length), &r) == ZMG_RECEIVED_UNOPENED);
+    MUST(r.reason == ZMG_UNOPENED_SHORT || r.reason == ZMG_UNOPENED_TAG);
+    MUST(zmg_link_receive(nodes[k], f->bytes, 61, &r) == ZMG_RECEIVED_UNOPENED && r.reason == ZMG_UNOPENED_SHORT);
+    after = state_of(k);
+    MUST(after.refused == before.refused + 3);
+    after.refused = before.refused;
+    MUST(memcmp(&before, &after, sizeof before) == 0);
+    if (!alive[other] || other == f->to || state_of(other).phase != ZMG_PHASE_PLAYING) return;
+    MUST(zmg_link_receive(nodes[other], f->bytes, f->length, &r) == ZMG_RECEIVED_UNOPENED);
+    MUST(r.reason == ZMG_UNOPENED_RECEIVER);
+}
+
 static void hear_links(unsigned k) {
     for (unsigned j = 0; j < flying;) {
         zmg_received r;
@@ -178,9 +203,7 @@ static void hear_links(unsigned k) {
         flights[j] = flights[--flying];
         MUST(zmg_link_receive(nodes[k], f.bytes, f.length, &r) == r.code);
         MUST((r.code == ZMG_RECEIVED_HEARD || r.code == ZMG_RECEIVED_GIVEN_UP) && r.player == f.from && r.reason == 0);
-        f.bytes[f.length - 1] ^= 1;
-        MUST(zmg_link_receive(nodes[k], f.bytes, f.length, &r) == ZMG_RECEIVED_UNOPENED && r.reason == ZMG_UNOPENED_TAG);
-        MUST(zmg_link_receive(nodes[k], f.bytes, 61, &r) == ZMG_RECEIVED_UNOPENED && r.reason == ZMG_UNOPENED_SHORT);
+        attack_link(k, &f);
     }
 }
 
