@@ -351,6 +351,50 @@ static void make_bytes(void) {
     demo[demo_length++] = 0x80;
 }
 
+/* One call, and often the making or freeing of a handle before it. */
+static void act(void) {
+    unsigned k = below(HANDLES);
+    calls++;
+    now += below(4) ? below(20) : below(400);
+    if (handles[k].is != NOTHING && below(400) == 0) drop(k);
+    if (handles[k].is == NOTHING) {
+        unsigned what = below(4);
+        drop(k); /* NULL may be freed */
+        if (what < 2) make_session(k);
+        else if (what == 2) make_node(k);
+        else make_demo(k);
+    }
+    if (handles[k].is == NOTHING || below(20) == 0) call_none();
+    else {
+        kind is = handles[k].is, as = below(5) ? is : (kind)(1 + below(4));
+        if (as == SESSION) call_session(k, is == SESSION);
+        else if (as == DEMO) call_demo(k, is == DEMO);
+        else call_node(k, is);
+    }
+}
+
+static void finish(void) {
+    for (unsigned k = 0; k < HANDLES; k++) drop(k);
+    MUST(blocks_held() == 0);
+}
+
+#ifdef FUZZER
+/* clang -g -DFUZZER -fsanitize=fuzzer,address,undefined misuse.c failing.c libzirmegat.a: the calls that bytes name. */
+#ifdef __cplusplus
+extern "C"
+#endif
+int LLVMFuzzerTestOneInput(const uint8_t *data, size_t size);
+int LLVMFuzzerTestOneInput(const uint8_t *data, size_t size) {
+    seed = 1;
+    now = 0;
+    taken = data;
+    left_to_take = size;
+    make_bytes();
+    while (left_to_take > 1) act();
+    finish();
+    return 0;
+}
+#else
 int main(int argc, char **argv) {
     unsigned long most = argc > 1 ? strtoul(argv[1], NULL, 10) : 100000;
     begin_chance(argc > 2 ? argv[2] : "1");
@@ -358,28 +402,10 @@ int main(int argc, char **argv) {
     if (scarce) fail_every(strtoul(argv[3], NULL, 10));
     MUST(zmg_version() == ZMG_VERSION);
     make_bytes();
-    for (calls = 0; calls < most; calls++) {
-        unsigned k = below(HANDLES);
-        now += below(4) ? below(20) : below(400);
-        if (handles[k].is != NOTHING && below(400) == 0) drop(k);
-        if (handles[k].is == NOTHING) {
-            unsigned what = below(4);
-            drop(k); /* NULL may be freed */
-            if (what < 2) make_session(k);
-            else if (what == 2) make_node(k);
-            else make_demo(k);
-        }
-        if (handles[k].is == NOTHING || below(20) == 0) call_none();
-        else {
-            kind is = handles[k].is, as = below(5) ? is : (kind)(1 + below(4));
-            if (as == SESSION) call_session(k, is == SESSION);
-            else if (as == DEMO) call_demo(k, is == DEMO);
-            else call_node(k, is);
-        }
-    }
-    for (unsigned k = 0; k < HANDLES; k++) drop(k);
-    MUST(blocks_held() == 0);
+    while (calls < most) act();
+    finish();
     printf("misuse: %lu calls, of %lu sessions, %lu demos, %lu locksteps and %lu links\n", calls, made[SESSION],
         made[DEMO], made[LOCKSTEP], made[LINK]);
     return 0;
 }
+#endif
