@@ -23,7 +23,7 @@ extern void (*zmg_update_hook)(void), (*zmg_run_hook)(void);  /* d_loop.c */
 enum { HEARD = 128, STALL = 143, ASK = 3000, FAREWELL = 15000 };
 
 zmg_options zmg_the_options;
-zmg_session zmg_the_session = ZMG_SESSION_NONE;
+zmg_session *zmg_the_session;
 zmg_state zmg_the_state;
 
 static boolean playing, leaving;
@@ -33,12 +33,12 @@ static unsigned ticks, refused;                    /* for the last line */
 
 static uint32_t now(void) { return (uint32_t) ZMG_Now(); }
 
-void ZMG_Look(void) { zmg_session_state(&zmg_the_session, &zmg_the_state); }
+void ZMG_Look(void) { zmg_session_state(zmg_the_session, &zmg_the_state, sizeof zmg_the_state); }
 
 zmg_player ZMG_Player(int player)
 {
     zmg_player told;
-    zmg_session_player(&zmg_the_session, (uint8_t) player, now(), &told);
+    zmg_session_player(zmg_the_session, (uint8_t) player, now(), &told, sizeof told);
     return told;
 }
 
@@ -46,10 +46,10 @@ zmg_player ZMG_Player(int player)
 
 static void send_all(void)
 {
-    uint8_t bytes[ZMG_SESSION_SIZE];
+    uint8_t bytes[ZMG_DATAGRAM_SIZE];
     zmg_address to;
     size_t n;
-    while ((n = zmg_session_transmit(&zmg_the_session, &to, bytes, sizeof bytes)) > 0)
+    while ((n = zmg_session_transmit(zmg_the_session, &to, bytes, sizeof bytes)) > 0)
     {
         ZMG_UdpSend(&to, bytes, n);
         datagrams_sent++;
@@ -60,22 +60,22 @@ static void send_all(void)
 void ZMG_Exchange(void)
 {
     /* one byte more than a datagram has: one that was cut must not read as whole */
-    uint8_t bytes[ZMG_SESSION_SIZE + 1];
+    uint8_t bytes[ZMG_DATAGRAM_SIZE + 1];
     zmg_address from;
     int n;
     for (int k = 0; k < HEARD && (n = ZMG_UdpHear(&from, bytes, sizeof bytes)) >= 0; k++)
     {
-        zmg_session_receive(&zmg_the_session, &from, bytes, (size_t) n, now());
+        zmg_session_receive(zmg_the_session, &from, bytes, (size_t) n, now());
         send_all();
     }
-    if (zmg_session_poll(&zmg_the_session, now()) == ZMG_STATUS_NO_MEMORY) I_Error("zmg: there is no memory");
+    if (zmg_session_poll(zmg_the_session, now()) == ZMG_ERR_MEMORY) I_Error("zmg: there is no memory");
     send_all();
 }
 
 static void see_events(void)
 {
     zmg_event e;
-    while ((e = zmg_session_event(&zmg_the_session)).kind != ZMG_EVENT_NONE)
+    while (zmg_session_event(zmg_the_session, &e) != ZMG_EVENT_NONE)
     {
         if (e.kind == ZMG_EVENT_LEFT) ZMG_Say("player %u has left", e.player + 1);
         if (e.kind == ZMG_EVENT_GIVEN_UP) ZMG_Say("the game goes on without player %u", e.player + 1);
@@ -88,7 +88,7 @@ static void see_events(void)
 static int awaited(void)
 {
     for (int p = 0; p < zmg_the_state.terms.players; p++)
-        if (ZMG_Player(p).game.awaited > 0) return p;
+        if (ZMG_Player(p).awaited > 0) return p;
     return -1;
 }
 
@@ -97,8 +97,8 @@ static int awaited(void)
 static boolean asks(int p)
 {
     int leader = 0;
-    if (p < 0 || ZMG_Player(p).game.awaited < ASK) return false;
-    while (leader < 4 && ZMG_Player(leader).game.standing != ZMG_STANDING_PLAYS) leader++;
+    if (p < 0 || ZMG_Player(p).awaited < ASK) return false;
+    while (leader < 4 && ZMG_Player(leader).standing != ZMG_STANDING_PLAYS) leader++;
     return leader == (int) zmg_the_state.me || leader == p;
 }
 
@@ -107,7 +107,7 @@ boolean ZMG_Responder(event_t *event)
 {
     int p = playing && !leaving ? awaited() : -1;
     if (event->type != ev_keydown || event->data1 != 'f' || !asks(p)) return false;
-    return zmg_session_give_up(&zmg_the_session, (uint8_t) p, now()) != 0;
+    return zmg_session_give_up(zmg_the_session, (uint8_t) p, now()) == ZMG_OK;
 }
 
 /* ---- a tick ---- */
@@ -135,7 +135,7 @@ static zmg_command from_engine(const ticcmd_t *cmd)
 static void give(void)
 {
     ticcmd_t cmd;
-    uint32_t made = zmg_the_state.game.made;
+    uint32_t made = zmg_the_state.made;
     if (!owes)
     {
         memset(&cmd, 0, sizeof cmd);
@@ -147,9 +147,9 @@ static void give(void)
         }
         owed = from_engine(&cmd);
     }
-    zmg_session_give(&zmg_the_session, &owed, now());
+    zmg_session_give(zmg_the_session, &owed, now());
     ZMG_Look();
-    owes = zmg_the_state.game.made == made;
+    owes = zmg_the_state.made == made;
     ticks++;
     refused += owes;
 }
@@ -168,11 +168,11 @@ static void tick(void)
 
 static void end(void)
 {
-    zmg_over why = zmg_the_state.why;
-    if (why.reason == ZMG_OVER_LOST)
-        I_Error("zmg: player %u was missing for %d s", why.number + 1, zmg_the_state.terms.seconds);
-    if (why.reason == ZMG_OVER_FULL) I_Error("zmg: the recording is full at tic %d", gametic);
-    I_Error("zmg: the game is over: %s", zmg_reason_text(why.reason));
+    zmg_status why = zmg_the_state.why;
+    if (why == ZMG_OVER_LOST)
+        I_Error("zmg: player %u was missing for %d s", zmg_the_state.number + 1, zmg_the_state.terms.seconds);
+    if (why == ZMG_OVER_FULL) I_Error("zmg: the recording is full at tic %d", gametic);
+    I_Error("zmg: the game is over: %s", zmg_status_text(why));
 }
 
 /* In place of NetUpdate: what came, and the ticks that are due. No tic is run here: the engine may be drawing. */
@@ -184,12 +184,12 @@ static void update(void)
     see_events();
     ZMG_Look();
     if (zmg_the_state.stage != ZMG_STAGE_PLAYING) end();
-    while (zmg_session_wants_input(&zmg_the_session, now())) tick();
+    while (zmg_session_wants_input(zmg_the_session, now())) tick();
 }
 
 /* ---- tics ---- */
 
-static void step(const zmg_known_command row[4])
+static void step(const zmg_row *row)
 {
     static ticcmd_t cmds[NET_MAXPLAYERS];
     boolean ingame[NET_MAXPLAYERS];
@@ -197,12 +197,13 @@ static void step(const zmg_known_command row[4])
     memset(ingame, 0, sizeof ingame);
     for (int p = 0; p < 4; p++)
     {
-        ingame[p] = row[p].known != 0;
-        cmds[p].forwardmove = row[p].command.forward;
-        cmds[p].sidemove = row[p].command.side;
-        cmds[p].angleturn = row[p].command.turn;
-        cmds[p].buttons = row[p].command.buttons;
-        cmds[p].chatchar = row[p].command.chat;
+        const zmg_command *c = &row->commands[p];
+        ingame[p] = row->present[p] != 0;
+        cmds[p].forwardmove = c->forward;
+        cmds[p].sidemove = c->side;
+        cmds[p].angleturn = c->turn;
+        cmds[p].buttons = c->buttons;
+        cmds[p].chatchar = c->chat;
         /* the session has compared the worlds: keep the engine's own test quiet */
         cmds[p].consistancy = consistancy[p][gametic % BACKUPTICS];
     }
@@ -214,28 +215,28 @@ static void step(const zmg_known_command row[4])
  * anywhere is found twelve tics later. */
 static boolean run_one(void)
 {
-    zmg_known_command row[4];
-    zmg_ran ran;
+    zmg_row row;
+    zmg_run ran;
     int16_t marks[4];
     uint32_t digest = ZMG_WorldDigest();
     for (int p = 0; p < 4; p++) marks[p] = (int16_t) (digest ^ digest >> 16);
-    ran = zmg_session_run(&zmg_the_session, marks, row);
-    if (ran.code == ZMG_TIC_INCONSISTENT)
+    ran = zmg_session_run(zmg_the_session, marks, &row);
+    if (ran == ZMG_RUN_INCONSISTENT)
         I_Error("zmg: the worlds differ since tic %d or earlier: player %d had the mark %d, and here it is %d",
-                gametic - 12, ran.player + 1, ran.was, ran.should);
-    if (ran.code != ZMG_TIC_RAN) return false;
-    if ((int) ran.tic != gametic) I_Error("zmg: tic %u, and the engine is at %d", ran.tic, gametic);
-    step(row);
+                gametic - 12, row.player + 1, row.was, row.should);
+    if (ran != ZMG_RUN_RAN) return false;
+    if ((int) row.tic != gametic) I_Error("zmg: tic %u, and the engine is at %d", row.tic, gametic);
+    step(&row);
     return true;
 }
 
 static int run_all(void)
 {
     int steps = 0;
-    uint32_t made = zmg_the_state.game.made;
+    uint32_t made = zmg_the_state.made;
     while (run_one()) steps++;
     ZMG_Look();
-    if (zmg_the_state.game.made != made) owes = false;
+    if (zmg_the_state.made != made) owes = false;
     send_all();
     return steps;
 }
@@ -273,7 +274,7 @@ static void save(void)
     FILE *f;
     if (!zmg_the_options.record || !playing) return;
     f = fopen(zmg_the_options.record, "wb");
-    for (; f && (n = zmg_session_demo(&zmg_the_session, at, bytes, sizeof bytes)) > 0; at += n)
+    for (; f && (n = zmg_session_demo(zmg_the_session, at, bytes, sizeof bytes)) > 0; at += n)
         if (fwrite(bytes, 1, n, f) != n) break;
     if (!f || fclose(f) != 0) printf("zmg: cannot write %s\n", zmg_the_options.record);
     else printf("zmg: %s has %u bytes\n", zmg_the_options.record, (unsigned) at);
@@ -283,9 +284,9 @@ static void save(void)
 void ZMG_Leave(void)
 {
     double begun = ZMG_Now();
-    if (!zmg_the_options.on || leaving) return;
+    if (!zmg_the_session || leaving) return;
     leaving = true;
-    zmg_session_quit(&zmg_the_session, now());
+    zmg_session_quit(zmg_the_session, now());
     save();
     for (ZMG_Look(); playing && zmg_the_state.stage != ZMG_STAGE_OVER && ZMG_Now() - begun < FAREWELL; ZMG_Look())
     {
@@ -295,12 +296,12 @@ void ZMG_Leave(void)
     if (playing)
     {
         printf("zmg: left after %.0f ms, %s; %lu datagrams, %lu bytes in %.0f s\n", ZMG_Now() - begun,
-               zmg_the_state.game.may_leave ? "all know" : "NOT ALL KNOW", datagrams_sent, bytes_sent,
+               zmg_the_state.may_leave ? "all know" : "NOT ALL KNOW", datagrams_sent, bytes_sent,
                (ZMG_Now() - began_at) / 1000);
         printf("zmg: %u ticks, %u found the window full\n", ticks, refused);
     }
     fflush(stdout);
-    zmg_session_free(&zmg_the_session);
+    zmg_session_free(zmg_the_session);
     ZMG_UdpClose();
 }
 

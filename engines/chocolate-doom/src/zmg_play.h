@@ -12,7 +12,7 @@ typedef struct {
 } zmg_options;
 
 extern zmg_options zmg_the_options;
-extern zmg_session zmg_the_session;
+extern zmg_session *zmg_the_session;
 extern zmg_state zmg_the_state;   /* as ZMG_Look read it last */
 
 /* Reads what is known of the session, and of a player. */

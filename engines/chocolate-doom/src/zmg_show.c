@@ -75,15 +75,15 @@ void ZMG_LobbyOpen(void)
 
 static void line_of(int p, char *out)
 {
-    zmg_seat seat = ZMG_Player(p).seat;
-    const char *what = seat.state == ZMG_SEAT_FREE ? "not here yet" : seat.state == ZMG_SEAT_SILENT ? "is silent" : "here";
+    zmg_player who = ZMG_Player(p);
+    const char *what = who.seat == ZMG_SEAT_FREE ? "not here yet" : who.seat == ZMG_SEAT_SILENT ? "is silent" : "here";
     char name[17] = "";
     if (p == (int) zmg_the_state.me) what = "you";
-    memcpy(name, seat.name, 16);
+    memcpy(name, who.name.text, 16);
     for (char *c = name; *c; c++)
         if (iscntrl((unsigned char) *c)) *c = '?';
-    if (p == (int) zmg_the_state.me || !seat.known) M_snprintf(out, WIDE, "player %d: %s", p + 1, what);
-    else M_snprintf(out, WIDE, "player %d %s(%s): %s", p + 1, *name ? strcat(name, " ") : "", ZMG_UdpText(&seat.address), what);
+    if (p == (int) zmg_the_state.me || !who.has_address) M_snprintf(out, WIDE, "player %d: %s", p + 1, what);
+    else M_snprintf(out, WIDE, "player %d %s(%s): %s", p + 1, *name ? strcat(name, " ") : "", ZMG_UdpText(&who.address), what);
 }
 
 static void show_line(int k, const char *text)
@@ -146,7 +146,7 @@ static void show_line_to(int p, zmg_line line, int x, int y)
     write_text(x, y, text);
 }
 
-static void show_waiting(int player, const zmg_player_in_game *who, boolean asks, int x, int y)
+static void show_waiting(int player, const zmg_player *who, boolean asks, int x, int y)
 {
     char text[WIDE];
     if (asks) M_snprintf(text, WIDE, "player %d does not answer: F to play on without", player + 1);
@@ -163,7 +163,7 @@ void ZMG_ShowAbove(int player, boolean asks)
     if (hu_font[0] == NULL) return;
     if (player >= 0)
     {
-        zmg_player_in_game who = ZMG_Player(player).game;
+        zmg_player who = ZMG_Player(player);
         if (who.awaited > 1000)
         {
             show_waiting(player, &who, asks, x, y);
@@ -178,8 +178,8 @@ void ZMG_ShowAbove(int player, boolean asks)
         }
     for (int p = 0; p < zmg_the_state.terms.players && M_CheckParm("-zmg-show") > 0; p++)
     {
-        zmg_player_in_game who = ZMG_Player(p).game;
-        if (!who.line.known || who.standing != ZMG_STANDING_PLAYS) continue;
+        zmg_player who = ZMG_Player(p);
+        if (p == (int) zmg_the_state.me || who.standing != ZMG_STANDING_PLAYS) continue;
         show_line_to(p, who.line, x, y);
         y += 8;
     }

@@ -45,11 +45,11 @@ static int number(const char *name, int otherwise, int low, int high)
 }
 
 /* What hosts and joiners have in common: key, random bytes, name. */
-static void read_common(uint8_t key[32], uint8_t random[32], uint8_t name[16], uint8_t *keyless)
+static void read_common(zmg_key *key, zmg_random *random, zmg_name *name, uint8_t *keyless)
 {
     int i = arg("-zmg-key", 1), n = arg("-zmg-name", 1);
     if (!ZMG_Random(random)) I_Error("zmg: no random bytes");
-    if (n > 0) memcpy(name, myargv[n + 1], strnlen(myargv[n + 1], 16));
+    if (n > 0) memcpy(name->text, myargv[n + 1], strnlen(myargv[n + 1], 16));
     *keyless = i <= 0;
     if (i > 0 && !ZMG_ReadKey(myargv[i + 1], key))
         I_Error("zmg: %s is no file of 64 hex digits and a line end (netgame key FILE)", myargv[i + 1]);
@@ -97,7 +97,7 @@ static void read_host(void)
     hosts.terms.players = (uint8_t) number("-zmg-host", 0, 2, 4);
     hosts.terms.window = (uint8_t) number("-zmg-window", WINDOW, 1, 12);
     read_policy(&hosts.terms);
-    read_common(hosts.key, hosts.random, hosts.name, &hosts.keyless);
+    read_common(&hosts.key, &hosts.random, &hosts.name, &hosts.keyless);
 }
 
 static void read_join(const char *host)
@@ -105,7 +105,7 @@ static void read_join(const char *host)
     zmg_join_config_init(&joins);
     if (!ZMG_UdpFind(host, PORT, &joins.host)) I_Error("zmg: there is no %s", host);
     if (arg("-zmg-me", 1) > 0) joins.seat = (uint8_t) (number("-zmg-me", 0, 2, 4) - 1);
-    read_common(joins.key, joins.random, joins.name, &joins.keyless);
+    read_common(&joins.key, &joins.random, &joins.name, &joins.keyless);
 }
 
 boolean ZMG_Init(void)
@@ -131,7 +131,7 @@ static zmg_status make(const net_gamesettings_t *s)
     zmg_settings *z = &hosts.terms.settings;
     if (!is_host)
     {
-        ZMG_Identity(joins.identity);
+        ZMG_Identity(joins.identity.bytes);
         return zmg_session_join(&zmg_the_session, &joins, (uint32_t) ZMG_Now());
     }
     z->skill = (uint8_t) s->skill;
@@ -141,15 +141,15 @@ static zmg_status make(const net_gamesettings_t *s)
     z->episode = (uint8_t) s->episode;
     z->map = (uint8_t) s->map;
     hosts.terms.own[0] = s->timelimit < 0 || s->timelimit > 255 ? 0 : (uint8_t) s->timelimit;
-    ZMG_Identity(hosts.terms.identity);
+    ZMG_Identity(hosts.terms.identity.bytes);
     return zmg_session_host(&zmg_the_session, &hosts);
 }
 
 static void refuse(void)
 {
-    zmg_over why = zmg_the_state.why;
-    if (why.reason == ZMG_OVER_PLAYERS) I_Error("zmg: the host says no: the game has %u players", why.number);
-    I_Error("zmg: the host says no: %s", zmg_reason_text(why.reason));
+    zmg_status why = zmg_the_state.why;
+    if (why == ZMG_OVER_PLAYERS) I_Error("zmg: the host says no: the game has %u players", zmg_the_state.number);
+    I_Error("zmg: the host says no: %s", zmg_status_text(why));
 }
 
 /* Waits until the game begins. */
@@ -187,7 +187,7 @@ void ZMG_Start(net_gamesettings_t *s)
     zmg_status status;
     if (!zmg_the_options.on) return;
     status = make(s);
-    if (status != ZMG_STATUS_OK) I_Error("zmg: no game: %s", zmg_status_text(status));
+    if (status != ZMG_OK) I_Error("zmg: no game: %s", zmg_status_text(status));
     ZMG_LobbyOpen();
     I_AtExit(ZMG_Leave, true);
     gather();

@@ -160,26 +160,19 @@ double ZMG_Now(void)
     return ((t.tv_sec - first) * 1e3 + t.tv_nsec / 1e6) * zmg_clock;
 }
 
-boolean ZMG_ReadKey(const char *name, uint8_t key[32])
+boolean ZMG_ReadKey(const char *name, zmg_key *key)
 {
-    char text[66] = "";
+    char text[ZMG_KEY_TEXT_SIZE + 1];
     FILE *f = fopen(name, "rb");
     size_t length = f ? fread(text, 1, sizeof text, f) : 0;
     if (f) fclose(f);
-    if (length != 65 || text[64] != '\n' || strspn(text, "0123456789abcdefABCDEF") != 64) return false;
-    for (int k = 0; k < 32; k++)
-    {
-        unsigned byte;
-        sscanf(text + 2 * k, "%2x", &byte);
-        key[k] = (uint8_t) byte;
-    }
-    return true;
+    return zmg_key_from_text(key, text, length) == ZMG_OK;
 }
 
-boolean ZMG_Random(uint8_t bytes[32])
+boolean ZMG_Random(zmg_random *random)
 {
     FILE *f = fopen("/dev/urandom", "rb");
-    boolean all = f && fread(bytes, 1, 32, f) == 32;
+    boolean all = f && fread(random->bytes, 1, sizeof random->bytes, f) == sizeof random->bytes;
     if (f) fclose(f);
     return all;
 }

@@ -21,7 +21,7 @@ void ZMG_UdpWait(int milliseconds);
 /* Milliseconds of a clock that only goes on. */
 double ZMG_Now(void);
 /* Whether the file has 64 hex digits and a line end, as `netgame key` writes it. */
-boolean ZMG_ReadKey(const char *name, uint8_t key[32]);
-boolean ZMG_Random(uint8_t bytes[32]);
+boolean ZMG_ReadKey(const char *name, zmg_key *key);
+boolean ZMG_Random(zmg_random *random);
 
 #endif
