@@ -71,6 +71,7 @@
 #![deny(clippy::undocumented_unsafe_blocks)]
 
 mod demo;
+mod packet;
 pub mod parts;
 mod session;
 mod status;

@@ -9,6 +9,8 @@ use std::mem::{size_of, zeroed};
 use std::ptr::{self, NonNull};
 use zirmegat_sys as sys;
 
+pub use crate::packet::{Packet, PacketError, SentCommand, EXIT, KILL, RETRANSMIT, SETUP};
+
 /// The window of the 1997 source.
 pub const WINDOW_1997: u8 = sys::ZMG_WINDOW_1997 as u8;
 
@@ -292,7 +294,7 @@ pub struct Aim {
     pub ask: Option<u32>,
     /// The tic of the first command; 0 for set-up.
     pub start: u32,
-    /// As in a packet.
+    /// As in a [`Packet`].
     pub flags: u8,
     /// How many commands.
     pub count: u8,
