@@ -74,6 +74,7 @@ impl Packet {
 
     /// Returns the bytes of the datagram, at most 104; None if `flags` is above 15, or if there are more than 12
     /// commands.
+    #[must_use]
     pub fn encode(&self) -> Option<Vec<u8>> {
         let raw = self.raw()?;
         let mut bytes = vec![0; crate::parts::PACKET_SIZE];

@@ -37,6 +37,7 @@ pub struct Config {
 
 impl Config {
     /// Returns the configuration of a player in the window of 1997, on the first map at skill 2.
+    #[must_use]
     pub fn new(players: u8, me: u8) -> Config {
         let raw = sys::zmg_node_config::init();
         Config {
@@ -226,6 +227,7 @@ impl<K> Node<K> {
     }
 
     /// Returns what is known of the node.
+    #[must_use]
     pub fn state(&self) -> State {
         // SAFETY: zeros are a state.
         let mut raw: sys::zmg_node_state = unsafe { zeroed() };
@@ -257,6 +259,7 @@ impl<K> Node<K> {
     }
 
     /// Returns what is known of a player.
+    #[must_use]
     pub fn player(&self, player: u8) -> Player {
         // SAFETY: zeros are a player.
         let mut raw: sys::zmg_node_player = unsafe { zeroed() };
@@ -282,6 +285,7 @@ impl<K> Node<K> {
     }
 
     /// Returns the demo so far.
+    #[must_use]
     pub fn demo(&self) -> Vec<u8> {
         whole(|from, out| self.demo_from(from, out))
     }
@@ -371,6 +375,7 @@ impl Node<Lockstep> {
     }
 
     /// Returns the numbers of the packet that [`packet`](Node::packet) would write now, if there is one.
+    #[must_use]
     pub fn aim(&self, to: u8) -> Option<Aim> {
         // SAFETY: zeros are an aim.
         let mut raw: sys::zmg_aim = unsafe { zeroed() };
