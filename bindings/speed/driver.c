@@ -1,21 +1,24 @@
-/* Plays two locksteps over memory through zirmegat_parts.h, to compare the library with a plain one of the same interface.
+/* Plays two locksteps over memory through zirmegat_parts.h, to compare the library with a plain one of the same
+ * interface.
  *
- *     driver time TICS [PERIOD [EXTRA [LIMIT [LOOP]]]]   the game alone: prints where the worlds came to
- *     driver sum  TICS [PERIOD [EXTRA [LIMIT [LOOP]]]]   the same game, with a checksum over all datagrams, answers,
+ *     driver time TICS [PERIOD [EXTRA [LIMIT [LOOP]]]]   the game alone: prints where the worlds came to driver
+ *     sum  TICS [PERIOD [EXTRA [LIMIT [LOOP]]]]   the same game, with a checksum over all datagrams, answers,
  *                                                        rows and demos
- *     driver fuzz GAMES SEED                             games of two to four on a bad line, any bytes and any calls:
+ *     driver fuzz GAMES SEED                             games of two to four on a bad line, any bytes and any
+ *     calls:
  *                                                        a checksum over all that comes of them
  *
- * Each tic: both build, both give a packet, both receive the other's, both run and step their worlds. PERIOD: keys
- * change every so many tics. EXTRA: whether a packet repeats the last command. LIMIT: bytes of a demo; a game whose
- * demo is full is given up and a new one begun. LOOP: 1 runs until a run waits, as the loop of the header does, and 0
- * once a tic. */
+ * Each tic: both build, both give a packet, both receive the other's, both run and step their worlds. PERIOD:
+ * keys change every so many tics. EXTRA: whether a packet repeats the last command. LIMIT: bytes of a demo; a
+ * game whose demo is full is given up and a new one begun. LOOP: 1 runs until a run waits, as the loop of the
+ * header does, and 0 once a tic. */
 #include "zirmegat_parts.h"
 #include <stdio.h>
 #include <stdlib.h>
 #include <string.h>
 
-/* ---- The world of walk.h, with a look-up in place of its switch, which random turns make the processor guess. ---- */
+/* ---- The world of walk.h, with a look-up in place of its switch, which random turns make the processor guess.
+ * ---- */
 
 typedef struct spot {
     uint32_t x, y;

@@ -3,11 +3,11 @@
  *     seals time ROUNDS           the calls below in turn, ROUNDS times, 200 of each: nanoseconds of a call
  *     seals count CALL COMMANDS N a call N times, for datagrams of so many commands, 1 or 12
  *
- * give: a link gives a datagram with so many commands that are not acknowledged. repeated: a link hears one that it
- * has heard before. forged: one with another tag. stray: one of another game. hmac: HMAC in one call. prepared: an
- * EVP_MAC that has taken the key already, as a link's hashers have. Both are of the bytes under the datagram's tag,
- * and must come to that tag. turn: two nodes make so many commands each, give a packet, hear the other's and run the
- * tics. link_turn: the same of links. Needs OpenSSL 3. */
+ * give: a link gives a datagram with so many commands that are not acknowledged. repeated: a link hears one
+ * that it has heard before. forged: one with another tag. stray: one of another game. hmac: HMAC in one call.
+ * prepared: an EVP_MAC that has taken the key already, as a link's hashers have. Both are of the bytes under
+ * the datagram's tag, and must come to that tag. turn: two nodes make so many commands each, give a packet,
+ * hear the other's and run the tics. link_turn: the same of links. Needs OpenSSL 3. */
 #define _POSIX_C_SOURCE 199309L
 #include "zirmegat_parts.h"
 #include <openssl/core_names.h>
@@ -168,8 +168,8 @@ static void begin_links(zmg_node **links) {
     }
 }
 
-/* Games that have begun. Of the links that stay, player 1 has heard a datagram of player 0 with all commands, each
- * of which was given in a packet of its own, and has acknowledged none. */
+/* Games that have begun. Of the links that stay, player 1 has heard a datagram of player 0 with all commands,
+ * each of which was given in a packet of its own, and has acknowledged none. */
 static void play(void) {
     zmg_node_player seen;
     begin_nodes();

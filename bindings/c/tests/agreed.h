@@ -8,7 +8,8 @@
 
 enum { MOST_ROWS = 4096, MOST_DEMO = 13 + MOST_ROWS * 4 * 5 + 1 };
 
-/* Of a demo: its head, where that no longer tells whose view it is, its last byte, and the bytes of a command. */
+/* Of a demo: its head, where that no longer tells whose view it is, its last byte, and the bytes of a
+ * command. */
 enum { HEAD = 13, VIEW = 9, END_MARKER = 0x80, COMMAND = 5 };
 
 /* The rows that some player has run, the ends that some player has told, and the longest demo that was told. */
@@ -33,8 +34,8 @@ static void tells_end(agreement *a, unsigned player, uint32_t end) {
     MUST(a->ends[player] == end);
 }
 
-/* Whoever runs a tic runs the same row. It has a command of each player whose end is not known, or after the tic.
- * The ends that the player knows were told before. */
+/* Whoever runs a tic runs the same row. It has a command of each player whose end is not known, or after the
+ * tic. The ends that the player knows were told before. */
 static void runs_row(agreement *a, uint32_t players, const zmg_row *row) {
     uint32_t tic = row->tic;
     MUST(tic < MOST_ROWS && tic <= a->furthest);

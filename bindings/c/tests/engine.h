@@ -1,5 +1,5 @@
-/* What the engines of the tests have alike: the configuration, what is known of a node, and a world that is a sum of
- * its rows. */
+/* What the engines of the tests have alike: the configuration, what is known of a node, and a world that is a
+ * sum of its rows. */
 #ifndef ENGINE_H
 #define ENGINE_H
 

@@ -1,6 +1,6 @@
-/* Calls every function of both headers with any handle, any numbers and any bytes, in any order: misuse CALLS SEED
- * [N]. To be run under valgrind or with a compiler's sanitizers. With N, every Nth request for memory is refused. A
- * handle of another kind must be refused, and change nothing; a room must be kept. C99 and C++. */
+/* Calls every function of both headers with any handle, any numbers and any bytes, in any order: misuse CALLS
+ * SEED [N]. To be run under valgrind or with a compiler's sanitizers. With N, every Nth request for memory is
+ * refused. A handle of another kind must be refused, and change nothing; a room must be kept. C99 and C++. */
 #include "chance.h"
 #include "failing.h"
 #include "must.h"
@@ -379,7 +379,8 @@ static void finish(void) {
 }
 
 #ifdef FUZZER
-/* clang -g -DFUZZER -fsanitize=fuzzer,address,undefined misuse.c failing.c libzirmegat.a: the calls that bytes name. */
+/* clang -g -DFUZZER -fsanitize=fuzzer,address,undefined misuse.c failing.c libzirmegat.a: the calls that bytes
+ * name. */
 #ifdef __cplusplus
 extern "C"
 #endif

@@ -1,5 +1,6 @@
-/* Locksteps, links, packets, demos and keys: games of two to four nodes in one process, whose rows, ends and demos must
- * agree, on a line that loses and delays; and what each call returns. C99 and C++. nodes GAMES SEED. */
+/* Locksteps, links, packets, demos and keys: games of two to four nodes in one process, whose rows, ends and
+ * demos must agree, on a line that loses and delays; and what each call returns. C99 and C++. nodes GAMES
+ * SEED. */
 #include "chance.h"
 #include "failing.h"
 #include "must.h"
@@ -170,8 +171,8 @@ static void send_links(unsigned k, int second, unsigned loss) {
     }
 }
 
-/* A datagram that came comes again, and brings no command; comes altered, cut or to another player, and changes nothing
- * but the count of what was refused. */
+/* A datagram that came comes again, and brings no command; comes altered, cut or to another player, and changes
+ * nothing but the count of what was refused. */
 static void attack_link(unsigned k, const flight *f) {
     zmg_received r;
     zmg_node_state before, after;

@@ -1,6 +1,6 @@
-/* Sessions of two to four players in one process, in virtual time, over a line that loses, repeats and delays: their
- * lobby, games, chat, and how they end; and what misuse and refused memory are answered with. C99 and C++.
- * sessions GAMES SEED. Ends with status 0, or names the line that failed. */
+/* Sessions of two to four players in one process, in virtual time, over a line that loses, repeats and delays:
+ * their lobby, games, chat, and how they end; and what misuse and refused memory are answered with. C99 and
+ * C++. sessions GAMES SEED. Ends with status 0, or names the line that failed. */
 #include "chance.h"
 #include "failing.h"
 #include "must.h"

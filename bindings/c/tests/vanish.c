@@ -5,8 +5,8 @@
  * given up that it goes on with. A datagram has a report exactly while its sender has given up somebody and
  * once it has left, if there is room; and once no report is missing, the ends are known. Players neither of
  * whom has given up the other must run the same rows, and of their demos one must be the beginning of the
- * other; of any two at all the commands of a player must be the same wherever both have them; and who remains must
- * play on. C99 and C++. Ends with status 0, or names the line that failed. */
+ * other; of any two at all the commands of a player must be the same wherever both have them; and who remains
+ * must play on. C99 and C++. Ends with status 0, or names the line that failed. */
 #include "chance.h"
 #include "due.h"
 #include "engine.h"
@@ -246,8 +246,8 @@ static int have_parted(uint8_t one, uint8_t other) {
     return (all[one].gone >> other & 1) || (all[other].gone >> one & 1);
 }
 
-/* The commands of a player are the same wherever both have them; and if neither has given up the other, both have
- * them of the same players. */
+/* The commands of a player are the same wherever both have them; and if neither has given up the other, both
+ * have them of the same players. */
 static void compare_rows(uint8_t one, uint8_t other) {
     uint32_t common = all[one].ran < all[other].ran ? all[one].ran : all[other].ran;
     for (uint32_t tic = 0; tic < common; tic++)

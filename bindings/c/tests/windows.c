@@ -1,8 +1,8 @@
-/* Games in simulated time: `windows [PACKETS]`. For each window and delay it prints how many tics a second
- * two, three and four nodes run, each on its own clock of 35 turns a second, and tests them against what the
- * window and the delay allow. Then, over a line that loses, repeats, delays and reorders, PACKETS packets are
- * given in each window, and a node that plays may drop none but set-up that comes again: no window is
- * overrun. At all times the nodes run the same commands. C99. Ends with status 0, or names the line that failed. */
+/* Games in simulated time: `windows [PACKETS]`. For each window and delay it prints how many tics a second two,
+ * three and four nodes run, each on its own clock of 35 turns a second, and tests them against what the window
+ * and the delay allow. Then, over a line that loses, repeats, delays and reorders, PACKETS packets are given in
+ * each window, and a node that plays may drop none but set-up that comes again: no window is overrun. At all
+ * times the nodes run the same commands. C99. Ends with status 0, or names the line that failed. */
 #include "chance.h"
 #include "engine.h"
 #include "must.h"
@@ -18,8 +18,8 @@ typedef struct flight {
     uint8_t from, to, bytes[ZMG_PACKET_SIZE];
 } flight;
 
-/* A line: how long a packet takes at least, by how much more at most, and how many of a hundred are lost, and how
- * many come twice. All in microseconds. */
+/* A line: how long a packet takes at least, by how much more at most, and how many of a hundred are lost, and
+ * how many come twice. All in microseconds. */
 typedef struct line {
     uint32_t delay, more, lost, twice;
 } line;
@@ -118,8 +118,8 @@ static uint64_t step(uint8_t players, const line *l) {
     return now;
 }
 
-/* Tics a second, of a minute after the first ten seconds. A round of commands takes the delay, and until the next
- * turn of the receiver; more than 35 tics a second there are not. */
+/* Tics a second, of a minute after the first ten seconds. A round of commands takes the delay, and until the
+ * next turn of the receiver; more than 35 tics a second there are not. */
 static double rate(uint8_t players, uint8_t ahead, uint32_t delay) {
     line l = { 0, 0, 0, 0 };
     uint32_t before;
