@@ -25,7 +25,9 @@ enum { MOST_ROWS = 2 * LENGTH, MOST_DEMO = 13 + MOST_ROWS * 4 * 5 + 1 };
 /* Of a demo: its head, and where that tells whose view it is. */
 enum { HEAD = 13, VIEW = 9 };
 
-typedef enum plot { CRASH, TWO_CRASH, CRASH_WHILE_DECIDING, LOST_FAREWELL, SLOW, TOO_SLOW, PARTED, EARLY, PLOTS } plot;
+typedef enum plot {
+    CRASH, TWO_CRASH, CRASH_WHILE_DECIDING, LOST_FAREWELL, SLOW, TOO_SLOW, PARTED, EARLY, PLOTS
+} plot;
 
 /* A player: when it crashes, leaves, stands still and wakes, when it last heard each other, how much came from
  * each by then, how many tics it ran and when the last, and its rows. */
@@ -199,7 +201,8 @@ static void make(uint8_t me) {
 static void draw_plot(void) {
     uint32_t one = below(players), at = 120 + below(400);
     what = (plot)(games % PLOTS);
-    if (what == PARTED || what == TWO_CRASH || what == CRASH_WHILE_DECIDING) players = what == PARTED ? 4 : 3 + below(2);
+    if (what == PARTED) players = 4;
+    if (what == TWO_CRASH || what == CRASH_WHILE_DECIDING) players = 3 + below(2);
     one = below(players);
     switch (what) {
     case TWO_CRASH: all[one].crashes = all[(one + 1) % players].crashes = at; break;
@@ -253,7 +256,8 @@ static void compare_rows(uint8_t one, uint8_t other) {
     for (uint32_t tic = 0; tic < common; tic++)
         for (unsigned p = 0; p < 4; p++) {
             const zmg_row *a = &all[one].rows[tic], *b = &all[other].rows[tic];
-            if (a->present[p] && b->present[p]) MUST(memcmp(&a->commands[p], &b->commands[p], sizeof a->commands[p]) == 0);
+            if (a->present[p] && b->present[p])
+                MUST(memcmp(&a->commands[p], &b->commands[p], sizeof a->commands[p]) == 0);
             if (!have_parted(one, other)) MUST(a->present[p] == b->present[p]);
         }
 }
