@@ -6,12 +6,12 @@ use Rattle.dn_machine.specs.{declared.events.Event.Event, Game.opening_game, Lim
 use Rattle.dn_machine.specs.Node.{Node}
 use Rattle.dn_machine.specs.declared.answers.Phase.TheVariants.{Playing}
 use Rattle.dn_machine.proofs.{Games.always, Invariant.IsKept}
-use Rattle.dn_lockstep.proofs.Shown.{starts}
+use Rattle.dn_lockstep.{specs.Agreed.recorded_in, proofs.Shown.starts}
 use Rattle.dn_node.specs.{Contents.{contents, locked}, Kept.Kept}
 use Rattle.dn_node.specs.Contents as node
-use Rattle.dn_game.specs.{declared.played.Played.Played, Headline.recorded_in, Opening.AreLimited, Played.IsPlayedFrom, Promised.IsReached, Shown.{ShowsNode, ShowsRun}}
+use Rattle.dn_game.specs.{declared.played.Played.Played, Opening.AreLimited, Played.IsPlayedFrom, Promised.IsReached, Shown.{ShowsNode, ShowsRun}}
 use Rattle.dn_game.specs.Contents as game
-use Rattle.dn_game.proofs.{Answering.plays_leads, Headlines.{plays, shows}, Standing.{all_at, window_of}}
+use Rattle.dn_game.proofs.{Answering.plays_leads, Headlines.{plays, rows_agree, shows}, Standing.{all_at, window_of}}
 use Rattle.dn_game.proofs.Agreeing as agreeing
 
 module _ {W S : Type 0} (state : W → S) (rules : Rules S) (settings : Settings) (limit : ℕ) where
@@ -75,6 +75,7 @@ module _ {W S : Type 0} (state : W → S) (rules : Rules S) (settings : Settings
         players = run.game.players;
         nodes = λ i n at. shows_reached events g reached i n at
             (all_at (λ (k : Kept W). k.demo.limit ≡ limit) g.nodes i n limited at);
+        headline = rows_agree state rules settings events g reached;
         stopped = run.game.stopped;
         flights = run.game.flights;
         given = given;
