@@ -39,8 +39,9 @@ module _ (limits : Limits) (links : ℕ → Linked) (player : ℕ) (new : Linked
       → ((which : ℕ) → which < limits.players → which ≢ player → has_ended (links which).node ≡ false
       → next_to old.node which ≤ next_to new.node which)
       → (has_ended old.node ≡ true → has_ended new.node ≡ true)
-      → (has_ended old.node ≡ true → got new.node player ≡ got old.node player) → StayCaughtUp limits links player new
-  relinked whole pairs more further sends_on stays no_more = (
+      → (has_ended old.node ≡ true → got new.node player ≡ got old.node player)
+      → (is_ended new.node.phase ≡ false → is_ended old.node.phase ≡ false) → StayCaughtUp limits links player new
+  relinked whole pairs more further sends_on stays no_more plays_on = (
     record {
       whole = at_put (λ (k : ℕ) (l : Linked). k < limits.players → IsWhole l) links player new (λ inside. whole)
           (λ k off. were.whole k);
@@ -63,6 +64,8 @@ module _ (limits : Limits) (links : ℕ → Linked) (player : ℕ) (new : Linked
           links player new stays (λ k off was. was) one;
       still = λ one one_in. at_put (λ (k : ℕ) (l : Linked). has_ended (links k).node ≡ true → got l.node k ≡ got (links k).node k)
           links player new no_more (λ k off was. refl) one;
+      goes_on = λ one one_in. at_put (λ (k : ℕ) (l : Linked). is_ended l.node.phase ≡ false → is_ended (links k).node.phase ≡ false)
+          links player new plays_on (λ k off was. was) one;
     },
   )
     where
@@ -78,6 +81,7 @@ module _ (limits : Limits) (links : ℕ → Linked) (player : ℕ) (new : Linked
     pub sends : (p : ℕ) → p < limits.players → next_to new.node p ≡ next_to old.node p
     pub wants : (p : ℕ) → p < limits.players → (new.node.peers p).want ≡ (old.node.peers p).want
     pub ran : old.node.ran ≤ new.node.ran
+    pub plays_on : is_ended new.node.phase ≡ false → is_ended old.node.phase ≡ false
 
   pub still : IsStill → new.others.gone ≡ old.others.gone → ((peer : ℕ) → (new.peers peer).kept ≡ (old.peers peer).kept)
       → (has_ended old.node ≡ true → has_ended new.node ≡ true) → StayCaughtUp limits links player new
@@ -100,21 +104,22 @@ module _ (limits : Limits) (links : ℕ → Linked) (player : ℕ) (new : Linked
       }) (λ which below. elim (cases_eq which player) [
         | inl at ↦ omega (arith, is.own, ap (got new.node) at, ap (got old.node) at)
         | inr off ↦ let same = is.others which below off in omega (arith, same)
-      ]) is.ran (λ which below off goes_on. let same = is.sends which below in omega (arith, same)) stays is.no_more
+      ]) is.ran (λ which below off goes_on. let same = is.sends which below in omega (arith, same)) stays is.no_more is.plays_on
 
   -- of the machine's node
   abbrev pub IsQuiet : machine.Node → machine.Node → Type 0
   IsQuiet m after = ((p : ℕ) → p ≢ player → length (after.held p) ≡ length (m.held p))
       × ((length (m.held player) ≤ length (after.held player)) × ((p : ℕ) → after.peers p ≡ m.peers p)
       × (length m.rows ≤ length after.rows)
-      × (machine.has_left m ≡ true → length (after.held player) ≡ length (m.held player)))
+      × (machine.has_left m ≡ true → length (after.held player) ≡ length (m.held player))
+      × (is_ended after.phase ≡ false → is_ended m.phase ≡ false))
 
   pub shows_still : (m after : machine.Node) → Represents limits player old.node m → Represents limits player new.node after
       → IsQuiet m after → IsStill
   shows_still m after was now quiet = grind (arith, has, ended_is)
 
   quiet_same : (m : machine.Node) → IsQuiet m m
-  quiet_same m = ((λ p n. refl), (omega arith, (λ p. refl), omega arith, (λ left. refl)))
+  quiet_same m = ((λ p n. refl), (omega arith, (λ p. refl), omega arith, (λ left. refl), (λ e. e)))
 
   pub build_quiet : (m : machine.Node) (input : Input) → IsQuiet m (on_build limits player m input).0
   build_quiet m input = build_cases limits player m (IsQuiet m) input (λ full. quiet_same m)
@@ -125,18 +130,19 @@ module _ (limits : Limits) (links : ℕ → Linked) (player : ℕ) (new : Linked
           (λ p. refl),
           omega arith,
           (λ left. absurd (true≢false (sym (and_parts m.played (is_ended m.phase) left).1 ∙ ap is_ended plays))),
+          (λ e. e),
         ),
       ))
 
   pub run_quiet : (m : machine.Node) (gone : ℕ → Bool) (marks : ℕ → ℤ) → IsQuiet m (on_run_but limits gone m marks).0
   run_quiet m gone marks = run_but_cases limits player gone m marks (IsQuiet m) (λ waits. quiet_same m)
-      (λ other plays none off. ((λ p n. refl), (omega arith, (λ p. refl), omega arith, (λ left. refl))))
-      (λ plays none full. ((λ p n. refl), (omega arith, (λ p. refl), omega arith, (λ left. refl))))
+      (λ other plays none off. ((λ p n. refl), (omega arith, (λ p. refl), omega arith, (λ left. refl), (λ e. absurd (true≢false e)))))
+      (λ plays none full. ((λ p n. refl), (omega arith, (λ p. refl), omega arith, (λ left. refl), (λ e. absurd (true≢false e)))))
       (λ plays none free. (
         (λ p n. refl),
-        (omega arith, (λ p. refl), omega (arith, length-append m.rows (row_held limits m ∷ [])), (λ left. refl)),
+        (omega arith, (λ p. refl), omega (arith, length-append m.rows (row_held limits m ∷ [])), (λ left. refl), (λ e. e)),
       ))
 
   pub quit_quiet : (m : machine.Node) → IsQuiet m (on_quit m).0
   quit_quiet m = quit_cases limits player m (IsQuiet m) (quiet_same m)
-      (λ goes_on. ((λ p n. refl), (omega arith, (λ p. refl), omega arith, (λ left. refl))))
+      (λ goes_on. ((λ p n. refl), (omega arith, (λ p. refl), omega arith, (λ left. refl), (λ e. absurd (true≢false e)))))

@@ -72,6 +72,7 @@ module _ (marking : Marking) (limits : Limits) (settings : Settings) (session : 
     sends = λ p l. ap (λ (l : Linked). next_to l.node p) same;
     wants = λ p l. ap (λ (l : Linked). (l.node.peers p).want) same;
     ran = omega (arith, ap (λ (l : Linked). l.node.ran) same);
+    plays_on = λ e. ap (λ (l : Linked). is_ended l.node.phase) (sym same) ∙ e;
   }) (ap (λ (l : Linked). l.others.gone) same) (λ peer. ap (λ (l : Linked). (l.peers peer).kept) same)
       (λ was. ap (λ (l : Linked). has_ended l.node) same ∙ was)
 
@@ -118,6 +119,7 @@ module _ (marking : Marking) (limits : Limits) (settings : Settings) (session : 
       sends : (p : ℕ) → p < limits.players → next_to new.node p ≡ next_to old.node p
       wants : (p : ℕ) → p < limits.players → p ≢ player → (new.node.peers p).want ≡ false
       ran : new.node.ran ≡ old.node.ran
+      plays_on : is_ended new.node.phase ≡ false → is_ended old.node.phase ≡ false
 
     none : (p : ℕ) → p < limits.players → p ≢ player → (old.node.peers p).want ≡ false
     none p l n = (were.pairs player p mine l n).asks
@@ -179,6 +181,7 @@ module _ (marking : Marking) (limits : Limits) (settings : Settings) (session : 
             sends = λ p l. them.sends p l ∙ ap (λ (n : Contents). next_to n p) (sym node);
             wants = them.wants;
             ran = them.ran ∙ ap (λ (n : Contents). n.ran) (sym node);
+            plays_on = λ e. ap (λ (n : Contents). is_ended n.phase) node ∙ them.ended e;
           },
           (λ plays.
               let goes_on = them.ended (ap is_ended plays) in
@@ -327,7 +330,7 @@ module _ (marking : Marking) (limits : Limits) (settings : Settings) (session : 
 
       pub taken_in : StayCaughtUp limits links player new
       taken_in = relinked limits links player new mine were (still_whole old new takes_it.gone (were.whole player mine)) pair came.least (omega (arith, came.ran))
-          (λ which l off goes_on. let same = came.sends which l in omega (arith, same)) stays (λ left. came.own)
+          (λ which l off goes_on. let same = came.sends which l in omega (arith, same)) stays (λ left. came.own) came.plays_on
 
       -- a player that plays has all of them then
       pub brings : new.node.phase ≡ phase.Playing → last_end first (own_in bundle) ≤ got new.node from

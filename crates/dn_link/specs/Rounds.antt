@@ -8,8 +8,9 @@ use Rattle.dn_survivor.specs.OneGame.{Session}
 use Rattle.dn_seal.specs.declared.seal.Seal.{Seal}
 use Rattle.dn_link.specs.{declared.received.Received.Received, Counting.has_ended, Counting.has_of, RemainingLinks.AreRemainingLinks, RemainingLinks.IsGenuineIn, RemainingLinks.IsLater, Surviving.RunsBut, CaughtUp.AreCaughtUp, CaughtUp.HasGrown, CaughtUp.IsInStepTo, CaughtUp.next_to, Linked.Gives, Linked.Linked, Linked.Receives, Pacing.PaceState, Pacing.{is_brief}}
 
--- the links of a game from one moment to another, in which each player plays all the time, or has left before. From each
--- moment to the next they grow, as they do by any calls on them (`links_stay_caught_up`), in a later session
+-- the links of a game from one moment to another, in which each player plays, still at the last moment, or has left
+-- before. From each moment to the next they grow, as they do by any calls on them (`links_stay_caught_up`), in a later
+-- session
 pub record Stretch (marking : Marking) (limits : Limits) (settings : Settings) (last : ℕ) : Type 0 where
   pub sessions : ℕ → Session
   pub links : ℕ → ℕ → Linked
@@ -17,10 +18,8 @@ pub record Stretch (marking : Marking) (limits : Limits) (settings : Settings) (
   pub are : (moment : ℕ) → moment ≤ last → AreRemainingLinks marking limits settings (sessions moment) (links moment)
   pub caught_up : (moment : ℕ) → moment ≤ last → AreCaughtUp limits (links moment)
   pub grows : (moment : ℕ) → moment < last → HasGrown limits (links moment) (links (suc moment))
-  pub plays : (moment player : ℕ) → moment ≤ last → player < limits.players → left player ≡ false
-      → (links moment player).node.phase ≡ Playing
-  pub ended : (moment player : ℕ) → moment ≤ last → player < limits.players → left player ≡ true
-      → has_ended (links moment player).node ≡ true
+  pub plays : (player : ℕ) → player < limits.players → left player ≡ false → (links last player).node.phase ≡ Playing
+  pub ended : (player : ℕ) → player < limits.players → left player ≡ true → has_ended (links 0 player).node ≡ true
   pub later : (moment : ℕ) → moment < last → IsLater (sessions moment) (sessions (suc moment))
 
 -- one of its players plays

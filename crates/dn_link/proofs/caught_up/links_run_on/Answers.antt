@@ -6,9 +6,9 @@ use Rattle.dn_tic.specs.declared.{command.TicCmd.TicCmd, input.Input.Input}
 use Rattle.dn_setup.specs.Settings.{Settings}
 use Rattle.dn_remain.proofs.Steady.{lowest_passes}
 use Rattle.dn_machine.specs.{Running.{is_absent, is_awaited, is_over}, Sparing.{on_run_but}, Sending.{lag, on_build}, Limits.Limits}
-use Rattle.dn_machine.specs.{declared.answers.{Phase.{TheVariants.Playing}, Ran.Ran}, Node.{is_ended, known_end, lowest, put}}
+use Rattle.dn_machine.specs.{declared.answers.{Phase.{Phase, TheVariants.{Listening, Gathering, Playing, Ended}}, Ran.Ran}, Node.{is_ended, known_end, lowest, put}}
 use Rattle.dn_machine.proofs.{Calls.build_cases, Put.{put_at, put_off}, Stages.lag_low}
-use Rattle.dn_lockstep.specs.{Contents.{Contents, end_in}, Marking.Marking, Represents.Represents, Steps.marks_in, Told.{got, made}}
+use Rattle.dn_lockstep.specs.{Contents.{Contents, end_in}, Phases.is_waiting, Marking.Marking, Represents.Represents, Steps.marks_in, Told.{got, made}}
 use Rattle.dn_survivor.specs.{OneGame.Session, Surviving.Surviving}
 use Rattle.dn_lockstep.proofs.Shown.{end_is, has, own_end_is}
 use Rattle.dn_seal.specs.declared.seal.Seal.{Seal}
@@ -183,6 +183,38 @@ module _ {marking : Marking} {limits : Limits} {settings : Settings} {last : ℕ
   abbrev links : ℕ → ℕ → Linked
   links = stretch.links
 
+  -- one that has left had at each moment
+  ended_then : (moment player : ℕ) → moment ≤ last → player < limits.players → stretch.left player ≡ true
+      → has_ended (links moment player).node ≡ true
+  ended_then zero player inside mine left = stretch.ended player mine left
+  ended_then (suc moment) player inside mine left =
+      (stretch.grows moment (omega (arith, inside))).ended player mine
+      (ended_then moment player (omega (arith, inside)) mine left)
+
+  -- and one that plays plays
+  goes_then : (gap moment player : ℕ) → gap + moment ≡ last → player < limits.players → stretch.left player ≡ false
+      → is_ended (links moment player).node.phase ≡ false
+  goes_then zero moment player same mine stays =
+      let at_last : last ≡ moment = omega (arith, same) in
+      subst (λ (k : ℕ). is_ended (links k player).node.phase ≡ false) at_last (ap is_ended (stretch.plays player mine stays))
+  goes_then (suc gap) moment player same mine stays =
+      (stretch.grows moment (omega (arith, same))).goes_on player mine
+      (goes_then gap (suc moment) player (omega (arith, same)) mine stays)
+
+  plays_by : (phase : Phase) → is_ended phase ≡ false → is_waiting phase ≡ false → phase ≡ Playing
+  plays_by Listening going on = absurd (true≢false on)
+  plays_by Gathering going on = absurd (true≢false on)
+  plays_by Playing going on = refl
+  plays_by (Ended cause) going on = absurd (true≢false going)
+
+  plays_then : (moment player : ℕ) → moment ≤ last → player < limits.players → stretch.left player ≡ false
+      → (links moment player).node.phase ≡ Playing
+  plays_then moment player inside mine stays =
+      plays_by (links moment player).node.phase
+      (goes_then (last - moment) moment player (omega (arith, inside)) mine stays)
+      (ap (λ (s : Surviving). is_waiting s.lockstep.phase) ((stretch.are moment inside).survivors player mine)
+      ∙ (stretch.are moment inside).started player mine)
+
   grown_none : (moment : ℕ) → HasGrown limits (links moment) (links moment)
   grown_none moment = record {
     got = λ p w l m. omega arith;
@@ -190,6 +222,7 @@ module _ {marking : Marking} {limits : Limits} {settings : Settings} {last : ℕ
     sends = λ p w l m n e. omega arith;
     ended = λ p l e. e;
     still = λ p l e. refl;
+    goes_on = λ p l e. e;
   }
 
   -- one that has not ended then does not before the last moment
@@ -198,9 +231,9 @@ module _ {marking : Marking} {limits : Limits} {settings : Settings} {last : ℕ
   still_not to from player less inside mine e = go (stretch.left player) refl
     where
       go : (test : Bool) → stretch.left player ≡ test → has_ended (links to player).node ≡ false
-      go true left = absurd (true≢false (sym (stretch.ended from player (omega (arith, less, inside)) mine left) ∙ e))
+      go true left = absurd (true≢false (sym (ended_then from player (omega (arith, less, inside)) mine left) ∙ e))
       go false stays = and_right (links to player).node.played (is_ended (links to player).node.phase)
-          (ap is_ended (stretch.plays to player inside mine stays))
+          (ap is_ended (plays_then to player inside mine stays))
 
   -- from a moment to a later one
   grown : (to from : ℕ) → from ≤ to → to ≤ last → HasGrown limits (links from) (links to)
@@ -220,6 +253,7 @@ module _ {marking : Marking} {limits : Limits} {settings : Settings} {last : ℕ
               omega (arith, one, two);
           ended = λ p l e. next.ended p l (first.ended p l e);
           still = λ p l e. next.still p l (first.ended p l e) ∙ first.still p l e;
+          goes_on = λ p l e. first.goes_on p l (next.goes_on p l e);
         }
     | inr at ↦
         let same : suc to ≡ from = omega (arith, at, less) in
@@ -253,7 +287,7 @@ module _ {marking : Marking} {limits : Limits} {settings : Settings} {last : ℕ
     shows = base.shows marking limits settings (stretch.sessions moment) (links moment) linked player mine
 
     plays : m.phase ≡ Playing
-    plays = sym shows.stands.phase ∙ stretch.plays moment player (omega (arith, inside)) mine stays
+    plays = sym shows.stands.phase ∙ plays_then moment player (omega (arith, inside)) mine stays
 
     makes : MakesAt links moment player
         → min (got (links moment player).node player + 1) ((links moment player).node.ran + limits.ahead)
@@ -335,7 +369,7 @@ module _ {marking : Marking} {limits : Limits} {settings : Settings} {last : ℕ
     -- one that plays has not ended
     unfinished : has_ended (links moment player).node ≡ false
     unfinished = and_right (links moment player).node.played (is_ended (links moment player).node.phase)
-        (ap is_ended (stretch.plays moment player (omega (arith, inside)) mine stays))
+        (ap is_ended (plays_then moment player (omega (arith, inside)) mine stays))
 
     -- and has made what it has run
     owns : (links moment player).node.ran ≤ got (links moment player).node player
@@ -419,11 +453,11 @@ module _ {marking : Marking} {limits : Limits} {settings : Settings} {last : ℕ
         go false stays = sent marking limits settings (stretch.sessions (then_at which)) (at (then_at which))
             (was which inside) player mine (stretch.caught_up (then_at which) (omega (arith, early))) peer below.0 apart seal
             (sent_by.pace which) (at (suc (then_at which)) player) (sent_by.bytes which) (sent_by.gives which inside) places
-            near (stretch.plays (then_at which) player (omega (arith, early)) mine stays) goes_on
+            near (plays_then stretch (then_at which) player (omega (arith, early)) mine stays) goes_on
         go true left = exit.sent marking limits settings (stretch.sessions (then_at which)) (at (then_at which))
             (was which inside) player mine (stretch.caught_up (then_at which) (omega (arith, early))) peer below.0 apart seal
             (sent_by.pace which) (at (suc (then_at which)) player) (sent_by.bytes which) (sent_by.gives which inside) places
-            near (stretch.ended (then_at which) player (omega (arith, early)) mine left) goes_on
+            near (ended_then stretch (then_at which) player (omega (arith, early)) mine left) goes_on
 
     -- none is a late one
     soon : (which : ℕ) → which < sent_by.count
@@ -470,13 +504,13 @@ module _ {marking : Marking} {limits : Limits} {settings : Settings} {last : ℕ
           let exits = exit.exits marking limits settings (stretch.sessions given) (at given) (was it.which it.one) player mine
           (stretch.caught_up given (omega (arith, before))) peer below.0 apart seal (sent_by.pace it.which)
           (at (suc given) player) (sent_by.bytes it.which) gives places (soon it.which it.one)
-          (stretch.ended given player (omega (arith, before)) mine left)
+          (ended_then stretch given player (omega (arith, before)) mine left)
           (unfinished stretch given peer before below.0 below.1) narrow it.full in
           let has_it = learnt (stretch.sessions it.taken) (at it.taken) peer seal (sent_by.bytes it.which)
           (at (suc it.taken) peer) it.answer bundle (made (at given player).node)
           (stretch.are it.taken (omega (arith, in_time))) (stretch.caught_up it.taken (omega (arith, in_time))) below.0
           it.genuine it.in_step it.takes is_datagram
-          (stretch.plays (suc it.taken) peer (omega (arith, in_time)) below.0 below.1)
+          (plays_then stretch (suc it.taken) peer (omega (arith, in_time)) below.0 below.1)
           (subst (λ (n : ℕ). HasExit n (made (at given player).node) (own_in bundle)) (sym bring_is) exits) in
           omega (
             arith,
@@ -492,7 +526,7 @@ module _ {marking : Marking} {limits : Limits} {settings : Settings} {last : ℕ
             let there = brings marking limits settings (stretch.sessions given) (at given) (was it.which it.one) player mine
             (stretch.caught_up given (omega (arith, before))) peer below.0 apart seal (sent_by.pace it.which)
             (at (suc given) player) (sent_by.bytes it.which) gives places (soon it.which it.one)
-            (stretch.plays given player (omega (arith, before)) mine stays) it.full in
+            (plays_then stretch given player (omega (arith, before)) mine stays) it.full in
             subst (λ (l : Linked). has_ended l.node ≡ false → made (at given player).node ≤ last_end
             (got l.node bundle.from) (own_in bundle)) (ap (put (at given) player (at (suc given) player))
             gives.goes ∙ put_off (at given) player peer (at (suc given) player) apart ∙ ap (at given) (sym gives.goes)) there
@@ -508,7 +542,7 @@ module _ {marking : Marking} {limits : Limits} {settings : Settings} {last : ℕ
             (at (suc it.taken) peer) it.answer bundle (made (at given player).node)
             (stretch.are it.taken (omega (arith, in_time))) (stretch.caught_up it.taken (omega (arith, in_time))) below.0
             it.genuine it.in_step it.takes is_datagram
-            (stretch.plays (suc it.taken) peer (omega (arith, in_time)) below.0 below.1) brings_later in
+            (plays_then stretch (suc it.taken) peer (omega (arith, in_time)) below.0 below.1) brings_later in
             omega (
               arith,
               has_it,
@@ -556,7 +590,7 @@ module _ {marking : Marking} {limits : Limits} {settings : Settings} {last : ℕ
       | inl known ↦
           let ends = (rounds.within r peer below theirs).1 in
           let still = (grown stretch (waited r peer) 0 (omega arith) (omega (arith, ends))).still player mine
-          (stretch.ended 0 player (omega arith) mine left) in
+          (ended_then stretch 0 player (omega arith) mine left) in
           let more = has_on stretch (waited r peer) 0 peer player (omega arith) (omega (arith, ends)) theirs.0
           (λ e. apart (sym e)) in
           let was = known.1 in
@@ -569,7 +603,7 @@ module _ {marking : Marking} {limits : Limits} {settings : Settings} {last : ℕ
           let in_time : it.taken < last = omega (arith, before, ends) in
           let told = knows_there player peer mine theirs apart at_last.0 s it in_time left (line.0 left) in
           let still = (grown stretch (waited r peer) (at_last.0.0.given it.which) (omega (arith, it.comes, before))
-          (omega (arith, ends))).still player mine (stretch.ended (at_last.0.0.given it.which) player
+          (omega (arith, ends))).still player mine (ended_then stretch (at_last.0.0.given it.which) player
           (omega (arith, it.comes, in_time)) mine left) in
           let more = has_on stretch (waited r peer) (suc it.taken) peer player (omega (arith, before))
           (omega (arith, ends)) theirs.0 (λ e. apart (sym e)) in
