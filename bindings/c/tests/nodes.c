@@ -22,6 +22,8 @@ static unsigned players, turn, flying, alive[4];
 static flight flights[FLIGHTS];
 static uint16_t worlds[4];
 static zmg_row rows[4 * TICS];
+/* what each player gave for each tic, and what a link owes */
+static zmg_command given[4][4 * TICS], owed[4];
 static uint8_t demos[2][DEMO];
 static const char *game = "nothing";
 
@@ -87,17 +89,30 @@ static zmg_run run(unsigned k, zmg_row *row) {
         if (told->present[0] + told->present[1] + told->present[2] + told->present[3] == 0) *told = *row;
         MUST(memcmp(told, row, sizeof *row) == 0);
         for (unsigned p = 0; p < players; p++) {
+            static const zmg_command none = { 0, 0, 0, 0, 0 };
             const zmg_command *c = &row->commands[p];
-            MUST(c->chat == (row->present[p] ? 1 + (row->tic + p) % 250 : 0));
+            MUST(memcmp(c, row->present[p] ? &given[p][row->tic] : &none, sizeof none) == 0);
             worlds[k] = (uint16_t)(worlds[k] * 31u + (uint16_t)c->turn + (uint8_t)c->forward + row->present[p]);
         }
     }
 }
 
+/* A forward of -128 is made as -127, since it would end a demo. */
 static zmg_status give(unsigned k) {
     uint32_t made = state_of(k).made;
-    zmg_command c = { (int16_t)draw(), (int8_t)below(50), (int8_t)-40, (uint8_t)(1 + (made + k) % 250), 1 };
-    return zmg_node_give(nodes[k], &c);
+    zmg_command c = { (int16_t)draw(), (int8_t)(below(16) ? below(50) : 128), (int8_t)-40, (uint8_t)draw(), 1 };
+    zmg_status status = zmg_node_give(nodes[k], &c);
+    if (c.forward == -128) c.forward = -127;
+    if (status == ZMG_OK) given[k][made] = c;
+    else owed[k] = c;
+    return status;
+}
+
+static zmg_status catch_up(unsigned k) {
+    uint32_t made = state_of(k).made;
+    zmg_status status = zmg_link_catch_up(nodes[k]);
+    if (status == ZMG_OK) given[k][made] = owed[k];
+    return status;
 }
 
 /* The demos are the same up to the first row that lacks a player, but for the player whose view they show. */
@@ -222,14 +237,14 @@ static void tick_links(unsigned turns, unsigned loss, unsigned most) {
             zmg_row row;
             int32_t later;
             if (!alive[k]) continue;
-            zmg_status owed = zmg_link_catch_up(nodes[k]);
-            MUST(owed == ZMG_OK || owed == ZMG_ERR_FULL || owed == ZMG_ERR_NOT_NOW);
+            zmg_status caught = catch_up(k);
+            MUST(caught == ZMG_OK || caught == ZMG_ERR_FULL || caught == ZMG_ERR_NOT_NOW);
             if (state_of(k).made < most) give(k);
             MUST(zmg_link_tick(nodes[k], &later) == ZMG_OK && later >= -9 && later <= 41);
             send_links(k, 0, loss);
             hear_links(k);
             run(k, &row);
-            if (zmg_link_catch_up(nodes[k]) == ZMG_OK) run(k, &row);
+            if (catch_up(k) == ZMG_OK) run(k, &row);
             send_links(k, 1, loss);
         }
 }
