@@ -14,7 +14,7 @@ use Rattle.dn_session.specs.declared.{part.Part.Part, side.Begun.Begun}
 use Rattle.dn_engine_tests.specs.declared.{engine.Engine.Engine, steps.Call.Call}
 use Rattle.dn_engine_tests.specs.declared.steps.Call.TheVariants.{Hear}
 
--- what its session is
+-- the session of an engine
 abbrev pub met : {W : Type 0} → Engine W → Meeting
 met engine = meeting engine.session
 
@@ -26,7 +26,7 @@ pub record IsOf (secret : Option (List ℕ)) (m : Meeting) : Type 0 where
   pub reply : Has Greets m.reply
   pub call : Has Greets m.call
 
--- one with no part in a game, that has nothing to send
+-- such a session that has no part in a game yet
 pub record IsFresh (secret : Option (List ℕ)) (m : Meeting) : Type 0 where
   pub of : IsOf secret m
   pub out : m.part ≡ None
@@ -77,17 +77,20 @@ abbrev pub came_of : Call → Option (List ℕ)
 came_of (Hear from bytes) = Some bytes.now
 came_of call = None
 
--- the engine of this place goes on in the game, by a row if it was told one, and what it gave may come to any other
+-- the engine of this place goes on in the game, by a row if it was told one; and what it gave may come to any
+-- engine, if what it was to pass on might
 pub record GoesTo {W S : Type 0} (state : W → S) (physics : Physics S) (secret : Option (List ℕ)) (b : Begun)
-    (history : History) (meetings : ℕ → Meeting) (place : ℕ) (sent : Option (ArrayVec ℕ)) (old new : Engine W) : Type 0 where
+    (history : History) (meetings : ℕ → Meeting) (place : ℕ) (sent : Option (ArrayVec ℕ)) (old new : Engine W)
+    : Type 0 where
   pub row : Option (List (Option Move))
   pub stay : StaySessions (marking_of physics) secret b history meetings place (met new) row
   pub told : IsTold state physics b (told_on (history.told place) row) new
   pub sends : IsOf secret (met old) → Has (MayCome secret b history) (passing_in (met old).part)
       → IfSome sent (λ bytes. MayCome secret b stay.later bytes.items)
 
--- after a call with which this came, and which gave this, an engine is as it was but for that: in its lobby it was told
--- nothing, and gave a greeting if anything; and in whatever game of sessions it was, it goes on, if what came may come
+-- After a call with which these bytes came, if any did, and which gave these, if any: the session keeps what it
+-- is. An engine in its lobby was told no row, and gave a greeting, if anything. In whatever game of sessions an
+-- engine was, it goes on there, if what came may come
 pub record GoesOn {W S : Type 0} (state : W → S) (physics : Physics S) (came : Option (List ℕ))
     (sent : Option (ArrayVec ℕ)) (old new : Engine W) : Type 0 where
   pub keeps : KeepsOut came (met old) (met new)

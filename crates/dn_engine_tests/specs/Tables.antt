@@ -15,7 +15,8 @@ use Rattle.dn_engine_tests.specs.declared.{engine.Engine.Engine, table.Table.Tab
 abbrev pub HasEngine : {W : Type 0} → Table W → ℕ → Engine W → Type 0
 HasEngine t place engine = slice_get t.engines.items place ≡ Some engine
 
--- whatever games two of its engines play: if they have one number, that is no code of two texts
+-- if the games that two engines of a table play have the same number, under the keys of their sessions, they
+-- have the same text: so that number is not the code of two texts
 abbrev pub AreApart : {W : Type 0} → Table W → Type 0
 AreApart {W} t =
     (i j : ℕ) (one other : Engine W) (p q : Place) → HasEngine t i one → HasEngine t j other
@@ -29,8 +30,8 @@ pub record AreInLobby {W : Type 0} (t : Table W) : Type 0 where
   pub told : (i : ℕ) (e : Engine W) → HasEngine t i e → e.told.items ≡ []
   pub given : All (λ (bytes : ArrayVec ℕ). Greets bytes.items) t.given.items
 
--- the engines have the sessions of one game, whose runs told their rows, and what was given and is to be passed on may
--- come to any of them
+-- the engines have the sessions of one game, whose runs told their rows; and what was given, and what is to be
+-- passed on, may come to any of them
 pub record ArePlaying {W S : Type 0} (state : W → S) (physics : Physics S) (secret : Option (List ℕ)) (b : Begun)
     (t : Table W) : Type 0 where
   pub history : History
@@ -45,8 +46,8 @@ pub record ArePlaying {W S : Type 0} (state : W → S) (physics : Physics S) (se
 abbrev pub AreNew : Option (List ℕ) → Begun → (ℕ → Playing) → Type 0
 AreNew secret b parts = (p : ℕ) → p < b.terms.players → IsLinkOf secret (record b { me = p }) (parts p).link
 
--- the host has begun a game, of as many players as there are engines. Whatever new links those have who have not begun
--- it yet, they all play it
+-- The host has begun a game, of as many players as there are engines. Whatever new links those get who have not
+-- begun it yet, all engines play it with these
 pub record AreInGame {W S : Type 0} (state : W → S) (physics : Physics S) (secret : Option (List ℕ)) (b : Begun)
     (t : Table W) : Type 0 where
   pub host : Engine W
@@ -58,7 +59,8 @@ pub record AreInGame {W S : Type 0} (state : W → S) (physics : Physics S) (sec
   pub idle : (p : ℕ) (e : Engine W) → HasEngine t p e → (met e).part ≡ None → e.told.items ≡ []
   pub play : (parts : ℕ → Playing) → AreNew secret b parts → ArePlaying state physics secret b t
 
--- sessions of one secret, in their lobbies or in one game
+-- if no number is the code of two texts: the engines have sessions of one secret, in their lobbies or in one
+-- game
 abbrev pub IsTable : {W S : Type 0} → (W → S) → Physics S → Option (List ℕ) → Table W → Type 0
 IsTable {W} state physics secret t =
     AreApart t → ((i : ℕ) (e : Engine W) → HasEngine t i e → IsOf secret (met e))
@@ -76,8 +78,10 @@ abbrev pub HaveBegun : {W : Type 0} → Table W → Type 0
 HaveBegun {W} t = (0 < length t.engines.items)
     × ((p : ℕ) (e : Engine W) → HasEngine t p e → (part : Part) × ((met e).part ≡ Some part))
 
--- in some history of the game that the host has begun each engine's link is what the readers say of it, its runs told
--- just these rows, and by these its world was stepped; and of that history all is so that is promised of links
+-- There is a history of the game that the host has begun, in which each engine's link is what its readers
+-- return, its runs told just the rows that the engine was told, and by these its world was stepped. Of that
+-- history all holds that is promised of links. Its inputs, packets and reports are some that explain this: that
+-- its inputs are those which the engines gave is not said
 pub record HaveAgreed {W S : Type 0} (state : W → S) (physics : Physics S) (b : Begun) (t : Table W) : Type 0 where
   pub begun : (host : Engine W) → HasEngine t 0 host → begun_in (met host).lobby ≡ Some b
   pub places : length t.engines.items ≡ b.terms.players

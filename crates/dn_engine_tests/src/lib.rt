@@ -1,6 +1,6 @@
-//! Miniature engines, by the laws and the contracts of calls alone. Those of two to four players have sessions, from the
-//! lobby until they leave: whatever the network loses, repeats and delays, they agree. And those of two have bare
-//! locksteps, with packets that come late, out of order and more than once.
+//! Miniature engines, by the laws and the contracts of calls alone. Those of two to four players have sessions,
+//! from the lobby until they leave: whatever the network loses, repeats and delays, they agree. And those of
+//! two have bare locksteps, with packets that come late, out of order and more than once.
 #![tactic(auto)]
 
 mod calls;

@@ -90,8 +90,8 @@ pub fn tables_agree<W: World>()
     leaving_is_safe();
 }
 
-/// Opens a table and applies all events in order. Whatever the network does - lose, repeat, reorder, delay, misattribute -
-/// and whoever is given up or quits, the engines agree once all have begun their game.
+/// Opens a table and applies all events in order. Whatever the network does - lose, repeat, reorder, delay,
+/// misattribute - and whoever is given up or quits, the engines agree once all have begun their game.
 pub fn play_table<W: World>(
     alloc: Global,
     host: &HostConfig,

@@ -7,6 +7,8 @@ use dn_world::Walk;
 use std::process::Abort;
 use std::test::Fail;
 
+/// What comes last first and twice harms nobody; while all of the first is lost the second runs four tics at
+/// most, twice the window; then both go on until one quits.
 #[test]
 fn two_play_on_bad_lines(rt: HostRuntime) -> Result<(), Fail> {
     read(
@@ -26,11 +28,15 @@ fn two_play_on_bad_lines(rt: HostRuntime) -> Result<(), Fail> {
          least 0 10
          prompt
          lose 0 1
-         ticks 3
+         mark 1
+         ticks 20
+         most 1 4
          heal 0 1
          mark 0
+         mark 1
          ticks 20
          least 0 10
+         least 1 10
          quit 0
          ticks 250
          over 0
@@ -38,8 +44,8 @@ fn two_play_on_bad_lines(rt: HostRuntime) -> Result<(), Fail> {
     )
 }
 
-/// Two who do not hear each other have each other's commands from the third: else none could run more than four tics,
-/// twice the window.
+/// Two who do not hear each other play on by the third: else neither could run more than four tics, twice the
+/// window. In the first second it hands on their commands; later it passes on their datagrams too.
 #[test]
 fn a_third_hands_on(rt: HostRuntime) -> Result<(), Fail> {
     read(
@@ -58,6 +64,9 @@ fn a_third_hands_on(rt: HostRuntime) -> Result<(), Fail> {
          mark 0
          mark 1
          mark 2
+         ticks 30
+         least 0 5
+         least 1 5
          ticks 200
          least 0 20
          least 1 20
