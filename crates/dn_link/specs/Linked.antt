@@ -76,10 +76,11 @@ HandsNewest link to [] =
 HandsNewest link to (one ∷ []) = IsNewest link.node (newest_from (link.peers to).reported link.node) one
 HandsNewest link to (one ∷ other ∷ handed) = ⊥
 
--- a datagram to a peer: what is kept for the peer, with the packet of the moment if the peer takes it, and behind
--- these commands of at most two third players; but in a brief one the newest commands of the node alone, handed on as if they were a third player's, so that the peer takes none past a gap; how far the node is;
--- what it reports of those who are given up; by how many commands it led at its last tick; how many datagrams of the
--- peer are missing; and why the node has ended, if it has
+-- A datagram to a peer: what is kept for the peer, with the packet of the moment if the peer takes it, and
+-- behind these commands of at most two third players. A brief one has the newest commands of the node alone,
+-- handed on as if they were a third player's, so that the peer takes none past a gap. Each has how far the
+-- node is; what it reports of those who are given up; by how many commands it led at its last tick; how many
+-- datagrams of the peer are missing; and why the node has ended, if it has
 pub record Gives (seal : Seal) (pace : PaceState) (to : ℕ) (old new : Linked) (bytes : List ℕ) : Type 0 where
   pub given : Option Carried
   pub step : SendsCarried to old.node new.node given

@@ -30,7 +30,8 @@ pub fn sessions_keep()
     ensures kicks { (seat : ℕ) (old new : Meeting) → Kicks seat old new → KeepsOut None old new }
     ensures sends { (old new : Meeting) (sent : Option (Address × List ℕ)) → Sends old new sent
         → KeepsOut None old new × (new.lobby ≡ old.lobby) }
-    // A reply goes first, then a call, and then what the part sends.
+    // If anything is sent, it is the reply; or the call, where there is no reply; or, where there is neither,
+    // what the part sends.
     ensures sent { (old new : Meeting) (sent : Option (Address × List ℕ)) → Sends old new sent
         → (sent ≡ old.reply) ⊎ ((old.reply ≡ None) × ((sent ≡ old.call)
         ⊎ ((old.call ≡ None) × SendsPart old.part new.part sent))) }
