@@ -293,6 +293,44 @@ static void links(unsigned count) {
     }
 }
 
+/* Two with mice on a line that is longer than the window. Where the command that is owed was not made before the
+ * next tick, its motion goes into that tick's command: none is lost. */
+static void mice(void) {
+    int32_t moved[2] = { 0, 0 }, put[2] = { 0, 0 }, full = 0;
+    clear("links with mice", 2);
+    zmg_node_config c = config_of(0);
+    for (unsigned k = 0; k < 2; k++) {
+        c.me = (uint8_t)k;
+        MUST(zmg_link_new(&nodes[k], &c) == ZMG_OK);
+    }
+    for (; turn < TICS; turn++)
+        for (unsigned k = 0; k < 2; k++) {
+            uint8_t bytes[ZMG_DATAGRAM_SIZE];
+            zmg_row row;
+            int32_t later, motion = (int32_t)below(40) - 20;
+            int owes = catch_up(k) == ZMG_ERR_FULL;
+            if (!owes) put[k] = 0;
+            full += owes;
+            moved[k] += motion;
+            put[k] += motion;
+            zmg_command command = { (int16_t)put[k], 0, 0, 0, 0 };
+            zmg_status status = zmg_node_give(nodes[k], &command);
+            MUST(status == ZMG_OK || status == ZMG_ERR_FULL);
+            owed[k] = command;
+            if (status == ZMG_OK) given[k][state_of(k).made - 1] = command, put[k] = 0;
+            MUST(zmg_link_tick(nodes[k], &later) == ZMG_OK);
+            post(k, 1 - k, bytes, zmg_link_datagram(nodes[k], (uint8_t)(1 - k), bytes, sizeof bytes), 0);
+            flights[flying - 1].at = turn + 8;
+            hear_links(k);
+            run(k, &row);
+            if (catch_up(k) == ZMG_OK) put[k] = 0;
+            int32_t sum = put[k];
+            for (uint32_t tic = 0; tic < state_of(k).made; tic++) sum += given[k][tic].turn;
+            MUST(sum == moved[k]);
+        }
+    MUST(full > 20 && state_of(0).ran > 60 && state_of(1).ran > 60);
+}
+
 static void other_worlds(void) {
     zmg_row row;
     clear("links of another world", 2);
@@ -407,6 +445,7 @@ int main(int argc, char **argv) {
     for (unsigned k = 0; k < games; k++) {
         locksteps(2 + k % 3);
         links(2 + k % 3);
+        mice();
         other_worlds();
     }
     faults();
