@@ -19,10 +19,6 @@ use Rattle.dn_session.specs.declared.joiner.Stage.TheVariants as stage
 use Rattle.dn_session.specs.declared.side.Side.TheVariants as side
 use Rattle.dn_session.proofs.{Lobbies.each_call, Rosters.ones_game}
 
--- what is so both ways
-by_test : {A : Type 0} (P : A → Type 0) (test : Bool) (one two : A) → P one → P two → P (if test then one else two)
-by_test P test one two first second = grind arith
-
 -- Of a lobby.
 
 abbrev pub GreetsIf : Option (List ℕ) → Type 0
@@ -151,7 +147,8 @@ kicks_side seat (side.Host old) (side.Host new) is = go (holder_of (lobby old) s
     go (Some number) is = host_settled old new
         (ap (λ l. l.seal.key) is ∙ key number (lobby old).begun (position (is_of number) (lobby old).seats))
         (λ begun. is ∙ rw begun refl)
-kicks_side seat (side.Joiner old) new is = subst (Settled (side.Joiner old)) (sym is) (unmoved (side.Joiner old))
+kicks_side seat (side.Joiner old) new is =
+    subst (Settled (side.Joiner old)) (sym is) (unmoved (side.Joiner old))
 kicks_side seat (side.Host old) (side.Joiner new) is = absurd is
 
 -- Of a part.
@@ -185,7 +182,8 @@ module _ (came : Option (List ℕ)) where
     kept passing = subst (Keeps came old) (sym is) (record {
       secret = refl;
       key = settled.key;
-      begun = λ b has. (settled.same (let place = ones_game old.lobby b has in has_begun old.lobby place.0 place.1)).0 ∙ has;
+      begun = λ b has. let place = ones_game old.lobby b has in
+          (settled.same (has_begun old.lobby place.0 place.1)).0 ∙ has;
       place = λ p has. (settled.same (has_begun old.lobby p has)).1 ∙ has;
       reply = replies;
       call = calls;
@@ -200,7 +198,8 @@ module _ (came : Option (List ℕ)) where
     }
 
   -- where the lobby is the same
-  kept_lobby : (old new : Meeting) → new ≡ record old { part = new.part } → Moves old.part new.part → KeepsOut came old new
+  kept_lobby : (old new : Meeting) → new ≡ record old { part = new.part } → Moves old.part new.part
+      → KeepsOut came old new
   kept_lobby old new is = kept_out old new is (unmoved old.lobby) (inl refl) (inl refl)
 
 -- What is to be passed on, after each call on a part.
@@ -263,15 +262,16 @@ pub hears_kept : BegunOnce → (from : Address) (bytes : List ℕ) (now : ℕ) (
     → HearsWhen test from bytes now old new → KeepsOut (Some bytes) old new
 hears_kept c from bytes now old new true (lobby, reply, greeting, is) =
     let both = hears_side c from bytes now old.lobby lobby reply greeting in
-    kept_out (Some bytes) old new is both.0 (or_had Greets (reply_to from reply) old.reply (has_to from reply both.1)) (inl refl)
-    (unchanged (Some bytes) old.part)
+    kept_out (Some bytes) old new is both.0
+    (or_had Greets (reply_to from reply) old.reply (has_to from reply both.1)) (inl refl) (unchanged (Some bytes) old.part)
 hears_kept c from bytes now old new false (plays, is) =
     kept_lobby (Some bytes) old new is
     (if_playing (Some bytes) (HearsBytes from bytes now) (hears_on from bytes now) old.part new.part plays)
 
 pub begins_kept : (now : ℕ) (old new : Meeting) (which : Option Begun) (result : Result Bool NodeFault)
     → BeginsAs which now old new result → Keeps None old new
-begins_kept now old new None result (idle, is) = kept None old new is (unmoved old.lobby) (inl refl) (inl refl) (inl refl)
+begins_kept now old new None result (idle, is) =
+    kept None old new is (unmoved old.lobby) (inl refl) (inl refl) (inl refl)
 begins_kept now old new (Some b) (Err fault) (why, is) =
     kept None old new is (unmoved old.lobby) (inl refl) (inl refl) (inl refl)
 begins_kept now old new (Some b) (Ok began) (part, made, yes_it, is) =
@@ -302,23 +302,27 @@ quits_kept now old new quits is =
 pub kicks_kept : (seat : ℕ) (old new : Meeting) → KicksFrom seat old.lobby new.lobby
     → new ≡ record old { lobby = new.lobby } → KeepsOut None old new
 kicks_kept seat old new kicks is =
-    kept_out None old new is (kicks_side seat old.lobby new.lobby kicks) (inl refl) (inl refl) (unchanged None old.part)
+    kept_out None old new is (kicks_side seat old.lobby new.lobby kicks) (inl refl) (inl refl)
+    (unchanged None old.part)
 
 module _ (old new : Meeting) (sent : Option (Address × List ℕ)) where
   call_kept : (call : Option (Address × List ℕ)) → SendsCall call old new sent
       → KeepsOut None old new × (new.lobby ≡ old.lobby)
   call_kept (Some one) (which, is) =
-      (kept_out None old new is (unmoved old.lobby) (inl refl) (inr tt) (unchanged None old.part), ap (λ m. m.lobby) is)
+      let keeps = kept_out None old new is (unmoved old.lobby) (inl refl) (inr tt) (unchanged None old.part) in
+      (keeps, ap (λ m. m.lobby) is)
   call_kept None (part, is) = (
     kept_lobby None old new is (moves None (λ had after. SendsPart had after sent) (λ after s. s.0) (λ one s. s)
-        (λ one next s. sends_on (playing one).passing (playing one) (playing next) sent s) old.part new.part part),
+        (λ one next s. sends_on (playing one).passing (playing one) (playing next) sent s)
+        old.part new.part part),
     ap (λ m. m.lobby) is,
   )
 
   pub reply_kept : (reply : Option (Address × List ℕ)) → SendsReply reply old new sent
       → KeepsOut None old new × (new.lobby ≡ old.lobby)
   reply_kept (Some one) (which, is) =
-      (kept_out None old new is (unmoved old.lobby) (inr tt) (inl refl) (unchanged None old.part), ap (λ m. m.lobby) is)
+      let keeps = kept_out None old new is (unmoved old.lobby) (inr tt) (inl refl) (unchanged None old.part) in
+      (keeps, ap (λ m. m.lobby) is)
   reply_kept None sends = call_kept old.call sends
 
   -- a reply goes first, then a call, and then what the part sends

@@ -2,7 +2,7 @@
 use Rattle.std.proofs.Common.{◌≡◌, ◌≢◌, ◌≤◌, ℕ, zero, suc, List, [], ◌∷◌, get_or, set, max, refl, ap, sym, subst, ◌∙◌, arith, Option, Some, None, Result, Ok, Err, inl, inr, ◌⊎◌, true, false}
 use Rattle.std.specs.Prelude.{position, slice_index_or}
 use Rattle.std.specs.Str.{bytes_eq}
-use Rattle.std.proofs.lemmas.Bool.{and_parts, both_ways, cases_lt, leb-true}
+use Rattle.std.proofs.lemmas.Bool.{and_parts, both_ways, leb-true}
 use Rattle.std.proofs.lemmas.Slice.Eq.{bytes_eq-Decides}
 use Rattle.dn_session.specs.{Cookies.is_good, Cookies.is_recent, Cookies.time_of, Hosting.HearsCall, Hosting.Lobby, Hosting.WasHeard, Hosting.filled_by}
 use Rattle.dn_session.specs.{Hosting.on_call, Hosting.on_opened, Hosting.seated, Reading.IsCallIn, Seats.held_again, Seats.is_of, Seats.seat_of, Seats.taken_again, Seats.taken_by}
@@ -28,9 +28,6 @@ was s held e = grind arith
 heard_later : (from : Address) (now time : ℕ) (before : Held)
     → (held_again from now time before).heard ≡ max before.heard time
 heard_later from now time before = grind arith
-
-either : (a b : ℕ) → (a ≡ max a b) ⊎ (max a b ≡ b)
-either a b = grind (arith, cases_lt)
 
 heard_again : (from : Address) (now time : ℕ) (s : Seat) (held : Held) → taken_again from now time s ≡ seat.Taken held
     → WasHeard held.heard s ⊎ (held.heard ≡ time)

@@ -40,14 +40,16 @@ shares one side b here player fits begun plays =
     let same = one_link one side a.0 c.0 fits plays.fits plays.key a.1 c.1 (plays.apart a.0 c.0 a.1 c.1)
     (sym a.2 ∙ plays.game ∙ c.2) in (
       a.3 ∙ ap (λ g. g.terms) same.0 ∙ sym c.3,
-      (λ i. session_at (record { game = same.0 i; me = (sym plays.me ∙ c.4) i })) ∙ ones_own side c.0 plays.fits c.1,
+      (λ i. session_at (record { game = same.0 i; me = (sym plays.me ∙ c.4) i }))
+          ∙ ones_own side c.0 plays.fits c.1,
     )
 
 pub place_link : (secret : Option (List ℕ)) (one side : Side) (b here : Begun) (player : ℕ) (link : Link)
     → IsSide one → begun_in one ≡ Some b → PlaysWith one b player side here → IsLinkOf secret here link
     → IsLinkOf secret (record b { me = player }) link
 place_link secret one side b here player link fits begun plays is =
-    relabelled secret b here player link plays.game (shares one side b here player fits begun plays).0 plays.me is
+    relabelled secret b here player link plays.game
+    (shares one side b here player fits begun plays).0 plays.me is
 
 -- two in one place have one number
 pub one_place : (one first second : Side) (b here there : Begun) (player : ℕ) → IsSide one → begun_in one ≡ Some b
@@ -87,8 +89,8 @@ replaces marking secret b session parts player new are few old is =
       events = g.events;
       last = g.last;
       runs = g.runs;
-      nodes = λ other low. one_put (λ p s. survivor.Represents limits p s (wary_of g.last p)) session.survivors player now
-          here other (g.nodes other low);
+      nodes = λ other low. one_put (λ p s. survivor.Represents limits p s (wary_of g.last p))
+          session.survivors player now here other (g.nodes other low);
       inputs = g.inputs;
       packets = g.packets;
       reports = g.reports;

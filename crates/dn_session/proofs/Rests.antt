@@ -262,7 +262,8 @@ module _ (r : Refused) (is : IsRefused r) where
 
   pub refused_reason : reason_bytes r.refusal
       ≡ slice_index (refused_rest r) 36 ∷ slice_index (refused_rest r) 37 ∷ []
-  refused_reason = two_bytes (reason_bytes r.refusal) (reason_back r.refusal).0 ∙ (λ x. reason_at 0 x ∷ reason_at 1 x ∷ [])
+  refused_reason = two_bytes (reason_bytes r.refusal) (reason_back r.refusal).0
+      ∙ (λ x. reason_at 0 x ∷ reason_at 1 x ∷ [])
 
   pub refused_back : told_refused (refused_rest r) ≡ r
   refused_back =

@@ -121,7 +121,8 @@ fixed_by game number (a ∷ b ∷ c ∷ []) none host terms roster three long = 
 fixed_by game number _ none host terms roster three long = absurd (omega (arith, three))
 
 fixed_here : (l : Lobby) → IsLobby l → IsFixed (place_here l).game
-fixed_here l fits = fixed_by (place_here l).game number_in l.seats seat.Absent fits.number fits.terms refl fits.three
+fixed_here l fits =
+    fixed_by (place_here l).game number_in l.seats seat.Absent fits.number fits.terms refl fits.three
     (λ n less. long_in l.terms.players (n + 1) (get_or l.seats n seat.Absent) (fits.seats n less))
 
 fixed_there : (s : Seating) → IsSeating s → IsFixed (place_told s).game

@@ -26,23 +26,25 @@ module _ (marking : Marking) (secret : Option (List ℕ)) (b : Begun) (session :
   unmade none = subst (λ (o : Option Part). IsPartFor secret b player o (are.parts player)) none (are.own player few)
 
   -- with a part that goes on they stay so
-  stays : (part : Playing) (row : Option (List (Option Move))) → IsPartFor secret b player new.part part → On part row
-      → Stay row
+  stays : (part : Playing) (row : Option (List (Option Move))) → IsPartFor secret b player new.part part
+      → On part row → Stay row
   stays part row is on = record {
     later = on.later;
     stay = record {
       parts = put are.parts player part;
       are = on.stay;
-      own = λ other low. both_put (λ p (m : Meeting) q. IsPartFor secret b p m.part q) meetings are.parts player new part is
-          other (are.own other low);
+      own = λ other low. both_put (λ p (m : Meeting) q. IsPartFor secret b p m.part q) meetings are.parts
+          player new part is other (are.own other low);
     };
     given = on.given;
     told = on.told;
   }
 
-  pub moved : (part : Part) (row : Option (List (Option Move))) → new.part ≡ Some part → On (playing part) row → Stay row
+  pub moved : (part : Part) (row : Option (List (Option Move))) → new.part ≡ Some part → On (playing part) row
+      → Stay row
   moved part row has =
-      stays (playing part) row (subst (λ (o : Option Part). IsPartFor secret b player o (playing part)) (sym has) refl)
+      stays (playing part) row
+      (subst (λ (o : Option Part). IsPartFor secret b player o (playing part)) (sym has) refl)
 
   -- and of the later session this holds
   pub moved_and : (P : Session → Type 0) (part : Part) → new.part ≡ Some part
@@ -53,9 +55,10 @@ module _ (marking : Marking) (secret : Option (List ℕ)) (b : Begun) (session :
   -- what is no matter of the part changes nothing
   pub idle : new.part ≡ (meetings player).part → Stay None
   idle same = stays (are.parts player) None
-      (subst (λ (o : Option Part). IsPartFor secret b player o (are.parts player)) (sym same) (are.own player few))
-      (kept marking (limits_of b.terms) b.terms.settings (game_seal secret b.game) session are.parts player are.are few
-      (are.parts player) refl refl)
+      (subst (λ (o : Option Part). IsPartFor secret b player o (are.parts player)) (sym same)
+      (are.own player few))
+      (kept marking (limits_of b.terms) b.terms.settings (game_seal secret b.game) session are.parts player
+      are.are few (are.parts player) refl refl)
 
   -- what a part does, if there is one: where there is none, none is there after it
   pub by_part : (Does : Option Part → Option Part → Type 0) (R : Type 0)
