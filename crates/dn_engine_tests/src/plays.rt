@@ -33,8 +33,6 @@ pub struct Play {
     waiting: Vec<(u8, u32, Address)>,
     /// How many rows each was told at the last mark.
     marked: [usize; 4],
-    /// What happened, in order.
-    pub events: Vec<Event>,
 }
 
 impl Play {
@@ -49,7 +47,6 @@ impl Play {
             gone: [false; 4],
             waiting: Vec::new(rt.alloc()),
             marked: [0; 4],
-            events: Vec::new(rt.alloc()),
         }
     }
 
@@ -115,7 +112,6 @@ impl Play {
             now: self.now,
             step: *step,
         };
-        self.events.push(event)?;
         match self.table.apply(rt.alloc(), &event) {
             Ok(done) => Ok(done),
             Err(_) => Err("refused".into()),
@@ -146,8 +142,8 @@ impl Play {
         Ok(())
     }
 
-    /// What is on its way comes, and what is sent then. What is late waited for this tick: it comes the last
-    /// first, and then again.
+    /// What is on its way comes, and what is sent then. What is late waited for this tick: it comes the last first, and
+    /// then again.
     fn flow(&mut self, rt: &HostRuntime) -> Result<(), Fail> {
         for _ in 0..8 {
             let mut coming = replace(&mut self.waiting, Vec::new(rt.alloc()));

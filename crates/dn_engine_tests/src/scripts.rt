@@ -1,7 +1,7 @@
 //! Scripts of tables: rows of text, each a word and at most two numbers, read by one reader.
 
 use crate::plays::{Play, address};
-use crate::{Done, Step, open_table, play_table};
+use crate::{Done, Step, open_table};
 use dn_session::{HostConfig, JoinConfig, Policy, Terms};
 use dn_setup::Settings;
 use dn_tic::Move;
@@ -150,24 +150,7 @@ fn is_so(rt: &HostRuntime, play: &mut Play, line: &str) -> Result<bool, Fail> {
     }
 }
 
-/// Whether the events of a play, as one list, tell each engine the same rows.
-fn is_played_again(rt: &HostRuntime, players: u8, play: &Play) -> Result<bool, Fail> {
-    let (worlds, joiners) = seats(rt, players)?;
-    let host = host(players)?;
-    let events = play.events.as_slice();
-    let Ok(table) = play_table(rt.alloc(), &host, joiners.as_slice(), worlds, events) else {
-        return Ok(false);
-    };
-    for player in 0..players {
-        match table.engines.get(usize::from(player)) {
-            Some(engine) if engine.told.as_slice() == play.told(player) => {}
-            _ => return Ok(false),
-        }
-    }
-    Ok(true)
-}
-
-/// Plays a script of so many players, and then its events as one list.
+/// Plays a script of so many players.
 pub fn read(rt: &HostRuntime, players: u8, script: &str) -> Result<(), Fail> {
     let (worlds, joiners) = seats(rt, players)?;
     let host = host(players)?;
@@ -181,8 +164,5 @@ pub fn read(rt: &HostRuntime, players: u8, script: &str) -> Result<(), Fail> {
             return Err("a row is not so".into());
         }
     }
-    match is_played_again(rt, players, &play)? {
-        true => Ok(()),
-        false => Err("other rows when played as a list".into()),
-    }
+    Ok(())
 }
