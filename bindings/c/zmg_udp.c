@@ -89,7 +89,8 @@ static bool open_as(zmg_udp *udp, int family, uint16_t port) {
     udp->family = family;
     udp->socket = (intptr_t)socket(family, SOCK_DGRAM, 0);
     if (udp->socket < 0) return false;
-    if (family == AF_INET6) setsockopt((int)udp->socket, IPPROTO_IPV6, IPV6_V6ONLY, (const char *)&no, sizeof no);
+    if (family == AF_INET6)
+        setsockopt((int)udp->socket, IPPROTO_IPV6, IPV6_V6ONLY, (const char *)&no, sizeof no);
     if (bind((int)udp->socket, (struct sockaddr *)&at, size) == 0 && does_not_wait(udp->socket)) return true;
     zmg_udp_close(udp);
     return false;
@@ -144,7 +145,8 @@ void zmg_udp_text(const zmg_address *address, char text[ZMG_UDP_TEXT_SIZE]) {
     char ip[INET6_ADDRSTRLEN] = "?";
     bool four = memcmp(address->bytes, mapped, sizeof mapped) == 0;
     inet_ntop(four ? AF_INET : AF_INET6, address->bytes + (four ? 12 : 0), ip, sizeof ip);
-    snprintf(text, ZMG_UDP_TEXT_SIZE, four ? "%s:%d" : "[%s]:%d", ip, address->bytes[16] << 8 | address->bytes[17]);
+    snprintf(text, ZMG_UDP_TEXT_SIZE, four ? "%s:%d" : "[%s]:%d", ip,
+             address->bytes[16] << 8 | address->bytes[17]);
 }
 
 void zmg_udp_send(const zmg_udp *udp, const zmg_address *to, const uint8_t *bytes, size_t length) {
@@ -175,7 +177,8 @@ void zmg_udp_send_all(const zmg_udp *udp, zmg_session *session) {
     uint8_t bytes[ZMG_DATAGRAM_SIZE];
     zmg_address to;
     size_t length;
-    while ((length = zmg_session_transmit(session, &to, bytes, sizeof bytes)) > 0) zmg_udp_send(udp, &to, bytes, length);
+    while ((length = zmg_session_transmit(session, &to, bytes, sizeof bytes)) > 0)
+        zmg_udp_send(udp, &to, bytes, length);
 }
 
 uint32_t zmg_udp_exchange(const zmg_udp *udp, zmg_session *session, zmg_status *status) {

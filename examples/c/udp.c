@@ -1,7 +1,7 @@
-/* A game over a network, of two to four players whose world is a field that they walk on: udp KEYFILE TICS host PORT
- * PLAYERS, and udp KEYFILE TICS join HOST:PORT. It prints the field once a second, leaves after so many tics, and then
- * prints a digest of the world, which is the same at all players.
- * cc udp.c zmg_udp.c $(pkg-config --cflags --libs zirmegat) */
+/* A game over a network, of two to four players whose world is a field that they walk on: udp KEYFILE TICS host
+ * PORT PLAYERS, and udp KEYFILE TICS join HOST:PORT. It prints the field once a second, leaves after so many
+ * tics, and then prints a digest of the world, which is the same at all players. cc udp.c zmg_udp.c
+ * $(pkg-config --cflags --libs zirmegat) */
 #include <stdio.h>
 #include <stdlib.h>
 #include <zmg_udp.h>

@@ -1,4 +1,5 @@
-/* Prints the size and the fields' places of each record, and each number, as examples/layout.rs of zirmegat-sys does. */
+/* Prints the size and the fields' places of each record, and each number, as examples/layout.rs of zirmegat-sys
+ * does. */
 #include "zirmegat_parts.h"
 #include <stdio.h>
 

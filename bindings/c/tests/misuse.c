@@ -1,6 +1,6 @@
-/* Calls every function of both headers with any handle, any numbers and any bytes, in any order: misuse CALLS SEED
- * [N]. To be run under valgrind or with a compiler's sanitizers. With N, every Nth request for memory is refused. A
- * handle of another kind must be refused, and change nothing; a room must be kept. C99 and C++. */
+/* Calls every function of both headers with any handle, any numbers and any bytes, in any order: misuse CALLS
+ * SEED [N]. To be run under valgrind or with a compiler's sanitizers. With N, every Nth request for memory is
+ * refused. A handle of another kind must be refused, and change nothing; a room must be kept. C99 and C++. */
 #include "chance.h"
 #include "failing.h"
 #include "must.h"
@@ -183,7 +183,8 @@ static void call_session(unsigned k, int right) {
     case 7: {
         zmg_run ran = zmg_session_run(s, marks, &row);
         MUST(ran <= ZMG_RUN_HELD && (right || ran == ZMG_RUN_NOT_PLAYING));
-        MUST(ran == ZMG_RUN_RAN || (row.tic == 0 && row.present[0] + row.present[3] == 0 && row.commands[3].chat == 0));
+        MUST(ran == ZMG_RUN_RAN || (row.tic == 0 && row.present[0] + row.present[3] == 0));
+        MUST(ran == ZMG_RUN_RAN || row.commands[3].chat == 0);
         break;
     }
     case 8: judge(right, zmg_session_quit(s, now)); break;
@@ -191,7 +192,8 @@ static void call_session(unsigned k, int right) {
     case 10: judge(right, zmg_session_kick(s, byte())); break;
     case 11:
         judge(right, zmg_session_state(s, &state, sizeof state));
-        MUST(right ? state.stage >= ZMG_STAGE_HOSTING && state.stage <= ZMG_STAGE_OVER : state.ran == 0x77777777);
+        MUST(right ? state.stage >= ZMG_STAGE_HOSTING && state.stage <= ZMG_STAGE_OVER
+                   : state.ran == 0x77777777);
         MUST(zmg_session_state(s, &state, below(sizeof state)) == ZMG_ERR_SIZE);
         break;
     case 12:
@@ -228,7 +230,8 @@ static void call_demo(unsigned k, int right) {
         break;
     }
     default: {
-        zmg_status status = zmg_demo_upgrade(demo, below(3) ? demo_length : below(sizeof demo), room, length, &written);
+        size_t given = below(3) ? demo_length : below(sizeof demo);
+        zmg_status status = zmg_demo_upgrade(demo, given, room, length, &written);
         MUST(status != ZMG_OK ? written == 0 : written <= length && written >= 14);
         MUST(length >= 1024 || status != ZMG_OK);
         for (size_t j = length; j < sizeof room; j++) MUST(room[j] == 0xee);
@@ -264,7 +267,8 @@ static void call_node(unsigned k, kind is) {
         break;
     case 3:
         judge(any, zmg_node_state_get(node, &state, sizeof state));
-        MUST(any ? state.phase >= ZMG_PHASE_LISTENING && state.phase <= ZMG_PHASE_ENDED : state.ran == 0x77777777);
+        MUST(any ? state.phase >= ZMG_PHASE_LISTENING && state.phase <= ZMG_PHASE_ENDED
+                 : state.ran == 0x77777777);
         MUST(!any || (state.ran <= state.made && state.made <= state.ran + 12));
         MUST(zmg_node_state_get(node, &state, below(sizeof state)) == ZMG_ERR_SIZE);
         break;
@@ -315,6 +319,7 @@ static void call_none(void) {
     char text[ZMG_KEY_TEXT_SIZE];
     zmg_packet packet;
     zmg_command command;
+    zmg_status status;
     uint8_t hold = byte();
     size_t length = some_room(), n;
     switch (below(4)) {
@@ -323,8 +328,8 @@ static void call_none(void) {
         zmg_key_to_text(&key, text);
         n = below(9) ? sizeof text : below(sizeof text);
         memset(&again, 7, sizeof again);
-        MUST(zmg_key_from_text(&again, text, n) == (n < sizeof text ? ZMG_ERR_TEXT : key.bytes[0] ? ZMG_OK : ZMG_ERR_KEY)
-            || key.bytes[1]);
+        status = n < sizeof text ? ZMG_ERR_TEXT : key.bytes[0] ? ZMG_OK : ZMG_ERR_KEY;
+        MUST(zmg_key_from_text(&again, text, n) == status || key.bytes[1]);
         break;
     case 1:
         if (zmg_packet_decode(bytes, some_bytes(), &packet) != 0) break;
@@ -379,7 +384,8 @@ static void finish(void) {
 }
 
 #ifdef FUZZER
-/* clang -g -DFUZZER -fsanitize=fuzzer,address,undefined misuse.c failing.c libzirmegat.a: the calls that bytes name. */
+/* clang -g -DFUZZER -fsanitize=fuzzer,address,undefined misuse.c failing.c libzirmegat.a: the calls that bytes
+ * name. */
 #ifdef __cplusplus
 extern "C"
 #endif

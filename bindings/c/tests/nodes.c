@@ -1,5 +1,6 @@
-/* Locksteps, links, packets, demos and keys: games of two to four nodes in one process, whose rows, ends and demos must
- * agree, on a line that loses and delays; and what each call returns. C99 and C++. nodes GAMES SEED. */
+/* Locksteps, links, packets, demos and keys: games of two to four nodes in one process, whose rows, ends and
+ * demos must agree, on a line that loses and delays; and what each call returns. C99 and C++. nodes GAMES
+ * SEED. */
 #include "chance.h"
 #include "failing.h"
 #include "must.h"
@@ -114,7 +115,8 @@ static void locksteps(unsigned count) {
         zmg_node_config c = config_of(k);
         MUST(zmg_lockstep_new(&nodes[k], &c) == ZMG_OK);
         zmg_node_state s = state_of(k);
-        MUST(s.phase == (k ? ZMG_PHASE_LISTENING : ZMG_PHASE_GATHERING) && s.knows_settings == (k == 0) && !s.can_give);
+        MUST(s.phase == (k ? ZMG_PHASE_LISTENING : ZMG_PHASE_GATHERING));
+        MUST(s.knows_settings == (k == 0) && !s.can_give);
         MUST(s.me == k && s.players == players && give(k) == ZMG_ERR_NOT_NOW);
     }
     for (turn = 0; turn < 8 * TICS; turn++)
@@ -135,8 +137,10 @@ static void locksteps(unsigned count) {
                 MUST((length > 0) == (aims == ZMG_OK));
                 if (length == 0) continue;
                 MUST(zmg_packet_decode(bytes, length, &packet) == 0 && packet.flags == aim.flags);
-                MUST(packet.flags & ZMG_FLAG_SETUP || (packet.start == (uint8_t)aim.start && packet.count == aim.count));
-                MUST(zmg_packet_encode(&packet, demos[0], DEMO) == length && memcmp(demos[0], bytes, length) == 0);
+                if (!(packet.flags & ZMG_FLAG_SETUP))
+                    MUST(packet.start == (uint8_t)aim.start && packet.count == aim.count);
+                MUST(zmg_packet_encode(&packet, demos[0], DEMO) == length);
+                MUST(memcmp(demos[0], bytes, length) == 0);
                 post(k, to, bytes, length, 20);
             }
             for (unsigned j = 0; j < flying;) {
@@ -145,7 +149,8 @@ static void locksteps(unsigned count) {
                 if (f.to != k || f.at > turn) { j++; continue; }
                 flights[j] = flights[--flying];
                 MUST(zmg_lockstep_receive(nodes[k], (uint8_t)f.from, f.bytes, f.length, &heard) == heard.code);
-                MUST(heard.code <= ZMG_HEARD_NOTED && (heard.code != ZMG_HEARD_DROPPED || heard.number <= ZMG_DROP_END));
+                MUST(heard.code <= ZMG_HEARD_NOTED);
+                MUST((heard.code != ZMG_HEARD_DROPPED || heard.number <= ZMG_DROP_END));
                 started += heard.code == ZMG_HEARD_STARTED;
             }
             run(k, &row);
@@ -155,7 +160,8 @@ static void locksteps(unsigned count) {
         zmg_node_state s = state_of(k);
         MUST(s.phase == ZMG_PHASE_ENDED && s.cause == ZMG_CAUSE_QUIT && s.ran >= TICS && s.knows_settings);
         MUST(s.settings.map == 7 && s.settings.skill == 2 && zmg_node_quit(nodes[k]) == ZMG_ERR_NOT_NOW);
-        MUST(seen(k, k ? 0 : 1).got >= TICS && seen(k, players).got == 0 && seen(k, players).end == ZMG_NO_END && seen(k, 0).line.came == 0);
+        MUST(seen(k, k ? 0 : 1).got >= TICS && seen(k, players).got == 0);
+        MUST(seen(k, players).end == ZMG_NO_END && seen(k, 0).line.came == 0);
         if (k) MUST(seen(k, 0).end >= TICS && seen(k, 0).end <= s.ran && s.ran >= TICS + 20 * k);
         same_demos(0, k, 13 + TICS * 5 * players);
     }
@@ -170,22 +176,24 @@ static void send_links(unsigned k, int second, unsigned loss) {
     }
 }
 
-/* A datagram that came comes again, and brings no command; comes altered, cut or to another player, and changes nothing
- * but the count of what was refused. */
+/* A datagram that came comes again, and brings no command; comes altered, cut or to another player, and changes
+ * nothing but the count of what was refused. */
 static void attack_link(unsigned k, const flight *f) {
     zmg_received r;
     zmg_node_state before, after;
     flight bad = *f;
     unsigned other = (k + 1) % players;
     uint32_t got = seen(k, f->from).got;
-    MUST(zmg_link_receive(nodes[k], f->bytes, f->length, &r) != ZMG_RECEIVED_UNOPENED && seen(k, f->from).got == got);
+    MUST(zmg_link_receive(nodes[k], f->bytes, f->length, &r) != ZMG_RECEIVED_UNOPENED);
+    MUST(seen(k, f->from).got == got);
     before = state_of(k);
     bad.bytes[below((unsigned)f->length)] ^= (uint8_t)(1u << below(8));
     MUST(zmg_link_receive(nodes[k], bad.bytes, bad.length, &r) == ZMG_RECEIVED_UNOPENED && r.player == 0);
     MUST(r.reason >= ZMG_UNOPENED_SUITE && r.reason <= ZMG_UNOPENED_TAG);
     MUST(zmg_link_receive(nodes[k], f->bytes, below((unsigned)f->length), &r) == ZMG_RECEIVED_UNOPENED);
     MUST(r.reason == ZMG_UNOPENED_SHORT || r.reason == ZMG_UNOPENED_TAG);
-    MUST(zmg_link_receive(nodes[k], f->bytes, 61, &r) == ZMG_RECEIVED_UNOPENED && r.reason == ZMG_UNOPENED_SHORT);
+    MUST(zmg_link_receive(nodes[k], f->bytes, 61, &r) == ZMG_RECEIVED_UNOPENED);
+    MUST(r.reason == ZMG_UNOPENED_SHORT);
     after = state_of(k);
     MUST(after.refused == before.refused + 3);
     after.refused = before.refused;
@@ -202,7 +210,8 @@ static void hear_links(unsigned k) {
         if (f.to != k || f.at > turn) { j++; continue; }
         flights[j] = flights[--flying];
         MUST(zmg_link_receive(nodes[k], f.bytes, f.length, &r) == r.code);
-        MUST((r.code == ZMG_RECEIVED_HEARD || r.code == ZMG_RECEIVED_GIVEN_UP) && r.player == f.from && r.reason == 0);
+        MUST((r.code == ZMG_RECEIVED_HEARD || r.code == ZMG_RECEIVED_GIVEN_UP));
+        MUST(r.player == f.from && r.reason == 0);
         attack_link(k, &f);
     }
 }
@@ -238,7 +247,8 @@ static void links(unsigned count) {
     for (unsigned k = 0; k < players; k++) {
         zmg_node_player p = seen(k, k ? 0 : 1);
         MUST(state_of(k).ran == TICS / 2 && state_of(k).refused > 0 && state_of(k).unacknowledged == 0);
-        MUST(p.got == TICS / 2 && p.end == ZMG_NO_END && p.left == ZMG_CAUSE_NONE && p.line.came > 20 && p.line.lost > 0);
+        MUST(p.got == TICS / 2 && p.end == ZMG_NO_END);
+        MUST(p.left == ZMG_CAUSE_NONE && p.line.came > 20 && p.line.lost > 0);
         same_demos(0, k, 13 + TICS / 2 * 5 * players - 2);
     }
     game = "links of which the last vanishes";
@@ -247,7 +257,8 @@ static void links(unsigned count) {
     for (unsigned k = 0; k + 1 < players; k++) {
         zmg_row row;
         int16_t marks[4] = { 0, 0, 0, 0 };
-        MUST(zmg_node_run(nodes[k], marks, &row) == ZMG_RUN_WAITING && row.player == players - 1 && row.tic == 0);
+        MUST(zmg_node_run(nodes[k], marks, &row) == ZMG_RUN_WAITING);
+        MUST(row.player == players - 1 && row.tic == 0);
         MUST(zmg_link_give_up(nodes[k], (uint8_t)(players - 1), &g) == g.code);
         MUST(g.code == (players == 2 ? ZMG_GIVE_UP_DECIDED : ZMG_GIVE_UP_WAITING));
         MUST(zmg_link_give_up(nodes[k], (uint8_t)(players - 1), &g) == ZMG_GIVE_UP_ALREADY);
@@ -279,7 +290,8 @@ static void other_worlds(void) {
     tick_links(40, 0, 60);
     MUST(state_of(0).cause == ZMG_CAUSE_INCONSISTENT || state_of(1).cause == ZMG_CAUSE_INCONSISTENT);
     unsigned k = state_of(0).cause == ZMG_CAUSE_INCONSISTENT ? 0 : 1;
-    MUST(state_of(k).player == 1 - k && state_of(k).was != state_of(k).should && run(k, &row) == ZMG_RUN_NOT_PLAYING);
+    MUST(state_of(k).player == 1 - k && state_of(k).was != state_of(k).should);
+    MUST(run(k, &row) == ZMG_RUN_NOT_PLAYING);
 }
 
 static void faults(void) {
@@ -329,8 +341,10 @@ static void demo(void) {
     MUST(zmg_demo_read(&d, demos[0], n - 1) == ZMG_ERR_DEMO_MARKER && d == NULL);
     MUST(zmg_demo_read(&d, demos[0], n) == ZMG_OK && zmg_demo_tell(d, &facts, sizeof facts) == ZMG_OK);
     MUST(facts.version == 111 && facts.start.map == 7 && facts.start.skill == 2 && facts.tics >= TICS / 2);
-    MUST(facts.present[0] + facts.present[1] + facts.present[2] == 3 && facts.present[3] == 0 && facts.cut == 0);
-    MUST(zmg_demo_row(d, facts.tics, &row) == ZMG_ERR_TIC && zmg_demo_row(d, 5, &row) == ZMG_OK && row.tic == 5);
+    MUST(facts.present[0] + facts.present[1] + facts.present[2] == 3);
+    MUST(facts.present[3] == 0 && facts.cut == 0);
+    MUST(zmg_demo_row(d, facts.tics, &row) == ZMG_ERR_TIC);
+    MUST(zmg_demo_row(d, 5, &row) == ZMG_OK && row.tic == 5);
     MUST(row.commands[1].turn == rows[5].commands[1].turn && row.commands[1].chat == 0 && row.present[2] == 1);
     MUST(zmg_demo_upgrade(demos[0], n, demos[1], DEMO, &written) == ZMG_OK && written == n);
     MUST(memcmp(demos[0], demos[1], n) == 0);
@@ -353,14 +367,16 @@ static void keys(void) {
     MUST(zmg_key_from_text(&again, text, sizeof text) == ZMG_OK && memcmp(&key, &again, sizeof key) == 0);
     text[3] = 'A';
     MUST(zmg_key_from_text(&again, text, sizeof text) == ZMG_OK && memcmp(&key, &again, sizeof key) == 0);
-    MUST(zmg_key_from_text(&again, text, 64) == ZMG_ERR_TEXT && zmg_key_from_text(&again, text, 0) == ZMG_ERR_TEXT);
+    MUST(zmg_key_from_text(&again, text, 64) == ZMG_ERR_TEXT);
+    MUST(zmg_key_from_text(&again, text, 0) == ZMG_ERR_TEXT);
     text[3] = 'g';
     MUST(zmg_key_from_text(&again, text, sizeof text) == ZMG_ERR_TEXT && memcmp(&key, &again, sizeof key) == 0);
     memset(text, '0', 64);
     MUST(zmg_key_from_text(&again, text, sizeof text) == ZMG_ERR_KEY);
     for (unsigned k = 1; k < 10; k++) {
         zmg_command_from_keys(&hold, ZMG_KEY_LEFT | ZMG_KEY_FORWARD | ZMG_KEY_SPEED | ZMG_KEY_WEAPON(3), &c);
-        MUST(hold == (k < 6 ? k : 6) && c.turn == (k < 6 ? 320 : 1280) && c.forward == 50 && c.buttons == (4 | 2 << 3));
+        MUST(hold == (k < 6 ? k : 6) && c.turn == (k < 6 ? 320 : 1280));
+        MUST(c.forward == 50 && c.buttons == (4 | 2 << 3));
     }
     zmg_command_from_keys(&hold, ZMG_KEY_STRAFE_RIGHT | ZMG_KEY_ATTACK, &c);
     MUST(hold == 0 && c.turn == 0 && c.side == 24 && c.buttons == 1);
@@ -369,7 +385,8 @@ static void keys(void) {
 int main(int argc, char **argv) {
     unsigned games = argc > 1 ? (unsigned)strtoul(argv[1], NULL, 10) : 1;
     MUST(sizeof(zmg_host_config) == 384 && sizeof(zmg_join_config) == 144 && sizeof(zmg_node_config) == 72);
-    MUST(sizeof(zmg_state) == 328 && sizeof(zmg_player) == 96 && sizeof(zmg_demo_facts) == 40 && sizeof(zmg_row) == 40);
+    MUST(sizeof(zmg_state) == 328 && sizeof(zmg_player) == 96);
+    MUST(sizeof(zmg_demo_facts) == 40 && sizeof(zmg_row) == 40);
     MUST(sizeof(zmg_node_state) == 80 && sizeof(zmg_node_player) == 40);
     begin_chance(argc > 2 ? argv[2] : "1");
     for (unsigned k = 0; k < games; k++) {

@@ -1,6 +1,6 @@
-/* Sessions of two to four players in one process, in virtual time, over a line that loses, repeats and delays: their
- * lobby, games, chat, and how they end; and what misuse and refused memory are answered with. C99 and C++.
- * sessions GAMES SEED. Ends with status 0, or names the line that failed. */
+/* Sessions of two to four players in one process, in virtual time, over a line that loses, repeats and delays:
+ * their lobby, games, chat, and how they end; and what misuse and refused memory are answered with. C99 and
+ * C++. sessions GAMES SEED. Ends with status 0, or names the line that failed. */
 #include "chance.h"
 #include "failing.h"
 #include "must.h"
@@ -259,7 +259,8 @@ static void play(unsigned players) {
         MUST(count(&them[k], ZMG_EVENT_SEATED) == (k > 0) && count(&them[k], ZMG_EVENT_BEGAN) == 1);
         for (other = 1; other < players; other++) {
             zmg_player seat = seen(k, other);
-            MUST(seat.has_address && seat.address.bytes[0] == other + 1 && seat.name.text[0] == (char)('a' + other));
+            MUST(seat.has_address && seat.address.bytes[0] == other + 1);
+            MUST(seat.name.text[0] == (char)('a' + other));
         }
         if (k) MUST(memcmp(seen(k, 0).name.text, "host", 5) == 0);
         MUST(seen(k, players).seat == ZMG_SEAT_NONE && seen(k, players).standing == ZMG_STANDING_NONE);
@@ -347,7 +348,8 @@ static void lobby(void) {
     MUST(state_of(1).stage == ZMG_STAGE_SEATED && state_of(1).me == 1 && seen(0, 1).seat == ZMG_SEAT_THERE);
     MUST(seen(0, 2).seat == ZMG_SEAT_FREE && seen(0, 3).seat == ZMG_SEAT_NONE);
     MUST(seen(1, 2).seat == ZMG_SEAT_FREE && seen(1, 0).seat == ZMG_SEAT_THERE);
-    MUST(zmg_session_wait(them[1].session, now) < 10000 && zmg_session_wait(them[0].session, now) == ZMG_WAIT_NONE);
+    MUST(zmg_session_wait(them[1].session, now) < 10000);
+    MUST(zmg_session_wait(them[0].session, now) == ZMG_WAIT_NONE);
     zmg_session_kick(them[0].session, 2);
     zmg_session_kick(them[0].session, 200);
     zmg_session_kick(them[0].session, 1);
@@ -461,14 +463,16 @@ static void misuse(void) {
     memset(&row, 7, sizeof row);
     MUST(zmg_session_run(s, marks, &row) == ZMG_RUN_NOT_PLAYING && row.tic == 0 && row.present[3] == 0);
     MUST(zmg_session_give(s, &c, 5) == ZMG_ERR_NOT_NOW && !zmg_session_wants_input(s, 5));
-    MUST(zmg_session_quit(s, 5) == ZMG_OK && zmg_session_kick(s, 1) == ZMG_OK && zmg_session_kick(s, 255) == ZMG_OK);
+    MUST(zmg_session_quit(s, 5) == ZMG_OK && zmg_session_kick(s, 1) == ZMG_OK);
+    MUST(zmg_session_kick(s, 255) == ZMG_OK);
     MUST(zmg_session_demo(s, 0, room, sizeof room) == 0 && zmg_session_give_up(s, 0, 5) == ZMG_ERR_NOT_NOW);
     MUST(zmg_session_demo(s, SIZE_MAX, room, sizeof room) == 0);
     /* structs of other sizes: less is refused, more is filled as far as it is known */
     memset(&state, 7, sizeof state);
     MUST(zmg_session_state(s, &state, sizeof state - 1) == ZMG_ERR_SIZE && state.made == 0x07070707);
     MUST(zmg_session_state(s, &state, 0) == ZMG_ERR_SIZE && state.made == 0x07070707);
-    MUST(zmg_session_state(s, &state, SIZE_MAX) == ZMG_OK && state.stage == ZMG_STAGE_CALLING && state.made == 0);
+    MUST(zmg_session_state(s, &state, SIZE_MAX) == ZMG_OK);
+    MUST(state.stage == ZMG_STAGE_CALLING && state.made == 0);
     memset(&one, 7, sizeof one);
     MUST(zmg_session_player(s, 1, 5, &one, sizeof one - 1) == ZMG_ERR_SIZE && one.got == 0x07070707);
     MUST(zmg_session_player(s, 255, 5, &one, sizeof one) == ZMG_OK && one.seat == ZMG_SEAT_NONE);

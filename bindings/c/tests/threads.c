@@ -1,5 +1,5 @@
-/* A game of two sessions, which are made, played and freed on sixty threads, one after another: each round on a thread
- * of its own, to which both go, and from which they come back. Ends with status 0. */
+/* A game of two sessions, which are made, played and freed on sixty threads, one after another: each round on a
+ * thread of its own, to which both go, and from which they come back. Ends with status 0. */
 #include "zirmegat.h"
 #include <pthread.h>
 #include <stdio.h>

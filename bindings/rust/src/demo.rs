@@ -72,6 +72,7 @@ impl Demo {
     }
 
     /// Returns what it has beside its rows.
+    #[must_use]
     pub fn facts(&self) -> Facts {
         // SAFETY: zeros are facts.
         let mut raw: sys::zmg_demo_facts = unsafe { zeroed() };
@@ -103,6 +104,7 @@ impl Demo {
     }
 
     /// Returns the row of a tic, counted from 0, whose commands have no chat.
+    #[must_use]
     pub fn row(&self, tic: usize) -> Option<Row> {
         // SAFETY: zeros are a row.
         let mut row = unsafe { zeroed() };

@@ -69,8 +69,11 @@
 #![deny(missing_docs)]
 #![deny(unsafe_op_in_unsafe_fn)]
 #![deny(clippy::undocumented_unsafe_blocks)]
+// the library's numbers of players and seats fit a byte, and each call says in its text which errors it has
+#![allow(clippy::cast_possible_truncation, clippy::missing_errors_doc)]
 
 mod demo;
+mod packet;
 pub mod parts;
 mod session;
 mod status;
@@ -84,6 +87,7 @@ pub use status::{Error, Over};
 pub use values::{Address, Command, Key, Keys, Line, Name, Row, Run, Settings};
 
 /// Returns the version of the library that is linked: 65,536 times the first number, plus the second.
+#[must_use]
 pub fn version() -> u32 {
     // SAFETY: the call requires nothing.
     unsafe { zirmegat_sys::zmg_version() }

@@ -9,6 +9,8 @@ use std::mem::{size_of, zeroed};
 use std::ptr::{self, NonNull};
 use zirmegat_sys as sys;
 
+pub use crate::packet::{Packet, PacketError, SentCommand, EXIT, KILL, RETRANSMIT, SETUP};
+
 /// The window of the 1997 source.
 pub const WINDOW_1997: u8 = sys::ZMG_WINDOW_1997 as u8;
 
@@ -35,6 +37,7 @@ pub struct Config {
 
 impl Config {
     /// Returns the configuration of a player in the window of 1997, on the first map at skill 2.
+    #[must_use]
     pub fn new(players: u8, me: u8) -> Config {
         let raw = sys::zmg_node_config::init();
         Config {
@@ -224,6 +227,7 @@ impl<K> Node<K> {
     }
 
     /// Returns what is known of the node.
+    #[must_use]
     pub fn state(&self) -> State {
         // SAFETY: zeros are a state.
         let mut raw: sys::zmg_node_state = unsafe { zeroed() };
@@ -255,6 +259,7 @@ impl<K> Node<K> {
     }
 
     /// Returns what is known of a player.
+    #[must_use]
     pub fn player(&self, player: u8) -> Player {
         // SAFETY: zeros are a player.
         let mut raw: sys::zmg_node_player = unsafe { zeroed() };
@@ -280,6 +285,7 @@ impl<K> Node<K> {
     }
 
     /// Returns the demo so far.
+    #[must_use]
     pub fn demo(&self) -> Vec<u8> {
         whole(|from, out| self.demo_from(from, out))
     }
@@ -292,7 +298,7 @@ pub struct Aim {
     pub ask: Option<u32>,
     /// The tic of the first command; 0 for set-up.
     pub start: u32,
-    /// As in a packet.
+    /// As in a [`Packet`].
     pub flags: u8,
     /// How many commands.
     pub count: u8,
@@ -369,6 +375,7 @@ impl Node<Lockstep> {
     }
 
     /// Returns the numbers of the packet that [`packet`](Node::packet) would write now, if there is one.
+    #[must_use]
     pub fn aim(&self, to: u8) -> Option<Aim> {
         // SAFETY: zeros are an aim.
         let mut raw: sys::zmg_aim = unsafe { zeroed() };

@@ -321,6 +321,7 @@ impl Session {
 
     /// Returns after how many milliseconds [`poll`](Session::poll) has something to do or a tick is due; none if the
     /// session waits for datagrams alone.
+    #[must_use]
     pub fn wait(&self, now: u32) -> Option<u32> {
         // SAFETY: the handle is a session's.
         let wait = unsafe { sys::zmg_session_wait(self.raw.as_ptr(), now) };
@@ -366,6 +367,7 @@ impl Session {
     }
 
     /// Returns whether a tick is due, for which the player gives a command. After a pause there may be several.
+    #[must_use]
     pub fn wants_input(&self, now: u32) -> bool {
         // SAFETY: the handle is a session's.
         unsafe { sys::zmg_session_wants_input(self.raw.as_ptr(), now) }
@@ -410,6 +412,7 @@ impl Session {
     }
 
     /// Returns what is known of the session.
+    #[must_use]
     pub fn state(&self) -> State {
         // SAFETY: zeros are a state.
         let mut raw: sys::zmg_state = unsafe { zeroed() };
@@ -438,6 +441,7 @@ impl Session {
     }
 
     /// Returns what is known of a player.
+    #[must_use]
     pub fn player(&self, player: u8, now: u32) -> Player {
         // SAFETY: zeros are a player.
         let mut raw: sys::zmg_player = unsafe { zeroed() };
@@ -477,6 +481,7 @@ impl Session {
     }
 
     /// Returns the demo so far; nothing before the game.
+    #[must_use]
     pub fn demo(&self) -> Vec<u8> {
         whole(|from, out| self.demo_from(from, out))
     }

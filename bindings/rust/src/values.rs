@@ -1,6 +1,7 @@
 //! Keys, names, addresses, settings, commands and rows.
 
 use crate::status::{check, Error};
+use std::ffi::c_char;
 use std::fmt;
 use std::net::{IpAddr, Ipv6Addr, SocketAddr};
 use std::str::FromStr;
@@ -21,6 +22,7 @@ impl Key {
     }
 
     /// Returns the key's text, in lower case, with its line end.
+    #[must_use]
     pub fn to_text(&self) -> String {
         let mut text = [0u8; sys::ZMG_KEY_TEXT_SIZE];
         // SAFETY: the pointers are of live values, and the text has its room.
@@ -91,12 +93,12 @@ impl From<&str> for Name {
 
 impl Name {
     pub(crate) fn of(raw: sys::zmg_name) -> Name {
-        Name(raw.text.map(|letter| letter as u8))
+        Name(raw.text.map(|letter| letter.to_ne_bytes()[0]))
     }
 
     pub(crate) fn raw(&self) -> sys::zmg_name {
         sys::zmg_name {
-            text: self.0.map(|letter| letter as _),
+            text: self.0.map(|letter| c_char::from_ne_bytes([letter])),
         }
     }
 }
@@ -151,7 +153,7 @@ impl Settings {
         }
     }
 
-    pub(crate) fn raw(&self) -> sys::zmg_settings {
+    pub(crate) fn raw(self) -> sys::zmg_settings {
         sys::zmg_settings {
             skill: self.skill,
             deathmatch: self.deathmatch,
@@ -198,7 +200,7 @@ impl Command {
         }
     }
 
-    pub(crate) fn raw(&self) -> sys::zmg_command {
+    pub(crate) fn raw(self) -> sys::zmg_command {
         sys::zmg_command {
             turn: self.turn,
             forward: self.forward,
@@ -227,6 +229,7 @@ impl Keys {
     pub const USE: Keys = Keys(sys::ZMG_KEY_USE);
 
     /// The key for a weapon, 1 to 8; none for another number.
+    #[must_use]
     pub fn weapon(number: u32) -> Keys {
         match number {
             1..=8 => Keys(sys::ZMG_KEY_WEAPON(number)),

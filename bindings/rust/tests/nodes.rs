@@ -144,3 +144,47 @@ fn faults_have_names() {
     let zeros = Node::link(&Config::new(2, 0), &Key([0; 32]), &[1; 16]);
     assert_eq!(zeros.map(drop), Err(Error::Key));
 }
+
+#[test]
+fn packets_are_read_and_written() {
+    let command = SentCommand {
+        turn: -640,
+        mark: 12345,
+        forward: 50,
+        side: -3,
+        chat: 7,
+        buttons: 1,
+    };
+    let packet = Packet {
+        flags: RETRANSMIT,
+        ask: 9,
+        start: 5,
+        player: 1,
+        commands: vec![command; 12],
+    };
+    let bytes = packet.encode().unwrap();
+    assert_eq!(bytes.len(), PACKET_SIZE);
+    assert_eq!(bytes[3] >> 4, RETRANSMIT);
+    assert_eq!(bytes[4..8], [9, 5, 1, 12]);
+    assert_eq!(bytes[8..16], [50, 253, 0x80, 0xfd, 0x39, 0x30, 7, 1]);
+    assert_eq!(Packet::decode(&bytes), Ok(packet.clone()));
+    assert_eq!(Packet::decode(&bytes[..7]), Err(PacketError::Short));
+    assert_eq!(Packet::decode(&bytes[..103]), Err(PacketError::Length));
+    let mut wrong = bytes.clone();
+    wrong[9] ^= 1;
+    assert_eq!(Packet::decode(&wrong), Err(PacketError::Sum));
+    wrong[7] = 13;
+    assert_eq!(Packet::decode(&wrong), Err(PacketError::Many));
+    let with = |flags, count| {
+        Packet {
+            flags,
+            commands: vec![command; count],
+            ..packet.clone()
+        }
+        .encode()
+    };
+    assert!(with(15, 0).is_some());
+    assert_eq!(with(16, 0), None);
+    assert_eq!(with(0, 13), None);
+    assert_eq!(with(0, 256), None);
+}

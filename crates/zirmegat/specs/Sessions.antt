@@ -29,7 +29,7 @@ PollsTo now n k code =
     (between : Meeting) × (began : Result Bool NodeFault) × PassesTo now n between × Begins now between k began
     × (code ≡ polled_code began)
 
--- what it sends goes to the front of a room, and where it goes to into another; both stay where it sends nothing
+-- what it sends goes to the front of a room, and where it goes to into another; both stay where that is nothing
 abbrev pub IsSent : Option (Address × List ℕ) → List ℕ → List ℕ → List ℕ → List ℕ → ℕ → Type 0
 IsSent (Some (address, bytes)) to addressed room written count =
     (addressed ≡ address.bytes) × IsWritten bytes room written count

@@ -87,8 +87,8 @@ fn limit_of(room: usize) -> Option<u32>
     if is_limit(limit) { Some(limit) } else { None }
 }
 
-/// Writes the demo that these bytes are anew as version 111, and how many bytes it has: its start, view, players
-/// and whole tics. Nothing is written where that is refused.
+/// Writes the demo that these bytes are anew as version 111, and how many bytes it has: its start, view,
+/// players and whole tics. Nothing is written where that is refused.
 #[unsafe(no_mangle)]
 pub extern "C" fn zmg_demo_upgrade(
     alloc: Global,

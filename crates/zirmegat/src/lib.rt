@@ -1,9 +1,9 @@
 //! Zirmegat for callers in C: sessions, demos and keys; and the parts of a session, which are links, locksteps
 //! and packets as fields.
 //!
-//! The headers are bindings/c/zirmegat.h and zirmegat_parts.h. Every number and every byte is tested here, and a
-//! handle of another kind is refused. A caller owes valid pointers, the use of a handle by one thread at a time,
-//! and the marks of its own world.
+//! The headers are bindings/c/zirmegat.h and zirmegat_parts.h. Every number and every byte is tested here, and
+//! a handle of another kind is refused. A caller owes valid pointers, the use of a handle by one thread at a
+//! time, and the marks of its own world.
 #![tactic(auto)]
 
 mod bytes;

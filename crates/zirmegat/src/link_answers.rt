@@ -9,9 +9,9 @@ use dn_link::{BundleFault, Received};
 use dn_lockstep::{Made, Settled};
 use dn_survivor::GivenUp;
 
-/// What a link makes of bytes that came in: 0 for bytes that are no datagram to this player in this game, for the
-/// fault `reason`, 1 for the datagram of a peer, 2 for one of `player` who is none, 3 for one of `player` who is
-/// given up, and 4 for one of `player` who tells that it has given up this player.
+/// What a link makes of bytes that came in: 0 for bytes that are no datagram to this player in this game, for
+/// the fault `reason`, 1 for the datagram of a peer, 2 for one of `player` who is none, 3 for one of `player`
+/// who is given up, and 4 for one of `player` who tells that it has given up this player.
 #[repr(C)]
 #[derive(Clone, Copy, Debug, PartialEq, Eq)]
 pub struct ReceivedAnswer {
@@ -75,9 +75,10 @@ pub(crate) fn owed_code(made: Option<Made>) -> u32
     }
 }
 
-/// What a link returns that is told to give up a player: 0 where it does not play, 1 where the player is given up
-/// and reports are missing, 2 where the ends of all who are given up are known, 3 where the end of `player` cannot
-/// be taken, for the reason `reason`, 4 where it was given up before, and 5 where the number is no other player's.
+/// What a link returns that is told to give up a player: 0 where it does not play, 1 where the player is given
+/// up and reports are missing, 2 where the ends of all who are given up are known, 3 where the end of `player`
+/// cannot be taken, for the reason `reason`, 4 where it was given up before, and 5 where the number is no other
+/// player's.
 #[repr(C)]
 #[derive(Clone, Copy, Debug, PartialEq, Eq)]
 pub struct GiveUpAnswer {

@@ -18,8 +18,8 @@ use dn_survivor::GivenUp;
 const MAX_LINK_DATAGRAM: usize = 1200;
 
 /// Writes the datagram of the moment to a peer, and returns how many bytes it has, and 0 where the number is no
-/// peer's, or that of one who is given up. Where the room is below 1,200 bytes, it returns 0, and the link stays
-/// as it is.
+/// peer's, or that of one who is given up. Where the room is below 1,200 bytes, it returns 0, and the link
+/// stays as it is.
 #[unsafe(no_mangle)]
 pub extern "C" fn zmg_link_datagram(node: &mut Handle, to: u8, out: &mut [u8]) -> usize
     ensures given { 1200 ≤ length out.old → Calls link_of node.old node.new
@@ -51,8 +51,8 @@ pub extern "C" fn zmg_link_receive(node: &mut Handle, bytes: &[u8], out: &mut Re
     told.code
 }
 
-/// For each tick, after the command: writes by how many 32nds of a tick the next comes later, or sooner where it
-/// is below 0.
+/// For each tick, after the command: writes by how many 32nds of a tick the next comes later, or sooner where
+/// it is below 0.
 #[unsafe(no_mangle)]
 pub extern "C" fn zmg_link_tick(node: &mut Handle, later: &mut i32) -> u32
     ensures { Calls link_of node.old node.new (λ n k. (result ≡ 0) × Leans n k later.new)
@@ -79,9 +79,9 @@ pub extern "C" fn zmg_link_catch_up(node: &mut Handle) -> u32
     }
 }
 
-/// Gives up a player who vanished, for good: no datagram goes to it, and nothing of it is taken. The others play on
-/// once all of them have given it up and have told each other what they have of it; until then a run that lacks a
-/// command of it waits.
+/// Gives up a player who vanished, for good: no datagram goes to it, and nothing of it is taken. The others
+/// play on once all of them have given it up and have told each other what they have of it; until then a run
+/// that lacks a command of it waits.
 #[unsafe(no_mangle)]
 pub extern "C" fn zmg_link_give_up(node: &mut Handle, player: u8, out: &mut GiveUpAnswer) -> u32
     ensures given { Calls link_of node.old node.new

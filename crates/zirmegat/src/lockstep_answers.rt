@@ -17,9 +17,10 @@ pub(crate) fn made_code(made: Made) -> u32
     }
 }
 
-/// What a lockstep returns for a datagram: 0 if it dropped it, for the reason `number`; 1 if it has started, 2 if
-/// it took `number` new commands, 3 if no command was new, 4 if earlier commands are missing, 5 if the sender has
-/// left and all its commands are here, 6 if a gathering node noted the sender, or if the node has ended.
+/// What a lockstep returns for a datagram: 0 if it dropped it, for the reason `number`; 1 if it has started, 2
+/// if it took `number` new commands, 3 if no command was new, 4 if earlier commands are missing, 5 if the
+/// sender has left and all its commands are here, 6 if a gathering node noted the sender, or if the node has
+/// ended.
 #[repr(C)]
 #[derive(Clone, Copy, Debug, PartialEq, Eq)]
 pub struct HeardAnswer {

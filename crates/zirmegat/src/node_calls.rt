@@ -27,7 +27,8 @@ pub extern "C" fn zmg_node_give(node: &mut Handle, command: &CommandFields) -> u
         (λ n k. (made : Making) × (result ≡ made_code made) × Builds (Given (given_in command.now)) n k made) }
     ensures link { When link_of node.old node.new
         (λ n k. (made : Making) × (result ≡ made_code made) × BuildsOf (Given (given_in command.now)) n k made) }
-    ensures other { lockstep_of node.old ≡ None → link_of node.old ≡ None → (result ≡ 1) × (node.new ≡ node.old) }
+    ensures other { lockstep_of node.old ≡ None → link_of node.old ≡ None
+        → (result ≡ 1) × (node.new ≡ node.old) }
 {
     if let Some(held) = node.lockstep() {
         return made_code(held.give(given(command)));
@@ -38,11 +39,12 @@ pub extern "C" fn zmg_node_give(node: &mut Handle, command: &CommandFields) -> u
     }
 }
 
-/// Runs the next tic by the four players' marks in the caller's world as it stands. Where it was run, `row` has the
-/// whole commands by which the world goes on. A link compares no mark of players who are given up.
+/// Runs the next tic by the four players' marks in the caller's world as it stands. Where it was run, `row` has
+/// the whole commands by which the world goes on. A link compares no mark of players who are given up.
 #[unsafe(no_mangle)]
 pub extern "C" fn zmg_node_run(node: &mut Handle, marks: &[i16; 4], row: &mut RowFields) -> u32
-    ensures lockstep { When lockstep_of node.old node.new (λ n k. TellsRun (Runs marks.now n k) n row.new result) }
+    ensures lockstep { When lockstep_of node.old node.new
+        (λ n k. TellsRun (Runs marks.now n k) n row.new result) }
     ensures link { When link_of node.old node.new (λ n k. TellsRun
         (λ ran told. Moves (λ old new. RunsOf marks.now n.link old new ran told) (λ old new. new ≡ old) n k)
         n.link.node row.new result) }
@@ -77,7 +79,8 @@ pub extern "C" fn zmg_node_quit(node: &mut Handle) -> u32
         (λ n k. (quit : Bool) × (result ≡ done_code quit) × Quits n k quit) }
     ensures link { When link_of node.old node.new (λ n k. (quit : Bool) × (result ≡ done_code quit)
         × Moves (λ old new. Quits old new quit) (λ old new. new ≡ old) n k) }
-    ensures other { lockstep_of node.old ≡ None → link_of node.old ≡ None → (result ≡ 1) × (node.new ≡ node.old) }
+    ensures other { lockstep_of node.old ≡ None → link_of node.old ≡ None
+        → (result ≡ 1) × (node.new ≡ node.old) }
 {
     if let Some(held) = node.lockstep() {
         return done_code(held.quit());

@@ -21,8 +21,8 @@ pub struct NodePlayer {
     pub got: u32,
     /// The tic after its last command, or the largest number where it is not known.
     pub end: u32,
-    /// Why it has left, if its datagrams told: 1 where it quit, 2 where its demo was full, 3 where another's world
-    /// differed.
+    /// Why it has left, if its datagrams told: 1 where it quit, 2 where its demo was full, 3 where another's
+    /// world differed.
     pub left: u32,
     /// 1 where it is given up.
     pub given_up: u8,

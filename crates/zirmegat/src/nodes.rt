@@ -159,7 +159,8 @@ pub extern "C" fn zmg_lockstep_new(alloc: Global, out: &mut Slot, config: &NodeF
 pub extern "C" fn zmg_link_new(alloc: Global, out: &mut Slot, config: &NodeFields) -> u32
     ensures opens { config.now.size ≡ 72 → config.now.secret ≢ no_secret
         → OpensLink config.now result (held_at out.new) }
-    ensures unset { config.now.size ≡ 72 → config.now.secret ≡ no_secret → (result ≡ 6) × (held_at out.new ≡ None) }
+    ensures unset { config.now.size ≡ 72 → config.now.secret ≡ no_secret
+        → (result ≡ 6) × (held_at out.new ≡ None) }
     ensures size { config.now.size ≢ 72 → (result ≡ 2) × (held_at out.new ≡ None) }
 {
     if config.size != NODE_SIZE {

@@ -94,7 +94,8 @@ pub extern "C" fn zmg_session_transmit(
     out: &mut [u8],
 ) -> usize
     ensures sends { 1200 ≤ length out.old → Calls session_of session.old session.new
-        (SendsInto to.old to.new out.old out.new result) ((result ≡ 0) × (to.new ≡ to.old) × (out.new ≡ out.old)) }
+        (SendsInto to.old to.new out.old out.new result)
+        ((result ≡ 0) × (to.new ≡ to.old) × (out.new ≡ out.old)) }
     ensures no_room { length out.old < 1200
         → (result ≡ 0) × (session.new ≡ session.old) × (to.new ≡ to.old) × (out.new ≡ out.old) }
 {
@@ -133,7 +134,8 @@ pub extern "C" fn zmg_session_give(session: &mut Handle, command: &CommandFields
 /// Its player leaves the game, if it plays. Poll it and send on until it is over. In the lobby it does nothing.
 #[unsafe(no_mangle)]
 pub extern "C" fn zmg_session_quit(session: &mut Handle, now: u32) -> u32
-    ensures { Calls session_of session.old session.new (λ n k. (result ≡ 0) × Plays (QuitsPart now) n k) (result ≡ 1) }
+    ensures { Calls session_of session.old session.new
+        (λ n k. (result ≡ 0) × Plays (QuitsPart now) n k) (result ≡ 1) }
 {
     match session.session() {
         Some(held) => {

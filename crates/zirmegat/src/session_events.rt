@@ -56,12 +56,13 @@ impl EventAnswer {
     }
 }
 
-/// Writes the first of what is so and was not told before, and returns its kind. Call it until there is nothing.
-/// What came and went again between two calls is not told.
+/// Writes the first of what is so and was not told before, and returns its kind. Call it until there is
+/// nothing. What came and went again between two calls is not told.
 #[unsafe(no_mangle)]
 pub extern "C" fn zmg_session_event(session: &mut Handle, out: &mut EventAnswer) -> u32
     ensures told { Calls session_of session.old session.new
-        (λ n k. (event : Option Happened) × (out.new ≡ event_told event) × Tells n k event) (out.new ≡ event_told None) }
+        (λ n k. (event : Option Happened) × (out.new ≡ event_told event) × Tells n k event)
+        (out.new ≡ event_told None) }
     ensures kind { result ≡ out.new.kind }
 {
     let told = match session.session() {

@@ -56,8 +56,8 @@ fn run_when_due(held: &mut Session, marks: &[i16; 4], row: &mut RowFields) -> u3
     run_next(held, marks, row)
 }
 
-/// Runs the next tic by the four players' marks in the caller's world as it stands, unless it should wait for the
-/// next tick. Where it was run, `row` has the whole commands by which the world goes on.
+/// Runs the next tic by the four players' marks in the caller's world as it stands, unless it should wait for
+/// the next tick. Where it was run, `row` has the whole commands by which the world goes on.
 #[unsafe(no_mangle)]
 pub extern "C" fn zmg_session_run(
     session: &mut Handle,

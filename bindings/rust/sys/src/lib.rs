@@ -2,6 +2,8 @@
 //! The crate `zirmegat` is what an engine in Rust wants.
 
 #![allow(non_camel_case_types, non_snake_case)]
+// a window is below 13
+#![allow(clippy::cast_possible_truncation)]
 
 use std::marker::PhantomData;
 use std::mem;
@@ -614,12 +616,14 @@ pub const ZMG_KEY_SPEED: u32 = 1 << 7;
 pub const ZMG_KEY_ATTACK: u32 = 1 << 8;
 pub const ZMG_KEY_USE: u32 = 1 << 9;
 /// The bit of the key for a weapon, `n` from 1 to 8.
+#[must_use]
 pub const fn ZMG_KEY_WEAPON(n: u32) -> u32 {
     1 << (9 + n)
 }
 
 impl zmg_host_config {
     /// What `zmg_host_config_init` fills in: `key`, unless the game is keyless, and `random` are to be set.
+    #[must_use]
     pub fn init() -> zmg_host_config {
         // SAFETY: zeros are a value of each field.
         let mut config: zmg_host_config = unsafe { mem::zeroed() };
@@ -638,6 +642,7 @@ impl zmg_host_config {
 
 impl zmg_join_config {
     /// What `zmg_join_config_init` fills in: `key`, unless the game is keyless, `random` and `host` are to be set.
+    #[must_use]
     pub fn init() -> zmg_join_config {
         // SAFETY: zeros are a value of each field.
         let mut config: zmg_join_config = unsafe { mem::zeroed() };
@@ -648,6 +653,7 @@ impl zmg_join_config {
 
 impl zmg_node_config {
     /// What `zmg_node_config_init` fills in: a link's `secret` and `game` are to be set.
+    #[must_use]
     pub fn init() -> zmg_node_config {
         // SAFETY: zeros are a value of each field.
         let mut config: zmg_node_config = unsafe { mem::zeroed() };
