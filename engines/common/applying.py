@@ -35,7 +35,7 @@ def change(engine, edits, mark):
 
 def main(own, folder, program, files, edits, trial_files, trial_edits, links=''):
     """own: where our files are; folder: where they go to; program: CMake's name of what they are part of;
-    links: what else it is linked with."""
+    links: how it is linked, and with what else."""
     words = [word for word in sys.argv[1:] if word != '--trial']
     trial = len(words) < len(sys.argv) - 1
     if len(words) != 2 - trial or any(word.startswith('-') for word in words):

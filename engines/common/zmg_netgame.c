@@ -436,18 +436,15 @@ void zmg_netgame_leave(void) {
 /* ---- the identity ---- */
 
 /* Two sums of 64 bits, each by a rule of its own. */
-static void mix(zmg_identity *identity, const uint8_t *bytes, size_t length) {
+void zmg_identity_bytes(zmg_identity *identity, const void *bytes, size_t length) {
+    const uint8_t *at = (const uint8_t *)bytes;
     uint64_t sums[2];
     memcpy(sums, identity->bytes, sizeof sums);
     for (size_t k = 0; k < length; k++) {
-        sums[0] = (sums[0] ^ bytes[k]) * 1099511628211u;
-        sums[1] = (sums[1] + bytes[k] + 1) * 6364136223846793005u;
+        sums[0] = (sums[0] ^ at[k]) * 1099511628211u;
+        sums[1] = (sums[1] + at[k] + 1) * 6364136223846793005u;
     }
     memcpy(identity->bytes, sums, sizeof sums);
-}
-
-void zmg_identity_text(zmg_identity *identity, const char *text) {
-    mix(identity, (const uint8_t *)text, strlen(text) + 1);
 }
 
 bool zmg_identity_file(zmg_identity *identity, const char *path) {
@@ -455,7 +452,6 @@ bool zmg_identity_file(zmg_identity *identity, const char *path) {
     size_t n;
     FILE *f = fopen(path, "rb");
     if (!f) return false;
-    while ((n = fread(bytes, 1, sizeof bytes, f)) > 0) mix(identity, bytes, n);
-    mix(identity, (const uint8_t *)"", 1);
+    while ((n = fread(bytes, 1, sizeof bytes, f)) > 0) zmg_identity_bytes(identity, bytes, n);
     return fclose(f) == 0;
 }

@@ -87,10 +87,10 @@ bool zmg_netgame_must_end(void);
 /* At the exit: leaves the game, saves the demo, and waits until the others know, 15 seconds at most. */
 void zmg_netgame_leave(void);
 
-/* An identity is made of what must be the same at all players, in the same order: texts, and the contents of
- * files. They are mixed into one of zeros. Of a file that cannot be read false is returned. It finds accidents,
+/* An identity is made of what must be the same at all players, in the same order: bytes, and the contents of
+ * files, which are mixed into one of zeros. Of a file that cannot be read false is returned. It finds accidents,
  * not cheats. */
-void zmg_identity_text(zmg_identity *identity, const char *text);
+void zmg_identity_bytes(zmg_identity *identity, const void *bytes, size_t length);
 bool zmg_identity_file(zmg_identity *identity, const char *path);
 
 #ifdef __cplusplus

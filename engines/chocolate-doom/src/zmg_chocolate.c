@@ -32,8 +32,11 @@ extern boolean main_loop_started;   /* d_main.c: whether a screen of farewell is
 
 #define ZMG_IS_MOBJ(t) ((t)->function.acp1 == (actionf_p1) P_MobjThinker)
 #define ZMG_RANDOM prndindex
-#define ZMG_FILE_OF(lump) lumpinfo[lump]->wad_file->path
 #define ZMG_CONSISTENCY(p) consistancy[p][gametic % BACKUPTICS]
+#define ZMG_IS_GAME(lump) true
+#define ZMG_NAME_OF(lump) lumpinfo[lump]->name
+#define ZMG_QUIT I_Quit()
+#define ZMG_HAS_FONT (hu_font[0] != NULL)
 #define ZMG_DRAW V_DrawPatchDirect
 #include "zmg_doom.inc"
 
@@ -139,51 +142,6 @@ boolean ZMG_Init(void)
     return true;
 }
 
-/* ---- the lobby ---- */
-
-enum { LABELS = 4 };
-static boolean has_screen;
-static txt_label_t *labels[LABELS];
-
-static void escape(TXT_UNCAST_ARG(widget), void *unused)
-{
-    TXT_Shutdown();
-    has_screen = false;
-    I_Quit();
-}
-
-static void open_lobby(void)
-{
-    txt_window_t *window;
-    txt_window_action_t *leave;
-    if (!TXT_Init()) return;
-    has_screen = true;
-    I_InitWindowIcon();
-    TXT_SetDesktopTitle("Chocolate Doom over Zirmegat");
-    window = TXT_NewWindow("Waiting for the players");
-    for (int k = 0; k < LABELS; k++) TXT_AddWidget(window, labels[k] = TXT_NewLabel(""));
-    TXT_AddWidget(window, TXT_NewStrut(60, 1));
-    leave = TXT_NewWindowAction(KEY_ESCAPE, "Leave");
-    TXT_SignalConnect(leave, "pressed", escape, NULL);
-    TXT_SetWindowAction(window, TXT_HORIZ_LEFT, leave);
-    TXT_SetWindowAction(window, TXT_HORIZ_CENTER, NULL);
-    TXT_SetWindowAction(window, TXT_HORIZ_RIGHT, NULL);
-}
-
-static void show_lobby(void)
-{
-    char lines[ZMG_NETGAME_LINES][ZMG_NETGAME_WIDE];
-    int count = zmg_netgame_show(lines);
-    if (!has_screen) return;
-    for (int k = 0; k < LABELS; k++)
-    {
-        if (k < count) lines[k][76] = 0;   /* as wide as the window */
-        TXT_SetLabel(labels[k], k < count ? lines[k] : "");
-    }
-    TXT_DispatchEvents();
-    TXT_DrawDesktop();
-}
-
 void ZMG_Start(net_gamesettings_t *s)
 {
     zmg_settings z;
@@ -203,8 +161,7 @@ void ZMG_Start(net_gamesettings_t *s)
         obey_signals();
         show_lobby();
     }
-    if (has_screen) TXT_Shutdown();
-    has_screen = false;
+    close_lobby();
     playing = true;
     zmg_update_hook = update;
     zmg_run_hook = run;
