@@ -88,8 +88,8 @@ bool zmg_netgame_must_end(void);
 void zmg_netgame_leave(void);
 
 /* An identity is made of what must be the same at all players, in the same order: bytes, and the contents of
- * files, which are mixed into one of zeros. Of a file that cannot be read false is returned. It finds accidents,
- * not cheats. */
+ * files, which are mixed into one of zeros. Of a file that cannot be read the second returns false. An identity
+ * finds accidents, not cheats. */
 void zmg_identity_bytes(zmg_identity *identity, const void *bytes, size_t length);
 bool zmg_identity_file(zmg_identity *identity, const char *path);
 

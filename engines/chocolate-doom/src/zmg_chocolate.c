@@ -133,7 +133,9 @@ boolean ZMG_Init(void)
         { "-shorttics", "turns have both bytes" },
         { "-left", "there are no screens beside" }, { "-right", "there are no screens beside" },
         { "-playdemo", "a demo is played alone" }, { "-timedemo", "a demo is played alone" },
-        { "-connect", "it is the engine's own netgame" }, { "-server", "it is the engine's own netgame" },
+        { "-connect", "it is the engine's own netgame" }, { "-autojoin", "it is the engine's own netgame" },
+        { "-server", "it is the engine's own netgame" }, { "-privateserver", "it is the engine's own netgame" },
+        { "-drone", "everybody plays" }, { "-dup", "each tic has a command of its own" },
         { NULL, NULL } };
     on = zmg_netgame_open(&calls, myargc, myargv);
     if (!on) return false;

@@ -8,6 +8,7 @@
 #include "net_defs.h"
 
 boolean ZMG_Init(void);                       /* whether there is -zmg-host or -zmg-join */
+boolean ZMG_IsOn(void);                       /* whether there was */
 void ZMG_Start(net_gamesettings_t *settings); /* waits for the players; tells the settings of player 0 */
 boolean ZMG_Update(void);                     /* in place of NetUpdate, if it returns true */
 boolean ZMG_Run(void);                        /* in place of TryRunTics, likewise */

@@ -190,7 +190,9 @@ boolean ZMG_Init(void)
         { "-left", "there are no screens beside" }, { "-right", "there are no screens beside" },
         { "-playdemo", "a demo is played alone" }, { "-timedemo", "a demo is played alone" },
         { "-fastdemo", "a demo is played alone" }, { "-solo-net", "it is the engine's own netgame" },
-        { "-connect", "it is the engine's own netgame" }, { "-server", "it is the engine's own netgame" },
+        { "-connect", "it is the engine's own netgame" }, { "-autojoin", "it is the engine's own netgame" },
+        { "-server", "it is the engine's own netgame" }, { "-privateserver", "it is the engine's own netgame" },
+        { "-drone", "everybody plays" }, { "-dup", "each tic has a command of its own" },
         { NULL, NULL } };
     on = zmg_netgame_open(&calls, myargc, myargv);
     if (!on) return false;
@@ -199,11 +201,14 @@ boolean ZMG_Init(void)
     return true;
 }
 
+boolean ZMG_IsOn(void) { return on; }
+
 /* The rules, in words: of vanilla's as every engine says them. */
 static void rules_of(char *text, size_t room)
 {
     if (demo_compatibility) vanilla_rules(text, room);
-    else snprintf(text, room, "%s", mbf21 ? "mbf21" : demo_version == DV_MBF ? "mbf" : "boom");
+    else snprintf(text, room, "%s%s", mbf21 ? "mbf21" : demo_version == DV_MBF ? "mbf" : "boom",
+                  strictmode ? " strict" : "");
     if (M_CheckParm("-nodeh") > 0) strcat(text, " without DeHackEd");
     if (M_CheckParm("-nomapinfo") > 0) strcat(text, " without MAPINFO");
     if (M_CheckParm("-nooptions") > 0) strcat(text, " without OPTIONS");
