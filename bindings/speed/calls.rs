@@ -52,10 +52,13 @@ pub unsafe extern "C" fn zmg_lockstep_packet(node: &mut Node, to: u8, out: *mut 
 
 #[unsafe(no_mangle)]
 pub extern "C" fn zmg_lockstep_aim(node: &Node, to: u8, aim: &mut Aim) -> Status {
-    let found = node.aim(to);
-    let status = if found.is_some() { Status::Ok } else { Status::NotNow };
-    *aim = found.unwrap_or_default();
-    status
+    match node.aim(to) {
+        Some(found) => {
+            *aim = found;
+            Status::Ok
+        }
+        None => Status::NotNow,
+    }
 }
 
 /// # Safety

@@ -95,7 +95,7 @@ static void mix_node(const zmg_node *node) {
     mix(s.settings.respawn); mix(s.settings.episode); mix(s.settings.map);
     for (uint8_t k = 0; k < 5; k++) {
         zmg_node_player p;
-        zmg_aim a;
+        zmg_aim a = { 0, 0, 0, 0, 0 };
         mix(zmg_node_player_get(node, k, &p, sizeof p));
         mix(p.got); mix(p.end); mix(p.left); mix(p.given_up); mix(p.line.came);
         mix(zmg_lockstep_aim(node, k, &a));

@@ -81,7 +81,6 @@ impl Config {
 pub const NO_END: u32 = u32::MAX;
 
 #[repr(C)]
-#[derive(Default)]
 pub struct Aim {
     pub asks: u32,
     pub ask: u32,

@@ -22,6 +22,8 @@ static unsigned players, turn, flying, alive[4];
 static flight flights[FLIGHTS];
 static uint16_t worlds[4];
 static zmg_row rows[4 * TICS];
+/* what each player gave for each tic, and what a link owes */
+static zmg_command given[4][4 * TICS], owed[4];
 static uint8_t demos[2][DEMO];
 static const char *game = "nothing";
 
@@ -87,17 +89,30 @@ static zmg_run run(unsigned k, zmg_row *row) {
         if (told->present[0] + told->present[1] + told->present[2] + told->present[3] == 0) *told = *row;
         MUST(memcmp(told, row, sizeof *row) == 0);
         for (unsigned p = 0; p < players; p++) {
+            static const zmg_command none = { 0, 0, 0, 0, 0 };
             const zmg_command *c = &row->commands[p];
-            MUST(c->chat == (row->present[p] ? 1 + (row->tic + p) % 250 : 0));
+            MUST(memcmp(c, row->present[p] ? &given[p][row->tic] : &none, sizeof none) == 0);
             worlds[k] = (uint16_t)(worlds[k] * 31u + (uint16_t)c->turn + (uint8_t)c->forward + row->present[p]);
         }
     }
 }
 
+/* A forward of -128 is made as -127, since it would end a demo. */
 static zmg_status give(unsigned k) {
     uint32_t made = state_of(k).made;
-    zmg_command c = { (int16_t)draw(), (int8_t)below(50), (int8_t)-40, (uint8_t)(1 + (made + k) % 250), 1 };
-    return zmg_node_give(nodes[k], &c);
+    zmg_command c = { (int16_t)draw(), (int8_t)(below(16) ? below(50) : 128), (int8_t)-40, (uint8_t)draw(), 1 };
+    zmg_status status = zmg_node_give(nodes[k], &c);
+    if (c.forward == -128) c.forward = -127;
+    if (status == ZMG_OK) given[k][made] = c;
+    else owed[k] = c;
+    return status;
+}
+
+static zmg_status catch_up(unsigned k) {
+    uint32_t made = state_of(k).made;
+    zmg_status status = zmg_link_catch_up(nodes[k]);
+    if (status == ZMG_OK) given[k][made] = owed[k];
+    return status;
 }
 
 /* The demos are the same up to the first row that lacks a player, but for the player whose view they show. */
@@ -222,14 +237,14 @@ static void tick_links(unsigned turns, unsigned loss, unsigned most) {
             zmg_row row;
             int32_t later;
             if (!alive[k]) continue;
-            zmg_status owed = zmg_link_catch_up(nodes[k]);
-            MUST(owed == ZMG_OK || owed == ZMG_ERR_FULL || owed == ZMG_ERR_NOT_NOW);
+            zmg_status caught = catch_up(k);
+            MUST(caught == ZMG_OK || caught == ZMG_ERR_FULL || caught == ZMG_ERR_NOT_NOW);
             if (state_of(k).made < most) give(k);
             MUST(zmg_link_tick(nodes[k], &later) == ZMG_OK && later >= -9 && later <= 41);
             send_links(k, 0, loss);
             hear_links(k);
             run(k, &row);
-            if (zmg_link_catch_up(nodes[k]) == ZMG_OK) run(k, &row);
+            if (catch_up(k) == ZMG_OK) run(k, &row);
             send_links(k, 1, loss);
         }
 }
@@ -276,6 +291,44 @@ static void links(unsigned count) {
         MUST(state_of(k).may_leave && state_of(k).phase == ZMG_PHASE_ENDED && give(k) == ZMG_ERR_NOT_NOW);
         if (players > 2) MUST(seen(k, k ? 0 : 1).left == ZMG_CAUSE_QUIT);
     }
+}
+
+/* Two with mice on a line that is longer than the window. Where the command that is owed was not made before the
+ * next tick, its motion goes into that tick's command: none is lost. */
+static void mice(void) {
+    int32_t moved[2] = { 0, 0 }, put[2] = { 0, 0 }, full = 0;
+    clear("links with mice", 2);
+    zmg_node_config c = config_of(0);
+    for (unsigned k = 0; k < 2; k++) {
+        c.me = (uint8_t)k;
+        MUST(zmg_link_new(&nodes[k], &c) == ZMG_OK);
+    }
+    for (; turn < TICS; turn++)
+        for (unsigned k = 0; k < 2; k++) {
+            uint8_t bytes[ZMG_DATAGRAM_SIZE];
+            zmg_row row;
+            int32_t later, motion = (int32_t)below(40) - 20;
+            int owes = catch_up(k) == ZMG_ERR_FULL;
+            if (!owes) put[k] = 0;
+            full += owes;
+            moved[k] += motion;
+            put[k] += motion;
+            zmg_command command = { (int16_t)put[k], 0, 0, 0, 0 };
+            zmg_status status = zmg_node_give(nodes[k], &command);
+            MUST(status == ZMG_OK || status == ZMG_ERR_FULL);
+            owed[k] = command;
+            if (status == ZMG_OK) given[k][state_of(k).made - 1] = command, put[k] = 0;
+            MUST(zmg_link_tick(nodes[k], &later) == ZMG_OK);
+            post(k, 1 - k, bytes, zmg_link_datagram(nodes[k], (uint8_t)(1 - k), bytes, sizeof bytes), 0);
+            flights[flying - 1].at = turn + 8;
+            hear_links(k);
+            run(k, &row);
+            if (catch_up(k) == ZMG_OK) put[k] = 0;
+            int32_t sum = put[k];
+            for (uint32_t tic = 0; tic < state_of(k).made; tic++) sum += given[k][tic].turn;
+            MUST(sum == moved[k]);
+        }
+    MUST(full > 20 && state_of(0).ran > 60 && state_of(1).ran > 60);
 }
 
 static void other_worlds(void) {
@@ -392,6 +445,7 @@ int main(int argc, char **argv) {
     for (unsigned k = 0; k < games; k++) {
         locksteps(2 + k % 3);
         links(2 + k % 3);
+        mice();
         other_worlds();
     }
     faults();
