@@ -65,6 +65,7 @@ static void bot_chat(void)
     }
     else if (gametic % 100 > 50) at = 0;
     if (gametic > 150 && draw(200) == 0) { press(key_pause, true); press(key_pause, false); }
+    if (draw(50) == 0) { press('f', true); press('f', false); }
     if (draw(100) == 0) { press(key_spy, true); press(key_spy, false); }
 }
 

@@ -62,6 +62,7 @@ static void bot_chat(void)
     }
     else if (gametic % 100 > 50) at = 0;
     if (gametic > 150 && draw(200) == 0) { press(KEY_PAUSE, true); press(KEY_PAUSE, false); }
+    if (draw(50) == 0) { press('f', true); press('f', false); }
     if (draw(100) == 0) { press(KEY_F12, true); press(KEY_F12, false); }
 }
 

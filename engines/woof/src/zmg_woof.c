@@ -113,6 +113,18 @@ static void begin(const zmg_terms *terms, int me)
         I_Error("zmg: a demo of these rules can be recorded where the host records one");
 }
 
+/* A demo of the engine's own form cannot show that a player leaves, so it ends there. The game goes on. */
+static void end_recording(const boolean *ingame)
+{
+    gameaction_t next = gameaction;
+    boolean all = true;
+    for (int p = 0; p < MAXPLAYERS; p++) all &= !playeringame[p] || ingame[p];
+    if (all || !demorecording) return;
+    gameaction = ga_newgame;   /* else the engine ends with its recording */
+    G_CheckDemoStatus();
+    gameaction = next;
+}
+
 static void step(const zmg_row *row)
 {
     static ticcmd_t cmds[NET_MAXPLAYERS];
@@ -123,6 +135,7 @@ static void step(const zmg_row *row)
     to_engine(row, cmds, ingame);
     cmds[me].pitch = mine->pitch;
     cmds[me].ticangleturn = mine->ticangleturn;
+    end_recording(ingame);
     RunTic(cmds, ingame);
     gametic++;
     ran_at = I_GetTimeUS();
