@@ -9,8 +9,8 @@ wide range reorders. MORE is one of these:
   PAIR_LOSS PAIR_MIN PAIR_MAX AFTER   between the first two clients the line is so, once AFTER seconds are over
   UPLINK HOSTS                        each client's uplink carries so many kbit/s, the host's HOSTS; 0: any number
 
-What would wait in an uplink for more than 200 ms is dropped. Told to end (SIGTERM) it prints what it did, and how many
-bytes came from the one who sent most."""
+What would wait in an uplink for more than 200 ms is dropped. Told to end (SIGTERM) it prints what it did, and
+how many bytes came from the one who sent most."""
 import heapq, random, select, signal, socket, sys, time
 port, host = map(int, sys.argv[1:3])
 loss, repeat, low, high, *more = map(float, sys.argv[3:-1])
