@@ -5,3 +5,5 @@ pub mod Calling
 pub mod Going
 pub mod Agreeing
 pub mod Opening
+pub mod Stepping
+pub mod Turning

@@ -1,4 +1,5 @@
 pub mod Calls
+pub mod Duels
 pub mod Engines
 pub mod Letters
 pub mod Pairs

@@ -1,9 +1,13 @@
 //! Miniature engines, by the laws and the contracts of calls alone. Those of two to four players have sessions, from the
-//! lobby until they leave: whatever the network loses, repeats and delays, they agree. And those of two have bare
-//! locksteps, with packets that come late, out of order and more than once.
+//! lobby until they leave: whatever the network loses, repeats and delays, they agree. Those of two have bare
+//! locksteps, with packets that come late, out of order and more than once; or links, on lines that lose all but each
+//! third datagram: there it is promised how many tics they have run.
 #![tactic(auto)]
 
 mod calls;
+mod duel;
+#[cfg(test)]
+mod duel_tests;
 mod engine;
 mod letters;
 #[cfg(test)]
@@ -22,6 +26,7 @@ mod table_tests;
 mod tests;
 
 pub use calls::{Parcel, give, hand, quit, run, take};
+pub use duel::{Duel, DuelFault, open_duel, play_duel};
 pub use engine::Engine;
 pub use letters::hear_letter;
 pub use pairs::{Pair, open, pass, play};
