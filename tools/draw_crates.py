@@ -18,6 +18,7 @@ PLACES = [
     ('bytes', 0, 315, [['dn_tic']]),
     ('bytes', 0, 412, [['dn_packet']]),
     ('bytes', 0, 574, [['dn_seal']]),
+    ('bytes', 1, 500, [['dn_key']]),
     ('bytes', 1, 248, [['dn_ring']]),
     ('bytes', 1, 355, [['dn_setup']]),
     ('bytes', 2, 291, [['dn_demo']]),

@@ -1,33 +1,23 @@
--- The text of a key, which faults come when, and what the file of a key is read as.
-use Rattle.std.specs.Prelude.{ℕ, ◌-◌, ◌==◌, ◌&&◌, nat_lt, Bool, if◌then◌else◌, List, [], ◌∷◌, ◌++◌, length, take, slice_index, Result, Ok, Err, ⊤, true, false, ◌≡◌, ◌⊎◌}
-use Rattle.std.specs.List.{list_all}
-use Rattle.hex.specs.Hex.{encode_lower, decode_sized}
-use Rattle.hex.specs.declared.error.FromHexError.{FromHexError}
+-- Which faults of a key come when, and what the file of a key is read as.
+use Rattle.std.specs.Prelude.{ℕ, Bool, List, take, Result, Ok, Err, ⊤, true, false, ◌≡◌, ◌⊎◌}
+use Rattle.dn_key.specs.KeyTexts.{is_zeros, key_read}
+use Rattle.dn_key.specs.declared.text.TextFault.{TextFault}
+use Rattle.dn_key.specs.declared.text.TextFault.TheVariants as text
 use Rattle.dn_program.specs.declared.key.KeyFault.{KeyFault}
 use Rattle.dn_program.specs.declared.key.KeyFault.TheVariants.{Form, Zeros, Exists, Random, Make, Write, Read}
 
--- the digits of a key in lower case, and a line end
-abbrev pub key_text : List ℕ → List ℕ
-key_text key = encode_lower key ++ 10 ∷ []
+-- a file has no text of a key
+abbrev pub refused : TextFault → KeyFault
+refused text.Form = Form
+refused text.Zeros = Zeros
 
-abbrev pub is_zeros : List ℕ → Bool
-is_zeros key = list_all (λ byte. byte == 0) key
+abbrev pub refused_or : Result (List ℕ) TextFault → Result (List ℕ) KeyFault
+refused_or (Ok key) = Ok key
+refused_or (Err fault) = Err (refused fault)
 
--- a key that is not all zeros
-abbrev pub filled : Result (List ℕ) FromHexError → Result (List ℕ) KeyFault
-filled (Ok key) = if is_zeros key then Err Zeros else Ok key
-filled (Err fault) = Err Form
-
--- the 32 bytes of 64 digits of either case
-abbrev pub key_of_digits : List ℕ → Result (List ℕ) KeyFault
-key_of_digits digits = filled (decode_sized digits 32)
-
--- the key of digits and a line end
-abbrev pub key_read : List ℕ → Result (List ℕ) KeyFault
-key_read text =
-    if nat_lt 0 (length text) && (slice_index text (length text - 1) == 10)
-    then key_of_digits (take (length text - 1) text)
-    else Err Form
+-- the key whose text a file has
+abbrev pub key_of_text : List ℕ → Result (List ℕ) KeyFault
+key_of_text text = refused_or (key_read text)
 
 -- the file is refused for what is in it, or since it is there; else the system failed
 abbrev pub is_refusal : KeyFault → Bool
@@ -67,4 +57,4 @@ IsRead (Err fault) = IsOfReading fault
 -- where the file has these bytes: the system failed; or the first 66 of them are read so, one more than a key's text
 -- has
 abbrev pub IsReadOf : List ℕ → Result (List ℕ) KeyFault → Type 0
-IsReadOf bytes result = (result ≡ Err Read) ⊎ (result ≡ key_read (take 66 bytes))
+IsReadOf bytes result = (result ≡ Err Read) ⊎ (result ≡ key_of_text (take 66 bytes))

@@ -1,13 +1,14 @@
 //! The key that the players of a game share: made from the system's random bytes, kept in a file as text, and
 //! read back from it.
 
-ghost use Rattle.std.specs.Prelude.{◌≡◌, ◌++◌, [], ◌∷◌, codes, ◌≤◌, length, take, true, IfOk, IfErr, IfSome, OnOk, ◌<◌, ℕ, List, false, All};
-ghost use Rattle.dn_program.specs.Keys.{is_refusal, key_text, is_zeros, key_of_digits, key_read, IsOfMaking, IsRead, IsReadOf};
-ghost use Rattle.hex.specs.Hex.{encode_lower};
+ghost use Rattle.std.specs.Prelude.{◌≡◌, ◌≤◌, length, take, true, IfOk, IfErr, IfSome, OnOk};
+ghost use Rattle.dn_key.specs.KeyTexts.{key_text};
+ghost use Rattle.dn_program.specs.Keys.{is_refusal, key_of_text, refused, IsOfMaking, IsRead, IsReadOf};
 ghost use Rattle.std.specs.Fs.{asks_create_new};
 ghost use Rattle.std.specs.Io.KnownBytes.{Appends};
 ghost use Rattle.dn_program.specs.declared.key.KeyFault.TheVariants as fault;
 
+use dn_key::{KEY, KEY_TEXT, TextFault, key_in, text_of_key};
 use std::fs;
 use std::fs::{File, OpenOptions};
 use std::io::{ErrorKind, Read, Write};
@@ -54,48 +55,23 @@ impl KeyFault {
     }
 }
 
-/// How many bytes a key has.
-pub const KEY: usize = 32;
-
-/// How many bytes its text has.
-pub const KEY_TEXT: usize = 65;
-
-/// The text of a key, in lower case.
-pub fn text_of_key(key: &[u8; KEY]) -> [u8; KEY_TEXT]
-    ensures { result ≡ key_text key.now }
+/// A file has no text of a key.
+fn refused(fault: TextFault) -> KeyFault
+    ensures { result ≡ refused fault }
 {
-    let mut text = [b'\n'; KEY_TEXT];
-    let done = hex::encode_to_slice(&key[..], &mut text[..64]);
-    prove!(done.is_ok());
-    text
-}
-
-/// Whether a key has nothing but zeros.
-fn is_zeros(key: &[u8]) -> bool
-    ensures { result ≡ is_zeros key.now }
-{
-    key.iter().all(|byte| *byte == 0)
-}
-
-/// The key whose digits these are.
-fn key_of_digits(digits: &[u8]) -> Result<[u8; KEY], KeyFault>
-    ensures { result ≡ key_of_digits digits.now }
-{
-    let mut key = [0; KEY];
-    match hex::decode_to_slice(digits, &mut key) {
-        Ok(()) if is_zeros(&key) => Err(KeyFault::Zeros),
-        Ok(()) => Ok(key),
-        Err(_) => Err(KeyFault::Form),
+    match fault {
+        TextFault::Form => KeyFault::Form,
+        TextFault::Zeros => KeyFault::Zeros,
     }
 }
 
-/// The key whose text this is. Its digits may be of either case.
-pub fn key_in(text: &[u8]) -> Result<[u8; KEY], KeyFault>
-    ensures { result ≡ key_read text.now }
+/// The key whose text a file has.
+fn key_of_text(text: &[u8]) -> Result<[u8; KEY], KeyFault>
+    ensures { result ≡ key_of_text text.now }
 {
-    match text.split_last() {
-        Some((b'\n', digits)) => key_of_digits(digits),
-        _ => Err(KeyFault::Form),
+    match key_in(text) {
+        Ok(key) => Ok(key),
+        Err(fault) => Err(refused(fault)),
     }
 }
 
@@ -127,7 +103,7 @@ fn key_of<R: Read>(file: &mut R) -> Result<[u8; KEY], KeyFault>
 {
     let mut room = [0; KEY_TEXT + 1];
     let count = fill(file, &mut room)?;
-    key_in(&room[..count])
+    key_of_text(&room[..count])
 }
 
 /// The key that a file has, never that of zeros.
@@ -188,9 +164,3 @@ pub fn make_key<R: Files + RandomSource>(rt: &R, path: &str) -> Result<(), KeyFa
     }
     written
 }
-
-/// A key that is not all zeros is what its text is read as.
-pub fn keys_are_read_back()
-    ensures { (key : List ℕ) → length key ≡ 32 → All (λ byte. byte < 256) key → is_zeros key ≡ false
-        → key_read (key_text key) ≡ Ok key }
-{}

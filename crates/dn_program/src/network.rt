@@ -7,13 +7,14 @@ ghost use Rattle.dn_program.specs.{Sessions.IsSecretOf};
 
 use crate::address::found;
 use crate::ends::{BROKEN_OFF, MISUSED, REFUSED, print_session};
-use crate::key::{KEY, KeyFault, make_key, read_key};
+use crate::key::{KeyFault, make_key, read_key};
 use crate::options::Pace;
 use crate::say::say_line;
 use crate::screen::ErrorScreen;
 use clap::ArgMatches;
 use dn_game::GameConfig;
 use dn_host::{Guest, Hosting, Os, Plan, Udp, host_game, join_game};
+use dn_key::KEY;
 use dn_netgame::RunFault;
 use dn_session::Address;
 use std::net::Net;

@@ -1,42 +1,19 @@
 //! The text of a key, as a file has it.
 
 ghost use Rattle.std.specs.Prelude.{◌≡◌};
-ghost use Rattle.zirmegat.specs.KeyTexts.{is_zeros, key_of_digits, key_read, key_text, IsKeyRead};
+ghost use Rattle.dn_key.specs.KeyTexts.{key_read, key_text};
+ghost use Rattle.zirmegat.specs.Keys.{text_code, IsKeyRead};
 
 use crate::fault::{DONE, Fault};
+use dn_key::{KEY, KEY_TEXT, TextFault, key_in, text_of_key};
 
-/// How many bytes a key has.
-const KEY: usize = 32;
-
-/// How many bytes its text has.
-const KEY_TEXT: usize = 65;
-
-/// Whether a key has nothing but zeros.
-fn is_zeros(key: &[u8]) -> bool
-    ensures { result ≡ is_zeros key.now }
+/// Why bytes are no text of a key, as a number.
+fn text_code(fault: TextFault) -> u32
+    ensures { result ≡ text_code fault }
 {
-    key.iter().all(|byte| *byte == 0)
-}
-
-/// The key whose digits these are, of either case.
-fn key_of_digits(digits: &[u8]) -> Result<[u8; KEY], Fault>
-    ensures { result ≡ key_of_digits digits.now }
-{
-    let mut key = [0; KEY];
-    match hex::decode_to_slice(digits, &mut key) {
-        Ok(()) if is_zeros(&key) => Err(Fault::Key),
-        Ok(()) => Ok(key),
-        Err(_) => Err(Fault::Text),
-    }
-}
-
-/// The key whose text this is.
-fn key_in(text: &[u8]) -> Result<[u8; KEY], Fault>
-    ensures { result ≡ key_read text.now }
-{
-    match text.split_last() {
-        Some((b'\n', digits)) => key_of_digits(digits),
-        _ => Err(Fault::Text),
+    match fault {
+        TextFault::Form => Fault::Text.code(),
+        TextFault::Zeros => Fault::Key.code(),
     }
 }
 
@@ -50,7 +27,7 @@ pub extern "C" fn zmg_key_from_text(key: &mut [u8; KEY], text: &[u8]) -> u32
             *key = read;
             DONE
         }
-        Err(fault) => fault.code(),
+        Err(fault) => text_code(fault),
     }
 }
 
@@ -59,8 +36,5 @@ pub extern "C" fn zmg_key_from_text(key: &mut [u8; KEY], text: &[u8]) -> u32
 pub extern "C" fn zmg_key_to_text(key: &[u8; KEY], text: &mut [u8; KEY_TEXT])
     ensures { text.new ≡ key_text key.now }
 {
-    let mut written = [b'\n'; KEY_TEXT];
-    let done = hex::encode_to_slice(&key[..], &mut written[..64]);
-    prove!(done.is_ok());
-    *text = written;
+    *text = text_of_key(key);
 }

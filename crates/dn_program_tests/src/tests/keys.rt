@@ -1,6 +1,7 @@
 //! The text of a key, with one that was written by hand.
 
-use dn_program::key::{KEY, key_in, read_key, text_of_key};
+use dn_key::{KEY, key_in, text_of_key};
+use dn_program::key::read_key;
 use dn_shared_tests::{holds, same};
 use std::test::Fail;
 use std::{fs, process};
