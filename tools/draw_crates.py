@@ -18,7 +18,6 @@ PLACES = [
     ('bytes', 0, 315, [['dn_tic']]),
     ('bytes', 0, 412, [['dn_packet']]),
     ('bytes', 0, 574, [['dn_seal']]),
-    ('bytes', 1, 500, [['dn_key']]),
     ('bytes', 1, 248, [['dn_ring']]),
     ('bytes', 1, 355, [['dn_setup']]),
     ('bytes', 2, 291, [['dn_demo']]),
@@ -33,7 +32,7 @@ PLACES = [
     ('promise', 1, 375, [['dn_game']]),
     ('promise', 1, 480, [['dn_link_game']]),
     ('promise', 2, 508, [['zirmegat']]),
-    ('promise', 2, 602, [['dn_session']]),
+    ('promise', 2, 602, [['dn_session'], ['dn_key']]),
     ('promise', 3, 262, [['dn_netgame', 'dn_inspect', 'dn_program', 'netgame']]),
     ('promise', 3, 680, [['dn_host']]),
 ]
