@@ -7,7 +7,7 @@ pub mod Faults
 pub mod Fields
 pub mod Going
 pub mod Joined
-pub mod KeyTexts
+pub mod Keys
 pub mod Kinds
 pub mod Lends
 pub mod Lines
