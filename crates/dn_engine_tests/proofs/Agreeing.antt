@@ -34,11 +34,6 @@ there_is [] p low = absurd (omega (arith, low))
 there_is (x ∷ xs) zero low = (x, refl)
 there_is (x ∷ xs) (suc p) low = there_is xs p (omega (arith, low))
 
--- a link of a part
-pub of_part : (part : Option Part) (one : Part) (link : Link) → part ≡ Some one → link_in part ≡ Some link
-    → (playing one).link ≡ link
-of_part part one link is has = same_Some (playing one).link link (sym (ap link_in is) ∙ has)
-
 module _ {W S : Type 0} (state : W → S) (physics : Physics S) (secret : Option (List ℕ)) (b : Begun) (t : Table W)
     (game : AreInGame state physics secret b t) (begun : HaveBegun t) where
   -- the new links that they had

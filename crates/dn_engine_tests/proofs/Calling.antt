@@ -15,7 +15,7 @@ use Rattle.dn_link.specs.{Linking.linked, RemainingLinks.IsLater, RemainingLinks
 use Rattle.dn_seal.specs.declared.seal.Seal.{Seal}
 use Rattle.dn_link_game.specs.Playing.{marking_of, world_by}
 use Rattle.dn_session.specs.{Parts.AreMarksOf, Parts.limits_of, Passing.sent_of, Roster.IsSide, Roster.key_of, Roster.place_in, Session.Meeting, Session.RunsPart, Session.SendsPart, Session.begun_in, Session.link_in, Session.passing_in}
-use Rattle.dn_session.specs.{Sessions.AreSessions, Sessions.Greets, Sessions.Has, Sessions.KeepsOut, Sessions.StaySessions, Text.game_seal}
+use Rattle.dn_session.specs.{Sessions.AreKeptBy, Sessions.AreSessions, Sessions.Greets, Sessions.Has, Sessions.KeepsOut, Sessions.StaySessions, Text.game_seal}
 use Rattle.dn_session.specs.declared.{greeting.Address.Address, part.Part.Part, part.sending.Transmit.Transmit, side.Begun.Begun}
 use Rattle.dn_engine_tests.specs.declared.engine.Engine.{Engine}
 use Rattle.dn_engine_tests.specs.Engines.{GoesOn, IsTold, MayCome, Rests, RunsIn, met}
@@ -23,8 +23,7 @@ use Rattle.dn_engine_tests.specs.Engines.{GoesOn, IsTold, MayCome, Rests, RunsIn
 -- what is so of bytes is so of what they have
 pub has_more : (P Q : List ℕ → Type 0) → ((bytes : List ℕ) → P bytes → Q bytes) → (held : Option (Address × List ℕ))
     → Has P held → Has Q held
-has_more P Q more None has = tt
-has_more P Q more (Some held) has = more held.1 has
+has_more P Q more held has = grind arith
 
 -- of what was sealed before
 abbrev pub StaySealed : Type 0
@@ -43,19 +42,11 @@ has_part (Some part) link is = (part, refl)
 
 -- where nothing changes
 pub rested : (old new : Meeting) → new ≡ old → KeepsOut None old new
-rested old new is = record {
-  keeps = record {
-    secret = ap (λ m. m.secret) is;
-    key = ap (λ m. key_of m.lobby) is;
-    begun = λ b e. ap (λ m. begun_in m.lobby) is ∙ e;
-    place = λ p e. ap (λ m. place_in m.lobby) is ∙ e;
-    reply = inl (ap (λ m. m.reply) is);
-    call = inl (ap (λ m. m.call) is);
-    passing = inl (ap (λ m. passing_in m.part) is);
-  };
-  out = λ none. ap (λ m. m.part) is ∙ none;
-  stays = λ none. sym (ap (λ m. m.part) is) ∙ none;
-}
+rested old new is = grind arith
+
+-- no part changes
+abbrev pub Idles : Meeting → Meeting → Type 0
+Idles old new = new.part ≡ old.part
 
 -- where the lobby is the same
 pub same_lobby : (old new : Meeting) → new ≡ record old { part = new.part } → IsSide old.lobby → IsSide new.lobby
@@ -67,12 +58,7 @@ module _ {W S : Type 0} (state : W → S) (physics : Physics S) (came : Option (
   played : (part : Part) → (met new).part ≡ Some part → (b : Begun) (rows : List (List (Option Move)))
       → IsTold state physics b rows old
       → state old.world ≡ world_by physics (world_told (limits_of b.terms) b.terms.settings rows)
-  played part has b rows is = go (met old).part refl
-    where
-      go : (had : Option Part) → (met old).part ≡ had
-          → state old.world ≡ world_by physics (world_told (limits_of b.terms) b.terms.settings rows)
-      go None none = absurd (none-some part (sym (keeps.out none) ∙ has))
-      go (Some one) some = is.world one some
+  played part has b rows is = grind arith
 
   -- its session goes on in whatever game it is, without a row
   abbrev pub Stays : Type 0
@@ -84,10 +70,7 @@ module _ {W S : Type 0} (state : W → S) (physics : Physics S) (came : Option (
   module _ (told : new.told.items ≡ old.told.items) (world : state new.world ≡ state old.world) where
     untold : (b : Begun) (rows : List (List (Option Move))) → IsTold state physics b rows old
         → IsTold state physics b rows new
-    untold b rows is = record {
-      told = told ∙ is.told;
-      world = λ part has. world ∙ played part has b rows is;
-    }
+    untold b rows is = grind (arith, played)
 
     -- and gives nothing
     pub silent : Stays → GoesOn state physics came None old new
@@ -104,6 +87,12 @@ module _ {W S : Type 0} (state : W → S) (physics : Physics S) (came : Option (
       };
     }
 
+    pub kept_by : (Does : Meeting → Meeting → Type 0) → AreKeptBy Does → Does (met old) (met new)
+        → GoesOn state physics came None old new
+    kept_by Does law does = silent (λ secret b history meetings place are below here comes.
+        law (marking_of physics) secret b history meetings place (met new) are below
+        (subst (λ (m : Meeting). Does m (met new)) (sym here) does))
+
     -- or what its session sends: a reply, a call, or what its part does
     abbrev pub Turns : Option (Address × List ℕ) → Type 0
     Turns sent = (sent ≡ (met old).reply) ⊎ (((met old).reply ≡ None) × ((sent ≡ (met old).call)
@@ -119,8 +108,7 @@ module _ {W S : Type 0} (state : W → S) (physics : Physics S) (came : Option (
 
     bytes_in : (P : List ℕ → Type 0) (sent : Option Transmit) → Has P (option_map sent_of sent)
         → IfSome (option_map (λ (t : Transmit). t.bytes) sent) (λ (bytes : ArrayVec ℕ). P bytes.items)
-    bytes_in P None has = tt
-    bytes_in P (Some sent) has = has
+    bytes_in P sent has = grind arith
 
     pub gave : (sent : Option Transmit) → StaySealed → Turns (option_map sent_of sent) → Gone (option_map sent_of sent)
         → GoesOn state physics came (option_map (λ (t : Transmit). t.bytes) sent) old new
@@ -207,17 +195,10 @@ module _ {W S : Type 0} (state : W → S) (physics : Physics S) (old new : Engin
           → (row : Option (List (Option Move))) → (row ≡ None → state new.world ≡ state old.world)
           → ((one : List (Option Move)) → row ≡ Some one → state new.world ≡ physics.step (state old.world) one)
           → state new.world ≡ world_by physics (world_told (limits_of b.terms) b.terms.settings (told_on rows row))
-      stepped b rows before None idle steps = idle refl ∙ before
-      stepped b rows before (Some row) idle steps = steps row refl ∙ ap (λ (s : S). physics.step s row) before
-          ∙ sym (fold_push physics.step (physics.begin (start_of b.terms.settings) (seats_of (limits_of b.terms).players)) rows row)
+      stepped b rows before row idle steps = grind (arith, fold_push)
 
-  pub rests_on : Rests state old new
-      → ((secret : Option (List ℕ)) (b : Begun) (history : History) (meetings : ℕ → Meeting) (place : ℕ) (now : Meeting)
-      → AreSessions (marking_of physics) secret b history meetings → place < b.terms.players
-      → now.part ≡ (meetings place).part → StaySessions (marking_of physics) secret b history meetings place now None)
-      → GoesOn state physics None None old new
+  pub rests_on : Rests state old new → AreKeptBy Idles → GoesOn state physics None None old new
   rests_on rests law =
-      silent state physics None old new (rested (met old) (met new) rests.meeting_is)
+      kept_by state physics None old new (rested (met old) (met new) rests.meeting_is)
       (subst IsSide (sym (ap (λ (m : Meeting). m.lobby) rests.meeting_is))) rests.told rests.world
-      (λ secret b history meetings place are below here comes. law secret b history meetings place (met new) are below
-      (ap (λ (m : Meeting). m.part) (rests.meeting_is ∙ sym here)))
+      Idles law (ap (λ (m : Meeting). m.part) rests.meeting_is)

@@ -1,5 +1,5 @@
 -- A call of one engine takes its table on.
-use Rattle.std.proofs.Common.{◌≡◌, ◌≢◌, ◌<◌, ◌⊎◌, ℕ, zero, suc, List, [], ◌∷◌, ◌++◌, Option, Some, None, sym, ap, ◌∙◌, subst, length, set, refl, inl, inr}
+use Rattle.std.proofs.Common.{◌≡◌, ◌≢◌, ◌<◌, ◌⊎◌, ℕ, zero, suc, List, [], ◌∷◌, ◌++◌, Option, Some, None, sym, ap, ◌∙◌, subst, length, set, refl, inl, inr, arith}
 use Rattle.std.specs.Prelude.{All, Bool, IfSome, false, if◌then◌else◌, slice_get, true}
 use Rattle.std.proofs.lemmas.List.Elements.{All-head, All-push, All-tail, All-weaker}
 use Rattle.std.proofs.lemmas.Option.{none-some, same_Some, slice_get_within}
@@ -35,19 +35,12 @@ all_at P (y ∷ xs) all (suc k) x e = all_at P xs (All-tail P y xs all) k x e
 pub joined : (old new : List (ArrayVec ℕ)) (sent : Option (ArrayVec ℕ)) (bytes : ArrayVec ℕ) (pushed : Bool)
     → sent ≡ Some bytes → new ≡ (if pushed then old ++ bytes ∷ [] else old)
     → (new ≡ old) ⊎ ((bytes : ArrayVec ℕ) × (sent ≡ Some bytes) × (new ≡ old ++ bytes ∷ []))
-joined old new sent bytes true is same = inr (bytes, is, same)
-joined old new sent bytes false is same = inl same
+joined old new sent bytes pushed is same = grind arith
 
 -- a session of the secret is one after a call too
 pub still_of : (secret came : Option (List ℕ)) (old new : Meeting) → Keeps came old new
     → (IsSide old.lobby → IsSide new.lobby) → IsOf secret old → IsOf secret new
-still_of secret came old new keeps fits of = record {
-  secret_is = keeps.secret ∙ of.secret_is;
-  key = keeps.key ∙ of.key;
-  fits = fits of.fits;
-  reply = elim keeps.reply [ inl same ↦ subst (Has Greets) (sym same) of.reply | inr greets ↦ greets ];
-  call = elim keeps.call [ inl same ↦ subst (Has Greets) (sym same) of.call | inr greets ↦ greets ];
-}
+still_of secret came old new keeps fits of = grind arith
 
 module _ {W S : Type 0} (state : W → S) (physics : Physics S) (old new : Table W) (me : ℕ) (before after : Engine W)
     (at : HasEngine old me before) (engines : new.engines.items ≡ set old.engines.items me after) where
@@ -65,12 +58,7 @@ module _ {W S : Type 0} (state : W → S) (physics : Physics S) (old new : Table
   pub by_place : (P : ℕ → Engine W → Type 0) → P me after
       → ((j : ℕ) (e : Engine W) → j ≢ me → HasEngine old j e → P j e)
       → (j : ℕ) (e : Engine W) → HasEngine new j e → P j e
-  by_place P mine others j e there = elim (cases_eq j me) [
-    | inl same ↦ subst (λ (k : ℕ). P k e) (sym same) (subst (P me) (same_Some after e
-        (sym there_after ∙ ap (slice_get new.engines.items) (sym same) ∙ there)) mine)
-    | inr apart ↦ others j e apart (sym (ap (λ es. slice_get es j) engines
-        ∙ set_elsewhere old.engines.items me j after apart) ∙ there)
-  ]
+  by_place P mine others j e there = grind (arith, there_after, set_elsewhere)
 
   module _ (came : Option (List ℕ)) (keeps : Keeps came (met before) (met after)) where
     -- an engine after the call, with the key and the game that it had
@@ -104,17 +92,33 @@ module _ {W S : Type 0} (state : W → S) (physics : Physics S) (old new : Table
     ]
 
     pub apart_before : AreApart new → AreApart old
-    apart_before apart i j one other p q here there at_p at_q same =
-        let a = each_after i one here in
-        let b = each_after j other there in
-        apart i j a.0 b.0 p q a.1.there b.1.there (a.1.place_is p at_p) (b.1.place_is q at_q)
-        (ap (λ k. number_of_game k p.game) a.1.key ∙ same ∙ sym (ap (λ k. number_of_game k q.game) b.1.key))
+    apart_before apart i j one other p q here there at_p at_q same = grind (arith, each_after)
 
     pub all_of : (secret : Option (List ℕ)) → (IsSide (met before).lobby → IsSide (met after).lobby)
         → ((i : ℕ) (e : Engine W) → HasEngine old i e → IsOf secret (met e))
         → (i : ℕ) (e : Engine W) → HasEngine new i e → IsOf secret (met e)
     all_of secret fits are = by_place (λ i e. IsOf secret (met e))
         (still_of secret came (met before) (met after) keeps fits (are me before at)) (λ j e apart there. are j e there)
+
+    -- a game in which the host is, after what leaves the new links that there were, and takes the sessions on
+    pub game_on : (secret : Option (List ℕ)) (b : Begun) (is : AreInGame state physics secret b old)
+        → ((part : Part) → (met after).part ≡ Some part → (q : Playing) × IsLinkOf secret (record b { me = me }) q.link)
+        → ((met after).part ≡ None → after.told.items ≡ [])
+        → (me < b.terms.players → ArePlaying state physics secret b old → ArePlaying state physics secret b new)
+        → AreInGame state physics secret b new
+    game_on secret b is made idle on =
+        let host = each_after 0 is.host is.at in
+        record {
+          host = host.0;
+          at = host.1.there;
+          begun = host.1.begun b is.begun;
+          places = ap length engines ∙ length_set old.engines.items me after ∙ is.places;
+          new = λ p e part there. by_place (λ p e. (part : Part) → (met e).part ≡ Some part
+              → (q : Playing) × IsLinkOf secret (record b { me = p }) q.link) made
+              (λ j e apart there part. is.new j e part there) p e there part;
+          idle = by_place (λ p e. (met e).part ≡ None → e.told.items ≡ []) idle (λ j e apart there. is.idle j e there);
+          play = λ parts are. on (subst (λ (n : ℕ). me < n) is.places inside) (is.play parts are);
+        }
 
     module _ (sent : Option (ArrayVec ℕ)) where
       -- what was given stays, and what was sent joins it, or is lost
@@ -166,13 +170,7 @@ module _ {W S : Type 0} (state : W → S) (physics : Physics S) (old new : Table
   module _ (came : Option (List ℕ)) (sent : Option (ArrayVec ℕ)) (goes : GoesOn state physics came sent before after)
       (gave : Gave came goes.keeps.keeps sent) where
     lobby : (secret : Option (List ℕ)) → IsOf secret (met before) → AreInLobby old → AreInLobby new
-    lobby secret of is = record {
-      out = by_place (λ i e. (met e).part ≡ None) (goes.keeps.out (is.out me before at)) (λ j e apart there. is.out j e there);
-      told = by_place (λ i e. e.told.items ≡ []) (goes.told (is.out me before at) ∙ is.told me before at)
-          (λ j e apart there. is.told j e there);
-      given = given_on came goes.keeps.keeps sent (λ bytes. Greets bytes.items) is.given
-          (goes.greets (is.out me before at) of.reply of.call) gave;
-    }
+    lobby secret of is = grind (arith, by_place, given_on)
 
     -- what came with the call, if anything did, was given
     abbrev pub From : Type 0
@@ -186,28 +184,15 @@ module _ {W S : Type 0} (state : W → S) (physics : Physics S) (old new : Table
 
     game : From → StaySealed → (secret : Option (List ℕ)) (b : Begun) → IsOf secret (met before)
         → AreInGame state physics secret b old → AreInGame state physics secret b new
-    game from law secret b of is =
-        let host = each_after came goes.keeps.keeps 0 is.host is.at in
-        let below : me < b.terms.players = subst (λ (n : ℕ). me < n) is.places inside in
-        record {
-          host = host.0;
-          at = host.1.there;
-          begun = host.1.begun b is.begun;
-          places = ap length engines ∙ length_set old.engines.items me after ∙ is.places;
-          new = λ p e part there has. by_place (λ p e. (part : Part) → (met e).part ≡ Some part
-              → (q : Playing) × IsLinkOf secret (record b { me = p }) q.link)
-              (λ part has. had part has (met before).part refl) (λ j e apart there part has. is.new j e part there has)
-              p e there part has;
-          idle = by_place (λ p e. (met e).part ≡ None → e.told.items ≡ [])
-              (λ none. let was = goes.keeps.stays none in goes.told was ∙ is.idle me before at was) (λ j e apart there none. is.idle j e there none);
-          play = λ parts are.
-              let was = is.play parts are in
-              let may = comes from (MayCome secret b was.history) was.given in
-              let to = goes.goes secret b was.history was.meetings me was.are below (was.met_is me before at)
-              (was.told me before at) may in
-              moved came goes.keeps.keeps sent secret b was to.row to.stay law to.told may
-              (to.sends of (was.passing me before at)) gave;
-        }
+    game from law secret b of is = game_on came goes.keeps.keeps secret b is
+        (λ part has. had part has (met before).part refl)
+        (λ none. let out = goes.keeps.stays none in goes.told out ∙ is.idle me before at out)
+        (λ below was.
+        let may = comes from (MayCome secret b was.history) was.given in
+        let to = goes.goes secret b was.history was.meetings me was.are below (was.met_is me before at)
+        (was.told me before at) may in
+        moved came goes.keeps.keeps sent secret b was to.row to.stay law to.told may
+        (to.sends of (was.passing me before at)) gave)
       where
         had : (part : Part) → (met after).part ≡ Some part → (o : Option Part) → (met before).part ≡ o
             → (q : Playing) × IsLinkOf secret (record b { me = me }) q.link

@@ -40,17 +40,11 @@ module _ (settings : Settings) (pair : Pair) (one : IsOneGame settings pair) whe
 
   pub first_moves : (new : Lockstep) (next : Session → ℕ → Session) → LeadsTo (contents pair.first) next
       → Moves next new → IsOneGame settings (record pair { first = new })
-  first_moves new next leads moves =
-      moved 0 (omega (arith, one.two)) pair.first one.first new next leads moves new pair.second
-      (put_at one.session.locksteps 0 0 (contents new) refl)
-      (put_off one.session.locksteps 0 1 (contents new) (λ e. absurd (cc)) ∙ one.second)
+  first_moves new next leads moves = grind (arith, moved)
 
   pub second_moves : (new : Lockstep) (next : Session → ℕ → Session) → LeadsTo (contents pair.second) next
       → Moves next new → IsOneGame settings (record pair { second = new })
-  second_moves new next leads moves =
-      moved 1 (omega (arith, one.two)) pair.second one.second new next leads moves pair.first new
-      (put_off one.session.locksteps 1 0 (contents new) (λ e. absurd (cc)) ∙ one.first)
-      (put_at one.session.locksteps 1 1 (contents new) refl)
+  second_moves new next leads moves = grind (arith, moved)
 
 -- a call on each, the second after the first
 pub both_move : {settings : Settings} {pair : Pair} {first second : Lockstep} {next other : Session → ℕ → Session}

@@ -8,9 +8,7 @@ use Rattle.dn_engine_tests.proofs.calls.run.Goals as goal
 -- the mark of either player
 mark_of : (mark : ℤ) (player : ℕ) → player < 2
     → get_or (mark ∷ mark ∷ mark ∷ mark ∷ []) player (pos 0) ≡ mark
-mark_of mark zero low = refl
-mark_of mark (suc zero) low = refl
-mark_of mark (suc (suc more)) low = absurd (omega (arith, low))
+mark_of mark player low = grind arith
 
 pub returns-clause-one_game : goal.returns-clause-one_game
 returns-clause-one_game c limits settings session player game two mine here =

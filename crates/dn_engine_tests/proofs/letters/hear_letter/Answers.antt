@@ -1,4 +1,4 @@
-use Rattle.std.proofs.Common.{◌≡◌, sym, subst}
+use Rattle.std.proofs.Common.{◌≡◌, sym, subst, arith}
 use Rattle.dn_lockstep.specs.{Contents.Contents, Contents.contents, OneGame.beside, Told.made}
 use Rattle.dn_seal.specs.declared.opened.Opened.{Opened}
 use Rattle.dn_open.specs.{Arrivals.HearsOpened, Arrivals.IsDeliveredAs, declared.hearing.Arrived.Arrived}
@@ -7,9 +7,7 @@ use Rattle.dn_engine_tests.proofs.letters.hear_letter.Goals as goal
 -- what is heard of what was opened, of another name of it
 heard_as : (opened other : Opened) (old from new : Contents) (answer : Arrived) → opened ≡ other → old ≡ from
     → HearsOpened other from new answer → HearsOpened opened old new answer
-heard_as opened other old from new answer same here hears =
-    subst (λ (o : Opened). HearsOpened o old new answer) (sym same)
-    (subst (λ (n : Contents). HearsOpened other n new answer) (sym here) hears)
+heard_as opened other old from new answer same here hears = grind arith
 
 pub returns-clause-one_game : goal.returns-clause-one_game
 returns-clause-one_game c marking limits settings session which flight game at here same =

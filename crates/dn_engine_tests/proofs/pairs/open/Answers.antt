@@ -20,15 +20,12 @@ each : (limits : Limits) (settings : Settings) (first second : Contents) → lim
     → (player : ℕ) → player < limits.players
     → Represents limits player (pick first second player) (fresh settings player)
 unfolding pick
-each limits settings first second two one other zero below = one
-each limits settings first second two one other (suc zero) below = other
-each limits settings first second two one other (suc (suc player)) below = absurd (omega (arith, below, two))
+each limits settings first second two one other player below = grind arith
 
 -- what is made is made in a window that it can have
 can_be : {A : Type 0} (config : Config) (ahead : ℕ) (made : A) → IsAdmittedWithin config ahead (Ok made)
     → CanBeAhead ahead
-can_be config ahead made (inl (can, fine)) = can
-can_be config ahead made (inr (same, wide)) = absurd (cc)
+can_be config ahead made admitted = grind arith
 
 pub returns-clause-one_game : goal.returns-clause-one_game
 unfolding pick

@@ -6,7 +6,8 @@ use Rattle.dn_lockstep.specs.Contents.{Contents, contents}
 use Rattle.dn_lockstep.specs.OneGame.{AreOneGame}
 use Rattle.dn_lockstep.specs.OneGame.{Session, after_packet, with_lockstep}
 use Rattle.dn_engine_tests.specs.Calls.{counting, AreFor}
-use Rattle.dn_engine_tests.proofs.Parcels.{for_on, more_given, put_twice}
+use Rattle.dn_engine_tests.proofs.Parcels.{for_on, more_given}
+use Rattle.dn_session.proofs.Going.{twice}
 use Rattle.dn_engine_tests.proofs.pairs.pass.Goals as goal
 
 pub returns-clause-one_game : goal.returns-clause-one_game
@@ -31,7 +32,7 @@ returns-clause-one_game c limits settings session game from_below to_below apart
     let third = c.hand-3.ensures.one_game limits settings (with_lockstep (with_lockstep taken to one) to two) second
     to_below (put_at (put taken.locksteps to one) to to two refl) took.2 in
     let same : put (put (put taken.locksteps to one) to two) to three ≡ put taken.locksteps to three =
-    put_twice (put taken.locksteps to one) to two three ∙ put_twice taken.locksteps to one three in (
+    twice (put taken.locksteps to one) to two three ∙ twice taken.locksteps to one three in (
       with_lockstep taken to three,
       subst (λ (locksteps : ℕ → Contents). AreOneGame counting limits settings
           (record taken { locksteps = locksteps })) same third,

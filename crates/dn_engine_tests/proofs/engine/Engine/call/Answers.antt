@@ -6,30 +6,25 @@ use Rattle.dn_link_game.specs.Playing.{marking_of}
 use Rattle.dn_session.specs.{Passing.sent_of, Roster.IsSide, Session.GivesPart, Session.GivesUpPart, Session.HearsAny, Session.Meeting, Session.PassesTo, Session.QuitsPart, Session.Sends, Session.meeting, Text.game_seal}
 use Rattle.dn_session.specs.declared.part.sending.Transmit.{Transmit}
 use Rattle.dn_engine_tests.specs.Engines.{GoesOn, RunsIn, Rests, met}
-use Rattle.dn_engine_tests.proofs.Calling.{gave, ran_on, rests_on, same_lobby, silent}
+use Rattle.dn_engine_tests.proofs.Calling.{gave, kept_by, ran_on, rests_on, same_lobby, silent}
 use Rattle.dn_engine_tests.proofs.engine.Engine.call.Goals as goal
 
 pub returns-in-Poll : goal.returns-in-Poll
 returns-in-Poll g c =
-    let new : Meeting = meeting c.poll.new.self in
-    rw c.in-Poll.is (silent g.W.World.state g.W.World.physics None c.args.self.now _
-    (c.sessions_keep.ensures.passes c.args.now (met c.args.self.now) new c.poll.ensures.passes) c.poll.ensures.fits refl refl
-    (λ secret b history meetings place are below here comes.
-    c.sessions_stay.ensures.passes c.args.now (marking_of g.W.World.physics) secret b history meetings place new are below
-    (subst (λ (m : Meeting). PassesTo c.args.now m new) (sym here) c.poll.ensures.passes)))
+    rw c.in-Poll.is (kept_by g.W.World.state g.W.World.physics None c.args.self.now _
+    (c.sessions_keep.ensures.passes c.args.now (met c.args.self.now) (meeting c.poll.new.self) c.poll.ensures.passes)
+    c.poll.ensures.fits refl refl (PassesTo c.args.now) (c.sessions_stay.ensures.passes c.args.now) c.poll.ensures.passes)
 
 pub returns-in-Give : goal.returns-in-Give
 returns-in-Give g c =
     let old : Meeting = met c.args.self.now in
     let new : Meeting = meeting c.give.new.self in
     let input = c.in-Give.input in
-    rw c.in-Give.is (silent g.W.World.state g.W.World.physics None c.args.self.now _
+    rw c.in-Give.is (kept_by g.W.World.state g.W.World.physics None c.args.self.now _
     (c.sessions_keep.ensures.gives c.args.now input c.give.result old new c.give.ensures.0 c.give.ensures.1)
     (same_lobby old new c.give.ensures.1) refl refl
-    (λ secret b history meetings place are below here comes.
-    c.sessions_stay.ensures.gives c.args.now input c.give.result (marking_of g.W.World.physics) secret b history meetings
-    place new are below
-    (subst (λ (m : Meeting). GivesPart c.args.now input m.part new.part c.give.result) (sym here) c.give.ensures.0)))
+    (λ (one next : Meeting). GivesPart c.args.now input one.part next.part c.give.result)
+    (c.sessions_stay.ensures.gives c.args.now input c.give.result) c.give.ensures.0)
 
 pub returns-in-Run : goal.returns-in-Run
 returns-in-Run g c =
@@ -41,7 +36,7 @@ returns-in-Run g c =
     → (result ≡ None → Rests state old new) → GoesOn state physics None None old new =
     λ result. elim result as (λ r. IfSome r (λ ran. RunsIn state physics ran old new) → (r ≡ None → Rests state old new)
     → GoesOn state physics None None old new) [
-      | None ↦ λ runs idle. rests_on state physics old new (idle refl) (c.sessions_stay.ensures.stays (marking_of physics))
+      | None ↦ λ runs idle. rests_on state physics old new (idle refl) c.sessions_stay.ensures.stays
       | Some ran ↦ λ runs idle. ran_on state physics old new ran runs
           (c.sessions_keep.ensures.runs runs.marks ran runs.row (met old) (met new) runs.runs runs.rest)
           (c.sessions_stay.ensures.runs (marking_of physics))
@@ -101,22 +96,17 @@ returns-in-GiveUp g c =
     let old : Meeting = met c.args.self.now in
     let new : Meeting = meeting c.give_up.new.self in
     let other = c.in-GiveUp.player in
-    rw c.in-GiveUp.is (silent g.W.World.state g.W.World.physics None c.args.self.now _
+    rw c.in-GiveUp.is (kept_by g.W.World.state g.W.World.physics None c.args.self.now _
     (c.sessions_keep.ensures.gives_up other c.args.now c.give_up.result old new c.give_up.ensures.0 c.give_up.ensures.1)
     (same_lobby old new c.give_up.ensures.1) refl refl
-    (λ secret b history meetings place are below here comes.
-    c.sessions_stay.ensures.gives_up other c.args.now c.give_up.result (marking_of g.W.World.physics) secret b history
-    meetings place new are below
-    (subst (λ (m : Meeting). GivesUpPart other c.args.now m.part new.part c.give_up.result) (sym here)
-    c.give_up.ensures.0)))
+    (λ (one next : Meeting). GivesUpPart other c.args.now one.part next.part c.give_up.result)
+    (c.sessions_stay.ensures.gives_up other c.args.now c.give_up.result) c.give_up.ensures.0)
 
 pub returns-in-Quit : goal.returns-in-Quit
 returns-in-Quit g c =
     let old : Meeting = met c.args.self.now in
     let new : Meeting = meeting c.quit.new.self in
-    rw c.in-Quit.is (silent g.W.World.state g.W.World.physics None c.args.self.now _
+    rw c.in-Quit.is (kept_by g.W.World.state g.W.World.physics None c.args.self.now _
     (c.sessions_keep.ensures.quits c.args.now old new c.quit.ensures.0 c.quit.ensures.1)
-    (same_lobby old new c.quit.ensures.1) refl refl
-    (λ secret b history meetings place are below here comes.
-    c.sessions_stay.ensures.quits c.args.now (marking_of g.W.World.physics) secret b history meetings place new are below
-    (subst (λ (m : Meeting). QuitsPart c.args.now m.part new.part) (sym here) c.quit.ensures.0)))
+    (same_lobby old new c.quit.ensures.1) refl refl (λ (one next : Meeting). QuitsPart c.args.now one.part next.part)
+    (c.sessions_stay.ensures.quits c.args.now) c.quit.ensures.0)

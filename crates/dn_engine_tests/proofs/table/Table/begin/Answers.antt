@@ -40,7 +40,7 @@ returns-in-Ok g c =
           c.remaining_bytes_are_genuine.ensures.stay
       | false ↦ λ not_it. stood state physics old new c.from-2.result before after at refl refl
           (c.begin.ensures.idle (λ e. absurd (cc)))
-          (c.sessions_stay.ensures.stays (marking_of physics)) c.remaining_bytes_are_genuine.ensures.stay
+          c.sessions_stay.ensures.stays c.remaining_bytes_are_genuine.ensures.stay
     ] in
     go c.in-Ok.begun refl
 
@@ -55,4 +55,4 @@ returns-in-Err g c =
     before refl (omega (arith, there)) c.index_mut.ensures.value in
     stood state physics old _ c.from-2.result before c.begin.new.self at refl refl
     (c.begin.ensures.idle (λ e. absurd (cc)))
-    (c.sessions_stay.ensures.stays (marking_of physics)) c.remaining_bytes_are_genuine.ensures.stay
+    c.sessions_stay.ensures.stays c.remaining_bytes_are_genuine.ensures.stay
