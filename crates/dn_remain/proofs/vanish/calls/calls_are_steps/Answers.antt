@@ -1,13 +1,13 @@
 -- The calls are steps.
-use Rattle.std.proofs.Common.{◌≡◌, ℕ, ◌<◌, eqb, ltb, refl, sym, ◌∙◌, ap, subst, inl, inr, List, [], ◌∷◌, ◌++◌, append_assoc, Bool, true, false, not, ◌&&◌, Option, Some}
-use Rattle.std.proofs.lemmas.Bool.{cases_eq, cases_Bool, and_parts, not-true, ltb-true, eqb-false, cond-true, cond-false}
+use Rattle.std.proofs.Common.{◌≡◌, ℕ, ◌<◌, eqb, ltb, refl, sym, ◌∙◌, ap, subst, inl, inr, List, [], ◌∷◌, ◌++◌, append_assoc, Bool, true, false, not, ◌&&◌, Option, Some, arith}
+use Rattle.std.proofs.lemmas.Bool.{cond_both, and_parts, not-true, ltb-true, eqb-false, cond-true, cond-false}
 use Rattle.std.proofs.lemmas.Option.{same_Some}
 use Rattle.dn_machine.proofs.Put.{put_at, put_off}
 use Rattle.dn_machine.specs.Node.{put}
 use Rattle.dn_remain.specs.Vanished.{Node.{Node, now, Was, decided}, Steps.{GiveUp, Decide, Step, IsRun}}
 use Rattle.dn_remain.specs.Vanished.Calls.{Keeper, can_decide, report_or, after_news, may_give_up, on_give_up, is_newer}
 use Rattle.dn_remain.specs.Vanished.Calls.{on_report, AreTrue, LeadsTo}
-use Rattle.dn_remain.proofs.Vanished.{Put.{own_put, twice_put}, Tests.heard_from}
+use Rattle.dn_remain.proofs.Vanished.{Put.{at_put, own_put, twice_put}, Tests.heard_from}
 use Rattle.dn_remain.proofs.vanish.calls.calls_are_steps.Goals as goal
 
 module _ (players ahead : ℕ) (nodes : ℕ → Node) (older : List (ℕ → Node)) (q : ℕ)
@@ -40,12 +40,8 @@ module _ (players ahead : ℕ) (nodes : ℕ → Node) (older : List (ℕ → Nod
 
   news : (newest : ℕ → Option Node) → (nodes q).left ≡ false → AreTrue (nodes ∷ older) newest
       → LeadsTo players ahead (nodes ∷ older) q (after_news players q (record { node = nodes q; newest = newest }))
-  news newest here known = elim (cases_Bool (can_decide players q (nodes q) newest)) [
-    | inl t ↦ subst (λ (k : Keeper). LeadsTo players ahead (nodes ∷ older) q k)
-        (sym (cond-true (can_decide players q (nodes q) newest) _ _ t)) (decide newest here known t)
-    | inr f ↦ subst (λ (k : Keeper). LeadsTo players ahead (nodes ∷ older) q k)
-        (sym (cond-false (can_decide players q (nodes q) newest) _ _ f)) (stay newest known)
-  ]
+  news newest here known = cond_both _ _ _ (LeadsTo players ahead (nodes ∷ older) q) (decide newest here known)
+      (λ f. stay newest known)
 
   -- it is told to give up a player
   given : (p : ℕ) → (nodes q).left ≡ false → p < players → (p ≡ q → ⊥) → Step players ahead (nodes ∷ older)
@@ -96,44 +92,21 @@ give_up_at players ahead nodes older q run l newest p known t =
 gives_up_at : (players ahead : ℕ) (nodes : ℕ → Node) (older : List (ℕ → Node)) (q : ℕ) → IsRun players ahead (nodes ∷ older)
     → q < players → (newest : ℕ → Option Node) (p : ℕ) → AreTrue (nodes ∷ older) newest
     → LeadsTo players ahead (nodes ∷ older) q (on_give_up players q (record { node = nodes q; newest = newest }) p)
-gives_up_at players ahead nodes older q run l newest p known = elim (cases_Bool (may_give_up players q (nodes q) p)) [
-  | inl t ↦ subst (λ (k : Keeper). LeadsTo players ahead (nodes ∷ older) q k)
-      (sym (cond-true (may_give_up players q (nodes q) p) _ _ t)) (give_up_at players ahead nodes older q run l newest p known t)
-  | inr f ↦ subst (λ (k : Keeper). LeadsTo players ahead (nodes ∷ older) q k)
-      (sym (cond-false (may_give_up players q (nodes q) p) _ _ f)) (stay players ahead nodes older q run l newest known)
-]
-
--- the test that a report is taken
-takes_it : ℕ → ℕ → Node → (ℕ → Option Node) → ℕ → Node → Bool
-takes_it players q node newest from report = not node.left && (not (node.gone from)
-    && (not (report.gone q) && is_newer players (newest from) report))
+gives_up_at players ahead nodes older q run l newest p known = cond_both _ _ _ (LeadsTo players ahead (nodes ∷ older) q)
+    (give_up_at players ahead nodes older q run l newest p known)
+    (λ f. stay players ahead nodes older q run l newest known)
 
 reports_at : (players ahead : ℕ) (nodes : ℕ → Node) (older : List (ℕ → Node)) (q : ℕ) → IsRun players ahead (nodes ∷ older)
     → q < players → (newest : ℕ → Option Node) (from : ℕ) (report : Node) → Was (nodes ∷ older) from report
     → AreTrue (nodes ∷ older) newest
     → LeadsTo players ahead (nodes ∷ older) q (on_report players q (record { node = nodes q; newest = newest }) from report)
-unfolding takes_it
 reports_at players ahead nodes older q run l newest from report w known =
-    elim (cases_Bool (takes_it players q (nodes q) newest from report)) [
-      | inr f ↦ subst (λ (k : Keeper). LeadsTo players ahead (nodes ∷ older) q k)
-          (sym (cond-false (takes_it players q (nodes q) newest from report) _ _ f))
-          (stay players ahead nodes older q run l newest known)
-      | inl t ↦
-          let a = and_parts (not (nodes q).left) _ t in
-          let here : (nodes q).left ≡ false = not-true (nodes q).left a.0 in
-          let known' : (r : ℕ) (other : Node) → put newest from (Some report) r ≡ Some other
-          → Was (nodes ∷ older) r other =
-          λ r other e. elim (cases_eq r from) [
-            | inl d ↦
-                let i : report ≡ other = same_Some report other (sym (put_at newest from r (Some report) d) ∙ e) in
-                subst (λ (n : Node). Was (nodes ∷ older) r n) i
-                (subst (λ (j : ℕ). Was (nodes ∷ older) j report) (sym d) w)
-            | inr n ↦ known r other (sym (put_off newest from r (Some report) n) ∙ e)
-          ] in
-          subst (λ (k : Keeper). LeadsTo players ahead (nodes ∷ older) q k)
-          (sym (cond-true (takes_it players q (nodes q) newest from report) _ _ t))
-          (news players ahead nodes older q run l (put newest from (Some report)) here known')
-    ]
+    cond_both _ _ _ (LeadsTo players ahead (nodes ∷ older) q) (λ t.
+    let here : (nodes q).left ≡ false = not-true (nodes q).left (and_parts (not (nodes q).left) _ t).0 in
+    news players ahead nodes older q run l (put newest from (Some report)) here
+    (λ r other. at_put (λ j o. o ≡ Some other → Was (nodes ∷ older) j other) newest from (Some report)
+    (λ e. subst (Was (nodes ∷ older) from) (same_Some report other e) w) (λ j n. known j other) r))
+    (λ f. stay players ahead nodes older q run l newest known)
 
 -- a keeper whose node this is
 given_up : (players ahead : ℕ) (history : List (ℕ → Node)) (q : ℕ) (keeper : Keeper) (p : ℕ)
