@@ -80,8 +80,7 @@ module _ {S : Type 0} (rules : Rules S) (settings : Settings) (game : Game) (gon
       let its_now : back < ran (seen (now_of game gone p)) = omega arith in
       row_then back
       ∙ same_row rules.limits history handed run q p state (now_of game gone p) was_then (was_now p) back
-      mine_then its_now
-      (λ r l. (maker_row back r l b).1
+      mine_then its_now (λ r l. (maker_row back r l b).1
       ∙ made_row rules.players rules.ahead (past_seen history) all_kept p back r (seen (now_of game gone p)) maker.0
       (was_seen history p (now_of game gone p) (was_now p)) maker.1 (maker_row back r l b).0 its_now)
 
@@ -160,8 +159,7 @@ module _ {S : Type 0} (rules : Rules S) (settings : Settings) (game : Game) (gon
         let a = longer in
         mark_is rules settings game gone older follows all_marked low q mine p its tic (omega arith) has
         (omega arith) history after.1.handed after.1.run was_now then_seen was_then (omega arith) present
-        (λ back. refl) compared
-        ∙ (sym ((all_marked q).told p (tic - 12) its (omega arith)
+        (λ back. refl) compared ∙ (sym ((all_marked q).told p (tic - 12) its (omega arith)
         (over_before (end_seen (game.nodes q) p) (tic - 12) tic (omega arith) over))
         ∙ sym (cond-false (ltb tic 12) (pos 0) ((game.nodes q).marks (tic - 12) p) (le-ltb tic 12 (omega arith))))
 

@@ -30,8 +30,7 @@ module _ (limits : Limits) (me : ℕ) (gone : ℕ → Bool) (node : Node) (marks
       → (node.phase ≡ Playing → lowest limits.players (is_awaited node) ≡ None
       → ran node ≡ full_at limits (row_held limits node) → P (ended_by limits me node Cause.Full))
       → (node.phase ≡ Playing → lowest limits.players (is_awaited node) ≡ None
-      → ran node ≢ full_at limits (row_held limits node)
-      → P (ran_on limits me node marks))
+      → ran node ≢ full_at limits (row_held limits node) → P (ran_on limits me node marks))
       → P (on_run_but limits gone node marks).0
   unfolding on_run_but
   run_but_cases P same off full runs = grind arith
@@ -80,26 +79,22 @@ module _ {S : Type 0} (rules : Rules S) (all : Remaining) (nobody : NobodyGivenU
 
 -- The cases of a give-up, of a report and of what follows them.
 module _ (limits : Limits) (me : ℕ) (wary : Wary) (P : Wary → Type 0) where
-  pub news_cases : P wary
-      → (can_settle limits me wary ≡ true → P (record wary {
-        node = settled wary.node wary.gone
-            (on_decision limits.players me (report_of wary) (λ player. or_fresh (wary.newest player)));
-      }))
-      → P (after_news limits me wary)
+  pub news_cases : P wary → (can_settle limits me wary ≡ true → P (record wary {
+    node = settled wary.node wary.gone
+        (on_decision limits.players me (report_of wary) (λ player. or_fresh (wary.newest player)));
+  })) → P (after_news limits me wary)
   news_cases same decides = cond_both (can_settle limits me wary) _ _ P decides (λ no. same)
 
   pub give_up_cases : (player : ℕ) → P wary
       → (is_in_game wary.node.phase ≡ true → player < limits.players → (player ≡ me → ⊥) → wary.gone player ≡ false
-      → P (after_news limits me (with_gone limits wary player)))
-      → P (on_give_up limits me wary player).0
+      → P (after_news limits me (with_gone limits wary player))) → P (on_give_up limits me wary player).0
   unfolding on_give_up
   give_up_cases player same gives = grind (arith, ltb-true, eqb-false)
 
   pub report_cases : (from : ℕ) (report : Report) → P wary
       → (is_in_game wary.node.phase ≡ true → wary.gone from ≡ false → report.gone me ≡ false
       → is_newer limits.players (newest_seen wary from) (seen report) ≡ true
-      → P (after_news limits me (with_report wary from report)))
-      → P (on_report limits me wary from report).0
+      → P (after_news limits me (with_report wary from report))) → P (on_report limits me wary from report).0
   unfolding on_report
   report_cases from report same hears = grind arith
 

@@ -39,11 +39,7 @@ pub leads_to : {S : Type 0} (rules : Rules S) (all : Remaining) (events : List R
     → LeadsRemain rules all events (after_all rules all events)
 unfolding after_all
 leads_to rules all [] = refl
-leads_to rules all (event ∷ events) = (
-  after rules all event,
-  event_leads rules all event,
-  leads_to rules (after rules all event) events,
-)
+leads_to rules all (event ∷ events) = grind (arith, leads_to rules (after rules all event) events, event_leads)
 
 unfoldable pub goes_on : List RemainEvent
 goes_on = Own (Send 0 1) ∷ Own (Send 0 2) ∷ Own (Deliver 0) ∷ Own (Deliver 1) ∷ Own (Send 1 0) ∷ Own (Send 2 0)

@@ -31,14 +31,10 @@ own_place all q = same_all (with_wary all q (wary_of all q)) all
 
 -- a node that was put there, and another after it
 pub there : (all : Remaining) (q : ℕ) (wary : Wary) → wary_of (with_wary all q wary) q ≡ wary
-there all q wary = same_wary (wary_of (with_wary all q wary) q) wary
-    (put_at all.game.nodes q q wary.node refl) (put_at all.gone q q wary.gone refl)
-    (put_at all.newest q q wary.newest refl)
+there all q wary = grind (arith, same_wary, put_at)
 
 pub again : (all : Remaining) (q : ℕ) (one two : Wary) → with_wary (with_wary all q one) q two ≡ with_wary all q two
-again all q one two = same_all (with_wary (with_wary all q one) q two) (with_wary all q two)
-    (game_at all.game _ _ (twice_put all.game.nodes q one.node two.node)) (twice_put all.gone q one.gone two.gone)
-    (twice_put all.newest q one.newest two.newest) refl
+again all q one two = grind (arith, same_all, game_at, twice_put)
 
 -- A build makes a command, or changes nothing.
 
@@ -77,17 +73,16 @@ module _ {S : Type 0} {known : ℕ → Holder TicCmd → Type 0} {rules : Rules 
     makes =
         let rows = length_rows (end_seen me) (ran me) in (
           now_of game gone ∷ older,
-          steps follows q next
-              (record {
-                ends = follows.ends q;
-                endless = follows.endless q;
-                resend = λ to. let a = follows.resend q to in let b = longer in omega arith;
-                rows = inl refl;
-              }) mine (not_left me (ap is_ended plays)) Make (
-                omega arith,
-                same_node (seen (holder_of next (gone q))) _ (same_functions counts) ends_same refl refl
-                    (ap (λ (e : ℕ → Option ℕ). rows_to e (ran me)) ends_same),
-              ) (inr (_, own_is)) (λ p n. inl (held_is p n)),
+          steps follows q next (record {
+            ends = follows.ends q;
+            endless = follows.endless q;
+            resend = λ to. let a = follows.resend q to in let b = longer in omega arith;
+            rows = inl refl;
+          }) mine (not_left me (ap is_ended plays)) Make (
+            omega arith,
+            same_node (seen (holder_of next (gone q))) _ (same_functions counts) ends_same refl refl
+                (ap (λ (e : ℕ → Option ℕ). rows_to e (ran me)) ends_same),
+          ) (inr (_, own_is)) (λ p n. inl (held_is p n)),
         )
 
   builds : (input : Input) → Went known rules (with_node game q (on_build rules.limits q me input).0) gone

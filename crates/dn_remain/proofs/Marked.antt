@@ -137,8 +137,7 @@ module _ {S : Type 0} (rules : Rules S) (settings : Settings) where
         → IsMarked rules settings me (on_build rules.limits me old input).0
     build_keeps input = build_cases rules.limits me old
         (λ (n : Node). ((p e : ℕ) → end_seen old p ≡ Some e → end_seen n p ≡ Some e)
-        → IsMarked rules settings me n) input
-        (λ full ends. h) (λ plays room ends. builds room ends)
+        → IsMarked rules settings me n) input (λ full ends. h) (λ plays room ends. builds room ends)
       where
         new : TicCmd
         new = made_by (old.inputs ++ input ∷ []) (own_mark old me (made me old))

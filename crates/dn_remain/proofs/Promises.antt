@@ -143,11 +143,10 @@ module _ {S : Type 0} (rules : Rules S) (settings : Settings) (all : Remaining) 
     held = λ q r p tic l m. same_Some _ _ (sym (slice_get-get_or ((node q).held p) tic blank l)
         ∙ (same_held past f.follows.handed q r p tic (now q) (now r) (inl refl) (inl refl) l m
         ∙ slice_get-get_or ((node r).held p) tic blank m));
-    demos = λ q r. elim (cases_lt (length (demo q))
-        (length (demo r))) [
-          | inl l ↦ inl (demo_begins q r (omega arith))
-          | inr l ↦ inr (demo_begins r q l)
-        ];
+    demos = λ q r. elim (cases_lt (length (demo q)) (length (demo r))) [
+      | inl l ↦ inl (demo_begins q r (omega arith))
+      | inr l ↦ inr (demo_begins r q l)
+    ];
     begins = λ q p. handed past f.follows.handed q p (now q) (inl refl);
   }
 

@@ -80,11 +80,9 @@ module _ (all : Remaining) (q : ℕ) where
   reports : (limits : Limits) (from : ℕ) (told : Report)
       → IsQuiet all (with_wary all q (on_report limits q (wary_of all q) from told).0)
   reports limits from told = report_cases limits q (wary_of all q) (λ (w : Wary). IsQuiet all (with_wary all q w)) from told
-      same
-      (λ plays here there newer. news_cases limits q (with_report (wary_of all q) from told)
+      same (λ plays here there newer. news_cases limits q (with_report (wary_of all q) from told)
       (λ (w : Wary). IsQuiet all (with_wary all q w))
-      (λ h. (gone_before (all.gone q) refl h, same_game all.game q))
-      (λ can h.
+      (λ h. (gone_before (all.gone q) refl h, same_game all.game q)) (λ can h.
       let before : NobodyGivenUp all = gone_before (all.gone q) refl h in (
         before,
         ap (λ (n : Node). with_node all.game q n) (settled_same limits.players q (all.game.nodes q) (all.gone q)
@@ -106,11 +104,9 @@ module _ {S : Type 0} (rules : Rules S) (settings : Settings) where
       (λ event goes h. let own = before h in (
         own.0 ++ event ∷ [],
         goes_on rules settings own.0 event (opening_game settings) all.game _ own.1 (next_is rules all h event _ (inl refl)),
-      ))
-      (λ node player none. by_quiet all
+      )) (λ node player none. by_quiet all
       (with_wary all node (on_give_up rules.limits node (wary_of all node) player).0)
-      (give_up all node rules.limits player) before)
-      (λ node to low report is h. before h)
+      (give_up all node rules.limits player) before) (λ node to low report is h. before h)
       (λ which t e none. by_quiet all
       (with_wary all t.to (on_report rules.limits t.to (wary_of all t.to) t.from t.report).0)
       (reports all t.to rules.limits t.from t.report) before) event next step

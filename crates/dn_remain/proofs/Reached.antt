@@ -115,11 +115,9 @@ module _ {S : Type 0} {known : ℕ → Holder TicCmd → Type 0} {rules : Rules 
   pub changes : (event : RemainEvent) (next : Remaining) → NextRemain rules all event next → IsChange rules all next.game
   changes = each_remain rules all (λ r. IsChange rules all r.game) (inl refl)
       (λ event goes. each_event rules all (λ event g. IsChange rules all g) (λ event. inl refl) happens
-      (λ node none. calls node none _ (inr (inr refl))) event)
-      (λ node player none. calls node none _
+      (λ node none. calls node none _ (inr (inr refl))) event) (λ node player none. calls node none _
       (inl (alike_give_up rules.limits node (wary_of all node) (own_gone node) player)))
-      (λ node to low report is. inl refl)
-      (λ which t e none. calls t.to none _
+      (λ node to low report is. inl refl) (λ which t e none. calls t.to none _
       (inl (alike_report rules.limits t.to (wary_of all t.to) (own_gone t.to) t.from t.report)))
 
 -- A node that can decide has decided.
@@ -165,8 +163,7 @@ module _ {S : Type 0} (rules : Rules S) (all next : Remaining) (h : AreSettled r
   settled_on same event step = each_remain rules all (λ r. Keeps r → AreSettled rules.limits r) (λ k. h)
       (λ event goes k x. still_settled rules.limits x (wary_of all x) ((after_event rules all event).nodes x) (h x) (k x))
       (λ node player none k. placed rules.limits all h node _ (gives_up rules.limits node (wary_of all node) (h node) player))
-      (λ node to low report is k. h)
-      (λ which t e none k. placed rules.limits all h t.to _
+      (λ node to low report is k. h) (λ which t e none k. placed rules.limits all h t.to _
       (hears rules.limits t.to (wary_of all t.to) (h t.to) t.from t.report)) event next step same
 
 pub record IsReached {S : Type 0} (rules : Rules S) (settings : Settings) (all : Remaining)
@@ -223,8 +220,7 @@ module _ {S : Type 0} (rules : Rules S) (settings : Settings) where
         | inl e ↦
             let at : next.game.nodes one.0 ≡ one.2 = grind (arith, put_at) in
             subst (λ (i : ℕ). IsMarked rules settings i (next.game.nodes i)) (sym e)
-            (subst (λ (m : machine.Node). IsMarked rules settings one.0 m) (sym at)
-            (called one.0 one.1 one.2
+            (subst (λ (m : machine.Node). IsMarked rules settings one.0 m) (sym at) (called one.0 one.1 one.2
             (λ p e s. subst (λ (m : machine.Node). end_seen m p ≡ Some e) at (ends one.0 p e s).0) one.4))
       ]
     ]

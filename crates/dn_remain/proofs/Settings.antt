@@ -94,9 +94,7 @@ module _ (settings : Settings) where
 
   module _ (limits : Limits) (me : ℕ) (wary : Wary) (h : IsSet settings wary.node) where
     set_news : IsSet settings (after_news limits me wary).node
-    set_news = news_cases limits me wary (λ (w : Wary). IsSet settings w.node) h
-        (λ can. set_settled settings limits me wary.node h wary.gone
-        (on_decision limits.players me (report_of wary) (λ player. or_fresh (wary.newest player))))
+    set_news = grind (arith, news_cases, set_settled)
 
   module _ (limits : Limits) (me : ℕ) (wary : Wary) (h : IsSet settings wary.node) where
     set_give_up : (player : ℕ) → IsSet settings (on_give_up limits me wary player).0.node
@@ -128,9 +126,7 @@ module _ (settings : Settings) where
     happens game a (Deliver which) none n = delivers (slice_get game.flights which) refl
       where
         delivers : (o : Option Flight) → slice_get game.flights which ≡ o → AreSet (delivered rules game o).0
-        delivers None e = a
-        delivers (Some flight) e = put_set game a flight.to _ (set_hears settings rules.limits flight.to
-            (game.nodes flight.to) (a.nodes flight.to) flight (a.flights which flight e))
+        delivers o e = grind (arith, put_set, set_hears)
     happens game a (Run node) none n = absurd n
     happens game a (Quit node) none n = put_set game a node _
         (set_quit settings rules.limits node (game.nodes node) (a.nodes node))
@@ -143,8 +139,7 @@ module _ (settings : Settings) where
         (λ node none. put_set all.game a node _ (set_run settings rules.limits node (all.game.nodes node)
         (a.nodes node) (all.gone node) (own_marks rules (all.game.nodes node)))) event)
         (λ node player none. put_set all.game a node _
-        (set_give_up rules.limits node (wary_of all node) (a.nodes node) player))
-        (λ node to low report is. a)
+        (set_give_up rules.limits node (wary_of all node) (a.nodes node) player)) (λ node to low report is. a)
         (λ which t e none. put_set all.game a t.to _
         (set_report rules.limits t.to (wary_of all t.to) (a.nodes t.to) t.from t.report)) event next
 

@@ -127,14 +127,13 @@ module _ {S : Type 0} {known : ℕ → Holder TicCmd → Type 0} {rules : Rules 
     (λ r. seen (or_fresh (newest r))),
     has_heard,
     ap (λ (h : Holder TicCmd). seen h) holder_is ∙ counted,
-  ) (inl held_own)
-      (λ p n. elim (pieces rules.players q has heard p mine) [
-        | inl e ↦ inl e
-        | inr k ↦ inr (
-          k.0,
-          or_fresh (newest k.0),
-          length ((or_fresh (newest k.0)).held p),
-          had k.0 k.1 k.2 k.3,
-          k.4 ∙ sym (take-length ((or_fresh (newest k.0)).held p)),
-        )
-      ])
+  ) (inl held_own) (λ p n. elim (pieces rules.players q has heard p mine) [
+    | inl e ↦ inl e
+    | inr k ↦ inr (
+      k.0,
+      or_fresh (newest k.0),
+      length ((or_fresh (newest k.0)).held p),
+      had k.0 k.1 k.2 k.3,
+      k.4 ∙ sym (take-length ((or_fresh (newest k.0)).held p)),
+    )
+  ])

@@ -76,8 +76,7 @@ module _ (players : ℕ) (nodes : ℕ → Node) (older : List (ℕ → Node)) (q
   floor : (z : ℕ) (d : Node) (set : ℕ → Bool) (p b : ℕ) → IsDecision players past z d
       → d.gone p ≡ true → Within d.gone (nodes q).gone → Same set (nodes q).gone → Within set d.gone
       → ((r : ℕ) → r < players → (nodes q).gone r ≡ false
-      → (w : Node) × Was past r w × Stands (nodes q).gone w × (w.got p ≤ b))
-      → d.got p ≤ b
+      → (w : Node) × Was past r w × Stands (nodes q).gone w × (w.got p ≤ b)) → d.got p ≤ b
   floor z d set p b h t i s j k =
       (base_same players past d.gone (nodes q).gone p (d.got p)
       (both_within d.gone (nodes q).gone i (λ r u. j r (s r ∙ u))) (h.base p t)).bound b k
@@ -86,8 +85,7 @@ module _ (players : ℕ) (nodes : ℕ → Node) (older : List (ℕ → Node)) (q
   stood : (r p b : ℕ) (set : ℕ → Bool) (old new : Node) → IsLater players past r old new
       → Stands set old → set p ≡ true → old.got p ≤ b
       → ((d : Node) → IsDecision players past r d → Within old.gone d.gone
-      → Within d.gone new.gone → Same old.gone set → d.got p ≤ b)
-      → new.got p ≤ b
+      → Within d.gone new.gone → Same old.gone set → d.got p ≤ b) → new.got p ≤ b
   stood r p b set old new order (inr gone) t low decided = grind arith
   stood r p b set old new order (inl same) t low decided = grind arith
 

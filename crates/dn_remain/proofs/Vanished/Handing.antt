@@ -118,8 +118,7 @@ module _ {C : Type 0} where
     pub same_commands : (x z p tic : ℕ) (u v : Holder C)
         → x < players → z < players → p < players → (x ≡ z → ⊥) → Had history x u → Had history z v
         → u.gone z ≡ false → v.gone x ≡ false → tic < length u.rows → tic < length v.rows
-        → (lacks_at (seen u) tic p ≡ lacks_at (seen v) tic p)
-        × (lacks_at (seen u) tic p ≡ false
+        → (lacks_at (seen u) tic p ≡ lacks_at (seen v) tic p) × (lacks_at (seen u) tic p ≡ false
         → (tic < length (u.held p)) × (slice_get (u.held p) tic ≡ slice_get (v.held p) tic))
     same_commands x z p tic u v l m i n w y f g j k =
         let same = (agree players (past_seen history) (always players ahead (past_seen history) run)).rows_same

@@ -226,8 +226,7 @@ module _ (players ahead : ℕ) (history : List (ℕ → Node)) (run : IsRun play
       → back < ran maker → back < ran u → tic < u.got p → lacks_at u back r ≡ lacks_at maker back r
   apart low x p tic back r u maker l m n f w y g e i j held =
       let kept = always players ahead history run in
-      rows_alike players history kept x p u maker l m f w y g
-      (λ d decides below. elim (cases_Bool (d.gone x)) [
+      rows_alike players history kept x p u maker l m f w y g (λ d decides below. elim (cases_Bool (d.gone x)) [
         | inr o ↦ o
         | inl t ↦ grind (arith, behind)
       ]) r back n j i

@@ -54,8 +54,7 @@ module _ (players : ℕ) where
         → ((r : ℕ) → r < players → set r ≡ false → (w : Node) × Was history r w × Stands set w)
         → IsBase players history set p e → IsBase players (next ∷ history) set p e
     base_kept set p e sees h = record {
-      bound = λ b k. h.bound b (λ r l o.
-          grind (arith, k r l o));
+      bound = λ b k. h.bound b (λ r l o. grind (arith, k r l o));
     }
 
     pub decision_kept : (x : ℕ) (d : Node) → IsDecision players history x d

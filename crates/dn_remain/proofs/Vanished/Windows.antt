@@ -22,17 +22,16 @@ module _ (players ahead : ℕ) (nodes : ℕ → Node) (older : List (ℕ → Nod
   made_new : (act : Act) (new : Node) → Acts players ahead (nodes ∷ older) q act new → tic < new.got q
       → ((nodes q).got q ≡ tic) × (tic < ran (nodes q) + ahead)
   made_new Make new a k = grind (arith, own, put_at)
-  made_new Take new a k = none new
-      (elim (cases_eq q a.0) [
-        | inr n ↦ grind (arith, own, put_off)
-        | inl e ↦
-            let c : new.got q ≡ a.1 =
-            own new _ _ (ap (λ (n : Node). n.got) a.8) (put_at (nodes q).got a.0 q a.1 e) in
-            let d : a.2.got a.0 ≤ (nodes a.0).got a.0 = (kept.sound a.3.0 a.2 a.3.1).made a.0 in
-            let f : a.1 ≤ a.2.got a.0 = a.7 in
-            let g : (nodes q).got q ≡ (nodes a.0).got a.0 = ap (λ (i : ℕ). (nodes i).got i) e in
-            omega arith
-      ]) k
+  made_new Take new a k = none new (elim (cases_eq q a.0) [
+    | inr n ↦ grind (arith, own, put_off)
+    | inl e ↦
+        let c : new.got q ≡ a.1 =
+        own new _ _ (ap (λ (n : Node). n.got) a.8) (put_at (nodes q).got a.0 q a.1 e) in
+        let d : a.2.got a.0 ≤ (nodes a.0).got a.0 = (kept.sound a.3.0 a.2 a.3.1).made a.0 in
+        let f : a.1 ≤ a.2.got a.0 = a.7 in
+        let g : (nodes q).got q ≡ (nodes a.0).got a.0 = ap (λ (i : ℕ). (nodes i).got i) e in
+        omega arith
+  ]) k
   made_new Learn new a k = grind (arith, none, own, put_off)
   made_new Run new a k = grind (arith, none)
   made_new GiveUp new a k = grind (arith, none)
@@ -50,15 +49,13 @@ made players ahead (next ∷ (nodes ∷ older)) run p tic k =
     × (maker.got p ≡ tic) × (tic < ran maker + ahead) =
     λ p m. let before = made players ahead (nodes ∷ older) run.1 p tic m in (before.0, inr before.1, before.2, before.3) in
     at_put (λ p n. tic < n.got p → (maker : Node) × Was (next ∷ (nodes ∷ older)) p maker × (maker.got p ≡ tic)
-    × (tic < ran maker + ahead)) nodes step.q step.new
-    (λ k. elim (cases_lt tic ((nodes step.q).got step.q)) [
+    × (tic < ran maker + ahead)) nodes step.q step.new (λ k. elim (cases_lt tic ((nodes step.q).got step.q)) [
       | inl m ↦ lift step.q m
       | inr m ↦
           let d = made_new players ahead nodes older step.q step.player step.here
           (always players ahead (nodes ∷ older) run.1) tic m step.act step.new step.acts k in
           (nodes step.q, inr (inl refl), d.0, d.1)
-    ])
-    (λ p n. lift p) p (subst (λ (n : Node). tic < n.got p) (ap (λ (f : ℕ → Node). f p) step.next_is) k)
+    ]) (λ p n. lift p) p (subst (λ (n : Node). tic < n.got p) (ap (λ (f : ℕ → Node). f p) step.next_is) k)
 
 pub record IsRoomy (players ahead : ℕ) (history : List (ℕ → Node)) : Type 0 where
   -- nobody made more commands beyond the tics run than the window allows
@@ -211,8 +208,7 @@ unread players ahead (next ∷ (nodes ∷ older)) run x p u l w =
           let c = counted players ahead nodes older step.q step.here step.act step.new step.acts t p in
           let before = unread players ahead (nodes ∷ older) run.1 step.q p (nodes step.q) step.player (inl refl) in
           omega (arith, c.0, c.1)
-    ])
-    (λ x u o l. unread players ahead (nodes ∷ older) run.1 x p u l o) x u
+    ]) (λ x u o l. unread players ahead (nodes ∷ older) run.1 x p u l o) x u
     (subst (λ (s : ℕ → Node). Was (s ∷ nodes ∷ older) x u) step.next_is w) l
 
 pub fits : (players ahead : ℕ) (history : List (ℕ → Node)) → IsRun players ahead history

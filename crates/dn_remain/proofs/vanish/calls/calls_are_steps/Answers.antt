@@ -1,5 +1,5 @@
 -- The calls are steps.
-use Rattle.std.proofs.Common.{◌≡◌, ℕ, ◌<◌, eqb, ltb, refl, sym, ◌∙◌, ap, subst, inl, inr, List, [], ◌∷◌, ◌++◌, append_assoc, Bool, true, false, not, ◌&&◌, Option, Some, arith}
+use Rattle.std.proofs.Common.{◌≡◌, ℕ, ◌<◌, eqb, ltb, refl, sym, ◌∙◌, ap, subst, inl, inr, List, [], ◌∷◌, ◌++◌, append_assoc, Bool, true, false, not, ◌&&◌, Option, Some}
 use Rattle.std.proofs.lemmas.Bool.{cond_both, and_parts, not-true, ltb-true, eqb-false, cond-true, cond-false}
 use Rattle.std.proofs.lemmas.Option.{same_Some}
 use Rattle.dn_machine.proofs.Put.{put_at, put_off}
@@ -71,8 +71,7 @@ back players ahead nodes older q a k h =
 
 give_up_at : (players ahead : ℕ) (nodes : ℕ → Node) (older : List (ℕ → Node)) (q : ℕ) → IsRun players ahead (nodes ∷ older)
     → q < players → (newest : ℕ → Option Node) (p : ℕ) → AreTrue (nodes ∷ older) newest
-    → may_give_up players q (nodes q) p ≡ true
-    → LeadsTo players ahead (nodes ∷ older) q (after_news players q
+    → may_give_up players q (nodes q) p ≡ true → LeadsTo players ahead (nodes ∷ older) q (after_news players q
     (record { node = record (nodes q) { gone = put (nodes q).gone p true }; newest = newest }))
 give_up_at players ahead nodes older q run l newest p known t =
     let a = and_parts (ltb p players) (not (eqb p q) && not (nodes q).left) t in

@@ -1,5 +1,5 @@
 -- What a decision brings.
-use Rattle.std.proofs.Common.{◌≡◌, ℕ, ◌<◌, sym, ◌∙◌, ap, List, ◌∷◌, refl, subst, inl, [], true, false, Option, Some, leb-false, arith}
+use Rattle.std.proofs.Common.{◌≡◌, ℕ, ◌<◌, sym, ◌∙◌, ap, List, ◌∷◌, refl, subst, inl, [], true, false, Option, Some, leb-false}
 use Rattle.dn_machine.specs.{Running.is_over, Node.put}
 use Rattle.dn_remain.specs.Vanished.{Node.{Node, ran, HasHeard, decided}, Steps.{Decide, Step}}
 use Rattle.dn_remain.proofs.Vanished.{Invariant.IsKept, Deciding.{got_in, ends_in}, Always.always}
