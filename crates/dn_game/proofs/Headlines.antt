@@ -1,15 +1,13 @@
 -- What was promised of a game says the headline, by what its nodes show.
-use Rattle.std.proofs.Common.{◌≡◌, ◌≢◌, ℕ, true, List, [], length, Some, ap, refl, sym, ◌∙◌, arith}
-use Rattle.std.specs.Prelude.{fold, nat_lt, ◌||◌, slice_get}
+use Rattle.std.proofs.Common.{◌≡◌, ◌≢◌, ℕ, true, List, [], length, Some, ap, refl, sym, ◌∙◌, arith, fold, nat_lt, ◌||◌, slice_get}
 use Rattle.dn_setup.specs.Settings.{Settings, start_of}
 use Rattle.dn_demo.specs.{Layout.long_tics, Text.demo_text}
 use Rattle.dn_machine.specs.{declared.events.Event.Event, Headline.{Shown, whole_rows}, Limits.Limits, Worlds.{Rules, opening}}
-use Rattle.dn_machine.specs.Node.{Node, got, is_ended}
+use Rattle.dn_machine.specs.{Node.{Node, got, is_ended}, declared.answers.Phase.TheVariants.Playing}
 use Rattle.dn_machine.proofs.{Games.always, Invariant.IsKept}
 use Rattle.dn_machine.proofs.Promises
 use Rattle.dn_lockstep.specs.{Agreed.recorded, Rows.seats_of}
 use Rattle.dn_lockstep.proofs.Shown.{has, started, starts}
-use Rattle.dn_machine.specs.declared.answers.Phase.TheVariants.{Playing}
 use Rattle.dn_node.specs.{Contents.{contents, locked}, Kept.Kept}
 use Rattle.dn_node.specs.Contents as node
 use Rattle.dn_node.proofs.Running.{world_played}
@@ -34,8 +32,7 @@ module _ {W S : Type 0} (state : W → S) (rules : Rules S) (settings : Settings
   text_is begun = let played = plays begun in let known = chosen played in grind arith
 
   pub shows : rules.limits.places ≡ 12 → (m.phase ≡ Playing → m.played ≡ true) → (demo : List ℕ)
-      → demo ≡ recorded_in n.demo.bytes
-      → Shows state rules.physics settings rules.players me n
+      → demo ≡ recorded_in n.demo.bytes → Shows state rules.physics settings rules.players me n
       (record { phase = m.phase; rows = m.rows; got = got m; demo = demo })
   shows twelve playing demo is = record {
     phase = sym r.lockstep.stands.phase;
