@@ -58,11 +58,10 @@ inputs_after : {S : Type 0} (rules : Rules S) (player : ℕ) (events : List Even
     (answers : List (Result Done Refusal)) (game last : Game)
     → Plays rules game events answers last → (last.nodes player).inputs
     ≡ (game.nodes player).inputs ++ inputs_made events answers player
-inputs_after rules player =
-    follows (Answers rules)
-    (λ game events answers last. (last.nodes player).inputs ≡ (game.nodes player).inputs ++ inputs_made events answers player)
-    (λ game last same. ap (λ (g : Game). (g.nodes player).inputs) same ∙ sym (append-nil (game.nodes player).inputs))
-    (λ e a events answers game next last one rest. rest
+inputs_after rules player = follows (Answers rules) (λ game events answers last. (last.nodes player).inputs
+    ≡ (game.nodes player).inputs ++ inputs_made events answers player)
+    (λ game last same. ap (λ (g : Game). (g.nodes player).inputs) same
+    ∙ sym (append-nil (game.nodes player).inputs)) (λ e a events answers game next last one rest. rest
     ∙ ap (λ (ks : List Input). ks ++ inputs_made events answers player) (answered rules game next player e a one)
     ∙ append_assoc (game.nodes player).inputs (inputs_by e a player) (inputs_made events answers player))
 
@@ -123,7 +122,7 @@ module _ {S : Type 0} (rules : Rules S) (settings : Settings) (game : Game)
 
   happens : (event : Event) → refused rules.players game event ≡ None
       → IsSteady (Ok (on_event rules game event).1)
-  happens event free = grind (arith, other_steady, sends, delivers, slice_get, runs)
+  happens event free = grind (arith, other_steady, sends, delivers, runs)
 
   pub applied_steady : (event : Event) → IsSteady (applied rules game event).1
   unfolding applied
@@ -134,23 +133,25 @@ module _ {S : Type 0} (rules : Rules S) (settings : Settings) (game : Game)
       go (Some refusal) e = other_steady (Err refusal) refl
       go None e = happens event e
 
--- nor is one that was taken, and what is kept stays so
-answer_steady : {S : Type 0} (rules : Rules S) (settings : Settings) (event : Event) (answer : Result Done Refusal)
-    (game next : Game) → Answers rules game event answer next → IsKept rules settings game
-    → IsSteady answer × IsKept rules settings next
+-- what is kept stays so, whether the event was applied or left out
+answer_steady : {S : Type 0} (rules : Rules S) (settings : Settings) (event : Event)
+    (answer : Result Done Refusal) (game next : Game) → Answers rules game event answer next
+    → IsKept rules settings game → IsSteady answer × IsKept rules settings next
 answer_steady rules settings event answer game next (inl (same, is)) kept =
-    (rw is (applied_steady rules settings game kept event), rw same (applied_keeps rules settings game kept event))
+    (rw is (applied_steady rules settings game kept event),
+    rw same (applied_keeps rules settings game kept event))
 answer_steady rules settings event answer game next (inr (free, send, same, is)) kept =
     (rw is (other_steady (Err Refusal.Memory) refl), rw same kept)
 
--- nor is one of a list
+-- nor does an event of a list have such an answer
 pub steady_answers : {S : Type 0} (rules : Rules S) (window : IsWindow rules.limits) (settings : Settings) (events : List Event)
     (answers : List (Result Done Refusal)) (last : Game)
     → Plays rules (opening_game settings) events answers last → All IsSteady answers
 steady_answers rules window settings events answers last way =
     follows (Answers rules) (λ game events answers last. IsKept rules settings game → All IsSteady answers)
     (λ game last same kept. All-nil IsSteady) (λ e a events answers game next last one rest kept.
-    let stays = answer_steady rules settings e a game next one kept in All-cons IsSteady a answers stays.0 (rest stays.1))
+    let stays = answer_steady rules settings e a game next one kept in
+    All-cons IsSteady a answers stays.0 (rest stays.1))
     events answers (opening_game settings) last way (opens rules settings window)
 
 -- The nodes agree.

@@ -11,7 +11,7 @@ module _ (bytes more : List ℕ) where
   -- a piece is the same where bytes are appended
   flight_stays : (entry : Record) → IsPiece bytes entry
       → flight_in (bytes ++ more) entry ≡ flight_in bytes entry
-  flight_stays entry piece = grind (arith, length-drop, take, drop, drop-append-le, take-append-le)
+  flight_stays entry piece = grind (arith, length-drop, drop-append-le, take-append-le)
 
   flights_stay : (records : List Record) → All (IsPiece bytes) records
       → flights_in (bytes ++ more) records ≡ flights_in bytes records

@@ -23,13 +23,13 @@ pub record AreDigits (word : List ℕ) (i number : ℕ) : Type 0 where
 -- before the last of nine digits the number is small
 pub few_digits : (word : List ℕ) (i number : ℕ) → AreDigits word i number → i < length word → number < 10 ^ 8
 few_digits word i number h within =
-    grind (arith, length, take, length-take-le, digits_value-lt, pow-le-pow_right)
+    grind (arith, length-take-le, digits_value-lt, pow-le-pow_right)
 
 -- one digit more
 pub more_digits : (word : List ℕ) (i number : ℕ) → AreDigits word i number → i < length word
     → IsInRange 48 57 (get_or word i 0) → AreDigits word (i + 1) (10 * number + (get_or word i 0 - 48))
 more_digits word i number h within digit =
-    grind (arith, digit_value_digit, get_or, digits_value_more, digits_more)
+    grind (arith, digit_value_digit, digits_value_more, digits_more)
 
 -- a word with another byte is no number
 pub not_number : (word : List ℕ) (i : ℕ) → i < length word → IsOutOfRange 48 57 (get_or word i 0) → (n : ℕ)
@@ -39,7 +39,7 @@ not_number word i within other n number = grind (arith, digit_at)
 -- a word of digits is a number
 pub whole_number : (word : List ℕ) (i number : ℕ) → AreDigits word i number → i ≡ length word
     → 1 ≤ length word → IsNumber word number
-whole_number word i number h all some = grind (arith, take, take-length)
+whole_number word i number h all some = grind (arith, take-length)
 
 -- Keys: each letter is that of one key, and letters are one set of keys.
 
@@ -90,7 +90,7 @@ pub record AreBits (word : List ℕ) (keys : ℕ) : Type 0 where
   pub set : (i : ℕ) → i < 18 → (bit_at keys i ≡ 1) ↔ Contains word (get_or letters i 0)
 
 no_bits : AreBits [] 0
-no_bits = grind (arith, lit<, bit_at-zero)
+no_bits = grind (arith, bit_at-zero)
 
 push_bits : (word : List ℕ) (keys byte place : ℕ) → AreBits word keys → place_in_letters byte ≡ Some place
     → AreBits (word ++ byte ∷ []) (bit_or keys (1 * 2 ^ place % 2 ^ 32))
@@ -222,8 +222,8 @@ seconds_differ {v} {w} {x} {y} test e = eqb-false x y test (ap (λ s. get_or s 1
 -- a text has one first space
 pub one_cut : (a b c d : List ℕ) → HasNoSpace a → HasNoSpace b → a ++ 32 ∷ c ≡ b ++ 32 ∷ d → a ≡ b
 one_cut [] [] c d p q e = refl
-one_cut [] (y ∷ b) c d p q e = grind (arith, eqb-false, All-head, eqb, false)
-one_cut (x ∷ a) [] c d p q e = grind (arith, eqb-false, All-head, eqb, false)
+one_cut [] (y ∷ b) c d p q e = grind (arith, eqb-false, All-head)
+one_cut (x ∷ a) [] c d p q e = grind (arith, eqb-false, All-head)
 one_cut (x ∷ a) (y ∷ b) c d p q e =
     let same : x ≡ y = cc in
     let rest : a ++ 32 ∷ c ≡ b ++ 32 ∷ d = cc in
