@@ -1,15 +1,13 @@
 -- A call on one player takes the game on.
-use Rattle.std.proofs.Common.{◌≡◌, ℕ, zero, suc, List, [], ◌∷◌, Option, Some, None, sym, ap, ◌∙◌, subst, length, ◌≢◌, ◌<◌, set, refl, inl, inr, arith, true, true≢false, take, length-append}
-use Rattle.std.specs.Prelude.{All, IfSome, is_some, slice_get, Result}
-use Rattle.std.proofs.lemmas.List.{take_all, take-append-le}
+use Rattle.std.proofs.Common.{◌≡◌, ℕ, zero, suc, List, [], ◌∷◌, Option, Some, None, sym, ap, ◌∙◌, subst, length, ◌≢◌, ◌<◌, set, refl, inl, inr, arith, true, true≢false, take, length-append, length-set, get_or-set_same, All, IfSome, is_some, slice_get, Result}
+use Rattle.std.proofs.lemmas.{List.{take_all, take-append-le}, Bool.cases_eq}
 use Rattle.std.proofs.lemmas.List.Elements.{All-head, All-push, All-tail, All-weaker}
-use Rattle.std.proofs.lemmas.Option.{none-some, same_Some, slice_get_within}
-use Rattle.std.proofs.lemmas.Bool.{cases_eq}
+use Rattle.std.proofs.lemmas.Option.{get_or_from_slice_get, same_Some, slice_get-get_or, slice_get_within}
 use Rattle.arrayvec.specs.ArrayVec.{ArrayVec}
 use Rattle.dn_setup.specs.Settings.{Settings}
 use Rattle.dn_world.specs.Physics.{Physics}
 use Rattle.dn_machine.specs.{Limits.Limits, Node.put}
-use Rattle.dn_machine.proofs.Put.{put_at, put_off, view_kept}
+use Rattle.dn_machine.proofs.Put.{put_at, put_off, set_and_put, view_kept}
 use Rattle.dn_seal.specs.declared.seal.Seal.{Seal}
 use Rattle.dn_survivor.specs.OneGame.{Session}
 use Rattle.dn_link.specs.{Linking.{linked, seal_of}, RemainingLinks.{IsGenuineIn, IsLater, WasSealedIn}, Linked.Linked}
@@ -17,21 +15,7 @@ use Rattle.dn_link_game.specs.{Games.IsLinkGame, Applied.AddsToGiven, Does.with_
 use Rattle.dn_link_game.specs.declared.calls.{LinkCall.{LinkCall, TheVariants.{Build, CatchUp, Tick, Run, Send, Receive, GiveUp, Quit}}, LinkDone.LinkDone, LinkEvent.TheVariants.Call, LinkRefusal.LinkRefusal, Sending.Sending}
 
 pub set_here : {A : Type 0} (xs : List A) (i : ℕ) (x : A) → i < length xs → slice_get (set xs i x) i ≡ Some x
-set_here [] i x h = absurd (omega (arith, h))
-set_here (y ∷ xs) zero x h = refl
-set_here (y ∷ xs) (suc i) x h = set_here xs i x (omega (arith, h))
-
-set_elsewhere : {A : Type 0} (xs : List A) (i j : ℕ) (x : A) → j ≢ i → slice_get (set xs i x) j ≡ slice_get xs j
-set_elsewhere [] i j x h = refl
-set_elsewhere (y ∷ xs) zero zero x h = absurd (h refl)
-set_elsewhere (y ∷ xs) zero (suc j) x h = refl
-set_elsewhere (y ∷ xs) (suc i) zero x h = refl
-set_elsewhere (y ∷ xs) (suc i) (suc j) x h = set_elsewhere xs i j x (λ e. h (ap suc e))
-
-pub length_set : {A : Type 0} (xs : List A) (i : ℕ) (x : A) → length (set xs i x) ≡ length xs
-length_set [] i x = refl
-length_set (y ∷ xs) zero x = refl
-length_set (y ∷ xs) (suc i) x = ap suc (length_set xs i x)
+set_here xs i x h = grind (arith, slice_get-get_or, get_or-set_same, length-set)
 
 all_joined : (P : ArrayVec ℕ → Type 0) (xs : List (ArrayVec ℕ)) (one : Option (ArrayVec ℕ)) → All P xs → IfSome one P
     → All P (with_one xs one)
@@ -69,13 +53,12 @@ module _ {W S : Type 0} (state : W → S) (physics : Physics S) (old new : LinkG
       → ((j : ℕ) (p : Player W) → j ≢ me → HasPlayer old j p → P j p)
       → (j : ℕ) (p : Player W) → HasPlayer new j p → P j p
   by_place P mine others j p there =
-      let set_there : slice_get (set old.players.items me after) j ≡ Some p =
-      sym (ap (λ (ps : List (Player W)). slice_get ps j) players) ∙ there in
+      let is = set_and_put (λ k q o. Some q ≡ o) old.players.items (slice_get old.players.items) me after (Some after)
+      (λ k q e. sym e) inside refl j p (ap (λ (ps : List (Player W)). slice_get ps j) (sym players) ∙ there) in
       elim (cases_eq j me) [
-        | inl e ↦ subst (λ (k : ℕ). P k p) (sym e) (subst (P me) (same_Some after p
-            (sym (set_here old.players.items me after inside)
-            ∙ ap (slice_get (set old.players.items me after)) (sym e) ∙ set_there)) mine)
-        | inr apart ↦ others j p apart (sym (set_elsewhere old.players.items me j after apart) ∙ set_there)
+        | inl e ↦ subst (λ (k : ℕ). P k p) (sym e)
+            (subst (P me) (sym (same_Some p after (is ∙ put_at _ me j _ e))) mine)
+        | inr apart ↦ others j p apart (sym (is ∙ put_off _ me j _ apart))
       ]
 
   module _ (limits : Limits) (settings : Settings) (seal : Seal) (seen : ℕ → Seen)
@@ -105,7 +88,7 @@ module _ {W S : Type 0} (state : W → S) (physics : Physics S) (old new : LinkG
       links = put is.links me (linked after.link);
       game = to.stays.0;
       as_seen = to.as_seen;
-      places = ap length players ∙ length_set old.players.items me after ∙ is.places;
+      places = ap length players ∙ length-set old.players.items me after ∙ is.places;
       players = by_place (λ (j : ℕ) (p : Player W). IsPlayer state physics limits settings (put seen me now j)
           (put is.links me (linked after.link) j) p) mine others;
       seals = by_place (λ (j : ℕ) (p : Player W). seal_of p.link ≡ seal)
@@ -141,9 +124,7 @@ module _ {W S : Type 0} (state : W → S) (physics : Physics S) (old new : LinkG
 -- What was given in a game may come to any of its players.
 
 all_at : {X : Type 0} (P : X → Type 0) (xs : List X) → All P xs → (k : ℕ) (x : X) → slice_get xs k ≡ Some x → P x
-all_at P [] all k x e = absurd (none-some x e)
-all_at P (y ∷ xs) all zero x e = subst P (same_Some y x e) (All-head P y xs all)
-all_at P (y ∷ xs) all (suc k) x e = all_at P xs (All-tail P y xs all) k x e
+all_at P xs all k x e = subst P (get_or_from_slice_get xs k x x e) (all k x (slice_get_within xs k x e))
 
 -- what was sealed in a game is genuine to each player
 abbrev pub AreGenuine : Type 0

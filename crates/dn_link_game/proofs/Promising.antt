@@ -1,9 +1,7 @@
 -- Events one after the other: what is seen of them, and what is asked of them.
-use Rattle.std.proofs.Common.{◌≡◌, ◌≤◌, ◌+◌, ◌++◌, ◌∷◌, [], ℕ, zero, suc, List, Some, refl, sym, ap, ◌∙◌, subst, take, length, inl, inr, arith}
-use Rattle.dn_link_game.proofs.Going.{length_set}
-use Rattle.std.specs.Prelude.{All, slice_get, Result, Ok, Err, OnErr, ◌⊎◌}
+use Rattle.std.proofs.Common.{◌≡◌, ◌≤◌, ◌+◌, ◌++◌, ◌∷◌, [], ℕ, zero, suc, List, Some, refl, sym, ap, ◌∙◌, subst, take, take-take, length, length-set, inl, inr, arith, All, slice_get, Result, Ok, Err, OnErr, ◌⊎◌}
 use Rattle.std.proofs.lemmas.List.Elements.{All-push}
-use Rattle.std.proofs.lemmas.{List.{take_all, take-append-le}, Option.{none-some, same_Some, slice_get_within}}
+use Rattle.std.proofs.lemmas.{Grind.common_steps, List.{take_all, take-append-le}, Option.{gets, slice_get_within}}
 use Rattle.arrayvec.specs.ArrayVec.{ArrayVec}
 use Rattle.dn_setup.specs.Settings.{Settings}
 use Rattle.dn_world.specs.Physics.{Physics}
@@ -33,32 +31,17 @@ given_take zero xs = omega arith
 given_take (suc k) [] = omega arith
 given_take (suc k) (x ∷ xs) = let more = given_take k xs in omega (arith, more)
 
-take_take : {A : Type 0} (n m : ℕ) (xs : List A) → n ≤ m → take n (take m xs) ≡ take n xs
-take_take zero m xs le = refl
-take_take (suc n) zero xs le = absurd (omega (arith, le))
-take_take (suc n) (suc m) [] le = refl
-take_take (suc n) (suc m) (x ∷ xs) le = ap (λ ys. x ∷ ys) (take_take n m xs (omega (arith, le)))
-
 at_end : {A : Type 0} (xs : List A) (y : A) → slice_get (xs ++ y ∷ []) (length xs) ≡ Some y
-at_end [] y = refl
-at_end (x ∷ xs) y = at_end xs y
+at_end xs y = grind (arith, common_steps, gets)
 
 there_still : {A : Type 0} (xs : List A) (y : A) (k : ℕ) (x : A) → slice_get xs k ≡ Some x
     → slice_get (xs ++ y ∷ []) k ≡ Some x
-there_still [] y k x e = absurd (none-some x e)
-there_still (z ∷ xs) y zero x e = e
-there_still (z ∷ xs) y (suc k) x e = there_still xs y k x e
+there_still xs y k x e = grind (arith, common_steps, gets)
 
 -- one more answer
 pushed_cases : {A : Type 0} (xs : List A) (y : A) (k : ℕ) (x : A) → slice_get (xs ++ y ∷ []) k ≡ Some x
     → (slice_get xs k ≡ Some x) ⊎ ((k ≡ length xs) × (x ≡ y))
-pushed_cases [] y zero x e = inr (refl, sym (same_Some y x e))
-pushed_cases [] y (suc k) x e = absurd (none-some x e)
-pushed_cases (z ∷ xs) y zero x e = inl e
-pushed_cases (z ∷ xs) y (suc k) x e = elim (pushed_cases xs y k x e) [
-  | inl there ↦ inl there
-  | inr last ↦ inr (ap suc last.0, last.1)
-]
+pushed_cases xs y k x e = grind (arith, common_steps, gets)
 
 pub answered_more : (players : ℕ) (events : List LinkEvent) (event : LinkEvent) (answers : List Answer) (answer : Answer)
     → length answers ≡ length events → AreAnswered players events answers
@@ -91,9 +74,9 @@ pub players_stay : {W S : Type 0} (state : W → S) (physics : Physics S) (event
     → length new.players.items ≡ length old.players.items
 players_stay state physics event (Err refused) old new does same = ap (λ ps. length ps.items) same.0
 players_stay state physics (Call player call) (Ok done) old new does same =
-    ap length does.2.3 ∙ length_set old.players.items player does.2.1
+    ap length does.2.3 ∙ length-set old.players.items player does.2.1
 players_stay state physics (Deliver player which) (Ok done) old new does same =
-    ap length does.5.3 ∙ length_set old.players.items player does.5.1
+    ap length does.5.3 ∙ length-set old.players.items player does.5.1
 
 module _ (seal : Seal) (given more : List (ArrayVec ℕ)) (events : List LinkEvent) (event : LinkEvent)
     (answers : List Answer) (answer : Answer) (stays : take (length given) more ≡ given)
@@ -105,7 +88,7 @@ module _ (seal : Seal) (given more : List (ArrayVec ℕ)) (events : List LinkEve
   before k le =
       let fewer = given_take k answers in
       ap (λ (xs : List Answer). take (given_by xs) more) (take-append-le k answers (answer ∷ []) (omega (arith, le, many)))
-      ∙ sym (take_take (given_by (take k answers)) (length given) more (omega (arith, fewer, count)))
+      ∙ sym (take-take (given_by (take k answers)) (length given) more (omega (arith, fewer, count)))
       ∙ ap (take (given_by (take k answers))) stays
 
   -- the events before the last are genuine by what was given by then

@@ -1,6 +1,5 @@
 -- Bytes that are received give up nobody.
-use Rattle.std.proofs.Common.{◌≡◌, ℕ, Bool, true, false, List, ap, ◌∙◌}
-use Rattle.std.specs.Prelude.{Result, Ok, Err}
+use Rattle.std.proofs.Common.{◌≡◌, ℕ, Bool, true, false, List, ap, ◌∙◌, Result, Ok, Err, arith}
 use Rattle.dn_seal.specs.declared.seal.Seal.{Seal}
 use Rattle.dn_survivor.specs.declared.{others.Others.Others, report.{Report.Report, ReportFault.ReportFault}}
 use Rattle.dn_link.specs.{Ends.excludes, Hearing.ByTest, Linked.{HearsPeer, Linked, Receives, ReceivesAs, TakesIn, TakesRead, has_given_up, is_peer, surviving_of}}

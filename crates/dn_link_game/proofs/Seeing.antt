@@ -1,9 +1,6 @@
 -- What is seen of a player's calls, in whatever session its link is.
-use Rattle.std.proofs.Common.{◌≡◌, ◌<◌, ℕ, List, length, Option, Some, None, refl, sym, ap, ◌∙◌, subst}
-use Rattle.std.specs.Option.{option_map}
-use Rattle.std.proofs.lemmas.Option.{none-some, same_Some}
-use Rattle.std.specs.Prelude.{IfSome, Bool, true, false, if◌then◌else◌, Result, Ok, Err}
-use Rattle.std.proofs.lemmas.List.Sums.{fold_push}
+use Rattle.std.proofs.Common.{◌≡◌, ◌<◌, ℕ, List, length, Option, Some, None, refl, sym, ap, ◌∙◌, subst, option_map, IfSome, Bool, true, false, if◌then◌else◌, Result, Ok, Err, arith}
+use Rattle.std.proofs.lemmas.{Option.{none-some, same_Some}, List.Sums.fold_push}
 use Rattle.arrayvec.specs.ArrayVec.{ArrayVec}
 use Rattle.dn_tic.specs.declared.{command.Move.Move, input.Input.Input}
 use Rattle.dn_setup.specs.Settings.{Settings, start_of}

@@ -1,6 +1,5 @@
 -- No answer to an event of a game of links tells of a failed check.
-use Rattle.std.proofs.Common.{◌≡◌, ◌<◌, ℕ, ℤ, Bool, List, Option, sym, ap, ◌∙◌, subst, arith}
-use Rattle.std.specs.Prelude.{slice_get, Result, Ok, Err, set}
+use Rattle.std.proofs.Common.{◌≡◌, ◌<◌, ℕ, ℤ, Bool, List, Option, sym, ap, ◌∙◌, subst, arith, slice_get, Result, Ok, Err, set}
 use Rattle.std.proofs.lemmas.Option.{slice_get_within}
 use Rattle.arrayvec.specs.ArrayVec.{ArrayVec}
 use Rattle.dn_tic.specs.declared.command.Move.{Move}

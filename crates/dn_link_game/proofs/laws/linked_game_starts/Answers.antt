@@ -1,17 +1,13 @@
-use Rattle.std.proofs.Common.{◌≡◌, ◌<◌, ℕ, length, get_or, refl, sym, ap, subst, inl, inr, arith}
-use Rattle.std.specs.Prelude.{All}
+use Rattle.std.proofs.Common.{◌≡◌, ◌<◌, ℕ, length, get_or, refl, sym, ap, subst, inl, inr, arith, All}
 use Rattle.std.proofs.lemmas.List.Elements.{All-nil}
 use Rattle.std.proofs.lemmas.Option.{get_or_from_slice_get, slice_get_cases, slice_get-get_or}
 use Rattle.arrayvec.specs.ArrayVec.{ArrayVec}
 use Rattle.dn_survivor.specs.OneGame.{started_session}
 use Rattle.dn_link.proofs.Relinking.{new_whole}
-use Rattle.dn_link.specs.Linked.{Linked, surviving_of}
+use Rattle.dn_link.specs.{Linked.{Linked, surviving_of}, RemainingLinks.WasSealedIn}
 use Rattle.dn_link.specs.{Linking.linked, Pacing.PaceState}
-use Rattle.dn_link.specs.RemainingLinks.{WasSealedIn}
-use Rattle.dn_link_game.specs.Headline.{HasPlayer}
-use Rattle.dn_link_game.specs.Playing.{marking_of}
-use Rattle.dn_link_game.specs.declared.game.LinkGame.{LinkGame}
-use Rattle.dn_link_game.specs.declared.player.Player.{Player}
+use Rattle.dn_link_game.specs.{Headline.HasPlayer, Playing.marking_of}
+use Rattle.dn_link_game.specs.declared.{game.LinkGame.LinkGame, player.Player.Player}
 use Rattle.dn_link_game.proofs.laws.linked_game_starts.Goals as goal
 
 -- the link of each place, and past the last that of one

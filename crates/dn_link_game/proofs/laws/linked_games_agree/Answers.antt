@@ -1,21 +1,16 @@
 -- What a game of links shows is the headline.
-use Rattle.std.proofs.Common.{◌≡◌, ◌<◌, ◌≤◌, ◌+◌, ℕ, Bool, false, List, length, Option, Some, refl, sym, ap, ◌∙◌, inl, inr, arith, ◌≢◌, subst}
-use Rattle.std.specs.Prelude.{slice_get}
-use Rattle.std.proofs.lemmas.Bool.{cases_eq}
+use Rattle.std.proofs.Common.{◌≡◌, ◌<◌, ◌≤◌, ◌+◌, ℕ, Bool, false, List, length, Option, Some, refl, sym, ap, ◌∙◌, inl, inr, arith, ◌≢◌, subst, slice_get}
+use Rattle.std.proofs.lemmas.{Bool.cases_eq, List.take_all}
 use Rattle.std.proofs.lemmas.Option.{same_Some, slice_get_cases, slice_get_within}
-use Rattle.std.proofs.lemmas.List.{take_all}
 use Rattle.dn_tic.specs.{declared.command.Move.Move}
 use Rattle.dn_setup.specs.Settings.{Settings, start_of}
-use Rattle.dn_machine.specs.{Limits.Limits, Headline.AnyTwo, Headline.Shown, Node.is_ended, Worlds.Inputs}
+use Rattle.dn_machine.specs.{Limits.Limits, Headline.AgreeWithin, Headline.AnyTwo, Headline.Shown, Node.is_ended, Worlds.Inputs}
 use Rattle.dn_survivor.specs.{Agreed.AreAgreedInPairs, OneGame.Session, Agreed.FitInPairs, Agreed.IsPair, Agreed.DemosAgreeInPairs, Agreed.is_closed, Agreed.row_without, Agreed.rows_whole, Surviving.Surviving, Surviving.end_settled}
 use Rattle.dn_survivor.specs.{Surviving.has_given_up}
 use Rattle.dn_world.specs.Physics.{Physics}
 use Rattle.dn_demo.specs.{Layout.long_tics, Text.demo_text}
-use Rattle.dn_lockstep.specs.Contents.{Contents}
-use Rattle.dn_lockstep.specs.Agreed.{recorded}
-use Rattle.dn_lockstep.specs.OneGame.{world_told}
-use Rattle.dn_lockstep.specs.Rows.{seats_of}
-use Rattle.dn_lockstep.specs.Told.{HasStarted, got, made}
+use Rattle.dn_lockstep.specs.{Contents.Contents, OneGame.world_told}
+use Rattle.dn_lockstep.specs.{Agreed.recorded, Rows.seats_of, Told.{HasStarted, got, made}}
 use Rattle.dn_seal.specs.declared.seal.Seal.{Seal}
 use Rattle.dn_link.specs.{Linked.surviving_of, Linking.linked}
 use Rattle.dn_link_game.specs.{Games.IsLinkGame, Headline.HasPlayer, Headline.HaveAgreed, Headline.NobodyGone, Headline.Shows, Headline.Together, Playing.Seen, Playing.world_by, declared.game.LinkGame.LinkGame}
@@ -162,6 +157,19 @@ module _ {W S : Type 0} (state : W → S) (physics : Physics S) (limits : Limits
     there = nobody r q two.1 two.0;
   }
 
+  -- the headline of any two who are together
+  headline_of : {Two : ℕ → ℕ → Type 0} → ((q r : ℕ) → Two q r → Together limits.players gone q r)
+      → AgreeWithin limits.ahead (limits.ahead + limits.ahead) limits.places limits.players Two shown_at
+  headline_of together = record {
+    same = λ q r tic two. same q r (together q r two) tic;
+    ring = is.game.game.window.twice;
+    unread = unread;
+    lacked = λ q r two. lacked q r (together q r two);
+    ahead = ahead;
+    consistent = λ q player was should k. agreed.consistent q player was should k;
+    demos = demos.commands;
+  }
+
   have_agreed : HaveAgreed state physics limits settings session.inputs session.told gone g
   have_agreed = record {
     places = is.places;
@@ -169,24 +177,8 @@ module _ {W S : Type 0} (state : W → S) (physics : Physics S) (limits : Limits
     shows = shows;
     told_is = λ i. refl;
     gone_is = λ i other player at. (is.players i player at).gone other;
-    headline = record {
-      same = λ q r tic two. same q r two tic;
-      ring = is.game.game.window.twice;
-      unread = unread;
-      lacked = lacked;
-      ahead = ahead;
-      consistent = λ q player was should k. agreed.consistent q player was should k;
-      demos = demos.commands;
-    };
-    quiet = λ nobody. record {
-      same = λ q r tic two. same q r (all_together nobody q r two) tic;
-      ring = is.game.game.window.twice;
-      unread = unread;
-      lacked = λ q r two. lacked q r (all_together nobody q r two);
-      ahead = ahead;
-      consistent = λ q player was should k. agreed.consistent q player was should k;
-      demos = demos.commands;
-    };
+    headline = headline_of (λ q r two. two);
+    quiet = λ nobody. headline_of (all_together nobody);
     rows = λ q tic player at k. agreed.rows q tic (below q player at)
         (let ran = agreed.ran q (below q player at) in omega (arith, ran, k))
         ∙ ap (λ (s : Surviving). Some (row_without limits.players session.inputs s tic)) (its q player at);

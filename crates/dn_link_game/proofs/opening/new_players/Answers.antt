@@ -1,5 +1,4 @@
-use Rattle.std.proofs.Common.{rules, ◌≡◌, [], ◌∷◌, ◌++◌, ℕ, zero, suc, List, Some, ap, sym, ◌∙◌, arith, length, length-append, subst}
-use Rattle.std.specs.Prelude.{slice_get}
+use Rattle.std.proofs.Common.{rules, ◌≡◌, [], ◌∷◌, ◌++◌, ℕ, zero, suc, List, Some, ap, sym, ◌∙◌, arith, length, length-append, subst, slice_get}
 use Rattle.std.proofs.lemmas.Option.{none-some, same_Some}
 use Rattle.dn_link_game.specs.{Games.IsNew, Opening.{EachIsNew, limits_of}}
 use Rattle.dn_link_game.proofs.opening.new_players.Goals as goal

@@ -1,4 +1,4 @@
-use Rattle.std.proofs.Common.{◌≡◌, ◌+◌, length}
+use Rattle.std.proofs.Common.{◌≡◌, ◌+◌, length, arith}
 use Rattle.std.specs.Vec.{vec_capacity}
 use Rattle.dn_link_game.specs.Opening.{EachIsNew}
 use Rattle.dn_link_game.proofs.opening.new_players.Given as goal

@@ -1,4 +1,4 @@
-use Rattle.std.proofs.Common.{◌≡◌, ◌≤◌, length, take}
+use Rattle.std.proofs.Common.{◌≡◌, ◌≤◌, length, take, arith}
 use Rattle.std.specs.Vec.{vec_capacity, vec_len}
 use Rattle.dn_link_game.specs.{Applied.{AreAnswered, IsWithinTwice}, Genuine.given_by, Opening.limits_of}
 use Rattle.dn_link_game.proofs.Promising.{Reaches}

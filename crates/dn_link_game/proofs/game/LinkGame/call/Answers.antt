@@ -1,11 +1,19 @@
-use Rattle.std.proofs.Common.{rules, ◌≡◌, ◌<◌, ℕ, List, refl, sym, ap, ◌∙◌, length, set, subst, arith}
-use Rattle.std.specs.Prelude.{slice_get}
+use Rattle.std.proofs.Common.{rules, ◌≡◌, ◌<◌, ℕ, List, refl, sym, ap, ◌∙◌, length, set, subst, arith, slice_get}
 use Rattle.std.proofs.lemmas.Option.{slice_get_read}
 use Rattle.arrayvec.specs.ArrayVec.{ArrayVec}
-use Rattle.dn_link_game.specs.{Does.with_one, Genuine.IsGenuineEvent, Playing.{Asked, sees}}
+use Rattle.dn_link_game.specs.{Does.with_one, Genuine.IsGenuineEvent, Headline.HasPlayer, Playing.{Asked, sees}}
 use Rattle.dn_link_game.specs.declared.calls.LinkEvent.TheVariants.{Call}
 use Rattle.dn_link_game.proofs.Going.{asked_of, goes, sends, stands}
+use Rattle.dn_link_game.proofs.game.LinkGame.call.{Given.Over, Goals.After-call-done}
 use Rattle.dn_link_game.proofs.game.LinkGame.call.Goals as goal
+
+-- the player that is called stands in its place, in the game that has made room
+its_player : (g : Over) (c : After-call-done g) → HasPlayer c.make_room.new.self c.args.player c.index_mut.result.now
+its_player g c =
+    let there : c.args.player < length c.args.self.now.players.items = search rules in
+    let same = ap (λ ps. length ps.items) c.make_room.ensures.players in
+    slice_get_read c.make_room.new.self.players.items _ c.args.player _ refl (omega (arith, same, there))
+    c.index_mut.ensures.value
 
 pub returns-in_default-clause-goes_on : goal.returns-in_default-clause-goes_on
 returns-in_default-clause-goes_on g c limits settings seal seen is genuine =
@@ -26,11 +34,7 @@ returns-in-Some-clause-goes_on g c limits settings seal seen is genuine =
     let its = c.index_mut.result.now in
     let kept = stands state physics limits settings seal seen c.args.self.now mid is c.make_room.ensures.players
     c.make_room.ensures.given in
-    let there : c.args.player < length c.args.self.now.players.items = search rules in
-    let same : length mid.players.items ≡ length c.args.self.now.players.items =
-    ap (λ ps. length ps.items) c.make_room.ensures.players in
-    let at = slice_get_read mid.players.items (length mid.players.items) c.args.player its refl (omega (arith, same, there))
-    c.index_mut.ensures.value in
+    let at = its_player g (goal.at.returns-in-Some-clause-goes_on g c).After-call-done in
     goes state physics mid _ c.args.player its c.call-done.new.self c.call-done.result.1 at refl
     (c.push_reserved.ensures.items ∙ ap (with_one mid.given.items) (sym c.in-Some.is)) c.call-done.ensures.seal
     c.remaining_bytes_are_genuine.ensures.stay (Asked c.args.call.now its) (sees c.args.call.now c.call-done.result.0)
@@ -47,11 +51,7 @@ returns-in_default-given-clause-goes_on g c limits settings seal seen is genuine
     let its = c.index_mut.result.now in
     let kept = stands state physics limits settings seal seen c.args.self.now mid is c.make_room.ensures.players
     c.make_room.ensures.given in
-    let there : c.args.player < length c.args.self.now.players.items = search rules in
-    let same : length mid.players.items ≡ length c.args.self.now.players.items =
-    ap (λ ps. length ps.items) c.make_room.ensures.players in
-    let at = slice_get_read mid.players.items (length mid.players.items) c.args.player its refl (omega (arith, same, there))
-    c.index_mut.ensures.value in
+    let at = its_player g (goal.at.returns-in_default-given-clause-goes_on g c).After-call-done in
     goes state physics mid _ c.args.player its c.call-done.new.self c.call-done.result.1 at refl
     (ap (with_one mid.given.items) (sym c.in_default-given.is)) c.call-done.ensures.seal
     c.remaining_bytes_are_genuine.ensures.stay (Asked c.args.call.now its) (sees c.args.call.now c.call-done.result.0)
@@ -64,11 +64,7 @@ pub returns-in-Some-clause-does : goal.returns-in-Some-clause-does
 returns-in-Some-clause-does g c =
     let mid = c.make_room.new.self in
     let its = c.index_mut.result.now in
-    let there : c.args.player < length c.args.self.now.players.items = search rules in
-    let same : length mid.players.items ≡ length c.args.self.now.players.items =
-    ap (λ ps. length ps.items) c.make_room.ensures.players in
-    let at = slice_get_read mid.players.items (length mid.players.items) c.args.player its refl (omega (arith, same, there))
-    c.index_mut.ensures.value in (
+    let at = its_player g (goal.at.returns-in-Some-clause-does g c).After-call-done in (
       c.call-done.result.1,
       c.push_reserved.ensures.items ∙ ap (with_one mid.given.items) (sym c.in-Some.is)
           ∙ ap (λ (given : List (ArrayVec ℕ)). with_one given c.call-done.result.1) c.make_room.ensures.given,
@@ -86,11 +82,7 @@ pub returns-in_default-given-clause-does : goal.returns-in_default-given-clause-
 returns-in_default-given-clause-does g c =
     let mid = c.make_room.new.self in
     let its = c.index_mut.result.now in
-    let there : c.args.player < length c.args.self.now.players.items = search rules in
-    let same : length mid.players.items ≡ length c.args.self.now.players.items =
-    ap (λ ps. length ps.items) c.make_room.ensures.players in
-    let at = slice_get_read mid.players.items (length mid.players.items) c.args.player its refl (omega (arith, same, there))
-    c.index_mut.ensures.value in (
+    let at = its_player g (goal.at.returns-in_default-given-clause-does g c).After-call-done in (
       c.call-done.result.1,
       ap (with_one mid.given.items) (sym c.in_default-given.is)
           ∙ ap (λ (given : List (ArrayVec ℕ)). with_one given c.call-done.result.1) c.make_room.ensures.given,

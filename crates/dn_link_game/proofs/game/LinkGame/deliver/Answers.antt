@@ -1,12 +1,10 @@
-use Rattle.std.proofs.Common.{rules, ◌≡◌, ◌<◌, ℕ, List, Option, Some, None, false, true, true≢false, refl, sym, ap, ◌∙◌, length, subst}
-use Rattle.std.specs.Prelude.{Ok, is_some, slice_get}
+use Rattle.std.proofs.Common.{rules, ◌≡◌, ◌<◌, ℕ, List, Option, Some, None, false, true, true≢false, refl, sym, ap, ◌∙◌, length, subst, Ok, is_some, slice_get, arith}
 use Rattle.std.proofs.lemmas.Option.{slice_get_read}
 use Rattle.arrayvec.specs.ArrayVec.{ArrayVec}
 use Rattle.dn_link.specs.declared.received.Received.{Received}
 use Rattle.dn_link_game.specs.{Does.{Does, Hears, with_one}, Playing.{Asked, gives}, declared.calls.{LinkCall.TheVariants.Receive, LinkDone.LinkDone}}
 use Rattle.dn_link_game.proofs.Going.{given, goes_unseen, keeps}
-use Rattle.dn_link_game.proofs.game.LinkGame.deliver.Given.{Over}
-use Rattle.dn_link_game.proofs.game.LinkGame.deliver.Goals.{After-call-done}
+use Rattle.dn_link_game.proofs.game.LinkGame.deliver.{Given.Over, Goals.After-call-done}
 use Rattle.dn_link_game.proofs.game.LinkGame.deliver.Goals as goal
 
 -- nothing was given

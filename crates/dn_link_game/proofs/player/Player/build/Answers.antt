@@ -1,4 +1,4 @@
-use Rattle.std.proofs.Common.{refl, ap}
+use Rattle.std.proofs.Common.{refl, ap, arith}
 use Rattle.dn_tic.specs.declared.input.Input.TheVariants.{Given, Pressed}
 use Rattle.dn_link.specs.Pacing.{PaceState}
 use Rattle.dn_link_game.specs.Playing.{marking_of}

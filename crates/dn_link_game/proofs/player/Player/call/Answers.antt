@@ -1,4 +1,4 @@
-use Rattle.std.proofs.Common.{◌≡◌, refl, sym, ap, ◌∙◌, subst}
+use Rattle.std.proofs.Common.{◌≡◌, refl, sym, ap, ◌∙◌, subst, arith}
 use Rattle.dn_machine.specs.Running.{on_quit}
 use Rattle.dn_lockstep.specs.Steps.{Steps}
 use Rattle.dn_survivor.specs.{OneGame.with_survivor, declared.others.Others.Others}

@@ -1,5 +1,4 @@
-use Rattle.std.proofs.Common.{refl, sym, ap, ◌∙◌, subst}
-use Rattle.std.specs.Prelude.{IfSome}
+use Rattle.std.proofs.Common.{refl, sym, ap, ◌∙◌, subst, IfSome, arith}
 use Rattle.dn_lockstep.specs.{Sent.{IsFair, sent_to}, Steps.Tells}
 use Rattle.dn_seal.specs.declared.seal.Seal.{Seal}
 use Rattle.dn_survivor.specs.{OneGame.with_survivor, declared.others.Others.Others}

@@ -1,8 +1,7 @@
-use Rattle.std.proofs.Common.{ℕ, List, refl, sym, ap, ◌∙◌, subst}
+use Rattle.std.proofs.Common.{ℕ, List, refl, sym, ap, ◌∙◌, subst, ◌&&◌, arith}
 use Rattle.dn_seal.specs.declared.seal.Seal.{Seal}
 use Rattle.dn_survivor.specs.OneGame.{with_survivor}
 use Rattle.dn_link.specs.{Counting.counts_of, Line.own_echo, Linked.{Linked, exclusion, has_given_up, is_peer, probe, probed, remains, surviving_of}, Linking.{linked, seal_of}, Pacing.{PaceState, pace_of}, RemainingLinks.WasSealedIn, Text.{IsBundle, sealed_bytes}}
-use Rattle.std.specs.Prelude.{◌&&◌}
 use Rattle.dn_link_game.specs.Playing.{marking_of}
 use Rattle.dn_link_game.proofs.Seeing.{by_test, of_text, unseen}
 use Rattle.dn_link_game.proofs.player.Player.send.Goals as goal
