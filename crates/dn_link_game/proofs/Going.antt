@@ -17,6 +17,9 @@ use Rattle.dn_link_game.specs.declared.calls.{LinkCall.{LinkCall, TheVariants.{B
 pub set_here : {A : Type 0} (xs : List A) (i : ℕ) (x : A) → i < length xs → slice_get (set xs i x) i ≡ Some x
 set_here xs i x h = grind (arith, slice_get-get_or, get_or-set_same, length-set)
 
+pub length_set : {A : Type 0} (xs : List A) (i : ℕ) (x : A) → length (set xs i x) ≡ length xs
+length_set xs i x = length-set xs i x
+
 all_joined : (P : ArrayVec ℕ → Type 0) (xs : List (ArrayVec ℕ)) (one : Option (ArrayVec ℕ)) → All P xs → IfSome one P
     → All P (with_one xs one)
 all_joined P xs None all more = all
