@@ -15,7 +15,7 @@ use Rattle.dn_link_game.specs.{Games.IsLinkGame, Applied.AddsToGiven, Does.with_
 use Rattle.dn_link_game.specs.declared.calls.{LinkCall.{LinkCall, TheVariants.{Build, CatchUp, Tick, Run, Send, Receive, GiveUp, Quit}}, LinkDone.LinkDone, LinkEvent.TheVariants.Call, LinkRefusal.LinkRefusal, Sending.Sending}
 
 pub set_here : {A : Type 0} (xs : List A) (i : ℕ) (x : A) → i < length xs → slice_get (set xs i x) i ≡ Some x
-set_here xs i x h = grind (arith, slice_get-get_or, get_or-set_same, length-set)
+set_here xs i x h = slice_get-get_or (set xs i x) i x (omega (arith, length-set xs i x)) ∙ ap Some (get_or-set_same xs i x x h)
 
 pub length_set : {A : Type 0} (xs : List A) (i : ℕ) (x : A) → length (set xs i x) ≡ length xs
 length_set xs i x = length-set xs i x
@@ -56,8 +56,10 @@ module _ {W S : Type 0} (state : W → S) (physics : Physics S) (old new : LinkG
       → ((j : ℕ) (p : Player W) → j ≢ me → HasPlayer old j p → P j p)
       → (j : ℕ) (p : Player W) → HasPlayer new j p → P j p
   by_place P mine others j p there =
-      let is = set_and_put (λ k q o. Some q ≡ o) old.players.items (slice_get old.players.items) me after (Some after)
-      (λ k q e. sym e) inside refl j p (ap (λ (ps : List (Player W)). slice_get ps j) (sym players) ∙ there) in
+      let is : Some p ≡ put (slice_get old.players.items) me (Some after) j =
+      set_and_put (λ (k : ℕ) (q : Player W) (o : Option (Player W)). Some q ≡ o) old.players.items
+      (slice_get old.players.items) me after (Some after) (λ k q e. sym e) inside refl j p
+      (ap (λ (ps : List (Player W)). slice_get ps j) (sym players) ∙ there) in
       elim (cases_eq j me) [
         | inl e ↦ subst (λ (k : ℕ). P k p) (sym e)
             (subst (P me) (sym (same_Some p after (is ∙ put_at _ me j _ e))) mine)

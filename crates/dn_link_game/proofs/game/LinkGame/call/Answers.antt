@@ -11,9 +11,11 @@ use Rattle.dn_link_game.proofs.game.LinkGame.call.Goals as goal
 its_player : (g : Over) (c : After-call-done g) → HasPlayer c.make_room.new.self c.args.player c.index_mut.result.now
 its_player g c =
     let there : c.args.player < length c.args.self.now.players.items = search rules in
-    let same = ap (λ ps. length ps.items) c.make_room.ensures.players in
-    slice_get_read c.make_room.new.self.players.items _ c.args.player _ refl (omega (arith, same, there))
-    c.index_mut.ensures.value
+    let mid = c.make_room.new.self in
+    let same : length mid.players.items ≡ length c.args.self.now.players.items =
+    ap (λ ps. length ps.items) c.make_room.ensures.players in
+    slice_get_read mid.players.items (length mid.players.items) c.args.player c.index_mut.result.now refl
+    (omega (arith, same, there)) c.index_mut.ensures.value
 
 pub returns-in_default-clause-goes_on : goal.returns-in_default-clause-goes_on
 returns-in_default-clause-goes_on g c limits settings seal seen is genuine =
