@@ -1,17 +1,13 @@
 -- A step of a node's lockstep, and its world beside it, make a step of the node.
-use Rattle.std.proofs.Common.{◌≡◌, ℕ, ◌+◌, Bool, true, false, Option, Some, ltb, leb, arith, ap, refl, List, set, get_or}
-use Rattle.std.proofs.lemmas.Bool.{cond_both}
-use Rattle.std.proofs.Math.Seq.{map-set_same}
-use Rattle.std.specs.Prelude.{Result, Ok, Err, nat_lt, slice_index_or}
-use Rattle.std.specs.Option.{option_map}
-use Rattle.dn_machine.specs.{declared.answers.Heard.Heard, declared.answers.Phase.Phase}
+use Rattle.std.proofs.Common.{◌≡◌, ℕ, ◌+◌, Bool, true, false, Option, Some, ltb, leb, arith, ap, refl, List, set, get_or, Result, Ok, Err, nat_lt, slice_index_or, option_map}
+use Rattle.std.proofs.{lemmas.Bool.cond_both, Math.Seq.map-set_same}
+use Rattle.dn_machine.specs.declared.answers.{Heard.Heard, Phase.Phase, Made.Made}
 use Rattle.dn_machine.specs.declared.answers.Phase.TheVariants.{Listening, Gathering, Playing, Ended}
 use Rattle.dn_machine.specs.{declared.peer.Peer.Peer, Flight.{Kind, SetUp, Play, Exit, Flight, is_exit, end_of}}
 use Rattle.dn_machine.specs.Hearing.{is_strange_end, after_flight, on_commands, on_ended, on_gathering, on_packet, on_packet_in, left_or}
 use Rattle.dn_machine.specs.{Limits.Limits, Node.{with_peer, ends_of}, Sending.{on_build, after_sent}, Running.on_quit}
 use Rattle.dn_machine.specs.Node as machine
 use Rattle.dn_machine.specs.{Game.own_world, Worlds.{Rules, rules_within, world_after}}
-use Rattle.dn_machine.specs.declared.answers.Made.{Made}
 use Rattle.dn_machine.proofs.{Put.{put_at, put_off}, Calls.{build_cases, send_cases, quit_cases, packet_cases}}
 use Rattle.dn_lockstep.specs.{Received.heard_as, Phases.is_waiting, Sent.sent_to}
 use Rattle.dn_lockstep.specs.Steps as lockstep
@@ -20,8 +16,7 @@ use Rattle.dn_tic.specs.declared.input.Input.{Input}
 use Rattle.dn_setup.specs.Settings.{Settings}
 use Rattle.dn_world.specs.Physics.{Physics}
 use Rattle.dn_node.specs.Contents.{Contents, locked, with_world, contents, whose, whose_of, HasOwnMarks, Represents}
-use Rattle.dn_node.specs.Steps.{Steps, Tells}
-use Rattle.dn_node.specs.declared.node.Node.{Node}
+use Rattle.dn_node.specs.{Steps.{Steps, Tells}, declared.node.Node.Node}
 
 -- What a step of the machine's node leaves of what its world depends on, and that a known end stays known.
 

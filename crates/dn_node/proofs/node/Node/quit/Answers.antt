@@ -1,4 +1,4 @@
-use Rattle.std.proofs.Common.{◌≡◌, refl}
+use Rattle.std.proofs.Common.{◌≡◌, refl, arith}
 use Rattle.dn_machine.specs.Running.{on_quit}
 use Rattle.dn_lockstep.specs.Contents as lockstep
 use Rattle.dn_node.specs.Contents.{with_world}

@@ -1,8 +1,7 @@
 use Rattle.std.proofs.Common.{◌≡◌, ◌<◌, ℕ, ℤ, pos, List, get_or, Some, refl, ap, sym, ◌∙◌, arith}
 use Rattle.dn_lockstep.specs.Contents as lockstep
 use Rattle.dn_node.specs.{Contents.with_world, Kept.Kept}
-use Rattle.dn_node.proofs.{Stepping.beside_same, node.Node.run.Given.Over}
-use Rattle.dn_node.proofs.Running.{runs}
+use Rattle.dn_node.proofs.{Stepping.beside_same, node.Node.run.Given.Over, Running.runs}
 use Rattle.dn_node.proofs.node.Node.run.Goals as goal
 
 -- the marks of the world that it keeps are those of the world in its fields
