@@ -2,23 +2,17 @@
 #include <stdio.h>
 #include <zirmegat.h>
 
-static void step(zmg_session *session, int16_t world[4]) { /* runs what can be run */
-    zmg_row row;
-    while (zmg_session_run(session, world, &row) == ZMG_RUN_RAN)
-        for (int p = 0; p < 4; p++) world[p] = (int16_t)(world[p] + row.commands[p].forward);
-}
-
-static void send_all(zmg_session *from, zmg_session *to, const zmg_address *place, uint32_t now) {
-    uint8_t bytes[ZMG_DATAGRAM_SIZE];
-    zmg_address where; /* an engine sends the bytes by UDP, to `where` */
-    for (size_t length; (length = zmg_session_transmit(from, &where, bytes, sizeof bytes)) > 0;)
-        zmg_session_receive(to, place, bytes, length, now);
+static void step(int16_t world[4], const zmg_row *row) { /* an engine moves monsters and players */
+    for (int p = 0; p < 4; p++) world[p] = (int16_t)(world[p] + row->commands[p].forward);
 }
 
 int main(void) {
     const zmg_address places[2] = { { { 1 } }, { { 2 } } };
     zmg_session *players[2] = { NULL, NULL };
     int16_t worlds[2][4] = { { 0 }, { 0 } };
+    uint8_t bytes[ZMG_DATAGRAM_SIZE];
+    zmg_address to;
+    zmg_row row;
     zmg_host_config host;
     zmg_join_config join;
     zmg_host_config_init(&host);
@@ -26,13 +20,14 @@ int main(void) {
     join.host = places[0]; /* the key comes from a file, and random bytes from the system */
     host.key.bytes[0] = join.key.bytes[0] = host.random.bytes[0] = join.random.bytes[1] = 1;
     if (zmg_session_host(&players[0], &host) || zmg_session_join(&players[1], &join, 0)) return 1;
-    for (uint32_t now = 0; now < 10000; now += 10)
+    for (uint32_t now = 0; now < 10000; now += 10) /* ten seconds, of a clock in milliseconds */
         for (int me = 0; me < 2; me++) {
             const zmg_command command = { 0, (int8_t)(me ? 25 : 50), 0, 0, 0 };
             zmg_session_poll(players[me], now);
             while (zmg_session_wants_input(players[me], now)) zmg_session_give(players[me], &command, now);
-            step(players[me], worlds[me]);
-            send_all(players[me], players[!me], &places[me], now);
+            while (zmg_session_run(players[me], worlds[me], &row) == ZMG_RUN_RAN) step(worlds[me], &row);
+            for (size_t n; (n = zmg_session_transmit(players[me], &to, bytes, sizeof bytes)) > 0;)
+                zmg_session_receive(players[!me], &places[me], bytes, n, now); /* an engine: to `to` */
         }
     for (int me = 0; me < 2; me++) printf("player %d sees %d %d\n", me, worlds[me][0], worlds[me][1]);
     for (int me = 0; me < 2; me++) zmg_session_free(players[me]);
