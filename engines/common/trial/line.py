@@ -9,7 +9,8 @@ wide range reorders. MORE is one of these:
   PAIR_LOSS PAIR_MIN PAIR_MAX AFTER   between the first two clients the line is so, once AFTER seconds are over
   UPLINK HOSTS                        each client's uplink carries so many kbit/s, the host's HOSTS; 0: any number
 
-What would wait in an uplink for more than 200 ms is dropped. Told to end (SIGTERM) it prints what it did."""
+What would wait in an uplink for more than 200 ms is dropped. Told to end (SIGTERM) it prints what it did, and
+how many bytes came from the one who sent most."""
 import heapq, random, select, signal, socket, sys, time
 port, host = map(int, sys.argv[1:3])
 loss, repeat, low, high, *more = map(float, sys.argv[3:-1])
@@ -28,6 +29,7 @@ front = open_port(port)
 sides = {}     # a client's address: the socket by which others see it
 owners = {}    # and back
 free = {}      # when an address's uplink has sent all that waits there
+sent = {}      # by an address, in bytes
 counts = dict(came=0, full=0, lost=0, repeated=0, gave=0, bytes=0)
 QUEUE, HEADERS = .2, 28   # as in bindings/lines: seconds that a datagram waits at most; the bytes of UDP and IP
 
@@ -81,6 +83,7 @@ while going:
                 break
             counts['came'] += 1
             counts['bytes'] += len(data)
+            sent[address] = sent.get(address, 0) + len(data)
             out, to = route(s, address)
             left = leaves(address, len(data), now)
             if left is None:
@@ -103,4 +106,4 @@ while going:
             counts['gave'] += 1
         except OSError:
             pass
-print('line', counts, flush=True)
+print('line', counts, 'most', max(sent.values(), default=0), flush=True)
