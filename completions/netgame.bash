@@ -3,9 +3,9 @@ _netgame() {
     local word=${COMP_WORDS[COMP_CWORD]} words=
     [ "$COMP_CWORD" = 1 ] && words='show demo rows upgrade stats lumps diff record sim storm loop play host join key --help --version'
     case ${COMP_WORDS[1]} in
-        show) words='--help' ;;
-        demo) words='--help' ;;
-        rows) words='--help' ;;
+        show) words='--json --help' ;;
+        demo) words='--json --help' ;;
+        rows) words='--json --help' ;;
         upgrade) words='--limit --help' ;;
         stats) words='--json --help' ;;
         lumps) words='--json --help' ;;

@@ -4,3 +4,4 @@ pub mod Counting
 pub mod Telling
 pub mod Differing
 pub mod Writing
+pub mod Scripts

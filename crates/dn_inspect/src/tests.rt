@@ -1,6 +1,9 @@
 //! Heads of files by hand, and what they are.
 
-use crate::{Directory, Lump, RowsFault, demo_of_rows, format_of};
+use crate::{
+    Directory, Lump, RowsFault, demo_of_rows, format_of, front_of_objects, push_object,
+    text_of_bad_event,
+};
 use std::alloc::Global;
 
 #[test]
@@ -124,6 +127,64 @@ fn lines_that_make_no_demo_are_refused(rt: HostRuntime) {
         match demo_of(rt.alloc(), lines) {
             Err(fault) => assert_eq!(rt; fault, wanted),
             Ok(_) => panic!(rt; "{wanted}"),
+        }
+    }
+}
+
+#[test]
+fn bad_events_are_told(rt: HostRuntime) {
+    let rows = [
+        ("buld", "'buld': no such event; did you mean build"),
+        ("snd", "'snd': no such event; did you mean send"),
+        ("stopp", "'stopp': no such event; did you mean stop"),
+        ("delivre", "'delivre': no such event; did you mean deliver"),
+        ("Quit", "'Quit': no such event; did you mean quit"),
+        ("walk", "'walk': no such event"),
+        ("run", "run has a node, as `run 0`"),
+        (
+            "build",
+            "build has a node and its keys, as `build 0 fs` or `build 0 -`",
+        ),
+    ];
+    for (word, wanted) in rows {
+        match text_of_bad_event(rt.alloc(), word) {
+            Ok(text) => assert_eq!(rt; text.as_str(), wanted),
+            Err(fault) => panic!(rt; "{fault}"),
+        }
+    }
+}
+
+/// The object of a line of a file.
+fn object_of(alloc: Global, file: &str, line: &str) -> Result<Vec<u8>, RowsFault> {
+    let mut text = Vec::new(alloc);
+    push_object(&mut text, &front_of_objects(alloc, file)?, line.as_bytes())?;
+    Ok(text)
+}
+
+#[test]
+fn lines_are_objects(rt: HostRuntime) {
+    let rows: [(&str, &str, &[u8]); 4] = [
+        (
+            "a.lmp",
+            "tic 0 player 1 forward -50 side 0 turn 256 buttons 1",
+            b"{\"file\":\"a.lmp\",\"tic\":0,\"player\":1,\"forward\":-50,\"side\":0,\"turn\":256,\"buttons\":1}\n",
+        ),
+        (
+            "a\"b\\c",
+            "tics 2 cut 0 after 0",
+            b"{\"file\":\"a\\\"b\\\\c\",\"tics\":2,\"cut\":0,\"after\":0}\n",
+        ),
+        (
+            "a",
+            "version 109 view 1 players 0 1",
+            b"{\"file\":\"a\",\"version\":109,\"view\":1,\"players\":[0,1]}\n",
+        ),
+        ("a", "players 3", b"{\"file\":\"a\",\"players\":[3]}\n"),
+    ];
+    for (file, line, wanted) in rows {
+        match object_of(rt.alloc(), file, line) {
+            Ok(text) => assert_eq!(rt; text.as_slice(), wanted),
+            Err(fault) => panic!(rt; "{fault}"),
         }
     }
 }

@@ -57,8 +57,9 @@ upgrade_rules = limit_rule long_limit ∷ path_rules
 abbrev pub json_rule : Rule
 json_rule = flag_rule (codes "json")
 
-abbrev pub stats_rules : List Rule
-stats_rules = json_rule ∷ files_rule ∷ []
+-- files of which lines or objects are told
+abbrev pub reader_rules : List Rule
+reader_rules = json_rule ∷ files_rule ∷ []
 
 abbrev pub lumps_rules : List Rule
 lumps_rules = json_rule ∷ wads_rule ∷ []
@@ -134,15 +135,15 @@ bare =
 -- what reads a datagram or a demo
 abbrev pub readers : List Shape
 readers =
-    subcommand (codes "show") (files_rule ∷ [])
-    ∷ subcommand (codes "demo") (files_rule ∷ [])
-    ∷ subcommand (codes "rows") (files_rule ∷ [])
+    subcommand (codes "show") reader_rules
+    ∷ subcommand (codes "demo") reader_rules
+    ∷ subcommand (codes "rows") reader_rules
     ∷ subcommand (codes "upgrade") upgrade_rules ∷ []
 
 -- what is asked of demos
 abbrev pub demos : List Shape
 demos =
-    subcommand (codes "stats") stats_rules
+    subcommand (codes "stats") reader_rules
     ∷ subcommand (codes "lumps") lumps_rules
     ∷ subcommand (codes "diff") diff_rules
     ∷ subcommand (codes "record") path_rules ∷ []

@@ -1,9 +1,10 @@
 //! What `stats` and `record` run.
 
 use crate::ends::{BROKEN_OFF, MISUSED, REFUSED};
-use crate::inputs::{Status, hint, label_of, worst};
+use crate::inputs::{hint, label_of, worst};
 use crate::lines::labelled;
-use crate::source::{complain, format_in, open, read_ahead, refuse};
+use crate::readers::Status;
+use crate::source::{INPUT, complain, format_in, open, read_ahead, refuse};
 use crate::upgrades::put;
 use clap::ArgMatches;
 use dn_demo::{Demo, DemoFault};
@@ -11,9 +12,6 @@ use dn_inspect::{RowsFault, demo_of_rows, json_of_stats, text_of_stats};
 use std::alloc::{AllocError, Global};
 use std::io::{BufRead, Read};
 use std::rt::Files;
-
-/// What standard input is called.
-const INPUT: &str = "standard input";
 
 /// The most bytes of a demo that is read.
 const MOST: u64 = 33_554_432;

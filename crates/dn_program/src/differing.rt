@@ -2,8 +2,9 @@
 
 use crate::demos::demo_of;
 use crate::ends::{BROKEN_OFF, MISUSED, REFUSED};
-use crate::inputs::{Status, worst};
+use crate::inputs::worst;
 use crate::lines::labelled;
+use crate::readers::Status;
 use crate::source::complain;
 use clap::ArgMatches;
 use dn_demo::Demo;

@@ -2,17 +2,28 @@
 
 ghost use Rattle.std.specs.Prelude.{◌≤◌, length};
 
+use dn_inspect::push_object;
 use dn_netgame::RunFault;
 use std::alloc::{AllocError, Global};
 use std::io;
 use std::io::{ErrorKind, Write};
 
-/// The lines of a file, each behind its name where there are several files. The last line is kept back: in a run
-/// that refuses its input it says why.
+/// How lines are printed.
+#[derive(Clone, Copy)]
+pub(crate) enum Form<'a, 'f> {
+    /// As they are.
+    Plain,
+    /// Behind the name of their file.
+    Named(&'a str),
+    /// Each as a JSON object, behind what all objects of the file begin with.
+    Objects(&'f [u8]),
+}
+
+/// The lines of a file. The last line is kept back: in a run that refuses its input it says why.
 #[derive(Drop)]
-pub(crate) struct Lines<'a, R> {
+pub(crate) struct Lines<'a, 'f, R> {
     rt: &'a R,
-    label: Option<&'a str>,
+    form: Form<'a, 'f>,
     kept: Vec<u8>,
     is_closed: bool,
 }
@@ -44,13 +55,22 @@ pub(crate) fn labelled(
     Ok(text)
 }
 
-impl<'a, R: Print + AllocGlobal> Lines<'a, R> {
+/// The objects of lines.
+fn objects(alloc: Global, front: &[u8], lines: &[u8]) -> Result<Vec<u8>, AllocError> {
+    let mut text = Vec::new(alloc);
+    for line in lines.split_inclusive(|byte| *byte == b'\n') {
+        push_object(&mut text, front, line.strip_suffix(b"\n").unwrap_or(line))?;
+    }
+    Ok(text)
+}
+
+impl<'a, 'f, R: Print + AllocGlobal> Lines<'a, 'f, R> {
     /// No lines yet.
-    pub(crate) fn new(rt: &'a R, label: Option<&'a str>) -> Self {
+    pub(crate) fn new(rt: &'a R, form: Form<'a, 'f>) -> Self {
         let kept = Vec::new(rt.alloc());
         Lines {
             rt,
-            label,
+            form,
             kept,
             is_closed: false,
         }
@@ -58,11 +78,11 @@ impl<'a, R: Print + AllocGlobal> Lines<'a, R> {
 
     /// Prints lines on standard output.
     fn print(&mut self, lines: &[u8]) -> io::Result<()> {
-        let printed = match self.label {
-            Some(label) => self
-                .rt
-                .write_all(&labelled(self.rt.alloc(), label, ": ", lines)?),
-            None => self.rt.write_all(lines),
+        let alloc = self.rt.alloc();
+        let printed = match self.form {
+            Form::Plain => self.rt.write_all(lines),
+            Form::Named(file) => self.rt.write_all(&labelled(alloc, file, ": ", lines)?),
+            Form::Objects(front) => self.rt.write_all(&objects(alloc, front, lines)?),
         };
         if let Err(error) = &printed {
             self.is_closed = error.kind() == ErrorKind::BrokenPipe;
@@ -87,7 +107,7 @@ impl<'a, R: Print + AllocGlobal> Lines<'a, R> {
     }
 }
 
-impl<R: Print + AllocGlobal> Write for Lines<'_, R> {
+impl<R: Print + AllocGlobal> Write for Lines<'_, '_, R> {
     fn write(&mut self, text: &[u8]) -> io::Result<usize> {
         self.kept.extend_from_slice(text)?;
         let last = last_line(&self.kept);

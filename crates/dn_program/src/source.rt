@@ -13,6 +13,9 @@ use std::rt::Files;
 /// A file, or a lump of one, that is read ahead.
 pub(crate) type Source<R> = BufReader<Take<<R as Files>::File>>;
 
+/// What standard input is called.
+pub(crate) const INPUT: &str = "standard input";
+
 /// How many bytes one read of the system asks for where an input is read as it comes.
 const BUFFER: usize = 65_536;
 

@@ -2,7 +2,8 @@
 
 use crate::demos::{accepted, bytes_in};
 use crate::ends::{BROKEN_OFF, MISUSED, REFUSED};
-use crate::inputs::{Status, hint};
+use crate::inputs::hint;
+use crate::readers::Status;
 use crate::source::{complain, open};
 use clap::ArgMatches;
 use dn_demo::{Demo, UpgradeFault, upgrade};

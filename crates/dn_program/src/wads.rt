@@ -1,7 +1,8 @@
 //! What `lumps` runs: the demos of WADs are listed.
 
 use crate::ends::{BROKEN_OFF, MISUSED, REFUSED};
-use crate::inputs::{Status, label_of, worst};
+use crate::inputs::{label_of, worst};
+use crate::readers::Status;
 use crate::source::{complain, complain_of_wad, format_in, read_ahead};
 use clap::ArgMatches;
 use dn_inspect::{Lump, json_of_lump, lumps, open};

@@ -4,7 +4,8 @@ ghost use Rattle.std.specs.Prelude.{◌≡◌, true, false, map, IfOk, IfErr, st
 ghost use Rattle.clap.specs.{Simple.app_of, Simple.new_app, Takes.takes, Values.kind_of, declared.builder.command.Command.TheViews.out-Command as fields_of, declared.error.kind.ErrorKind.TheVariants.OutOfMemory};
 ghost use Rattle.dn_program.specs.Commands.{IsReadAs, bare, demos, games, netgame, readers, sessions, with_subcommands};
 
-use crate::arguments::{Added, with_files};
+use crate::arguments::Added;
+use crate::game_options::with_reader;
 use crate::{game_options, net_options};
 use clap::{ArgMatches, Command, Error};
 use std::alloc::Global;
@@ -65,9 +66,9 @@ fn program<'a>(alloc: Global) -> Command<'a>
 fn with_readers<'a>(alloc: Global, command: Command<'a>) -> Added<'a>
     ensures { IfOk result (λ c. app_of c ≡ with_subcommands (app_of command.entry) readers) }
 {
-    let show = command.subcommand(with_files(alloc, sub(alloc, "show", SHOW), "DATAGRAM")?)?;
-    let demo = show.subcommand(with_files(alloc, sub(alloc, "demo", DEMO), "DEMO")?)?;
-    let rows = demo.subcommand(with_files(alloc, sub(alloc, "rows", ROWS), "DEMO")?)?;
+    let show = command.subcommand(with_reader(alloc, sub(alloc, "show", SHOW), "DATAGRAM")?)?;
+    let demo = show.subcommand(with_reader(alloc, sub(alloc, "demo", DEMO), "DEMO")?)?;
+    let rows = demo.subcommand(with_reader(alloc, sub(alloc, "rows", ROWS), "DEMO")?)?;
     rows.subcommand(game_options::with_upgrade(alloc, sub(alloc, "upgrade", UPGRADE))?)
 }
 
@@ -75,7 +76,7 @@ fn with_readers<'a>(alloc: Global, command: Command<'a>) -> Added<'a>
 fn with_demos<'a>(alloc: Global, command: Command<'a>) -> Added<'a>
     ensures { IfOk result (λ c. app_of c ≡ with_subcommands (app_of command.entry) demos) }
 {
-    let stats = command.subcommand(game_options::with_stats(alloc, sub(alloc, "stats", STATS))?)?;
+    let stats = command.subcommand(with_reader(alloc, sub(alloc, "stats", STATS), "DEMO")?)?;
     let lumps = stats.subcommand(game_options::with_lumps(alloc, sub(alloc, "lumps", LUMPS))?)?;
     let diff = lumps.subcommand(game_options::with_diff(alloc, sub(alloc, "diff", DIFF))?)?;
     diff.subcommand(game_options::with_record(alloc, sub(alloc, "record", RECORD))?)

@@ -1,5 +1,5 @@
 use Rattle.dn_program.proofs.More.{at_last}
-use Rattle.dn_program.proofs.game_options.with_stats.Goals as goal
+use Rattle.dn_program.proofs.game_options.with_reader.Goals as goal
 
 pub returns : goal.returns
 returns c =
