@@ -210,10 +210,10 @@ typedef struct zmg_settings {
 /* What becomes of a player who vanishes. ZMG_POLICY_WAIT: the others wait, until the one of them that leads
  * calls zmg_session_give_up; if it is the leader who vanishes, until each of them has done so.
  * ZMG_POLICY_GIVE_UP: it is given up after so many seconds, and they play on; of two who vanish together the
- * second is given up so many seconds after the first. ZMG_POLICY_END: the game ends then. The player leads who
- * has the lowest number of those who are neither given up nor have left.
- * A player whose engine does not call for so long has vanished too: while it loads a level, let it poll, give
- * and send on, or choose more seconds. */
+ * second is given up so many seconds after the first. ZMG_POLICY_END: the game ends then. The player leads
+ * who has the lowest number of those who are neither given up nor have left. A player whose engine does not
+ * call for so long has vanished too: let it go on polling, giving and sending while it loads a level, or
+ * choose more seconds. */
 typedef enum zmg_policy { ZMG_POLICY_WAIT = 1, ZMG_POLICY_GIVE_UP = 2, ZMG_POLICY_END = 3 } zmg_policy;
 
 /* What is the same at all players: the host chooses, and the others are told with their seat.
@@ -332,7 +332,8 @@ size_t zmg_session_transmit(zmg_session *session, zmg_address *to, uint8_t *out,
 /* What has happened, each thing once. */
 typedef enum zmg_event_kind {
     ZMG_EVENT_NONE = 0,     /* nothing that was not told */
-    ZMG_EVENT_SEATED = 1,   /* a joiner has the seat `player` */
+    ZMG_EVENT_SEATED = 1,   /* this joiner has the seat `player`. A host is told nothing:
+                             * see zmg_session_player */
     ZMG_EVENT_UNSEATED = 2, /* it may lose its seat. ZMG_EVENT_OVER follows, or it calls again */
     ZMG_EVENT_BEGAN = 3,    /* the game has begun: begin the world by the state's terms */
     ZMG_EVENT_LEFT = 4,     /* `player` has left, and all its commands are here. It may still be given up. Where
@@ -421,18 +422,19 @@ zmg_run zmg_session_run(zmg_session *session, const int16_t marks[4], zmg_row *r
 
 /* ---- Players who go --------------------------------------------------------------------------- */
 
-/* The player leaves the game. Poll, receive and send until ZMG_EVENT_OVER, so that the others learn where its
- * commands end: ten seconds at most. It does nothing before the game, or after its end: in the lobby free the
- * session. */
+/* The player leaves the game. Go on with the loop until ZMG_EVENT_OVER, ten seconds at most, so that the
+ * others learn where its commands end. Before the game or after its end it does nothing, and returns ZMG_OK
+ * too: in the lobby free the session. */
 zmg_status zmg_session_quit(zmg_session *session, uint32_t now);
 
 /* Gives up another player, for good. ZMG_ERR_NOT_NOW: it may not. The game must have stood still for three
- * seconds; for whom it waits does not matter. The player who leads (see zmg_policy) may then give up any other,
- * and the others follow; one who follows may give up the leader alone. So if the leader is missing, each of the
- * others has to give it up. */
+ * seconds; for whom it waits does not matter. The player who leads (see zmg_policy) may then give up any
+ * other, and the others follow; the others may give up nobody but the leader, and if the leader is missing,
+ * each of them has to. */
 zmg_status zmg_session_give_up(zmg_session *session, uint8_t player, uint32_t now);
 
-/* Turns away who holds a seat, 1 to 3, if this is the host and the game has not begun; else does nothing. */
+/* Turns away the player who holds a seat, 1 to 3, if this is the host and the game has not begun; else does
+ * nothing. Returns ZMG_OK in each case. */
 zmg_status zmg_session_kick(zmg_session *session, uint8_t seat);
 
 /* ---- What is known ---------------------------------------------------------------------------- */
@@ -522,8 +524,9 @@ typedef struct zmg_player {
 zmg_status zmg_session_player(const zmg_session *session, uint8_t player, uint32_t now, zmg_player *out,
                               size_t size);
 
-/* Copies the demo from this byte on, as many bytes as there is room for, and returns how many. Before the game
- * it has none. It is complete once the game has ended here. */
+/* Copies the demo from this byte on, as many bytes as there is room for, and returns how many. Before the
+ * game it has none. It ends at the first tic without some player, and is complete once the game has ended
+ * here. */
 size_t zmg_session_demo(const zmg_session *session, size_t from, uint8_t *out, size_t room);
 
 /* ---- Demos ------------------------------------------------------------------------------------ */

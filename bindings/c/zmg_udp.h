@@ -1,12 +1,14 @@
-/* zmg_udp.h: what a session lacks of the system: a socket, addresses, a clock, a key's file and random bytes.
+/* zmg_udp.h: what a session needs of the system: a socket, addresses, a clock, a key's file and random bytes.
  * To be copied or linked: with zmg_udp.c it is apart from the library. C99 and C++11, for POSIX; the calls of
  * Windows are there too, and were not run. It keeps nothing but what is in the struct.
  *
  *     zmg_udp udp;
- *     if (!zmg_udp_open(&udp, 5029)) there is no socket make the session, with zmg_udp_key, zmg_udp_random and
- *     zmg_udp_find as often as you draw:
- *         uint32_t now = zmg_udp_exchange(&udp, session, &status); give, run and look at events as in
- *         zirmegat.h
+ *     if (!zmg_udp_open(&udp, 5029)) there is no socket
+ *     make the session, with zmg_udp_key, zmg_udp_random and zmg_udp_find
+ *     as often as you draw:
+ *         uint32_t now = zmg_udp_exchange(&udp, session, &status);
+ *         give, run and look at events as in zirmegat.h
+ *         zmg_udp_send_all(&udp, session);
  *         zmg_udp_wait(&udp, session, 5);
  *     zmg_udp_close(&udp); */
 #ifndef ZMG_UDP_H

@@ -30,10 +30,16 @@ struct Player {
         zmg_session_poll(session.get(), now);
         while (zmg_session_wants_input(session.get(), now)) must(zmg_session_give(session.get(), &command, now));
         run();
+        send_all(other, now);
+    }
+
+    void send_all(const Player &other, std::uint32_t now) const {
         std::uint8_t bytes[ZMG_DATAGRAM_SIZE]; /* an engine sends them by UDP */
         zmg_address to;
-        while (std::size_t length = zmg_session_transmit(session.get(), &to, bytes, sizeof bytes))
+        while (std::size_t length = zmg_session_transmit(session.get(), &to, bytes, sizeof bytes)) {
             zmg_session_receive(other.session.get(), &place, bytes, length, now);
+            other.send_all(*this, now); /* a reply goes before the next datagram comes */
+        }
     }
 
     Session session;

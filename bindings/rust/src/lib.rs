@@ -9,6 +9,15 @@
 //! ```
 //! use zirmegat::{Address, Command, Host, Join, Key, Name, Run, Session, Terms, DATAGRAM_SIZE};
 //!
+//! fn send_all(players: &mut [Session; 2], places: &[Address; 2], me: usize, now: u32) {
+//!     let mut bytes = [0; DATAGRAM_SIZE];
+//!     // an engine sends the bytes by UDP
+//!     while let Some((_to, datagram)) = players[me].transmit(&mut bytes) {
+//!         players[1 - me].receive(&places[me], datagram, now);
+//!         send_all(players, places, 1 - me, now); // a reply goes before the next datagram comes
+//!     }
+//! }
+//!
 //! # fn main() -> Result<(), zirmegat::Error> {
 //! // the key comes from a file, and random bytes from the system
 //! let key = Some(Key([7; 32]));
@@ -37,11 +46,7 @@
 //!                 *at = at.wrapping_add(command.map_or(0, |command| command.forward.into()));
 //!             }
 //!         }
-//!         // an engine sends the bytes by UDP
-//!         let mut bytes = [0; DATAGRAM_SIZE];
-//!         while let Some((_to, datagram)) = players[me].transmit(&mut bytes) {
-//!             players[1 - me].receive(&places[me], datagram, now);
-//!         }
+//!         send_all(&mut players, &places, me, now);
 //!     }
 //! }
 //! assert!(worlds[0][1] > 0 && worlds[0] == worlds[1]);

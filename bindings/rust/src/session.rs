@@ -24,7 +24,9 @@ pub enum Policy {
     End(u8),
 }
 
-/// What is the same at all players: the host chooses, and the others are told with their seat.
+/// What is the same at all players: the host chooses, and the others are told with their seat. The default: two
+/// players, a window of 12, 35 tics a second, a demo of 16 MiB, [`Settings::default`], [`Policy::Wait`], zeros
+/// for the rest.
 #[derive(Clone, Debug, PartialEq, Eq)]
 pub struct Terms {
     /// 2 to 4.
@@ -133,7 +135,8 @@ pub enum Event {
     Unseated,
     /// The game has begun: begin the world by the state's terms.
     Began,
-    /// This player has left, and all its commands are here. It may still be given up.
+    /// This player has left, and all its commands are here. It may still be given up. Where all others have
+    /// left, the session plays on alone until its player quits.
     Left(u8),
     /// This player is given up.
     GivenUp(u8),
@@ -391,15 +394,17 @@ impl Session {
         Run::of(code, &row)
     }
 
-    /// The player leaves the game. Poll, receive and send until [`Event::Over`]. It does nothing before the game, or
-    /// after its end: in the lobby drop the session.
+    /// The player leaves the game. Go on with the loop until [`Event::Over`], ten seconds at most, so that the
+    /// others learn where its commands end. It does nothing before the game, or after its end: in the lobby
+    /// drop the session.
     pub fn quit(&mut self, now: u32) {
         // SAFETY: the handle is a session's.
         unsafe { sys::zmg_session_quit(self.raw.as_ptr(), now) };
     }
 
-    /// Gives up another player, for good. [`Error::NotNow`]: it may not. The game must have stood still for three
-    /// seconds. The player who leads may then give up any other; one who follows the leader alone.
+    /// Gives up another player, for good. [`Error::NotNow`]: it may not. The game must have stood still for
+    /// three seconds. The leader ([`Policy`]) may then give up any other player; the others may give up nobody
+    /// but the leader.
     pub fn give_up(&mut self, player: u8, now: u32) -> Result<(), Error> {
         // SAFETY: the handle is a session's.
         check(unsafe { sys::zmg_session_give_up(self.raw.as_ptr(), player, now) })
@@ -473,8 +478,8 @@ impl Session {
         }
     }
 
-    /// Copies the demo from this byte on, as many bytes as there is room for, and returns how many. It is complete once
-    /// the game has ended here.
+    /// Copies the demo from this byte on, as many bytes as there is room for, and returns how many. It ends at
+    /// the first tic without some player, and is complete once the game has ended here.
     pub fn demo_from(&self, from: usize, out: &mut [u8]) -> usize {
         // SAFETY: the handle is a session's, and the pointer is of a live value with that room.
         unsafe { sys::zmg_session_demo(self.raw.as_ptr(), from, out.as_mut_ptr(), out.len()) }
